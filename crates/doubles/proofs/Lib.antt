@@ -1,0 +1,14 @@
+pub mod Order
+pub mod Whole
+pub mod Pick
+pub mod Total
+pub mod Examples
+pub mod WholeRoot
+pub mod Rounded
+pub mod Patterns
+pub mod HeronRule
+pub mod Halves
+pub mod Scale
+pub mod Result
+pub mod Nearest
+pub mod RootExamples

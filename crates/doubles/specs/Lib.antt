@@ -1,0 +1,4 @@
+pub mod Doubles
+pub mod Examples
+pub mod Root
+pub mod Radicand
