@@ -1,0 +1,153 @@
+-- Laws of filling: the free places, and what a filled record leaves of them.
+use mathlib.Core.Path.{_≡_, refl, sym, ap, _∙_, subst}
+use mathlib.Core.Bool.{Bool, true, false, cond}
+use mathlib.Core.List.{List, [], _∷_}
+use Prim.Native.Nat.{ℕ, zero, suc, _+_, _-_, _*_, _≤_, _<_}
+use native.Mathlib.Decide.{decLt}
+use native.Mathlib.Omega.{arith}
+use lib.Ieee.{Float, nan}
+use lib.ListN.{length, getD, set, take, drop, length-set}
+use lib.Seq.{getD-set-other, getD-set-same, getD-drop, drop-drop}
+use native.Mathlib.Nat.{add-zero}
+use native.Mathlib.Numerals.{add-one}
+use Rattle.store.specs.Fills.{NextFree}
+use Rattle.store.specs.Store.{loAt, hiAt, nextAt, ownerAt, usedAt, freeFrom, headOf, filledLinks, filledSpans, putSpan, putLink}
+
+module _ (spans : List Float) (links : List ℕ) (n : ℕ) where
+  none-past : (c : ℕ) → n ≤ c → freeFrom spans links c (n - c) ≡ []
+  unfolding freeFrom
+  none-past c h = let none : n - c ≡ 0 = omega arith in ap (freeFrom spans links c) none
+
+  pub free-some : (c : ℕ) → 0 < length (freeFrom spans links c (n - c)) → c < n
+  free-some c h = at (decLt c n)
+    where
+      at : Dec (c < n) → c < n
+      at (yes l) = l
+      at (no ge) = absurd (omega (arith, ap length (none-past c (omega (arith, ge)))))
+
+  here : (c : ℕ) → c < n → freeFrom spans links c (n - c) ≡ cond (usedAt spans links c) (freeFrom spans links (c + 1) (n - (c + 1))) (c ∷ freeFrom spans links (c + 1) (n - (c + 1)))
+  unfolding freeFrom
+  here c h =
+      let left : n - c ≡ suc (n - (c + 1)) = omega arith in
+      let next : suc c ≡ c + 1 = omega arith in
+      ap (freeFrom spans links c) left ∙ ap (λ (x : ℕ). cond (usedAt spans links c) (freeFrom spans links x (n - (c + 1))) (c ∷ freeFrom spans links x (n - (c + 1)))) next
+
+  pub free-skip : (c : ℕ) → c < n → usedAt spans links c ≡ true → freeFrom spans links c (n - c) ≡ freeFrom spans links (c + 1) (n - (c + 1))
+  free-skip c h u = here c h ∙ ap (λ (t : Bool). cond t (freeFrom spans links (c + 1) (n - (c + 1))) (c ∷ freeFrom spans links (c + 1) (n - (c + 1)))) u
+
+  pub free-here : (c : ℕ) → c < n → usedAt spans links c ≡ false → freeFrom spans links c (n - c) ≡ c ∷ freeFrom spans links (c + 1) (n - (c + 1))
+  free-here c h u = here c h ∙ ap (λ (t : Bool). cond t (freeFrom spans links (c + 1) (n - (c + 1))) (c ∷ freeFrom spans links (c + 1) (n - (c + 1)))) u
+
+-- ---- a record at a place before c is written
+used-other : (spans : List Float) (links : List ℕ) (i x : ℕ) (a b : Float) (p o : ℕ) → (x ≡ i → ⊥) → usedAt (putSpan spans i a b) (putLink links i p o) x ≡ usedAt spans links x
+unfolding usedAt
+used-other spans links i x a b p o ne =
+    let lo : loAt (putSpan spans i a b) x ≡ loAt spans x = getD-set-other (set spans (2 * i) a) (2 * i + 1) (2 * x) b nan (λ e. omega arith) ∙ getD-set-other spans (2 * i) (2 * x) a nan (λ e. ne (omega arith)) in
+    let hi : hiAt (putSpan spans i a b) x ≡ hiAt spans x = getD-set-other (set spans (2 * i) a) (2 * i + 1) (2 * x + 1) b nan (λ e. ne (omega arith)) ∙ getD-set-other spans (2 * i) (2 * x + 1) a nan (λ e. omega arith) in
+    let next : nextAt (putLink links i p o) x ≡ nextAt links x = getD-set-other (set links (2 * i) p) (2 * i + 1) (2 * x) o 0 (λ e. omega arith) ∙ getD-set-other links (2 * i) (2 * x) p 0 (λ e. ne (omega arith)) in
+    let owner : ownerAt (putLink links i p o) x ≡ ownerAt links x = getD-set-other (set links (2 * i) p) (2 * i + 1) (2 * x + 1) o 0 (λ e. ne (omega arith)) ∙ getD-set-other links (2 * i) (2 * x + 1) p 0 (λ e. omega arith) in
+    cc
+
+pub free-after : (spans : List Float) (links : List ℕ) (i : ℕ) (a b : Float) (p o c r : ℕ) → i < c → freeFrom (putSpan spans i a b) (putLink links i p o) c r ≡ freeFrom spans links c r
+unfolding freeFrom
+free-after spans links i a b p o c zero h = refl
+free-after spans links i a b p o c (suc r) h =
+    let same : usedAt (putSpan spans i a b) (putLink links i p o) c ≡ usedAt spans links c = used-other spans links i c a b p o (λ (e : c ≡ i). omega arith) in
+    let rest : freeFrom (putSpan spans i a b) (putLink links i p o) (suc c) r ≡ freeFrom spans links (suc c) r = free-after spans links i a b p o (suc c) r (omega arith) in
+    cc
+
+-- ---- one turn of `fill_list`: of the places left, the first is filled and the second is where the next record goes
+pub take-two : (k : ℕ) (i j : ℕ) (l : List ℕ) → 1 < k → take k (i ∷ j ∷ l) ≡ i ∷ take (k - 1) (j ∷ l)
+take-two zero i j l h = absurd (omega arith)
+take-two (suc zero) i j l h = absurd (omega arith)
+take-two (suc (suc k)) i j l h = let one : suc (suc k) - 1 ≡ suc k = omega arith in ap (λ (m : ℕ). i ∷ take m (j ∷ l)) (sym one)
+
+pub take-last : (k : ℕ) (i : ℕ) (l : List ℕ) → k ≡ 1 → take k (i ∷ l) ≡ i ∷ []
+take-last k i l e = ap (λ (m : ℕ). take m (i ∷ l)) e
+
+pub head-take : (k : ℕ) (j : ℕ) (l : List ℕ) → 0 < k → headOf (take k (j ∷ l)) ≡ suc j
+head-take zero j l h = absurd (omega arith)
+head-take (suc k) j l h = refl
+
+spans-cons : (spans : List Float) (i : ℕ) (ps : List ℕ) (pairs : List Float) → filledSpans spans (i ∷ ps) pairs ≡ filledSpans (putSpan spans i (getD pairs 0 nan) (getD pairs 1 nan)) ps (drop 2 pairs)
+unfolding filledSpans
+spans-cons spans i ps pairs = refl
+
+links-cons : (links : List ℕ) (o i : ℕ) (ps : List ℕ) → filledLinks links o (i ∷ ps) ≡ filledLinks (putLink links i (headOf ps) o) o ps
+unfolding filledLinks
+links-cons links o i ps = refl
+
+-- the state of a fill: t pairs are laid, and place `at` is the next; `ps` are the places of all of them
+pub record Filling (n o count : ℕ) (pairs spans₀ : List Float) (links₀ ps : List ℕ) (spans : List Float) (links : List ℕ) (at t : ℕ) : Type 0 where
+  pub counted : at < n
+  pub left : t < count
+  pub same-spans : length spans ≡ length spans₀
+  pub same-links : length links ≡ length links₀
+  pub enough : count - t ≤ suc (length (freeFrom spans links (at + 1) (n - (at + 1))))
+  pub spans-so : filledSpans spans₀ ps pairs ≡ filledSpans spans (take (count - t) (at ∷ freeFrom spans links (at + 1) (n - (at + 1)))) (drop (2 * t) pairs)
+  pub links-so : filledLinks links₀ o ps ≡ filledLinks links o (take (count - t) (at ∷ freeFrom spans links (at + 1) (n - (at + 1))))
+
+module _ (n o count : ℕ) (pairs spans₀ : List Float) (links₀ : List ℕ) where
+  pub fill-start : (from at : ℕ) → 0 < count → count ≤ length (freeFrom spans₀ links₀ from (n - from)) → NextFree spans₀ links₀ n from at
+      → Filling n o count pairs spans₀ links₀ (take count (freeFrom spans₀ links₀ from (n - from))) spans₀ links₀ at 0
+  fill-start from at some enough f =
+      let all : count - 0 ≡ count = omega arith in
+      record {
+        counted = f .counted;
+        left = omega arith;
+        same-spans = refl;
+        same-links = refl;
+        enough = omega (arith, ap length (f .first));
+        spans-so = ap (λ (l : List ℕ). filledSpans spans₀ (take count l) pairs) (f .first) ∙ ap (λ (m : ℕ). filledSpans spans₀ (take m (at ∷ freeFrom spans₀ links₀ (at + 1) (n - (at + 1)))) pairs) (sym all);
+        links-so = ap (λ (l : List ℕ). filledLinks links₀ o (take count l)) (f .first) ∙ ap (λ (m : ℕ). filledLinks links₀ o (take m (at ∷ freeFrom spans₀ links₀ (at + 1) (n - (at + 1))))) (sym all);
+      }
+
+  module _ (ps : List ℕ) (spans : List Float) (links : List ℕ) (at t : ℕ) (s : Filling n o count pairs spans₀ links₀ ps spans links at t) where
+    -- the two doubles of pair t
+    first-end : getD (drop (2 * t) pairs) 0 nan ≡ getD pairs (2 * t) nan
+    first-end = getD-drop (2 * t) pairs 0 nan ∙ ap (λ (i : ℕ). getD pairs i nan) (add-zero (2 * t))
+
+    second-end : getD (drop (2 * t) pairs) 1 nan ≡ getD pairs (2 * t + 1) nan
+    second-end = getD-drop (2 * t) pairs 1 nan
+
+    pub fill-turn : (after : ℕ) → t + 1 < count → NextFree spans links n (at + 1) after
+        → Filling n o count pairs spans₀ links₀ ps (putSpan spans at (getD pairs (2 * t) nan) (getD pairs (2 * t + 1) nan)) (putLink links at (after + 1) o) after (t + 1)
+    fill-turn after more f =
+        let G : List ℕ = freeFrom spans links (after + 1) (n - (after + 1)) in
+        let spans′ : List Float = putSpan spans at (getD pairs (2 * t) nan) (getD pairs (2 * t + 1) nan) in
+        let links′ : List ℕ = putLink links at (after + 1) o in
+        let G′ : freeFrom spans′ links′ (after + 1) (n - (after + 1)) ≡ G = free-after spans links at (getD pairs (2 * t) nan) (getD pairs (2 * t + 1) nan) (after + 1) o (after + 1) (n - (after + 1)) (omega (arith, f .from)) in
+        let less : count - t - 1 ≡ count - (t + 1) = omega arith in
+        let places : take (count - t) (at ∷ freeFrom spans links (at + 1) (n - (at + 1))) ≡ at ∷ take (count - (t + 1)) (after ∷ G)
+        = ap (λ (l : List ℕ). take (count - t) (at ∷ l)) (f .first) ∙ take-two (count - t) at after G (omega arith) ∙ ap (λ (m : ℕ). at ∷ take m (after ∷ G)) less in
+        let head : headOf (take (count - (t + 1)) (after ∷ G)) ≡ after + 1 = head-take (count - (t + 1)) after G (omega arith) ∙ sym (add-one after) in
+        let pairs′ : drop 2 (drop (2 * t) pairs) ≡ drop (2 * (t + 1)) pairs = drop-drop 2 (2 * t) pairs ∙ ap (λ (i : ℕ). drop i pairs) (let e : 2 * t + 2 ≡ 2 * (t + 1) = omega arith in e) in
+        record {
+          counted = f .counted;
+          left = more;
+          same-spans = simp length-set (s .same-spans);
+          same-links = simp length-set (s .same-links);
+          enough = omega (arith, s .enough, ap length (f .first), ap length G′);
+          spans-so = s .spans-so ∙ ap (λ (l : List ℕ). filledSpans spans l (drop (2 * t) pairs)) places ∙ spans-cons spans at (take (count - (t + 1)) (after ∷ G)) (drop (2 * t) pairs) ∙ simp (first-end, second-end, pairs′, G′);
+          links-so = s .links-so ∙ ap (filledLinks links o) places ∙ links-cons links o at (take (count - (t + 1)) (after ∷ G)) ∙ simp (head, G′);
+        }
+
+    pub fill-end : count ≤ t + 1
+        → (putSpan spans at (getD pairs (2 * t) nan) (getD pairs (2 * t + 1) nan) ≡ filledSpans spans₀ ps pairs) × (putLink links at 0 o ≡ filledLinks links₀ o ps)
+    unfolding filledSpans filledLinks
+    fill-end last =
+        let one : count - t ≡ 1 = omega (arith, s .left) in
+        let places : take (count - t) (at ∷ freeFrom spans links (at + 1) (n - (at + 1))) ≡ at ∷ [] = take-last (count - t) at (freeFrom spans links (at + 1) (n - (at + 1))) one in (
+          sym (s .spans-so ∙ ap (λ (l : List ℕ). filledSpans spans l (drop (2 * t) pairs)) places ∙ simp (first-end, second-end)),
+          sym (s .links-so ∙ ap (filledLinks links o) places),
+        )
+
+pub refill : {n o count : ℕ} {pairs spans₀ : List Float} {links₀ ps : List ℕ} {spans spans′ : List Float} {links links′ : List ℕ} {at t : ℕ} → spans′ ≡ spans → links′ ≡ links
+    → Filling n o count pairs spans₀ links₀ ps spans links at t → Filling n o count pairs spans₀ links₀ ps spans′ links′ at t
+refill {n} {o} {count} {pairs} {spans₀} {links₀} {ps} {spans} {spans′} {links} {links′} {at} {t} es el f =
+    subst (λ (l : List Float). Filling n o count pairs spans₀ links₀ ps l links′ at t) (sym es) (subst (λ (l : List ℕ). Filling n o count pairs spans₀ links₀ ps spans l at t) (sym el) f)
+
+-- the number of the record at the first place
+pub first-head : (spans : List Float) (links : List ℕ) (n from at count : ℕ) → 0 < count → NextFree spans links n from at → at + 1 ≡ headOf (take count (freeFrom spans links from (n - from)))
+first-head spans links n from at count some f =
+    sym (ap (λ (l : List ℕ). headOf (take count l)) (f .first) ∙ head-take count at (freeFrom spans links (at + 1) (n - (at + 1))) some ∙ sym (add-one at))
