@@ -15,6 +15,7 @@ use lib.ListN.{length, getD}
 use borrow.Author.Tests.{ne-eqb}
 use Rattle.store.specs.Store.{isPlusZero, loAt, hiAt, nextAt, ownerAt, usedAt, places, Chain, ends, more, placesOf, chained, lengthFrom}
 use Rattle.store.specs.Walks.{countTo}
+use Rattle.store.proofs.Records.{owned-used}
 use Rattle.store.proofs.Counting.{Distinct, Pass, distinct-append, distinct-le, count-max}
 
 module _ (links : List ℕ) (n o : ℕ) where
@@ -83,15 +84,8 @@ module _ (spans : List Float) (links heads : List ℕ) (n : ℕ) where
       (λ x mh mt. let w = owner-of (suc j) r (run-tail j r all) x mt in
       omega (arith, chain-owner links n (suc j) (run-head j r all) x mh .1, w .1 .1, w .1 .2))
 
-  -- a record with an owner is in use
-  owned-used : (x i : ℕ) → ownerAt links x ≡ suc i → usedAt spans links x ≡ true
-  unfolding usedAt
-  owned-used x i e =
-      let none : eqb (ownerAt links x) 0 ≡ false = ne-eqb (ownerAt links x) 0 (λ (z : ownerAt links x ≡ 0). omega arith) in
-      simp (none, and-false)
-
   pub chained-pass : (j r : ℕ) → Run j r → Pass (usedAt spans links) n (chained n links heads j r)
-  chained-pass j r all x m = let w = owner-of j r all x m in (w .0, owned-used x (w .1 .0) (w .1 .2))
+  chained-pass j r all x m = let w = owner-of j r all x m in (w .0, owned-used spans links x (w .1 .0) (w .1 .2))
 
 -- ---- reading a chain, one record after the other
 pub places-within : (links : List ℕ) (f k : ℕ) → length (places links f k) ≤ f

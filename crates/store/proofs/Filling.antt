@@ -7,11 +7,12 @@ use native.Mathlib.Decide.{decLt}
 use native.Mathlib.Omega.{arith}
 use lib.Ieee.{Float, nan}
 use lib.ListN.{length, getD, set, take, drop, length-set}
-use lib.Seq.{getD-set-other, getD-set-same, getD-drop, drop-drop}
+use lib.Seq.{getD-drop, drop-drop}
 use native.Mathlib.Nat.{add-zero}
 use native.Mathlib.Numerals.{add-one}
 use Rattle.store.specs.Fills.{NextFree}
-use Rattle.store.specs.Store.{loAt, hiAt, nextAt, ownerAt, usedAt, freeFrom, headOf, filledLinks, filledSpans, putSpan, putLink}
+use Rattle.store.proofs.Records.{put-other, same-used}
+use Rattle.store.specs.Store.{usedAt, freeFrom, headOf, filledLinks, filledSpans, putSpan, putLink}
 
 module _ (spans : List Float) (links : List ℕ) (n : ℕ) where
   none-past : (c : ℕ) → n ≤ c → freeFrom spans links c (n - c) ≡ []
@@ -39,20 +40,11 @@ module _ (spans : List Float) (links : List ℕ) (n : ℕ) where
   free-here c h u = here c h ∙ ap (λ (t : Bool). cond t (freeFrom spans links (c + 1) (n - (c + 1))) (c ∷ freeFrom spans links (c + 1) (n - (c + 1)))) u
 
 -- ---- a record at a place before c is written
-used-other : (spans : List Float) (links : List ℕ) (i x : ℕ) (a b : Float) (p o : ℕ) → (x ≡ i → ⊥) → usedAt (putSpan spans i a b) (putLink links i p o) x ≡ usedAt spans links x
-unfolding usedAt
-used-other spans links i x a b p o ne =
-    let lo : loAt (putSpan spans i a b) x ≡ loAt spans x = getD-set-other (set spans (2 * i) a) (2 * i + 1) (2 * x) b nan (λ e. omega arith) ∙ getD-set-other spans (2 * i) (2 * x) a nan (λ e. ne (omega arith)) in
-    let hi : hiAt (putSpan spans i a b) x ≡ hiAt spans x = getD-set-other (set spans (2 * i) a) (2 * i + 1) (2 * x + 1) b nan (λ e. ne (omega arith)) ∙ getD-set-other spans (2 * i) (2 * x + 1) a nan (λ e. omega arith) in
-    let next : nextAt (putLink links i p o) x ≡ nextAt links x = getD-set-other (set links (2 * i) p) (2 * i + 1) (2 * x) o 0 (λ e. omega arith) ∙ getD-set-other links (2 * i) (2 * x) p 0 (λ e. ne (omega arith)) in
-    let owner : ownerAt (putLink links i p o) x ≡ ownerAt links x = getD-set-other (set links (2 * i) p) (2 * i + 1) (2 * x + 1) o 0 (λ e. ne (omega arith)) ∙ getD-set-other links (2 * i) (2 * x + 1) p 0 (λ e. omega arith) in
-    cc
-
 pub free-after : (spans : List Float) (links : List ℕ) (i : ℕ) (a b : Float) (p o c r : ℕ) → i < c → freeFrom (putSpan spans i a b) (putLink links i p o) c r ≡ freeFrom spans links c r
 unfolding freeFrom
 free-after spans links i a b p o c zero h = refl
 free-after spans links i a b p o c (suc r) h =
-    let same : usedAt (putSpan spans i a b) (putLink links i p o) c ≡ usedAt spans links c = used-other spans links i c a b p o (λ (e : c ≡ i). omega arith) in
+    let same : usedAt (putSpan spans i a b) (putLink links i p o) c ≡ usedAt spans links c = same-used (put-other spans links i a b p o c (λ (e : c ≡ i). omega arith)) in
     let rest : freeFrom (putSpan spans i a b) (putLink links i p o) (suc c) r ≡ freeFrom spans links (suc c) r = free-after spans links i a b p o (suc c) r (omega arith) in
     cc
 

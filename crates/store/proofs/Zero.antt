@@ -24,7 +24,7 @@ zero-bits : toBits binary64 (fin false 0 (pos 0)) ≡ 0
 unfolding toBits
 zero-bits = refl
 
-bits-zero : ofBits binary64 0 ≡ fin false 0 (pos 0)
+pub bits-zero : ofBits binary64 0 ≡ fin false 0 (pos 0)
 unfolding ofBits
 bits-zero = refl
 
