@@ -4,12 +4,13 @@ use mathlib.Core.Bool.{true, false}
 use mathlib.Core.Logic.{_⊎_, inl, inr, ⊎-elim}
 use mathlib.Core.List.{List, [], _∷_, List·Memᴰ, List·Memᴰ·head, List·Memᴰ·tail, List·Memᴰ·cases-cons, List·Memᴰ·not-nil}
 use Prim.Native.Nat.{ℕ, zero, suc, _+_, _-_, _*_, _≤_, _<_}
+use native.Mathlib.Numerals.{add-one}
 use native.Mathlib.Omega.{arith}
 use lib.Ieee.{Float, nan}
 use lib.ListN.{length, getD, set, drop, length-set}
 use lib.Seq.{getD-set-other, getD-set-same, drop-set-lt}
 use Rattle.store.specs.Store.{nextAt, ownerAt, usedAt, places, placesOf, Chain, ends, more, plusZero, freeSpan, freeLink, freedSpans, freedLinks}
-use Rattle.store.specs.Updates.{Cells, SoundStore, Room, Kept, freedList}
+use Rattle.store.specs.Updates.{Cells, cells, SoundStore, Room, Kept, Freeable, freedList}
 use Rattle.store.proofs.Counting.{Distinct}
 use Rattle.store.proofs.Records.{Same, same-refl, same-trans, Written, written-same, put-other, put-here, pair-length, pair-past, Free, free-used, among, Within, within-none, within-put, within-then}
 use Rattle.store.proofs.Chains.{places-of, chain-owner, chain-distinct, chain-places, Step, chain-step, places-within}
@@ -102,3 +103,12 @@ module _ (n m total : ℕ) (c : Cells) (s : SoundStore n m total c) (room : Room
         links-past = w .links-past;
         heads-past = drop-set-lt m (c .heads) j 0 j<m;
       }
+
+-- ---- in the terms of `free_list`
+pub free-chain-of : {n : ℕ} {c : Cells} {j : ℕ} → Freeable n c j → Chain (c .links) n (j + 1) (getD (c .heads) j 0) (placesOf n (c .links) (c .heads) j)
+free-chain-of {n} {c} {j} f = subst (λ (o : ℕ). Chain (c .links) n o (getD (c .heads) j 0) (placesOf n (c .links) (c .heads) j)) (sym (add-one j)) (f .chain)
+
+pub freed-cells : (n : ℕ) (spans spans′ : List Float) (links links′ heads : List ℕ) (j : ℕ) → spans′ ≡ freedSpans spans (placesOf n links heads j) → links′ ≡ freedLinks links (placesOf n links heads j)
+    → cells spans′ links′ (set heads j 0) ≡ freedList n (cells spans links heads) j
+unfolding freedList
+freed-cells n spans spans′ links links′ heads j es el = ap (λ (l : List Float). cells l links′ (set heads j 0)) es ∙ ap (λ (l : List ℕ). cells (freedSpans spans (placesOf n links heads j)) l (set heads j 0)) el

@@ -4,12 +4,14 @@ use mathlib.Core.Bool.{true, false}
 use mathlib.Core.List.{List, [], _∷_, List·Memᴰ, List·Memᴰ·head, List·Memᴰ·tail, List·Memᴰ·not-nil}
 use Prim.Native.Nat.{ℕ, zero, suc, _+_, _-_, _*_, _/_, _%_, _≤_, _<_}
 use native.Mathlib.Nat.{div-add-mod'}
+use native.Mathlib.Numerals.{add-one}
 use native.Mathlib.Omega.{arith}
 use lib.Ieee.{Float, nan}
-use lib.ListN.{length, getD, set, drop, length-set, length-drop}
+use lib.ListN.{length, getD, set, take, drop, length-set, length-drop}
 use lib.Seq.{getD-set-other, getD-set-same, drop-set-lt}
 use Rattle.store.specs.Store.{loAt, hiAt, nextAt, ownerAt, usedAt, placesOf, Chain, ends, more, endsAt, freeFrom, headOf, filledLinks, filledSpans, putSpan, putLink}
-use Rattle.store.specs.Updates.{Cells, Update, SoundStore, held, Room, Kept, taken, laidList}
+use Rattle.store.specs.Updates.{Cells, cells, Update, update, SoundStore, held, Room, Kept, taken, laidList, Laid}
+use Rattle.store.specs.Fills.{Cursor, Fills}
 use Rattle.store.proofs.Counting.{Distinct}
 use Rattle.store.proofs.Records.{Same, same-refl, same-trans, put-other, put-here, written-same, owned-used, Within, within-none, within-put, within-then}
 use Rattle.store.proofs.Chains.{chain-owner}
@@ -129,3 +131,24 @@ module _ (n m total : ℕ) (c : Cells) (s : SoundStore n m total c) (room : Room
         links-past = w .links-past;
         heads-past = drop-set-lt m (c .heads) (u .list) (headOf (taken n c count)) j<m;
       }
+
+-- ---- in the terms of `lay_list`
+module _ (n : ℕ) (spans : List Float) (links heads : List ℕ) (j : ℕ) (pairs : List Float) where
+  pub laid-none : (from : ℕ) → length pairs / 2 ≡ 0 → Cursor n spans links from → Laid n (cells spans links heads) (update j pairs) from (cells spans links (set heads j 0))
+  unfolding laidList taken filledSpans filledLinks
+  laid-none from e k = record { left = sym same; onward = k }
+    where
+      same : laidList n (cells spans links heads) (update j pairs) ≡ cells spans links (set heads j 0)
+      same = ap (λ (t : ℕ). cells (filledSpans spans (take t (freeFrom spans links 0 n)) pairs) (filledLinks links (suc j) (take t (freeFrom spans links 0 n))) (set heads j (headOf (take t (freeFrom spans links 0 n))))) e
+
+  pub laid-some : (head cursor : ℕ) (spans′ : List Float) (links′ : List ℕ) → Fills n spans links (j + 1) pairs (length pairs / 2) head cursor spans′ links′
+      → Laid n (cells spans links heads) (update j pairs) cursor (cells spans′ links′ (set heads j head))
+  unfolding laidList taken
+  laid-some head cursor spans′ links′ f = record { left = same; onward = f .onward }
+    where
+      same : cells spans′ links′ (set heads j head) ≡ laidList n (cells spans links heads) (update j pairs)
+      same =
+          let ps : List ℕ = take (length pairs / 2) (freeFrom spans links 0 n) in
+          ap (λ (l : List Float). cells l links′ (set heads j head)) (f .spans-left)
+          ∙ ap (λ (l : List ℕ). cells (filledSpans spans ps pairs) l (set heads j head)) (f .links-left ∙ ap (λ (o : ℕ). filledLinks links o ps) (add-one j))
+          ∙ ap (λ (h : ℕ). cells (filledSpans spans ps pairs) (filledLinks links (suc j) ps) (set heads j h)) (f .at)

@@ -12,10 +12,10 @@ use native.Mathlib.Decide.{ℕ-discrete}
 use native.Mathlib.Omega.{arith}
 use lib.Dec.{eqb}
 use lib.Ieee.{Float}
-use lib.ListN.{length, getD, drop}
+use lib.ListN.{length, drop}
 use borrow.Author.Tests.{eq-eqb, ne-eqb}
-use Rattle.store.specs.Store.{Chain, placesOf, endsAt, freeFrom}
-use Rattle.store.specs.Updates.{Cells, Update, SoundStore, held, Room, Kept, Ascending, none, next, pairsFreed, pairsLaid, listAfter, freedList, freedAll, taken, laidList, laidAll, applied, Updated}
+use Rattle.store.specs.Store.{placesOf, endsAt, freeFrom}
+use Rattle.store.specs.Updates.{Cells, Update, SoundStore, held, Room, Kept, Freeable, Layable, Ascending, none, next, pairsFreed, pairsLaid, listAfter, freedList, freedAll, taken, laidList, laidAll, applied, Updated}
 use Rattle.store.proofs.Replacing.{Replaced}
 use Rattle.store.proofs.Freeing.{freed-list, freed-kept}
 use Rattle.store.proofs.FreePlaces.{free-records}
@@ -208,18 +208,6 @@ unfolding pairsLaid
 pairs-append [] vs = omega arith
 pairs-append (u ∷ us) vs = omega (arith, pairs-append us vs)
 
--- what `free_list` and `lay_list` ask of the store that they come to
-pub record Freeable (n m : ℕ) (d : Cells) (u : Update) : Type 0 where
-  pub room : Room n m d
-  pub below : u .list < m
-  pub chain : Chain (d .links) n (suc (u .list)) (getD (d .heads) (u .list) 0) (placesOf n (d .links) (d .heads) (u .list))
-
-pub record Layable (n m : ℕ) (d : Cells) (u : Update) : Type 0 where
-  pub room : Room n m d
-  pub below : u .list < m
-  pub whole : length (u .ends) % 2 ≡ 0
-  pub enough : length (u .ends) / 2 ≤ length (freeFrom (d .spans) (d .links) 0 n)
-
 -- ---- freed first, all of them, then laid
 module _ {n m total k : ℕ} {c : Cells} (s : SoundStore n m total c) (room : Room n m c) where
   -- the lists are empty once they are freed
@@ -243,15 +231,16 @@ module _ {n m total k : ℕ} {c : Cells} (s : SoundStore n m total c) (room : Ro
       }
 
   -- ---- half-way: the updates `vs` are done, and u is the next
-  pub half-freed : (vs : List Update) (u : Update) (ws : List Update) → Ascending m k (vs ++ u ∷ ws) → Freeable n m (freedAll n c vs) u
+  pub half-freed : (vs : List Update) (u : Update) (ws : List Update) → Ascending m k (vs ++ u ∷ ws) → Freeable n (freedAll n c vs) (u .list)
   half-freed vs u ws a =
       let f : FreedAll n m total c vs (freedAll n c vs) = freed-all s room (ascending-left vs (u ∷ ws) a) in
       let below : u .list < m = ascending-at a u (Memᴰ·append-right vs (List·Memᴰ·head refl)) .1 in
       let some : SoundStore n m (total - pairsFreed n c vs) (freedAll n c vs) = f .isSound (total - pairsFreed n c vs) (omega (arith, f .fewer)) in
-      record { room = kept-room (f .kept) room; below = below; chain = some .chains (u .list) below }
+      let r : Room n m (freedAll n c vs) = kept-room (f .kept) room in
+      record { in-spans = r .in-spans; in-links = r .in-links; in-heads = omega (arith, r .in-heads); chain = some .chains (u .list) below }
 
   pub half-laid : (vs : List Update) (u : Update) (ws : List Update) → Ascending m k (vs ++ u ∷ ws) → total - pairsFreed n c (vs ++ u ∷ ws) + pairsLaid (vs ++ u ∷ ws) ≤ n
-      → Layable n m (laidAll n (freedAll n c (vs ++ u ∷ ws)) vs) u
+      → Layable n (laidAll n (freedAll n c (vs ++ u ∷ ws)) vs) u
   unfolding pairsLaid
   half-laid vs u ws a fits =
       let us : List Update = vs ++ u ∷ ws in
@@ -262,9 +251,11 @@ module _ {n m total k : ℕ} {c : Cells} (s : SoundStore n m total c) (room : Ro
       = laid-all (f .isSound (total - pairsFreed n c us) (omega arith)) (kept-room (f .kept) room) (ascending-left vs (u ∷ ws) a) (λ v mv. all-empty a v (Memᴰ·append-left (u ∷ ws) mv)) (omega arith) in
       let d : Cells = laidAll n (freedAll n c us) vs in
       let left : length (freeFrom (d .spans) (d .links) 0 n) + (total - pairsFreed n c us + pairsLaid vs) ≡ n = free-records n m (total - pairsFreed n c us + pairsLaid vs) (d .spans) (d .links) (d .heads) (l .isSound) in
+      let r : Room n m d = kept-room (l .kept) (kept-room (f .kept) room) in
       record {
-        room = kept-room (l .kept) (kept-room (f .kept) room);
-        below = ascending-at a u (Memᴰ·append-right vs (List·Memᴰ·head refl)) .1;
+        in-spans = r .in-spans;
+        in-links = r .in-links;
+        in-heads = omega (arith, r .in-heads, ascending-at a u (Memᴰ·append-right vs (List·Memᴰ·head refl)) .1);
         whole = ascending-whole a u (Memᴰ·append-right vs (List·Memᴰ·head refl));
         enough = omega arith;
       }

@@ -4,9 +4,10 @@ use mathlib.Core.Bool.{cond}
 use mathlib.Core.List.{List, [], _∷_}
 use Prim.Native.Nat.{ℕ, zero, suc, _+_, _-_, _*_, _/_, _%_, _≤_, _<_}
 use lib.Dec.{eqb}
-use lib.ListN.{length, take, drop, set}
+use lib.ListN.{length, getD, take, drop, set}
 use lib.Ieee.{Float}
-use Rattle.store.specs.Store.{placesOf, listOf, freedSpans, freedLinks, freeFrom, filledSpans, filledLinks, headOf, Sound}
+use Rattle.store.specs.Store.{Chain, placesOf, listOf, freedSpans, freedLinks, freeFrom, filledSpans, filledLinks, headOf, Sound}
+use Rattle.store.specs.Fills.{Cursor}
 
 -- the lent cells: lo and hi of each record; next and owner of each record; the head of each list
 pub record Cells : Type 0 where
@@ -14,10 +15,16 @@ pub record Cells : Type 0 where
   pub links : List ℕ
   pub heads : List ℕ
 
+abbrev pub cells : List Float → List ℕ → List ℕ → Cells
+cells spans links heads = record { spans = spans; links = links; heads = heads }
+
 -- a list and the ends that it is to hold
 pub record Update : Type 0 where
   pub list : ℕ
   pub ends : List Float
+
+abbrev pub update : ℕ → List Float → Update
+update list ends = record { list = list; ends = ends }
 
 -- the store with the records of list j free and its head zero
 unfoldable pub freedList : ℕ → Cells → ℕ → Cells
@@ -56,6 +63,27 @@ laidAll n c (u ∷ us) = laidAll n (laidList n c u) us
 unfoldable pub applied : ℕ → Cells → List Update → Cells
 unfolding freedAll laidAll
 applied n c us = laidAll n (freedAll n c us) us
+
+-- ---- one list at a time
+-- list j is a chain, so that it can be freed
+pub record Freeable (n : ℕ) (c : Cells) (j : ℕ) : Type 0 where
+  pub in-spans : 2 * n ≤ length (c .spans)
+  pub in-links : 2 * n ≤ length (c .links)
+  pub in-heads : j < length (c .heads)
+  pub chain : Chain (c .links) n (suc j) (getD (c .heads) j 0) (placesOf n (c .links) (c .heads) j)
+
+-- there are free records for the whole pairs of an update
+pub record Layable (n : ℕ) (c : Cells) (u : Update) : Type 0 where
+  pub in-spans : 2 * n ≤ length (c .spans)
+  pub in-links : 2 * n ≤ length (c .links)
+  pub in-heads : u .list < length (c .heads)
+  pub whole : length (u .ends) % 2 ≡ 0
+  pub enough : length (u .ends) / 2 ≤ length (freeFrom (c .spans) (c .links) 0 n)
+
+-- the list is laid, and no record before place r is free
+pub record Laid (n : ℕ) (c : Cells) (u : Update) (r : ℕ) (d : Cells) : Type 0 where
+  pub left : d ≡ laidList n c u
+  pub onward : Cursor n (d .spans) (d .links) r
 
 -- ---- what the law of an update speaks of
 -- a store in its cells, and list j of it

@@ -2,13 +2,14 @@
 ghost use mathlib.Core.Path.{_≡_};
 ghost use mathlib.Core.Bool.{true};
 ghost use Prim.Native.Nat.{_+_, _-_, _*_, _<_, _≤_};
-ghost use lib.ListN.{length, take};
+ghost use lib.ListN.{length};
 ghost use lib.Ieee.{binary64, ofBits};
 ghost use Rattle.store.specs.Store.{isPlusZero, usedAt, Sound, Chain, places, lengthFrom, freedSpans, freedLinks, freeFrom, putSpan, putLink};
-ghost use Rattle.store.specs.Fills.{NextFree, Fills};
+ghost use Rattle.store.specs.Fills.{NextFree, Cursor, Fillable, Fills};
+ghost use Rattle.store.specs.Updates.{cells, update, freedList, Freeable, Layable, Laid};
 ghost use Rattle.store.specs.Walks.{countTo, walkFrom, walkAll};
 
-pub fn plus_zero(x: f64) -> bool
+fn plus_zero(x: f64) -> bool
     ensures { λ r. ⌜ r ≡ isPlusZero x ⌝ }
 {
     if x != x {
@@ -18,7 +19,7 @@ pub fn plus_zero(x: f64) -> bool
 }
 
 // Whether the record at place i is in use.
-pub fn used(spans: &[f64], links: &[u64], i: usize) -> bool
+fn used(spans: &[f64], links: &[u64], i: usize) -> bool
     requires { ⌜ (2 * i + 1 < length (now spans)) × (2 * i + 1 < length (now links)) ⌝ }
     ensures { λ r. ⌜ r ≡ usedAt (now (spans .entry)) (now (links .entry)) i ⌝ }
 {
@@ -35,7 +36,7 @@ pub fn used(spans: &[f64], links: &[u64], i: usize) -> bool
 }
 
 // How many of the first n records are in use.
-pub fn count_used(spans: &[f64], links: &[u64], n: usize) -> usize
+fn count_used(spans: &[f64], links: &[u64], n: usize) -> usize
     requires { ⌜ (2 * n ≤ length (now spans)) × (2 * n ≤ length (now links)) ⌝ }
     ensures { λ r. ⌜ r ≡ countTo (usedAt (now (spans .entry)) (now (links .entry))) n ⌝ }
 {
@@ -56,7 +57,7 @@ pub enum Walk {
 }
 
 // Walks a chain of the owner, with `from` records counted before and at most `limit` in all.
-pub fn walk_chain(links: &[u64], n: usize, owner: u64, head: u64, from: usize, limit: usize) -> Walk
+fn walk_chain(links: &[u64], n: usize, owner: u64, head: u64, from: usize, limit: usize) -> Walk
     requires { ⌜ 2 * n ≤ length (now links) ⌝ }
     ensures { λ r. ⌜ r ≡ walkFrom (now (links .entry)) n owner (limit - from) from head ⌝ }
 {
@@ -80,7 +81,7 @@ pub fn walk_chain(links: &[u64], n: usize, owner: u64, head: u64, from: usize, l
 }
 
 // Walks the chains of all m lists.
-pub fn walk_all(links: &[u64], heads: &[u64], n: usize, m: usize, limit: usize) -> Walk
+fn walk_all(links: &[u64], heads: &[u64], n: usize, m: usize, limit: usize) -> Walk
     requires { ⌜ (2 * n ≤ length (now links)) × (m ≤ length (now heads)) ⌝ }
     ensures { λ r. ⌜ r ≡ walkAll (now (links .entry)) (now (heads .entry)) n limit m 0 0 ⌝ }
 {
@@ -137,7 +138,7 @@ pub fn list_length(spans: &[f64], links: &[u64], n: usize, owner: u64, head: u64
 }
 
 // Frees the records of a chain.
-pub fn free_chain(spans: &mut [f64], links: &mut [u64], n: usize, owner: u64, head: u64)
+fn free_chain(spans: &mut [f64], links: &mut [u64], n: usize, owner: u64, head: u64)
     requires { ⌜ (2 * n ≤ length (now spans)) × (2 * n ≤ length (now links)) × Chain (now links) n owner head (places (now links) n head) ⌝ }
     ensures { λ _. ⌜ (now (spans .exit) ≡ freedSpans (now (spans .entry)) (places (now (links .entry)) n head))
         × (now (links .exit) ≡ freedLinks (now (links .entry)) (places (now (links .entry)) n head)) ⌝ }
@@ -154,7 +155,7 @@ pub fn free_chain(spans: &mut [f64], links: &mut [u64], n: usize, owner: u64, he
 }
 
 // The first free place from `from` on, of which there is one.
-pub fn next_free(spans: &[f64], links: &[u64], n: usize, from: usize) -> usize
+fn next_free(spans: &[f64], links: &[u64], n: usize, from: usize) -> usize
     requires { ⌜ (2 * n ≤ length (now spans)) × (2 * n ≤ length (now links)) × (0 < length (freeFrom (now spans) (now links) from (n - from))) ⌝ }
     ensures { λ r. ⌜ NextFree (now (spans .entry)) (now (links .entry)) n from r ⌝ }
 {
@@ -172,7 +173,7 @@ pub struct Filled {
 }
 
 // Writes the record at place i.
-pub fn put_record(
+fn put_record(
     spans: &mut [f64],
     links: &mut [u64],
     i: usize,
@@ -190,8 +191,8 @@ pub fn put_record(
     links[2 * i + 1] = owner;
 }
 
-// Lays the pairs as a chain of the owner, each in the lowest free record from `from` on.
-pub fn fill_list(
+// Lays the pairs as a chain of the owner, each in the lowest free record. None before place `from` is free.
+fn fill_list(
     spans: &mut [f64],
     links: &mut [u64],
     n: usize,
@@ -200,8 +201,8 @@ pub fn fill_list(
     pairs: &[f64],
     count: usize,
 ) -> Filled
-    requires { ⌜ (2 * n ≤ length (now spans)) × (2 * n ≤ length (now links)) × (2 * count ≤ length (now pairs)) × (0 < count) × (count ≤ length (freeFrom (now spans) (now links) from (n - from))) ⌝ }
-    ensures { λ r. ⌜ Fills (now (spans .entry)) (now (links .entry)) (take count (freeFrom (now (spans .entry)) (now (links .entry)) from (n - from))) owner (now (pairs .entry)) (r .head) (now (spans .exit)) (now (links .exit)) ⌝ }
+    requires { ⌜ Fillable n (now spans) (now links) owner (now pairs) count from ⌝ }
+    ensures { λ r. ⌜ Fills n (now (spans .entry)) (now (links .entry)) owner (now (pairs .entry)) count (r .head) (r .cursor) (now (spans .exit)) (now (links .exit)) ⌝ }
 {
     let first = next_free(spans, links, n, from);
     let mut at = first;
@@ -221,4 +222,37 @@ pub fn fill_list(
         head: (first as u64) + 1,
         cursor: at + 1,
     }
+}
+
+// Frees list j: its records and its head.
+pub fn free_list(spans: &mut [f64], links: &mut [u64], heads: &mut [u64], n: usize, j: usize)
+    requires { ⌜ Freeable n (cells (now spans) (now links) (now heads)) j ⌝ }
+    ensures { λ _. ⌜ cells (now (spans .exit)) (now (links .exit)) (now (heads .exit)) ≡ freedList n (cells (now (spans .entry)) (now (links .entry)) (now (heads .entry))) j ⌝ }
+{
+    let head = heads[j];
+    free_chain(spans, links, n, (j as u64) + 1, head);
+    heads[j] = 0;
+}
+
+// Lays list j from the lowest free record, and says before which place no record is free then. The lists of a commit take this place one from the other, so that it only rises.
+pub fn lay_list(
+    spans: &mut [f64],
+    links: &mut [u64],
+    heads: &mut [u64],
+    n: usize,
+    from: usize,
+    j: usize,
+    pairs: &[f64],
+) -> usize
+    requires { ⌜ Layable n (cells (now spans) (now links) (now heads)) (update j (now pairs)) × Cursor n (now spans) (now links) from ⌝ }
+    ensures { λ r. ⌜ Laid n (cells (now (spans .entry)) (now (links .entry)) (now (heads .entry))) (update j (now (pairs .entry))) r (cells (now (spans .exit)) (now (links .exit)) (now (heads .exit))) ⌝ }
+{
+    let count = pairs.len() / 2;
+    if count == 0 {
+        heads[j] = 0;
+        return from;
+    }
+    let filled = fill_list(spans, links, n, from, (j as u64) + 1, pairs, count);
+    heads[j] = filled.head;
+    filled.cursor
 }

@@ -4,7 +4,7 @@ use native.Mathlib.Omega.{arith}
 use borrow.Author.Needs.{needs}
 use lib.ListN.{length, take}
 use Rattle.store.specs.Store.{freeFrom, headOf}
-use Rattle.store.proofs.Filling.{Filling, fill-start, fill-turn, fill-end, refill, first-head}
+use Rattle.store.proofs.Filling.{Filling, fill-some, fill-start, fill-turn, fill-end, fill-onward, refill, first-head, cursor-same}
 use Rattle.store.proofs.fill_list.Statement.{statement}
 use Rattle.store.proofs.fill_list.Tie as tie
 use Rattle.store.proofs.fill_list.Reads as reads
@@ -14,18 +14,18 @@ use Rattle.store.proofs.put_record.Reads as put-record-reads
 
 abbrev Inv-loop : tie.InvT-loop
 Inv-loop spans₀ links₀ n from owner pairs count first at₀ t₀ spans links at t =
-    Filling n owner count pairs spans₀ links₀ (take count (freeFrom spans₀ links₀ from (n - from))) spans links at t
+    Filling n owner count pairs spans₀ links₀ (take count (freeFrom spans₀ links₀ 0 n)) spans links at t
 
 abbrev μ-loop : tie.MeasureT-loop
 μ-loop spans₀ links₀ n from owner pairs count first at₀ t₀ spans links at t = count - t
 
 -- src/lib.rt:183:9
 next-free-requires : tie.Need-next-free-requires Inv-loop μ-loop
-next-free-requires c κs = search needs
+next-free-requires c κs = let f = c .before .before .before .before .before .pre in (f .in-spans, f .in-links, fill-some _ _ _ _ _ _ _ f)
 
 -- src/lib.rt:186:5
 loop-holds : tie.Need-loop-holds Inv-loop μ-loop
-loop-holds c = fill-start _ _ _ _ _ _ _ _ (c .before .before .before .before .before .before .pre .3) (c .before .before .before .before .before .before .pre .4) (c .next-free .ensures)
+loop-holds c = fill-start _ _ _ _ _ _ _ _ (c .before .before .before .before .before .before .pre) (c .next-free .ensures)
 
 -- src/lib.rt:186:11
 add-loop : tie.Need-add-loop Inv-loop μ-loop
@@ -142,9 +142,10 @@ returns : tie.Need-returns Inv-loop μ-loop
 returns c =
     let e = fill-end _ _ _ _ _ _ _ _ _ _ _ (c .before .before .before .before .before .before .before .before .before .before .loop .inv) (c .before .before .before .before .before .before .before .before .before .loop-test .left) in
     record {
-      at = first-head _ _ _ _ _ _ (c .before .before .before .before .before .before .before .before .before .before .before .before .before .before .before .before .before .pre .3) (c .before .before .before .before .before .before .before .before .before .before .before .next-free .ensures);
+      at = first-head _ _ _ _ _ _ _ _ (c .before .before .before .before .before .before .before .before .before .before .before .before .before .before .before .before .before .pre) (c .before .before .before .before .before .before .before .before .before .before .before .next-free .ensures);
       spans-left = c .before .before .before .before .put-record2 .ensures .0 ∙ e .0;
       links-left = c .before .before .before .before .put-record2 .ensures .1 ∙ e .1;
+      onward = cursor-same (c .before .before .before .before .put-record2 .ensures .0) (c .before .before .before .before .put-record2 .ensures .1) (fill-onward _ _ _ _ _ _ _ _ _ _ _ (c .before .before .before .before .before .before .before .before .before .before .loop .inv));
     }
 
 pub fill-list-spec : {M : Type 1} → statement M
