@@ -1,0 +1,3 @@
+pub mod Hits
+pub mod Unique
+pub mod Demand3
