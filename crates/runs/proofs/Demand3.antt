@@ -144,6 +144,8 @@ module _ (spec : DexelStockSpec) (g : DexelGrid) (R : Reading g) where
         )),
         (λ x. still r certain p (x .0) (neither r p (x .1) (x .2))),
       );
+      certain-within = R .within t (F .sound);
+      nothing-gains = kept;
       sound = F .sound;
     }
 

@@ -1,3 +1,5 @@
 pub mod Hits
 pub mod Unique
 pub mod Demand3
+pub mod Meets
+pub mod Starts

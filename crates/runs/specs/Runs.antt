@@ -77,6 +77,9 @@ pub record Settled (spec : DexelStockSpec) (g : DexelGrid) (R : Reading g) (s : 
   pub certain-is : (r : Ray g) (p : Float)
       → (holds (R .lists t r certain) p ≡ true)
       ↔ ((holds (R .lists s r certain) p ≡ true) × (¬ Lies g (accepted cs vs) r outer p) × (¬ Lies g (accepted cs vs) r inner p))
+  -- certain lies within possible, and no list gains a point
+  pub certain-within : (r : Ray g) (p : Float) → holds (R .lists t r certain) p ≡ true → holds (R .lists t r possible) p ≡ true
+  pub nothing-gains : (r : Ray g) (k : Kind) (p : Float) → holds (R .lists t r k) p ≡ true → holds (R .lists s r k) p ≡ true
   pub sound : R .Sound t
 
 -- two stores with equal lists and interval totals
