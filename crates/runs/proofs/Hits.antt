@@ -29,7 +29,7 @@ record Taker (g : DexelGrid) (es : List Entry) (r : Ray g) (w : HitKind) (p : Fl
   does : within (loOf w entry) (hiOf w entry) p ≡ true
 
 module _ (g : DexelGrid) (r : Ray g) (w : HitKind) (p : Float) where
-  pairs-cons : (e : Entry) (es : List Entry) (b : Bool) → names g e r ≡ b
+  pub pairs-cons : (e : Entry) (es : List Entry) (b : Bool) → names g e r ≡ b
       → holds (pairsOn g (e ∷ es) r w) p ≡ (b && within (loOf w e) (hiOf w e) p || holds (pairsOn g es r w) p)
   unfolding pairsOn holds
   pairs-cons e es true h = ap (λ (b : Bool). holds (cond b (loOf w e ∷ hiOf w e ∷ pairsOn g es r w) (pairsOn g es r w)) p) h

@@ -2,9 +2,12 @@
 -- log commit decides 9 and 10 before it writes anything.
 use mathlib.Core.Bool.{Bool, true, false, cond, not, _&&_, _||_}
 use mathlib.Core.List.{List, [], _∷_, _++_}
-use Prim.Native.Nat.{ℕ, suc}
+use Prim.Native.Nat.{ℕ, suc, _+_}
 use lib.Ieee.{Float, lt, eq}
 use Rattle.spans.specs.Spans.{holds}
+use Rattle.runs.specs.Grid.{DexelGrid}
+use Rattle.runs.specs.Logs.{Ray, Kind, possible, certain, Entry, outer, inner, pairsOn}
+use Rattle.runs.specs.Model.{sumTo, sumOver}
 
 -- a pair of the list has a point in [lo, hi), where lo < hi
 unfoldable pub meets : Float → Float → List Float → Bool
@@ -45,3 +48,26 @@ distinct test (x ∷ l) = cond (test x && not (among x l)) (suc (distinct test l
 unfoldable pub startsLeft : List Float → List Float → ℕ
 unfolding distinct losOf hisOf holds
 startsLeft l hits = distinct (λ x. holds l x && not (holds hits x)) (losOf l ++ hisOf hits)
+
+-- ---- the same for all rays, with the lists of a sound store
+
+-- the pairs whose points a log takes from a list
+unfoldable pub hitsOn : (g : DexelGrid) → List Entry → Ray g → Kind → List Float
+unfolding pairsOn
+hitsOn g es r possible = pairsOn g es r inner
+hitsOn g es r certain = pairsOn g es r outer ++ pairsOn g es r inner
+
+-- a list of the ray would change
+unfoldable pub changesRay : (g : DexelGrid) → (Ray g → Kind → List Float) → List Entry → Ray g → Bool
+unfolding hitBy hitsOn
+changesRay g lists es r = hitBy (lists r possible) (hitsOn g es r possible) || hitBy (lists r certain) (hitsOn g es r certain)
+
+-- how many rays would change
+unfoldable pub raysChanged : (g : DexelGrid) → (Ray g → Kind → List Float) → List Entry → ℕ
+unfolding changesRay sumTo
+raysChanged g lists es = sumOver g (λ r. cond (changesRay g lists es r) 1 0)
+
+-- how many pairs all lists would then have
+unfoldable pub pairsLeft : (g : DexelGrid) → (Ray g → Kind → List Float) → List Entry → ℕ
+unfolding startsLeft hitsOn sumTo
+pairsLeft g lists es = sumOver g (λ r. startsLeft (lists r possible) (hitsOn g es r possible) + startsLeft (lists r certain) (hitsOn g es r certain))
