@@ -1,4 +1,4 @@
--- `root::wide_root` meets its contract: `Halves` with a lower half of 27 digits. Assumes nothing.
+-- `doubles::root::wide_root` meets its contract: `Halves` with a lower half of 27 digits. Assumes nothing.
 use mathlib.Core.Path.{_≡_, sym, subst}
 use Prim.Native.Nat.{ℕ, _+_, _-_, _*_, _/_, _%_, _^_, _≤_, _<_}
 use native.Mathlib.Nat.{mod-lt, div-add-mod', mul-le-mul}
@@ -8,8 +8,8 @@ use Rattle.doubles.specs.Root.{wholeRoot}
 use Rattle.doubles.specs.Radicand.{RootOf}
 use Rattle.doubles.proofs.WholeRoot.{IsRoot, whole-root, root-unique}
 use Rattle.doubles.proofs.Halves.{low-le, whole, less}
-use Rattle.doubles.proofs.wide_root.Statement.{statement}
-use Rattle.doubles.proofs.wide_root.Tie as tie
+use Rattle.doubles.proofs.root.wide_root.Statement.{statement}
+use Rattle.doubles.proofs.root.wide_root.Tie as tie
 
 -- the remainder of m, with 27 digits after it; its quotient and remainder by twice the root
 abbrev rest : ℕ → ℕ → ℕ
