@@ -1,3 +1,4 @@
+pub mod Bools
 pub mod Order
 pub mod Whole
 pub mod Pick
@@ -11,4 +12,4 @@ pub mod Halves
 pub mod Scale
 pub mod Result
 pub mod Nearest
-pub mod RootExamples
+pub mod Greatest

@@ -1,0 +1,53 @@
+-- Laws of Bool that several crates use: what a test made of tests says of each.
+use mathlib.Core.Path.{_≡_, refl, sym, _∙_}
+use mathlib.Core.Logic.{_⊎_, inl, inr}
+use mathlib.Core.Bool.{Bool, true, false, not, _&&_, _||_, true≢false, false≢true}
+
+pub or-cases : (a b : Bool) → (a || b) ≡ true → (a ≡ true) ⊎ (b ≡ true)
+or-cases true b h = inl refl
+or-cases false b h = inr h
+
+pub or-left : (a b : Bool) → a ≡ true → (a || b) ≡ true
+or-left true b h = refl
+or-left false b h = absurd (false≢true h)
+
+pub or-right : (a b : Bool) → b ≡ true → (a || b) ≡ true
+or-right true b h = refl
+or-right false b h = h
+
+pub and-left : (a b : Bool) → (a && b) ≡ true → a ≡ true
+and-left true b h = refl
+and-left false b h = absurd (false≢true h)
+
+pub and-right : (a b : Bool) → (a && b) ≡ true → b ≡ true
+and-right true b h = h
+and-right false b h = absurd (false≢true h)
+
+pub both : (a b : Bool) → a ≡ true → b ≡ true → (a && b) ≡ true
+both true b h k = k
+both false b h k = absurd (false≢true h)
+
+pub and-false : (a b : Bool) → b ≡ false → (a && b) ≡ false
+and-false true b h = h
+and-false false b h = refl
+
+pub not-true : (a : Bool) → not a ≡ true → a ≡ false
+not-true true h = absurd (false≢true h)
+not-true false h = refl
+
+pub not-false : (a : Bool) → not a ≡ false → a ≡ true
+not-false true h = refl
+not-false false h = absurd (true≢false h)
+
+pub clash : (a : Bool) → a ≡ true → a ≡ false → ⊥
+clash a h k = true≢false (sym h ∙ k)
+
+pub by-cases : (a : Bool) → (a ≡ true) ⊎ (a ≡ false)
+by-cases true = inl refl
+by-cases false = inr refl
+
+-- two tests that imply each other are one
+pub same-if : (a b : Bool) → (a ≡ true → b ≡ true) → (b ≡ true → a ≡ true) → a ≡ b
+same-if true b f g = sym (f refl)
+same-if false true f g = g refl
+same-if false false f g = refl
