@@ -12,4 +12,4 @@ pub mod Halves
 pub mod Scale
 pub mod Result
 pub mod Nearest
-pub mod RootExamples
+pub mod Greatest

@@ -1,4 +1,4 @@
--- `root::sqrt` meets its contract. Assumes nothing.
+-- `doubles::sqrt` meets its contract. Assumes nothing.
 use mathlib.Core.Path.{_≡_, refl, sym, ap, _∙_, subst}
 use Prim.Native.Nat.{ℕ}
 use mathlib.Core.Bool.{false, not, true≢false}
