@@ -10,7 +10,8 @@ use lib.ListN.{length}
 use lib.Ieee.{Float}
 use Rattle.doubles.proofs.Bools.{and-left, and-right, both, not-true, clash, by-cases}
 use Rattle.spans.specs.Spans.{holds, equal, ListOf}
-use Rattle.runs.specs.Grid.{DexelStockSpec, DexelGrid}
+use Rattle.grid.specs.declared.DexelStockSpec.{DexelStockSpec}
+use Rattle.grid.specs.declared.DexelGrid.{DexelGrid}
 use Rattle.runs.specs.Logs.{Ray, Kind, possible, certain, inner, outer, Lies, Alike, entries, taken, Commit}
 use Rattle.runs.specs.Model.{Sets, without, pairs, Lent, Answer, changed, refused, Model, step, Modelled, ended, accepted}
 use Rattle.runs.specs.Runs.{Reading, points, Cut, Left, Committed, Run, done, next, start, Settled, Agree, Demand3}

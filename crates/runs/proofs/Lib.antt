@@ -1,5 +1,6 @@
 pub mod Hits
 pub mod Unique
+pub mod Naming
 pub mod Demand3
 pub mod Meets
 pub mod Starts

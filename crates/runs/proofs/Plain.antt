@@ -8,7 +8,8 @@ use Prim.Native.Nat.{ℕ, suc}
 use lib.Ieee.{Float}
 use Rattle.doubles.proofs.Bools.{or-right, and-left, and-right, both, by-cases, clash, not-true}
 use Rattle.spans.specs.Spans.{holds, sound, ListOf}
-use Rattle.runs.specs.Grid.{DexelStockSpec, DexelGrid}
+use Rattle.grid.specs.declared.DexelStockSpec.{DexelStockSpec}
+use Rattle.grid.specs.declared.DexelGrid.{DexelGrid}
 use Rattle.runs.specs.Logs.{Ray, Kind, possible, certain, Entry, entries, outer, inner, pairsOn, taken, Commit}
 use Rattle.runs.specs.Model.{Sets, without, pairs, Lent, Answer, changed, refused, causes, Judged}
 use Rattle.runs.specs.Counts.{hitsOn, raysChanged}

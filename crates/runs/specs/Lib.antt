@@ -1,4 +1,3 @@
-pub mod Grid
 pub mod Logs
 pub mod Model
 pub mod Runs

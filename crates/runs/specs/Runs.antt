@@ -7,7 +7,8 @@ use Prim.Native.Nat.{ℕ, suc, _+_}
 use lib.ListN.{length}
 use lib.Ieee.{Float}
 use Rattle.spans.specs.Spans.{holds, sound, equal, ListOf}
-use Rattle.runs.specs.Grid.{DexelStockSpec, DexelGrid}
+use Rattle.grid.specs.declared.DexelStockSpec.{DexelStockSpec}
+use Rattle.grid.specs.declared.DexelGrid.{DexelGrid}
 use Rattle.runs.specs.Logs.{Ray, Kind, possible, certain, outer, inner, Lies, Alike, entries, Commit}
 use Rattle.runs.specs.Model.{Sets, without, pairs, Lent, Answer, changed, refused, Judged, Model, Modelled, ended, accepted}
 
