@@ -2,3 +2,4 @@ pub mod Logs
 pub mod Model
 pub mod Runs
 pub mod Counts
+pub mod Lent
