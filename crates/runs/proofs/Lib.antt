@@ -1,6 +1,8 @@
 pub mod Hits
 pub mod Unique
+pub mod Naming
 pub mod Demand3
+pub mod Lent
 pub mod Meets
 pub mod Starts
 pub mod Less
