@@ -7,11 +7,11 @@ use native.Mathlib.Nat.{le-trans, le-of-eq, mul-one, mul-right-comm, mul-le-mul-
 use native.Mathlib.Omega.{arith}
 use lib.Dec.{T}
 use lib.IntN.{ℤ}
-use lib.Ieee.{Float, nan, inf, fin, binary64, up, down, le, neg, fits, isNan}
+use lib.Ieee.{Float, nan, inf, fin, binary64, up, down, le, neg, fits}
 use lib.Ieee.Fits.{down-pos, round-fits, neg-fits}
 use lib.Ieee.Exact.{HasValue}
-use Rattle.doubles.specs.Doubles.{Number, ceilDiv, floorOf, ceilOf, Whole, FloorOf, CeilOf}
-use Rattle.doubles.proofs.Order.{side, le→side, side→le, le-neg, fin-number}
+use Rattle.doubles.specs.Doubles.{ceilDiv, floorOf, ceilOf, Whole, FloorOf, CeilOf}
+use Rattle.doubles.proofs.Order.{le→side, side→le, le-neg, fin-number}
 use Rattle.doubles.proofs.Whole.{exact-div, ceil-below, floor-exact, floor-le, ceil-is}
 
 -- ---- whole numbers c and q, with a and b the sizes of the doubles that hold them over the denominators d and j
