@@ -1,0 +1,2 @@
+-- The definitions that the contracts of `tridexel_inner` cite.
+pub mod Orderings
