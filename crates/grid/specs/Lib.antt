@@ -1,3 +1,4 @@
 pub mod Axes
 pub mod Grid
 pub mod Rays
+pub mod Causes
