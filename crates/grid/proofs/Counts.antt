@@ -103,14 +103,14 @@ unfolding cellsOf
 cells-whole extent size = cells-up (div binary64 extent size) (div-fits binary64 extent size)
 
 -- as a count: the whole number, or the largest that the cast gives
-count-of : (x : Float) (n : ℕ) → HasValue x false n 1 → toUnsigned 64 x ≡ min n (2 ^ 64 - 1)
+pub count-of : (x : Float) (n : ℕ) → HasValue x false n 1 → toUnsigned 64 x ≡ min n (2 ^ 64 - 1)
 unfolding toUnsigned
 count-of nan n v = absurd v
 count-of (inf s) n v = absurd v
 count-of (fin true m e) n v = absurd (true≢false (v .0))
 count-of (fin false m e) n v = ap (λ (k : ℕ). min k (2 ^ 64 - 1)) (ap (λ (k : ℕ). k / down e) (sym (mul-one (m * up e)) ∙ v .1) ∙ mul-div-cancel n (down-pos e))
 
-above-inf : (i : ℕ) → i ≤ 2 ^ 53 → lt (whole i) (inf false) ≡ true
+pub above-inf : (i : ℕ) → i ≤ 2 ^ 53 → lt (whole i) (inf false) ≡ true
 above-inf i h = go (whole i) (value i h)
   where
     go : (x : Float) → HasValue x false i 1 → lt x (inf false) ≡ true

@@ -11,8 +11,8 @@ use lib.ListN.{length, getD}
 use lib.IntN.{ℤ}
 use lib.Ieee.{Float, nan, inf, fin, binary64, ofBits, neg, lt, le, eq, isNan}
 use lib.Ieee.Scale.{finite}
-use Rattle.doubles.specs.Doubles.{Number}
-use Rattle.doubles.proofs.Order.{not-le→lt, lt→not-le, fin-number, nan-none, le-number}
+use Rattle.doubles.specs.Doubles.{Number, absOf}
+use Rattle.doubles.proofs.Order.{not-le→lt, lt→not-le, fin-number, nan-none, le-number, le-neg, side→le}
 use Rattle.grid.specs.Axes.{byDigit, byAxis, worldAxis, alongOf}
 use Rattle.grid.specs.Grid.{micro, leastSize, million, within, allWithin, anyBelow, anyAbove, isMm, extentsOf, misdescribed}
 use Rattle.grid.specs.Causes.{mm, OutOf, Misdescribed, version-not-1, units-not-mm, min-out, max-out, size-out, no-rays, too-many-rays, no-intervals, thin}
@@ -89,7 +89,17 @@ pub not-above : (p : Vec3) (limit : Float) → anyAbove p limit ≡ false → (a
 unfolding anyAbove
 not-above p limit = no-axis (λ x. lt limit x) p
 
+and-true : (b : Bool) → (b && true) ≡ b
+and-true true = refl
+and-true false = refl
+
 -- ---- within bounds
+
+pub finite-number : (x : Float) → finite x ≡ true → Number x
+unfolding isNan
+finite-number nan h = absurd (true≢false (sym h))
+finite-number (inf s) h = refl
+finite-number (fin s m e) h = refl
 
 pub between-finite : (lo hi x : Float) → finite lo ≡ true → finite hi ≡ true → le lo x ≡ true → le x hi ≡ true → finite x ≡ true
 unfolding le lt eq
@@ -118,6 +128,17 @@ module _ (lo hi : Float) where
   not-out f g x h (inl i) = let b = and-both (le lo x) (le x hi) h in true≢false (sym (between-finite lo hi x f g (b .0) (b .1)) ∙ i)
   not-out f g x h (inr (inl l)) = true≢false (sym (and-both (le lo x) (le x hi) h .0) ∙ lt→not-le x lo l)
   not-out f g x h (inr (inr l)) = true≢false (sym (and-both (le lo x) (le x hi) h .1) ∙ lt→not-le hi x l)
+
+-- the Rust's own test of a bound: finite, and at most 1e6 in size
+pub bound-test : (x : Float) → (finite x && le (absOf x) million) ≡ within x (neg million) million
+unfolding within absOf ofBits neg
+bound-test nan = unfold le lt eq in refl
+bound-test (inf true) = unfold le lt eq in refl
+bound-test (inf false) = unfold le lt eq in refl
+bound-test (fin false m e) = sym (ap (λ (b : Bool). b && le (fin false m e) million) (side→le (neg million) (fin false m e) (finite-number (neg million) refl) (fin-number false m e) (omega arith)))
+bound-test (fin true m e) =
+    sym (le-neg million (fin false m e)) ∙ sym (and-true (le (neg million) (fin true m e)))
+    ∙ ap (λ (b : Bool). le (neg million) (fin true m e) && b) (sym (side→le (fin true m e) million (fin-number true m e) (finite-number million refl) (omega arith)))
 
 -- ---- the units
 
@@ -152,12 +173,6 @@ low-finite = refl
 size-finite : finite leastSize ≡ true
 unfolding ofBits
 size-finite = refl
-
-pub finite-number : (x : Float) → finite x ≡ true → Number x
-unfolding isNan
-finite-number nan h = absurd (true≢false (sym h))
-finite-number (inf s) h = refl
-finite-number (fin s m e) h = refl
 
 out-axis : (p : Vec3) (lo hi : Float) → finite lo ≡ true → finite hi ≡ true → allWithin p lo hi ≡ false → (a : WorldAxis) × OutOf lo hi (alongOf p a)
 unfolding allWithin byDigit

@@ -42,7 +42,7 @@ million-sized (fin true m e) h k = let l = le→side (neg million) (fin true m e
 
 -- ---- rounding
 
-at-most : (w : Float) (k m : ℕ) (e : ℤ) → HasValue w false k 1 → le (fin false m e) w ≡ true → m * up e ≤ k * down e
+pub at-most : (w : Float) (k m : ℕ) (e : ℤ) → HasValue w false k 1 → le (fin false m e) w ≡ true → m * up e ≤ k * down e
 at-most nan k m e v h = absurd v
 at-most (inf s) k m e v h = absurd v
 at-most (fin true n d) k m e v h = absurd (true≢false (v .0))

@@ -6,3 +6,5 @@ pub mod Described
 pub mod Causes
 pub mod Extents
 pub mod Facts
+pub mod Examples
+pub mod Lookup
