@@ -32,11 +32,11 @@ past-first x (a ∷ b ∷ l) p r h = ⊎-elim
     (or-cases (within a b p) (holds l p) h)
 
 -- ---- the list from its first pair that does not end below x
-from-skip : (x a b : Float) (l : List Float) → lt b x ≡ true → from x (a ∷ b ∷ l) ≡ from x l
+pub from-skip : (x a b : Float) (l : List Float) → lt b x ≡ true → from x (a ∷ b ∷ l) ≡ from x l
 unfolding from
 from-skip x a b l h = ap (λ (t : Bool). cond t (from x l) (a ∷ b ∷ l)) h
 
-from-stop : (x a b : Float) (l : List Float) → lt b x ≡ false → from x (a ∷ b ∷ l) ≡ a ∷ b ∷ l
+pub from-stop : (x a b : Float) (l : List Float) → lt b x ≡ false → from x (a ∷ b ∷ l) ≡ a ∷ b ∷ l
 unfolding from
 from-stop x a b l h = ap (λ (t : Bool). cond t (from x l) (a ∷ b ∷ l)) h
 
