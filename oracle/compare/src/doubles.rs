@@ -9,6 +9,7 @@ use std::cmp::Ordering;
 unsafe extern "C" {
     pub safe fn tridexel_inner_larger(a: f64, b: f64) -> f64;
     pub safe fn tridexel_inner_smaller(a: f64, b: f64) -> f64;
+    pub safe fn tridexel_inner_clamp(x: f64, lo: f64, hi: f64) -> f64;
     pub safe fn tridexel_inner_floor(x: f64) -> f64;
     pub safe fn tridexel_inner_ceil(x: f64) -> f64;
     pub safe fn tridexel_inner_abs(x: f64) -> f64;
@@ -83,6 +84,21 @@ fn pair(g: &mut Gen) -> (f64, f64) {
     (a, b)
 }
 
+/// A number and bounds that Rust's `clamp` takes: it panics where one is a NaN or they are reversed.
+fn bounded(g: &mut Gen) -> (f64, f64, f64) {
+    let (a, b) = (g.point(), g.point());
+    let x = match g.below(4) {
+        0 => g.pick(&[a, b]),
+        _ => g.double(),
+    };
+    if a <= b { (x, a, b) } else { (x, b, a) }
+}
+
+fn bounded_edges() -> Vec<(f64, f64, f64)> {
+    let bounds = edge_pairs().into_iter().filter(|(lo, hi)| lo <= hi);
+    bounds.flat_map(|(lo, hi)| edges().into_iter().map(move |x| (x, lo, hi))).collect()
+}
+
 /// Near whole numbers, halves and the powers of two where doubles become whole or leave 64 bits.
 fn whole(g: &mut Gen) -> f64 {
     let x = match g.below(4) {
@@ -117,6 +133,9 @@ pub fn functions() -> Vec<Function> {
     vec![
         Function::new("larger", edge_pairs(), pair, |(a, b)| zeros_first(*a, *b, a.max(*b), tridexel_inner_larger(*a, *b))),
         Function::new("smaller", edge_pairs(), pair, |(a, b)| zeros_first(*a, *b, a.min(*b), tridexel_inner_smaller(*a, *b))),
+        Function::new("clamp", bounded_edges(), bounded, |(x, lo, hi)| {
+            doubles(x.clamp(*lo, *hi), tridexel_inner_clamp(*x, *lo, *hi)) //
+        }),
         one("floor", whole, f64::floor, tridexel_inner_floor),
         one("ceil", whole, f64::ceil, tridexel_inner_ceil),
         one("abs", Gen::double, f64::abs, tridexel_inner_abs),
