@@ -21,7 +21,7 @@ fn options() -> Option<Options> {
     let mut words = std::env::args().skip(1);
     while let Some(w) = words.next() {
         match w.as_str() {
-            "--quick" => o.count = 100_000,
+            "--quick" => o.count = 300_000,
             "--only" => o.only = Some(words.next()?),
             "--case" => o.case = Some(words.next()?.parse().ok()?),
             n => numbers.push(n.parse().ok()?),
