@@ -82,16 +82,12 @@ fn written<const N: usize>(
     let mut count = POISON as usize;
     let code = call(std::array::from_fn(|i| lent[i].read()), out.cells(), &mut count);
     let kept = lent.iter().zip(lists).all(|(l, before)| l.untouched(before));
-    let outcome = |rust| Outcome::Different {
-        rust,
-        port: format!("{code}, pairs {count}, buffer {}{}", out.read().words(), if kept { "" } else { ", an input was written" }),
-    };
-    match due {
+    let (meant, rust) = match due {
         Due::Refused(number) => {
             if code == number && count == POISON as usize && out.untouched(&[]) && kept {
                 return Outcome::Same;
             }
-            outcome(format!("{number}, nothing written"))
+            (None, format!("{number}, nothing written"))
         }
         Due::List(list) => {
             let want = flat(&list);
@@ -100,12 +96,12 @@ fn written<const N: usize>(
             if laid && cells().all(|(w, c)| w.to_bits() == c.to_bits()) {
                 return Outcome::Same;
             }
-            if laid && cells().all(|(w, c)| same(*w, *c)) {
-                return Outcome::Meant(Explained::Zeros);
-            }
-            outcome(format!("0, pairs {}, list {}, zeros past it", list.len(), want.words()))
+            let meant = (laid && cells().all(|(w, c)| same(*w, *c))).then_some(Explained::Zeros);
+            (meant, format!("0, pairs {}, list {}, zeros past it", list.len(), want.words()))
         }
-    }
+    };
+    let written = if kept { "" } else { ", an input was written" };
+    Outcome::differs(meant, rust, format!("{code}, pairs {count}, buffer {}{written}", out.read().words()))
 }
 
 /// Calls a yes-or-no function of two lists.
@@ -117,7 +113,7 @@ fn told(a: &[f64], b: &[f64], rust: fn(&[Pair], &[Pair]) -> bool, port: fn(&[f64
     if (code, yes) == due && lent[0].untouched(a) && lent[1].untouched(b) {
         return Outcome::Same;
     }
-    Outcome::Different { rust: format!("{}, answer {:x}", due.0, due.1), port: format!("{code}, answer {yes:x}") }
+    Outcome::differs(None, format!("{}, answer {:x}", due.0, due.1), format!("{code}, answer {yes:x}"))
 }
 
 /// A list and the doubles of the result buffer.
