@@ -21,38 +21,28 @@ unsafe extern "C" {
     pub safe fn tridexel_inner_total_cmp(a: f64, b: f64) -> u32;
 }
 
-fn different<T: Words>(rust: T, port: T) -> Outcome {
-    Outcome::Different { rust: rust.words(), port: port.words() }
+/// Equal in every bit, or a difference that `meant` explains.
+fn judge<T: Words>(rust: T, port: T, meant: Option<Explained>) -> Outcome {
+    let (rust, port) = (rust.words(), port.words());
+    if rust == port { Outcome::Same } else { Outcome::differs(meant, rust, port) }
 }
 
-/// Equal in every bit, or NaNs of other bits.
+/// NaNs of other bits are meant.
 fn doubles(rust: f64, port: f64) -> Outcome {
-    if rust.to_bits() == port.to_bits() {
-        Outcome::Same
-    } else if rust.is_nan() && port.is_nan() {
-        Outcome::Meant(Explained::OneNan)
-    } else {
-        different(rust, port)
-    }
+    judge(rust, port, (rust.is_nan() && port.is_nan()).then_some(Explained::OneNan))
 }
 
 /// As `doubles`; where both arguments are zeros, the port's answer is the first.
 fn zeros_first(a: f64, b: f64, rust: f64, port: f64) -> Outcome {
-    if a == 0. && b == 0. && port.to_bits() == a.to_bits() && rust.to_bits() != port.to_bits() {
-        return Outcome::Meant(Explained::Zeros);
+    if a == 0. && b == 0. && port.to_bits() == a.to_bits() {
+        return judge(rust, port, Some(Explained::Zeros));
     }
     doubles(rust, port)
 }
 
-/// Equal, or where an argument is a NaN, the port's answer is that of the one NaN.
+/// Where an argument is a NaN, the port's answer is that of the one NaN.
 fn one_nan(any_nan: bool, rust: u64, of_one_nan: u64, port: u64) -> Outcome {
-    if any_nan && port == of_one_nan && rust != port {
-        Outcome::Meant(Explained::OneNan)
-    } else if rust == port {
-        Outcome::Same
-    } else {
-        different(rust, port)
-    }
+    judge(rust, port, (any_nan && port == of_one_nan).then_some(Explained::OneNan))
 }
 
 /// The place of x in the `total_cmp` order, counted from 0: Rust's own key, a signed number, moved up by 2^63.
