@@ -7,11 +7,11 @@ ghost use lib.Ieee.{binary64, ofBits, lt, le};
 ghost use Rattle.spans.specs.Spans.{sound, equal};
 ghost use Rattle.store.specs.Store.{places, loAt, hiAt};
 ghost use Rattle.validity.specs.Ray.{ValidRay, bounded, contained};
-ghost use Rattle.lists.specs.Reading.{listFrom, Readable, lengthFrom, Copied, Reaches};
+ghost use Rattle.lists.specs.Reading.{listFrom, Linked, Readable, lengthFrom, Copied, Reaches};
 
 // How many pairs the list has.
-pub fn list_pairs(spans: &[f64], links: &[u64], n: usize, head: u64) -> usize
-    requires { ⌜ Readable n (now spans) (now links) head ⌝ }
+pub fn list_pairs(links: &[u64], n: usize, head: u64) -> usize
+    requires { ⌜ Linked n (now links) head ⌝ }
     ensures { λ r. ⌜ r ≡ length (places (now (links .entry)) n head) ⌝ }
 {
     let mut c: usize = 0;
@@ -103,14 +103,7 @@ fn pair_between(spans: &[f64], i: usize, low: f64, high: f64) -> bool
 }
 
 // Whether the list is sound and within the bounds.
-pub fn sound_between(
-    spans: &[f64],
-    links: &[u64],
-    n: usize,
-    head: u64,
-    low: f64,
-    high: f64,
-) -> bool
+pub fn sound_between(spans: &[f64], links: &[u64], n: usize, head: u64, low: f64, high: f64) -> bool
     requires { ⌜ Readable n (now spans) (now links) head ⌝ }
     ensures { λ r. ⌜ r ≡ (sound (listFrom n (now (spans .entry)) (now (links .entry)) head) && bounded low high (listFrom n (now (spans .entry)) (now (links .entry)) head)) ⌝ }
 {
