@@ -8,3 +8,4 @@ pub mod Starts
 pub mod Less
 pub mod Decided
 pub mod Plain
+pub mod Examples
