@@ -22,11 +22,12 @@ use Rattle.grid.specs.declared.DexelStockSpec.{DexelStockSpec}
 use Rattle.grid.specs.declared.DexelGrid.{DexelGrid}
 use Rattle.grid.specs.declared.Gridded.the-variants.{Accepted}
 use Rattle.store.specs.Store.{usedAt, places, Chain, ends, more, placesOf, chained, endsAt}
+use Rattle.validity.specs.Ray.{bounded, ValidRay}
 use Rattle.runs.specs.Logs.{Ray, Kind, possible, certain, entries, namesOne, Commit}
 use Rattle.runs.specs.Model.{Answer, changed, refused, causes, Judged}
 use Rattle.runs.specs.Counts.{hitsOn, raysChanged}
 use Rattle.runs.specs.Runs.{points, Left, Committed, Run, done, next, Settled}
-use Rattle.runs.specs.Lent.{bounded, ValidRay, Stock, listIn, SoundStock, lentStore}
+use Rattle.runs.specs.Lent.{Stock, listIn, SoundStock, lentStore}
 use Rattle.runs.proofs.Unique.{judged-unsound}
 use Rattle.runs.proofs.Less.{less}
 use Rattle.runs.proofs.Decided.{tests, answerBy, judged, left-list}

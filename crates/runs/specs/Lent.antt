@@ -1,31 +1,16 @@
 -- How a run reads the lent store: the cells that crate `store` defines, and the small record beside them.
-use mathlib.Core.Path.{_≡_}
-use mathlib.Core.Bool.{Bool, true, _&&_}
-use mathlib.Core.List.{List, [], _∷_}
+use mathlib.Core.List.{List}
 use Prim.Native.Nat.{ℕ, _+_, _*_, _/_, min}
 use lib.ListN.{length}
-use lib.Ieee.{Float, le}
-use Rattle.spans.specs.Spans.{holds, sound}
+use lib.Ieee.{Float}
 use Rattle.grid.specs.Rays.{rayCount, boundsOf}
 use Rattle.grid.specs.declared.DexelStockSpec.{DexelStockSpec}
 use Rattle.grid.specs.declared.DexelGrid.{DexelGrid}
 use Rattle.store.specs.Store.{listOf, Sound}
 use Rattle.store.specs.Updates.{Cells}
+use Rattle.validity.specs.Ray.{ValidRay}
 use Rattle.runs.specs.Logs.{Ray, Kind, possible, certain}
 use Rattle.runs.specs.Runs.{Reading}
-
--- each end is at least lo and at most hi
-unfoldable pub bounded : Float → Float → List Float → Bool
-bounded lo hi [] = true
-bounded lo hi (e ∷ l) = le lo e && (le e hi && bounded lo hi l)
-
--- document 01's valid ray: both its lists are sound and within its bounds, and certain lies within possible
-pub record ValidRay (lo hi : Float) (possible certain : List Float) : Type 0 where
-  pub possible-sound : sound possible ≡ true
-  pub certain-sound : sound certain ≡ true
-  pub possible-bounded : bounded lo hi possible ≡ true
-  pub certain-bounded : bounded lo hi certain ≡ true
-  pub inside : (p : Float) → holds certain p ≡ true → holds possible p ≡ true
 
 -- Document 01's store and small record. With a description that `grid` accepts they are a stock.
 pub record Stock : Type 0 where
