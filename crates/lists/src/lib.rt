@@ -103,14 +103,7 @@ fn pair_between(spans: &[f64], i: usize, low: f64, high: f64) -> bool
 }
 
 // Whether the list is sound and within the bounds.
-pub fn sound_between(
-    spans: &[f64],
-    links: &[u64],
-    n: usize,
-    head: u64,
-    low: f64,
-    high: f64,
-) -> bool
+pub fn sound_between(spans: &[f64], links: &[u64], n: usize, head: u64, low: f64, high: f64) -> bool
     requires { ⌜ Readable n (now spans) (now links) head ⌝ }
     ensures { λ r. ⌜ r ≡ (sound (listFrom n (now (spans .entry)) (now (links .entry)) head) && bounded low high (listFrom n (now (spans .entry)) (now (links .entry)) head)) ⌝ }
 {
