@@ -2,7 +2,7 @@
 use mathlib.Core.Path.{_≡_, refl, sym, ap, _∙_}
 use mathlib.Core.Bool.{Bool, true, false, not, _&&_}
 use mathlib.Core.List.{List, [], _∷_}
-use Prim.Native.Nat.{ℕ, suc, _-_, _%_}
+use Prim.Native.Nat.{ℕ, _-_, _%_}
 use native.Mathlib.Omega.{arith}
 use lib.Dec.{eqb}
 use lib.Ieee.{Float, lt, le}
@@ -10,7 +10,7 @@ use lib.ListN.{length}
 use borrow.Author.Tests.{eq-eqb, eqb-true}
 use Rattle.doubles.proofs.Bools.{and-left, and-right, and-false, both, same-if, clash, not-true, not-false}
 use Rattle.doubles.proofs.Order.{lt→le, le-trans}
-use Rattle.spans.specs.Spans.{leads, rising, sound}
+use Rattle.spans.specs.Spans.{rising, sound}
 use Rattle.store.specs.Store.{loAt, hiAt, nextAt}
 use Rattle.validity.specs.Ray.{bounded, contained, valid, ValidRay}
 use Rattle.validity.proofs.Containment.{valid-ray, ray-valid}

@@ -1,25 +1,22 @@
 -- One turn and the end of each loop that reads a chain.
-use mathlib.Core.Path.{_≡_, refl, sym, ap, _∙_, subst}
-use mathlib.Core.Logic.{_⊎_, inl, inr, ⊎-elim}
-use mathlib.Core.Bool.{Bool, true, false, not, cond, _&&_}
-use mathlib.Core.List.{List, [], _∷_, _++_}
-use Prim.Native.Nat.{ℕ, zero, suc, _+_, _-_, _*_, _%_, _≤_, _<_}
-use native.Mathlib.Nat.{add-zero}
+use mathlib.Core.Path.{_≡_, refl, sym, ap, _∙_}
+use mathlib.Core.Bool.{Bool, true, false, _&&_}
+use mathlib.Core.List.{List, [], _∷_}
+use Prim.Native.Nat.{ℕ, zero, suc, _+_, _-_, _≤_, _<_}
 use native.Mathlib.Numerals.{add-one}
 use native.Mathlib.Omega.{arith}
 use lib.Dec.{eqb}
 use lib.Ieee.{Float, nan, binary64, add, sub, lt, le, eq}
-use lib.ListN.{length, getD, set, take, drop, length-set, length-drop}
-use lib.Seq.{sets, sets-eq, drop-cons, drop-length, drop-nil}
+use lib.ListN.{length, getD, set, drop, length-drop}
+use lib.Seq.{sets, sets-eq, drop-cons}
 use borrow.Author.Tests.{eq-eqb, ne-eqb, eqb-true}
-use Rattle.doubles.proofs.Bools.{and-left, and-right, both, same-if, and-false}
-use Rattle.doubles.proofs.Order.{lt→le, le-trans, lt-le-trans}
-use Rattle.spans.specs.Spans.{leads, rising, sound, equal}
-use Rattle.store.specs.Store.{loAt, hiAt, nextAt, places, endsAt}
-use Rattle.validity.specs.Ray.{bounded, from, covers, contained}
+use Rattle.doubles.proofs.Bools.{both, same-if, and-false}
+use Rattle.spans.specs.Spans.{equal}
+use Rattle.store.specs.Store.{loAt, hiAt, nextAt}
+use Rattle.validity.specs.Ray.{from, covers, contained}
 use Rattle.validity.proofs.Containment.{from-skip, from-stop}
-use Rattle.lists.specs.Reading.{listFrom, Readable, lengthFrom, Copied, Reaches}
-use Rattle.lists.proofs.Steps.{Step, step, no-places, no-ends, ends-length}
+use Rattle.lists.specs.Reading.{listFrom, lengthFrom, Copied, Reaches}
+use Rattle.lists.proofs.Steps.{Step, no-ends}
 
 -- ---- `list_length`
 length-cons : (sum lo hi : Float) (l : List Float) → lengthFrom sum (lo ∷ hi ∷ l) ≡ lengthFrom (add binary64 sum (sub binary64 hi lo)) l

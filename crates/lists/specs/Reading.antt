@@ -1,6 +1,5 @@
 -- Reading the lists of a store off their chains.
 use mathlib.Core.Path.{_≡_}
-use mathlib.Core.Bool.{true}
 use mathlib.Core.List.{List, [], _∷_, _++_}
 use Prim.Native.Nat.{ℕ, _+_, _*_, _≤_}
 use lib.ListN.{length, take, drop}
@@ -13,11 +12,15 @@ abbrev pub listFrom : ℕ → List Float → List ℕ → ℕ → List Float
 listFrom n spans links k = endsAt spans (places links n k)
 
 -- from record number k a chain of one owner runs over counted records, as from each head of a sound store
-pub record Readable (n : ℕ) (spans : List Float) (links : List ℕ) (k : ℕ) : Type 0 where
-  pub in-spans : 2 * n ≤ length spans
+pub record Linked (n : ℕ) (links : List ℕ) (k : ℕ) : Type 0 where
   pub in-links : 2 * n ≤ length links
   pub owner : ℕ
   pub chain : Chain links n owner k (places links n k)
+
+-- and the records have ends
+pub record Readable (n : ℕ) (spans : List Float) (links : List ℕ) (k : ℕ) : Type 0 where
+  pub in-spans : 2 * n ≤ length spans
+  pub linked : Linked n links k
 
 -- document 01's length of a list: the sum of the pairs' hi - lo in order, each operation rounded, begun with a given sum
 unfoldable pub lengthFrom : Float → List Float → Float

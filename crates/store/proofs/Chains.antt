@@ -4,16 +4,14 @@
 --     chained-distinct nor in all the chains together: the owner tells the lists apart
 --     chained-pass     each place in a chain is counted and in use
 use mathlib.Core.Path.{_≡_, refl, sym, ap, _∙_, subst}
-use mathlib.Core.Bool.{Bool, true, false, not, _&&_, and-false}
+use mathlib.Core.Bool.{true}
 use mathlib.Core.Logic.{_⊎_, inl, inr, ⊎-elim}
-use mathlib.Core.List.{List, [], _∷_, _++_, List·Memᴰ, List·Memᴰ·head, List·Memᴰ·tail, List·Memᴰ·cases-cons, List·Memᴰ·append-cases, List·Memᴰ·not-nil}
+use mathlib.Core.List.{List, _∷_, List·Memᴰ, List·Memᴰ·cases-cons, List·Memᴰ·append-cases, List·Memᴰ·not-nil}
 use Prim.Native.Nat.{ℕ, zero, suc, _+_, _-_, _≤_, _<_}
 use native.Mathlib.Omega.{arith}
-use lib.Dec.{eqb}
 use lib.Ieee.{Float}
 use lib.ListN.{length, getD}
-use borrow.Author.Tests.{ne-eqb}
-use Rattle.store.specs.Store.{isPlusZero, loAt, hiAt, nextAt, ownerAt, usedAt, places, Chain, ends, more, placesOf, chained}
+use Rattle.store.specs.Store.{nextAt, ownerAt, usedAt, places, Chain, ends, more, placesOf, chained}
 use Rattle.store.specs.Walks.{countTo}
 use Rattle.store.proofs.Records.{owned-used}
 use Rattle.store.proofs.Counting.{Distinct, Pass, distinct-append, distinct-le, count-max}

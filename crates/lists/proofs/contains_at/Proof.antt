@@ -9,9 +9,6 @@ use Rattle.lists.proofs.Steps.{step}
 use Rattle.lists.proofs.Loops.{none-left, starts-before, ends-after, lies-in, all-contained}
 use Rattle.lists.proofs.contains_at.Statement.{statement}
 use Rattle.lists.proofs.contains_at.Tie as tie
-use Rattle.lists.proofs.contains_at.Reads as reads
-use Rattle.lists.proofs.contains_at.Lts as lts
-use Rattle.lists.proofs.first_reaching.Reads as first-reaching-reads
 
 abbrev Inv-loop : tie.InvT-loop
 Inv-loop spans links n outer inner o₀ k₀ o k = Readable n spans links o × Readable n spans links k × (contained (listFrom n spans links outer) (listFrom n spans links inner) ≡ contained (listFrom n spans links o) (listFrom n spans links k))

@@ -9,8 +9,6 @@ use Rattle.lists.proofs.Steps.{step}
 use Rattle.lists.proofs.Loops.{reach-here, reach-later, reach-none}
 use Rattle.lists.proofs.first_reaching.Statement.{statement}
 use Rattle.lists.proofs.first_reaching.Tie as tie
-use Rattle.lists.proofs.first_reaching.Reads as reads
-use Rattle.lists.proofs.first_reaching.Lts as lts
 
 abbrev Inv-loop : tie.InvT-loop
 Inv-loop spans links n head x k₀ k = Readable n spans links k × (from x (listFrom n spans links head) ≡ from x (listFrom n spans links k))

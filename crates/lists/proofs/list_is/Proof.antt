@@ -11,8 +11,6 @@ use Rattle.lists.proofs.Steps.{step}
 use Rattle.lists.proofs.Loops.{is-few, is-other-lo, is-other-hi, is-same, is-end}
 use Rattle.lists.proofs.list_is.Statement.{statement}
 use Rattle.lists.proofs.list_is.Tie as tie
-use Rattle.lists.proofs.list_is.Reads as reads
-use Rattle.lists.proofs.list_is.Lts as lts
 
 abbrev Inv-loop : tie.InvT-loop
 Inv-loop spans links n head pairs t₀ k₀ t k = Readable n spans links k × (t ≤ length pairs) × (equal (listFrom n spans links head) pairs ≡ equal (listFrom n spans links k) (drop t pairs))

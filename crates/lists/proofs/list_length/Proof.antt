@@ -8,8 +8,6 @@ use Rattle.lists.proofs.Steps.{step}
 use Rattle.lists.proofs.Loops.{length-step, length-end}
 use Rattle.lists.proofs.list_length.Statement.{statement}
 use Rattle.lists.proofs.list_length.Tie as tie
-use Rattle.lists.proofs.list_length.Reads as reads
-use Rattle.lists.proofs.list_length.Lts as lts
 
 abbrev Inv-loop : tie.InvT-loop
 Inv-loop spans links n head sum₀ k₀ sum k = Readable n spans links k × (lengthFrom (ofBits binary64 0) (listFrom n spans links head) ≡ lengthFrom sum (listFrom n spans links k))

@@ -5,42 +5,40 @@ use native.Mathlib.Omega.{arith}
 use lib.ListN.{length}
 use Rattle.store.specs.Store.{places}
 use Rattle.store.proofs.Chains.{places-within}
-use Rattle.lists.specs.Reading.{Readable}
-use Rattle.lists.proofs.Steps.{step, no-places}
+use Rattle.lists.specs.Reading.{Linked}
+use Rattle.lists.proofs.Steps.{link-step, no-places}
 use Rattle.lists.proofs.list_pairs.Statement.{statement}
 use Rattle.lists.proofs.list_pairs.Tie as tie
-use Rattle.lists.proofs.list_pairs.Reads as reads
-use Rattle.lists.proofs.list_pairs.Lts as lts
 
 abbrev Inv-loop : tie.InvT-loop
-Inv-loop spans links n head c₀ k₀ c k = Readable n spans links k × (c + length (places links n k) ≡ length (places links n head))
+Inv-loop links n head c₀ k₀ c k = Linked n links k × (c + length (places links n k) ≡ length (places links n head))
 
 abbrev μ-loop : tie.MeasureT-loop
-μ-loop spans links n head c₀ k₀ c k = length (places links n k)
+μ-loop links n head c₀ k₀ c k = length (places links n k)
 
 loop-holds : tie.Need-loop-holds Inv-loop μ-loop
 loop-holds c = (c .pre, omega arith)
 
 sub-i : tie.Need-sub-i Inv-loop μ-loop
-sub-i c = let h = step (c .before .loop .inv .0) (c .loop-test .taken) .counted in search needs
+sub-i c = let h = link-step (c .before .loop .inv .0) (c .loop-test .taken) .counted in search needs
 
 mul-k : tie.Need-mul-k Inv-loop μ-loop
-mul-k c = let h = step (c .before .loop .inv .0) (c .loop-test .taken) .counted in search needs
+mul-k c = let h = link-step (c .before .loop .inv .0) (c .loop-test .taken) .counted in search needs
 
 mul-k-2 : tie.Need-mul-k-2 Inv-loop μ-loop
-mul-k-2 c = let h = step (c .before .loop .inv .0) (c .loop-test .taken) .counted in search needs
+mul-k-2 c = let h = link-step (c .before .loop .inv .0) (c .loop-test .taken) .counted in search needs
 
 shared-slice-read-k : tie.Need-shared-slice-read-k Inv-loop μ-loop
-shared-slice-read-k c = let h = step (c .before .before .loop .inv .0) (c .before .loop-test .taken) .counted in search needs
+shared-slice-read-k c = let h = link-step (c .before .before .loop .inv .0) (c .before .loop-test .taken) .counted in search needs
 
 add-c : tie.Need-add-c Inv-loop μ-loop
-add-c c = omega (arith, c .before .before .loop .inv .1, step (c .before .before .loop .inv .0) (c .before .loop-test .taken) .less, places-within (c .before .before .before .args .links .now) (c .before .before .before .args .n) (c .before .before .before .args .head), c .before .before .loop .inv .0 .in-links)
+add-c c = omega (arith, c .before .before .loop .inv .1, link-step (c .before .before .loop .inv .0) (c .before .loop-test .taken) .less, places-within (c .before .before .before .args .links .now) (c .before .before .before .args .n) (c .before .before .before .args .head), c .before .before .loop .inv .0 .in-links)
 
 loop-less : tie.Need-loop-less Inv-loop μ-loop
-loop-less c = step (c .before .before .loop .inv .0) (c .before .loop-test .taken) .less
+loop-less c = link-step (c .before .before .loop .inv .0) (c .before .loop-test .taken) .less
 
 loop-again : tie.Need-loop-again Inv-loop μ-loop
-loop-again c = let s = step (c .before .before .loop .inv .0) (c .before .loop-test .taken) in (s .next, omega (arith, c .before .before .loop .inv .1, ap length (s .more)))
+loop-again c = let s = link-step (c .before .before .loop .inv .0) (c .before .loop-test .taken) in (s .next, omega (arith, c .before .before .loop .inv .1, ap length (s .more)))
 
 returns : tie.Need-returns Inv-loop μ-loop
 returns c = omega (arith, c .before .loop .inv .1, ap length (no-places (c .before .before .args .links .now) (c .before .before .args .n) _ (c .loop-test .left)))

@@ -3,8 +3,6 @@ use Rattle.store.specs.Store.{hiAt}
 use Rattle.lists.proofs.Bounds.{pair-third, pair-second, pair-first}
 use Rattle.lists.proofs.pair_between.Statement.{statement}
 use Rattle.lists.proofs.pair_between.Tie as tie
-use Rattle.lists.proofs.pair_between.Reads as reads
-use Rattle.lists.proofs.pair_between.Lts as lts
 
 mul-lo : tie.Need-mul-lo
 mul-lo c = search needs

@@ -10,8 +10,6 @@ use Rattle.lists.proofs.Steps.{step}
 use Rattle.lists.proofs.Loops.{copy-step, list-length-step, copy-end}
 use Rattle.lists.proofs.read_list.Statement.{statement}
 use Rattle.lists.proofs.read_list.Tie as tie
-use Rattle.lists.proofs.read_list.Reads as reads
-use Rattle.lists.proofs.read_list.Lts as lts
 
 abbrev Inv-loop : tie.InvT-loop
 Inv-loop spans links n head out₀ at t₀ k₀ out t k = Readable n spans links k × (length out ≡ length out₀) × (t + length (listFrom n spans links k) ≡ at + length (listFrom n spans links head)) × (sets out₀ at (listFrom n spans links head) ≡ sets out t (listFrom n spans links k))

@@ -8,9 +8,6 @@ use Rattle.lists.proofs.Steps.{step}
 use Rattle.lists.proofs.Bounds.{Between, follows, between-none, first-bad, first-good, next-meets, next-bad, next-good, follows-none}
 use Rattle.lists.proofs.sound_between.Statement.{statement}
 use Rattle.lists.proofs.sound_between.Tie as tie
-use Rattle.lists.proofs.sound_between.Reads as reads
-use Rattle.lists.proofs.sound_between.Lts as lts
-use Rattle.lists.proofs.pair_between.Reads as pair-between-reads
 
 abbrev Inv-loop : tie.InvT-loop
 Inv-loop spans links n head low high first last₀ k₀ last k = Readable n spans links k × (Between low high n spans links head ≡ follows low high last (listFrom n spans links k))

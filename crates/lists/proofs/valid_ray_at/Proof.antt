@@ -2,10 +2,6 @@ use borrow.Author.Needs.{needs}
 use Rattle.lists.proofs.Bounds.{possible-bad, certain-bad, both-good}
 use Rattle.lists.proofs.valid_ray_at.Statement.{statement}
 use Rattle.lists.proofs.valid_ray_at.Tie as tie
-use Rattle.lists.proofs.valid_ray_at.Reads as reads
-use Rattle.lists.proofs.valid_ray_at.Lts as lts
-use Rattle.lists.proofs.contains_at.Reads as contains-at-reads
-use Rattle.lists.proofs.sound_between.Reads as sound-between-reads
 
 sound-between-requires : tie.Need-sound-between-requires
 sound-between-requires c κs = search needs
