@@ -15,7 +15,9 @@ use lib.Ieee.{Float}
 use Rattle.doubles.proofs.Bools.{or-cases, or-left, or-right, by-cases, clash, not-true, not-false}
 use Rattle.refusal.specs.Refusal.{Cause, cause, Due, NoneDue}
 use Rattle.spans.specs.Spans.{within, holds, ListOf}
-use Rattle.runs.specs.Grid.{DexelStockSpec, DexelGrid, rayCount}
+use Rattle.grid.specs.Rays.{rayCount}
+use Rattle.grid.specs.declared.DexelStockSpec.{DexelStockSpec}
+use Rattle.grid.specs.declared.DexelGrid.{DexelGrid}
 use Rattle.runs.specs.Logs.{Ray, Kind, possible, certain, Entry, entries, entryCount, namesOne, names, HitKind, outer, inner, loOf, hiOf, pairsOn, taken, Commit}
 use Rattle.runs.specs.Model.{Sets, without, Changes, Count, none, counted, skipped, sumTo, sumOver, pairs, Intervals, Lent, Short, Bad, NoRay, TooManyRays, TooManyIntervals, causes, Answer, changed, refused, Judged}
 use Rattle.runs.specs.Counts.{hitBy, startsLeft, hitsOn, changesRay, raysChanged, pairsLeft}

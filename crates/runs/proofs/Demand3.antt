@@ -10,10 +10,11 @@ use lib.ListN.{length}
 use lib.Ieee.{Float}
 use Rattle.doubles.proofs.Bools.{and-left, and-right, both, not-true, clash, by-cases}
 use Rattle.spans.specs.Spans.{holds, equal, ListOf}
-use Rattle.runs.specs.Grid.{DexelStockSpec, DexelGrid}
+use Rattle.grid.specs.declared.DexelStockSpec.{DexelStockSpec}
+use Rattle.grid.specs.declared.DexelGrid.{DexelGrid}
 use Rattle.runs.specs.Logs.{Ray, Kind, possible, certain, inner, outer, Lies, Alike, entries, taken, Commit}
 use Rattle.runs.specs.Model.{Sets, without, pairs, Lent, Answer, changed, refused, Model, step, Modelled, ended, accepted}
-use Rattle.runs.specs.Runs.{Reading, points, Cut, Left, Committed, Run, done, next, start, Settled, Agree, Demand3}
+use Rattle.runs.specs.Runs.{Reading, Lawful, points, Cut, Left, Committed, Run, done, next, start, Settled, Agree, Demand3}
 use Rattle.runs.proofs.Hits.{takenBy, takenBy-none, takenBy-more, to-inner, of-inner, to-either, of-either, alike-take}
 use Rattle.runs.proofs.Unique.{one-list, pairs-same, judged-sound, modelled-unique}
 
@@ -95,9 +96,10 @@ module _ (spec : DexelStockSpec) (g : DexelGrid) (R : Reading g) where
   follows {s} done S = record { modelled = unfold Modelled in tt; sets = unfold ended start in refl; generation = unfold ended start in refl; sound = S }
   follows (next {s} {t} {u} {c} {a} {cs} {vs} x r) S = more s t u c a cs vs S x (λ T. follows r T)
 
-  -- ---- what follows from that
+-- ---- what follows from that
 
-  module _ (s : R .Store) (cs : List Commit) (vs : List Answer) (t : R .Store) (F : Follows (R .lent s) (start g R s) cs vs t) where
+module _ (spec : DexelStockSpec) (g : DexelGrid) (R : Reading g) (L : Lawful g R) where
+  module _ (s : R .Store) (cs : List Commit) (vs : List Answer) (t : R .Store) (F : Follows spec g R (R .lent s) (start g R s) cs vs t) where
     holding : (r : Ray g) (k : Kind) (p : Float) → holds (R .lists t r k) p ≡ (holds (R .lists s r k) p && not (takenBy g (accepted cs vs) r k p))
     unfolding points start
     holding r k p = ap (λ (z : Sets g). z r k p) (F .sets) ∙ closed g (start g R s) cs vs r k p
@@ -121,7 +123,7 @@ module _ (spec : DexelStockSpec) (g : DexelGrid) (R : Reading g) where
 
     list-of : (r : Ray g) (k : Kind) → ListOf (ended g (start g R s) cs vs .sets r k) (R .lists t r k)
     unfolding points
-    list-of r k = record { isSound = R .sound-list t (F .sound) r k; points = λ p. ap (λ (z : Sets g). z r k p) (F .sets) }
+    list-of r k = record { isSound = L .sound-list t (F .sound) r k; points = λ p. ap (λ (z : Sets g). z r k p) (F .sets) }
 
     settled : Settled spec g R s cs vs t
     settled = record {
@@ -129,7 +131,7 @@ module _ (spec : DexelStockSpec) (g : DexelGrid) (R : Reading g) where
       no-others = λ bs x. modelled-unique spec g (R .lent s) (start g R s) cs bs vs x (F .modelled);
       listed = list-of;
       only-list = λ r k l x. one-list (ended g (start g R s) cs vs .sets r k) l (R .lists t r k) x (list-of r k);
-      all-pairs = R .all-pairs t (F .sound);
+      all-pairs = L .all-pairs t (F .sound);
       model-generation = F .generation;
       generation = F .generation ∙ unfold start in grown g (start g R s) cs vs;
       possible-is = λ r p. (
@@ -144,12 +146,12 @@ module _ (spec : DexelStockSpec) (g : DexelGrid) (R : Reading g) where
         )),
         (λ x. still r certain p (x .0) (neither r p (x .1) (x .2))),
       );
-      certain-within = R .within t (F .sound);
+      certain-within = L .within t (F .sound);
       nothing-gains = kept;
       sound = F .sound;
     }
 
-  module _ (s t u : R .Store) (cs ds : List Commit) (vs ws : List Answer) (F : Follows (R .lent s) (start g R s) cs vs t) (G : Follows (R .lent s) (start g R s) ds ws u)
+  module _ (s t u : R .Store) (cs ds : List Commit) (vs ws : List Answer) (F : Follows spec g R (R .lent s) (start g R s) cs vs t) (G : Follows spec g R (R .lent s) (start g R s) ds ws u)
       (a : Alike g (accepted cs vs) (accepted ds ws)) where
     same-sets : (r : Ray g) (k : Kind) (p : Float) → holds (R .lists u r k) p ≡ holds (R .lists t r k) p
     same-sets r k p =
@@ -159,20 +161,20 @@ module _ (spec : DexelStockSpec) (g : DexelGrid) (R : Reading g) where
 
     same : (r : Ray g) (k : Kind) → equal (R .lists t r k) (R .lists u r k) ≡ true
     same r k =
-        one-list (holds (R .lists t r k)) (R .lists t r k) (R .lists u r k) (record { isSound = R .sound-list t (F .sound) r k; points = λ p. refl })
-        (record { isSound = R .sound-list u (G .sound) r k; points = same-sets r k })
+        one-list (holds (R .lists t r k)) (R .lists t r k) (R .lists u r k) (record { isSound = L .sound-list t (F .sound) r k; points = λ p. refl })
+        (record { isSound = L .sound-list u (G .sound) r k; points = same-sets r k })
 
     agree : Agree g R t u
     agree = record {
       same-lists = same;
-      same-total = R .all-pairs t (F .sound) ∙ pairs-same g (R .lists t) (R .lists u) same ∙ sym (R .all-pairs u (G .sound));
+      same-total = L .all-pairs t (F .sound) ∙ pairs-same g (R .lists t) (R .lists u) same ∙ sym (L .all-pairs u (G .sound));
     }
 
--- THE THEOREM
-pub demand3 : (spec : DexelStockSpec) (g : DexelGrid) (R : Reading g) → Demand3 spec g R
-demand3 spec g R = record {
-  settles = λ s t cs vs S x. settled spec g R s cs vs t (follows spec g R x S);
-  agrees = λ s t u cs ds vs ws S x y a. agree spec g R s t u cs ds vs ws (follows spec g R x S) (follows spec g R y S) a;
+-- THE THEOREM, for every way to read a store
+pub demand3 : (spec : DexelStockSpec) (g : DexelGrid) (R : Reading g) → Lawful g R → Demand3 spec g R
+demand3 spec g R L = record {
+  settles = λ s t cs vs S x. settled spec g R L s cs vs t (follows spec g R x S);
+  agrees = λ s t u cs ds vs ws S x y a. agree spec g R L s t u cs ds vs ws (follows spec g R x S) (follows spec g R y S) a;
 }
 
 -- a run with one commit more at its end

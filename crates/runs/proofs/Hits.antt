@@ -7,7 +7,7 @@ use lib.Ieee.{Float, lt, le, eq}
 use Rattle.doubles.proofs.Bools.{or-cases, or-left, or-right, and-left, and-right, both, by-cases, same-if}
 use Rattle.doubles.proofs.Order.{le-trans, le-lt-trans, lt-le-trans, eq→le, eq→ge}
 use Rattle.spans.specs.Spans.{within, holds}
-use Rattle.runs.specs.Grid.{DexelGrid}
+use Rattle.grid.specs.declared.DexelGrid.{DexelGrid}
 use Rattle.runs.specs.Logs.{Ray, Kind, possible, certain, Entry, entries, names, HitKind, outer, inner, loOf, hiOf, pairsOn, taken, Hit, Lies, Among, Alike}
 
 -- ---- pairs and points

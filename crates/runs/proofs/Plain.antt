@@ -8,11 +8,12 @@ use Prim.Native.Nat.{ℕ, suc}
 use lib.Ieee.{Float}
 use Rattle.doubles.proofs.Bools.{or-right, and-left, and-right, both, by-cases, clash, not-true}
 use Rattle.spans.specs.Spans.{holds, sound, ListOf}
-use Rattle.runs.specs.Grid.{DexelStockSpec, DexelGrid}
+use Rattle.grid.specs.declared.DexelStockSpec.{DexelStockSpec}
+use Rattle.grid.specs.declared.DexelGrid.{DexelGrid}
 use Rattle.runs.specs.Logs.{Ray, Kind, possible, certain, Entry, entries, outer, inner, pairsOn, taken, Commit}
 use Rattle.runs.specs.Model.{Sets, without, pairs, Lent, Answer, changed, refused, causes, Judged}
 use Rattle.runs.specs.Counts.{hitsOn, raysChanged}
-use Rattle.runs.specs.Runs.{Reading, points, Cut, Left, Committed, Run, done, next}
+use Rattle.runs.specs.Runs.{Reading, Lawful, points, Cut, Left, Committed, Run, done, next}
 use Rattle.runs.proofs.Unique.{judged-unsound}
 use Rattle.runs.proofs.Less.{less}
 use Rattle.runs.proofs.Decided.{tests, answerBy, judged, left-list}
@@ -34,10 +35,10 @@ plain g = record {
   generation = λ s. s .generation;
   lent = λ s. s .lent;
   Sound = Valid g;
-  sound-list = λ s v. v .isSound;
-  within = λ s v. v .within;
-  all-pairs = λ s v. refl;
 }
+
+pub plain-laws : (g : DexelGrid) → Lawful g (plain g)
+plain-laws g = record { sound-list = λ s v. v .isSound; within = λ s v. v .within; all-pairs = λ s v. refl }
 
 -- ---- the run, worked out
 

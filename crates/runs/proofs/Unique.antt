@@ -12,7 +12,9 @@ use Rattle.refusal.specs.Refusal.{Due, NoneDue}
 use Rattle.refusal.proofs.Laws.{due-unique, none-due}
 use Rattle.spans.specs.Spans.{equal, ListOf}
 use Rattle.spans.proofs.Sets.{same-set}
-use Rattle.runs.specs.Grid.{DexelStockSpec, DexelGrid, rayCount}
+use Rattle.grid.specs.Rays.{rayCount}
+use Rattle.grid.specs.declared.DexelStockSpec.{DexelStockSpec}
+use Rattle.grid.specs.declared.DexelGrid.{DexelGrid}
 use Rattle.runs.specs.Logs.{Ray, Kind, possible, certain, Commit}
 use Rattle.runs.specs.Model.{Sets, Count, none, counted, skipped, sumOver, pairs, Intervals, Lent, Answer, changed, refused, causes, Judged, Model, step, Modelled}
 

@@ -5,7 +5,7 @@ use mathlib.Core.List.{List, [], _∷_, _++_}
 use Prim.Native.Nat.{ℕ, suc, _+_}
 use lib.Ieee.{Float, lt, eq}
 use Rattle.spans.specs.Spans.{holds}
-use Rattle.runs.specs.Grid.{DexelGrid}
+use Rattle.grid.specs.declared.DexelGrid.{DexelGrid}
 use Rattle.runs.specs.Logs.{Ray, Kind, possible, certain, Entry, outer, inner, pairsOn}
 use Rattle.runs.specs.Model.{sumTo, sumOver}
 

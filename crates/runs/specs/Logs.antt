@@ -8,7 +8,9 @@ use lib.ListN.{length, getD}
 use lib.IntN.{pos}
 use lib.Ieee.{Float, nan, binary64, lt, eq, ofInt, toUnsigned}
 use Rattle.spans.specs.Spans.{within, holds}
-use Rattle.runs.specs.Grid.{DexelGrid, raysAlong, offset, rayCount}
+use Rattle.grid.specs.Axes.{worldAxis}
+use Rattle.grid.specs.Rays.{rayCount, raysAlong, rayNumber}
+use Rattle.grid.specs.declared.DexelGrid.{DexelGrid}
 
 -- a ray, by its number
 abbrev pub Ray : DexelGrid → Type 0
@@ -64,12 +66,12 @@ wholeOf x = toUnsigned 64 x
 -- the entry names a ray: its axis is 0, 1 or 2, and its index a whole number below the number of rays along that axis
 unfoldable pub namesOne : DexelGrid → Entry → Bool
 unfolding isWhole raysAlong
-namesOne g e = isWhole (e .axis) && (ltb (wholeOf (e .axis)) 3 && (isWhole (e .index) && ltb (wholeOf (e .index)) (raysAlong g (wholeOf (e .axis)))))
+namesOne g e = isWhole (e .axis) && (ltb (wholeOf (e .axis)) 3 && (isWhole (e .index) && ltb (wholeOf (e .index)) (raysAlong g (worldAxis (wholeOf (e .axis))))))
 
 -- the number of that ray
 unfoldable pub rayOf : DexelGrid → Entry → ℕ
-unfolding offset
-rayOf g e = offset g (wholeOf (e .axis)) + wholeOf (e .index)
+unfolding rayNumber
+rayOf g e = rayNumber g (worldAxis (wholeOf (e .axis))) (wholeOf (e .index))
 
 -- the entry names the ray r
 unfoldable pub names : (g : DexelGrid) → Entry → Ray g → Bool

@@ -10,7 +10,9 @@ use lib.ListN.{length}
 use lib.Ieee.{Float}
 use Rattle.refusal.specs.Refusal.{Cause, cause, Due, NoneDue}
 use Rattle.spans.specs.Spans.{ListOf}
-use Rattle.runs.specs.Grid.{DexelStockSpec, DexelGrid, rayCount}
+use Rattle.grid.specs.Rays.{rayCount}
+use Rattle.grid.specs.declared.DexelStockSpec.{DexelStockSpec}
+use Rattle.grid.specs.declared.DexelGrid.{DexelGrid}
 use Rattle.runs.specs.Logs.{Ray, Kind, possible, certain, Entry, entries, entryCount, namesOne, taken, Commit}
 
 -- ---- the sets of all rays

@@ -7,12 +7,12 @@ use Prim.Native.Nat.{ℕ, suc, _+_}
 use lib.ListN.{length}
 use lib.Ieee.{Float}
 use Rattle.spans.specs.Spans.{holds, sound, equal, ListOf}
-use Rattle.runs.specs.Grid.{DexelStockSpec, DexelGrid}
+use Rattle.grid.specs.declared.DexelStockSpec.{DexelStockSpec}
+use Rattle.grid.specs.declared.DexelGrid.{DexelGrid}
 use Rattle.runs.specs.Logs.{Ray, Kind, possible, certain, outer, inner, Lies, Alike, entries, Commit}
 use Rattle.runs.specs.Model.{Sets, without, pairs, Lent, Answer, changed, refused, Judged, Model, Modelled, ended, accepted}
 
--- How a store is read: its lists, the two numbers of the small record, what it lends and whether it is sound. The laws are what a run needs
--- of a sound store.
+-- How a store is read: its lists, the two numbers of the small record, what it lends and whether it is sound
 pub record Reading (g : DexelGrid) : Type 1 where
   pub Store : Type 0
   pub lists : Store → Ray g → Kind → List Float
@@ -20,9 +20,12 @@ pub record Reading (g : DexelGrid) : Type 1 where
   pub generation : Store → ℕ
   pub lent : Store → Lent
   pub Sound : Store → Type 0
-  pub sound-list : (s : Store) → Sound s → (r : Ray g) (k : Kind) → sound (lists s r k) ≡ true
-  pub within : (s : Store) → Sound s → (r : Ray g) (p : Float) → holds (lists s r certain) p ≡ true → holds (lists s r possible) p ≡ true
-  pub all-pairs : (s : Store) → Sound s → intervals s ≡ pairs g (lists s)
+
+-- what a run needs of the stores that are read as sound
+pub record Lawful (g : DexelGrid) (R : Reading g) : Type 0 where
+  pub sound-list : (s : R .Store) → R .Sound s → (r : Ray g) (k : Kind) → sound (R .lists s r k) ≡ true
+  pub within : (s : R .Store) → R .Sound s → (r : Ray g) (p : Float) → holds (R .lists s r certain) p ≡ true → holds (R .lists s r possible) p ≡ true
+  pub all-pairs : (s : R .Store) → R .Sound s → R .intervals s ≡ pairs g (R .lists s)
 
 -- the sets that a store's lists hold
 unfoldable pub points : (g : DexelGrid) (R : Reading g) → R .Store → Sets g
