@@ -1,2 +1,3 @@
 -- The definitions that the contracts of `tridexel_inner` cite.
+pub mod Geometry
 pub mod Orderings

@@ -1,4 +1,6 @@
 // Inner functions under C names, for the oracle and the benchmark only: each is its crate's function of the same name.
+mod geometry;
+
 ghost use mathlib.Core.Path.{_≡_};
 ghost use lib.Ieee.{binary64, ofBits, toBits, toUnsigned};
 ghost use Rattle.doubles.specs.Doubles.{largerOf, smallerOf, clampOf, floorOf, ceilOf, keyOf, totalOf, absOf};

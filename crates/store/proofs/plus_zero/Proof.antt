@@ -1,17 +1,12 @@
--- `pool::plus_zero` meets its contract: a NaN is not plus zero, and else the bits tell.
--- Assumes nothing.
-use mathlib.Core.Path.{_≡_, refl, sym, ap, subst}
-use mathlib.Core.Bool.{true, not}
+-- A NaN is not plus zero, and else the bits tell.
+use mathlib.Core.Path.{sym, ap, subst}
+use mathlib.Core.Bool.{not}
 use lib.Dec.{T}
-use lib.Ieee as Ieee
-use lib.Ieee.{Float, nan}
-use lib.Ieee.Compare.{differs-from-itself, nan-differs}
+use lib.Ieee.Compare.{differs-from-itself}
 use Rattle.store.specs.Store.{isPlusZero}
 use Rattle.store.proofs.Zero.{plus-bits, not-nan}
 use Rattle.store.proofs.plus_zero.Statement.{statement}
 use Rattle.store.proofs.plus_zero.Tie as tie
-use Rattle.store.proofs.plus_zero.Reads as reads
-use Rattle.store.proofs.plus_zero.Lts as lts
 
 returns : tie.Need-returns
 returns c = sym (ap isPlusZero (differs-from-itself (c .before .args .x) (subst T (sym (c .if1 .taken)) tt)))
