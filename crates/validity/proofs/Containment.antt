@@ -3,13 +3,10 @@ use mathlib.Core.Path.{_≡_, refl, sym, ap, subst}
 use mathlib.Core.Logic.{⊎-elim}
 use mathlib.Core.Bool.{Bool, true, false, cond}
 use mathlib.Core.List.{List, [], _∷_}
-use Prim.Native.Nat.{_%_}
-use lib.Dec.{eqb}
-use lib.ListN.{length}
 use lib.Ieee.{Float, lt, le}
 use Rattle.doubles.proofs.Bools.{or-cases, or-left, or-right, and-left, and-right, both, clash, by-cases}
 use Rattle.doubles.proofs.Order.{lt-number, le-refl, le-trans, lt→le, lt-irrefl, lt-asym, le→not-lt, not-lt→le, lt-trans, lt-le-trans}
-use Rattle.spans.specs.Spans.{within, holds, leads, rising, sound}
+use Rattle.spans.specs.Spans.{within, holds, rising, sound}
 use Rattle.spans.proofs.Ends.{rising-tail}
 use Rattle.spans.proofs.Sets.{sound-rising}
 use Rattle.validity.specs.Ray.{bounded, ValidRay, from, covers, contained, valid}
