@@ -1,0 +1,3 @@
+-- Laws that several proofs of `ray_text` cite.
+pub mod Reading
+pub mod Writing
