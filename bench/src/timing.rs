@@ -1,0 +1,63 @@
+//! How a row is timed: both sides in turn, so that a change in the machine's speed meets both; the best of the repetitions counts.
+use std::{hint::black_box, time::Instant};
+
+const REPETITIONS: usize = 25;
+/// Seconds per row and side after which no further repetition starts.
+const LIMIT: f64 = 1.;
+/// Seconds that one repetition takes, about.
+const STRETCH: f64 = 0.004;
+
+pub struct Table {
+    only: Option<String>,
+}
+
+/// How many calls take a repetition's time.
+fn calls<T>(f: &mut impl FnMut() -> T) -> usize {
+    let mut n = 1;
+    loop {
+        let t = stretch(n, f);
+        if t > STRETCH / 4. || n > 1 << 24 {
+            return ((n as f64 * STRETCH / t.max(1e-9)) as usize).clamp(1, 1 << 26);
+        }
+        n *= 2;
+    }
+}
+
+fn stretch<T>(n: usize, f: &mut impl FnMut() -> T) -> f64 {
+    let start = Instant::now();
+    for _ in 0..n {
+        black_box(f());
+    }
+    start.elapsed().as_secs_f64()
+}
+
+impl Table {
+    pub fn new(only: Option<String>) -> Self {
+        println!("Best of up to {REPETITIONS} repetitions, both sides in turn, one thread, both built for release.");
+        println!("A ratio below 1: the port is faster.");
+        Self { only }
+    }
+
+    pub fn heading(&self, text: &str) {
+        println!("\n{text}\n{:<40} {:>12} {:>12} {:>8}", "", "port ns", "Rust ns", "ratio");
+    }
+
+    /// Times a call of the port and the same call of the Rust, each doing its work `per` times.
+    pub fn row<A, B>(&self, what: &str, per: usize, mut port: impl FnMut() -> A, mut rust: impl FnMut() -> B) {
+        if self.only.as_ref().is_some_and(|only| !what.contains(only.as_str())) {
+            return;
+        }
+        let (p, r) = (calls(&mut port), calls(&mut rust));
+        let mut best = [f64::INFINITY; 2];
+        let start = Instant::now();
+        for _ in 0..REPETITIONS {
+            best[0] = best[0].min(stretch(p, &mut port) / p as f64);
+            best[1] = best[1].min(stretch(r, &mut rust) / r as f64);
+            if start.elapsed().as_secs_f64() > 2. * LIMIT {
+                break;
+            }
+        }
+        let [p, r] = best.map(|s| s * 1e9 / per as f64);
+        println!("{what:<40} {p:>12.1} {r:>12.1} {:>8.2}", p / r);
+    }
+}

@@ -1,0 +1,3 @@
+pub mod Axes
+pub mod Grid
+pub mod Rays

@@ -1,0 +1,10 @@
+pub mod Hits
+pub mod Unique
+pub mod Naming
+pub mod Demand3
+pub mod Lent
+pub mod Meets
+pub mod Starts
+pub mod Less
+pub mod Decided
+pub mod Plain

@@ -1,0 +1,58 @@
+-- How a run reads the lent store: the cells that crate `store` defines, and the small record beside them.
+use mathlib.Core.Path.{_≡_}
+use mathlib.Core.Bool.{Bool, true, _&&_}
+use mathlib.Core.List.{List, [], _∷_}
+use Prim.Native.Nat.{ℕ, _+_, _*_, _/_, min}
+use lib.ListN.{length}
+use lib.Ieee.{Float, le}
+use Rattle.spans.specs.Spans.{holds, sound}
+use Rattle.grid.specs.Rays.{rayCount, boundsOf}
+use Rattle.grid.specs.declared.DexelStockSpec.{DexelStockSpec}
+use Rattle.grid.specs.declared.DexelGrid.{DexelGrid}
+use Rattle.store.specs.Store.{listOf, Sound}
+use Rattle.store.specs.Updates.{Cells}
+use Rattle.runs.specs.Logs.{Ray, Kind, possible, certain}
+use Rattle.runs.specs.Runs.{Reading}
+
+-- each end is at least lo and at most hi
+unfoldable pub bounded : Float → Float → List Float → Bool
+bounded lo hi [] = true
+bounded lo hi (e ∷ l) = le lo e && (le e hi && bounded lo hi l)
+
+-- document 01's valid ray: both its lists are sound and within its bounds, and certain lies within possible
+pub record ValidRay (lo hi : Float) (possible certain : List Float) : Type 0 where
+  pub possible-sound : sound possible ≡ true
+  pub certain-sound : sound certain ≡ true
+  pub possible-bounded : bounded lo hi possible ≡ true
+  pub certain-bounded : bounded lo hi certain ≡ true
+  pub inside : (p : Float) → holds certain p ≡ true → holds possible p ≡ true
+
+-- Document 01's store and small record. With a description that `grid` accepts they are a stock.
+pub record Stock : Type 0 where
+  pub cells : Cells
+  pub generation : ℕ
+  pub intervals : ℕ
+
+-- the lists of the store count through the rays, possible first
+unfoldable pub listNumber : ℕ → Kind → ℕ
+listNumber r possible = 2 * r
+listNumber r certain = 2 * r + 1
+
+unfoldable pub listIn : DexelStockSpec → Stock → ℕ → Kind → List Float
+unfolding listNumber
+listIn spec s r k = listOf (spec .«max_intervals») (s .cells .spans) (s .cells .links) (s .cells .heads) (listNumber r k)
+
+-- document 01's sound store: chains and free records, the interval total, and each ray valid within the box's bounds along it
+pub record SoundStock (spec : DexelStockSpec) (g : DexelGrid) (s : Stock) : Type 0 where
+  pub store : Sound (spec .«max_intervals») (2 * rayCount g) (s .intervals) (s .cells .spans) (s .cells .links) (s .cells .heads)
+  pub valid : (r : Ray g) → ValidRay (boundsOf spec g (r .0) .lo) (boundsOf spec g (r .0) .hi) (listIn spec s (r .0) possible) (listIn spec s (r .0) certain)
+
+abbrev pub lentStore : DexelStockSpec → (g : DexelGrid) → Reading g
+lentStore spec g = record {
+  Store = Stock;
+  lists = λ s r k. listIn spec s (r .0) k;
+  intervals = λ s. s .intervals;
+  generation = λ s. s .generation;
+  lent = λ s. record { records = min (length (s .cells .spans) / 2) (length (s .cells .links) / 2); heads = length (s .cells .heads) };
+  Sound = SoundStock spec g;
+}

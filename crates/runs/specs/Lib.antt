@@ -1,0 +1,5 @@
+pub mod Logs
+pub mod Model
+pub mod Runs
+pub mod Counts
+pub mod Lent

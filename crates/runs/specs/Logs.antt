@@ -1,0 +1,139 @@
+-- Rays, logs and log commits, and which points a log takes.
+use mathlib.Core.Path.{_≡_}
+use mathlib.Core.Bool.{Bool, true, false, cond, _&&_, _||_}
+use mathlib.Core.List.{List, [], _∷_, List·Memᴰ}
+use Prim.Native.Nat.{ℕ, zero, suc, _+_, _*_, _/_, _%_, _<_}
+use lib.Dec.{ltb, eqb}
+use lib.ListN.{length, getD}
+use lib.IntN.{pos}
+use lib.Ieee.{Float, nan, binary64, lt, eq, ofInt, toUnsigned}
+use Rattle.spans.specs.Spans.{within, holds}
+use Rattle.grid.specs.Axes.{worldAxis}
+use Rattle.grid.specs.Rays.{rayCount, raysAlong, rayNumber}
+use Rattle.grid.specs.declared.DexelGrid.{DexelGrid}
+
+-- a ray, by its number
+abbrev pub Ray : DexelGrid → Type 0
+Ray g = (r : ℕ) × (r < rayCount g)
+
+-- each ray has a possible and a certain list
+pub data Kind : Type 0 where
+  possible certain : Kind
+
+-- ---- a log: six doubles for each entry
+
+pub record Entry : Type 0 where
+  pub axis : Float
+  pub index : Float
+  pub outerLo : Float
+  pub outerHi : Float
+  pub innerLo : Float
+  pub innerHi : Float
+
+unfoldable pub entryAt : List Float → ℕ → Entry
+entryAt log i = record {
+  axis = getD log (6 * i) nan;
+  index = getD log (6 * i + 1) nan;
+  outerLo = getD log (6 * i + 2) nan;
+  outerHi = getD log (6 * i + 3) nan;
+  innerLo = getD log (6 * i + 4) nan;
+  innerHi = getD log (6 * i + 5) nan;
+}
+
+-- n entries from the i-th on
+unfoldable pub entriesFrom : List Float → ℕ → ℕ → List Entry
+unfolding entryAt
+entriesFrom log i zero = []
+entriesFrom log i (suc n) = entryAt log i ∷ entriesFrom log (suc i) n
+
+abbrev pub entryCount : List Float → ℕ
+entryCount log = length log / 6
+
+-- the whole entries of a log
+unfoldable pub entries : List Float → List Entry
+unfolding entriesFrom
+entries log = entriesFrom log 0 (entryCount log)
+
+-- x is a whole number from 0 up. Minus zero is 0; a fraction, a negative number, an infinity and NaN are none.
+unfoldable pub isWhole : Float → Bool
+unfolding toUnsigned ofInt
+isWhole x = eq x (ofInt binary64 (pos (toUnsigned 64 x)))
+
+-- the whole number that x is
+abbrev pub wholeOf : Float → ℕ
+wholeOf x = toUnsigned 64 x
+
+-- the entry names a ray: its axis is 0, 1 or 2, and its index a whole number below the number of rays along that axis
+unfoldable pub namesOne : DexelGrid → Entry → Bool
+unfolding isWhole raysAlong
+namesOne g e = isWhole (e .axis) && (ltb (wholeOf (e .axis)) 3 && (isWhole (e .index) && ltb (wholeOf (e .index)) (raysAlong g (worldAxis (wholeOf (e .axis))))))
+
+-- the number of that ray
+unfoldable pub rayOf : DexelGrid → Entry → ℕ
+unfolding rayNumber
+rayOf g e = rayNumber g (worldAxis (wholeOf (e .axis))) (wholeOf (e .index))
+
+-- the entry names the ray r
+unfoldable pub names : (g : DexelGrid) → Entry → Ray g → Bool
+unfolding namesOne rayOf
+names g e r = namesOne g e && eqb (rayOf g e) (r .0)
+
+-- ---- the points that a log takes
+
+pub data HitKind : Type 0 where
+  outer inner : HitKind
+
+unfoldable pub loOf : HitKind → Entry → Float
+loOf outer e = e .outerLo
+loOf inner e = e .innerLo
+
+unfoldable pub hiOf : HitKind → Entry → Float
+hiOf outer e = e .outerHi
+hiOf inner e = e .innerHi
+
+-- the outer or the inner pairs of the entries that name the ray r, as a flat list. Pairs without lo < hi hold no point.
+unfoldable pub pairsOn : (g : DexelGrid) → List Entry → Ray g → HitKind → List Float
+unfolding names loOf hiOf
+pairsOn g [] r w = []
+pairsOn g (e ∷ es) r w = cond (names g e r) (loOf w e ∷ hiOf w e ∷ pairsOn g es r w) (pairsOn g es r w)
+
+-- a log takes the points of its inner hits from possible, those of its outer and inner hits from certain
+unfoldable pub taken : (g : DexelGrid) → List Entry → Ray g → Kind → Float → Bool
+unfolding pairsOn holds
+taken g es r possible p = holds (pairsOn g es r inner) p
+taken g es r certain p = holds (pairsOn g es r outer) p || holds (pairsOn g es r inner) p
+
+-- ---- hits, for the claims about a whole list of logs
+
+-- document 01's hit: an entry's outer or inner pair with lo < hi, on the ray that the entry names, in one of the logs
+pub record Hit (g : DexelGrid) (logs : List (List Float)) (r : Ray g) (w : HitKind) : Type 0 where
+  pub log : List Float
+  pub entry : Entry
+  pub in-logs : List·Memᴰ log logs
+  pub in-log : List·Memᴰ entry (entries log)
+  pub on-ray : names g entry r ≡ true
+  pub proper : lt (loOf w entry) (hiOf w entry) ≡ true
+
+-- p lies in a hit of one of the logs
+unfoldable pub Lies : (g : DexelGrid) → List (List Float) → Ray g → HitKind → Float → Type 0
+unfolding loOf hiOf
+Lies g logs r w p = (h : Hit g logs r w) × (within (loOf w (h .entry)) (hiOf w (h .entry)) p ≡ true)
+
+-- each hit of the first logs stands in the second, by ray, kind and ends as numbers
+unfoldable pub Among : (g : DexelGrid) → List (List Float) → List (List Float) → Type 0
+unfolding loOf hiOf
+Among g ls ms = (r : Ray g) (w : HitKind) (h : Hit g ls r w)
+    → (i : Hit g ms r w) × (eq (loOf w (h .entry)) (loOf w (i .entry)) ≡ true) × (eq (hiOf w (h .entry)) (hiOf w (i .entry)) ≡ true)
+
+-- document 01's "alike in hits", of the accepted logs of two lists of commits
+unfoldable pub Alike : (g : DexelGrid) → List (List Float) → List (List Float) → Type 0
+unfolding Among
+Alike g ls ms = Among g ls ms × Among g ms ls
+
+-- ---- commits
+
+-- what a log commit brings: its log as it stands when the commit comes, how many rays it may change, and how many pairs its work buffer has room for
+pub record Commit : Type 0 where
+  pub log : List Float
+  pub allowance : ℕ
+  pub work : ℕ

@@ -1,0 +1,4 @@
+pub mod Store
+pub mod Walks
+pub mod Fills
+pub mod Updates

@@ -1,0 +1,135 @@
+-- What a commit does to a store: the lists of all changed rays are freed, then laid again in order, each from the lowest free record.
+use mathlib.Core.Path.{_≡_}
+use mathlib.Core.Bool.{cond}
+use mathlib.Core.List.{List, [], _∷_}
+use Prim.Native.Nat.{ℕ, zero, suc, _+_, _-_, _*_, _/_, _%_, _≤_, _<_}
+use lib.Dec.{eqb}
+use lib.ListN.{length, getD, take, drop, set}
+use lib.Ieee.{Float}
+use Rattle.store.specs.Store.{Chain, placesOf, listOf, freedSpans, freedLinks, freeFrom, filledSpans, filledLinks, headOf, Sound}
+use Rattle.store.specs.Fills.{Cursor}
+
+-- the lent cells: lo and hi of each record; next and owner of each record; the head of each list
+pub record Cells : Type 0 where
+  pub spans : List Float
+  pub links : List ℕ
+  pub heads : List ℕ
+
+abbrev pub cells : List Float → List ℕ → List ℕ → Cells
+cells spans links heads = record { spans = spans; links = links; heads = heads }
+
+-- a list and the ends that it is to hold
+pub record Update : Type 0 where
+  pub list : ℕ
+  pub ends : List Float
+
+abbrev pub update : ℕ → List Float → Update
+update list ends = record { list = list; ends = ends }
+
+-- the store with the records of list j free and its head zero
+unfoldable pub freedList : ℕ → Cells → ℕ → Cells
+unfolding freedSpans freedLinks
+freedList n c j = record {
+  spans = freedSpans (c .spans) (placesOf n (c .links) (c .heads) j);
+  links = freedLinks (c .links) (placesOf n (c .links) (c .heads) j);
+  heads = set (c .heads) j 0;
+}
+
+unfoldable pub freedAll : ℕ → Cells → List Update → Cells
+unfolding freedList
+freedAll n c [] = c
+freedAll n c (u ∷ us) = freedAll n (freedList n c (u .list)) us
+
+-- the places that a list of so many pairs takes: the lowest free ones
+unfoldable pub taken : ℕ → Cells → ℕ → List ℕ
+unfolding freeFrom
+taken n c k = take k (freeFrom (c .spans) (c .links) 0 n)
+
+-- the store with one list laid from the lowest free record
+unfoldable pub laidList : ℕ → Cells → Update → Cells
+unfolding taken filledSpans filledLinks
+laidList n c u = record {
+  spans = filledSpans (c .spans) (taken n c (length (u .ends) / 2)) (u .ends);
+  links = filledLinks (c .links) (suc (u .list)) (taken n c (length (u .ends) / 2));
+  heads = set (c .heads) (u .list) (headOf (taken n c (length (u .ends) / 2)));
+}
+
+unfoldable pub laidAll : ℕ → Cells → List Update → Cells
+unfolding laidList
+laidAll n c [] = c
+laidAll n c (u ∷ us) = laidAll n (laidList n c u) us
+
+-- freed first, all of them, then laid in order
+unfoldable pub applied : ℕ → Cells → List Update → Cells
+unfolding freedAll laidAll
+applied n c us = laidAll n (freedAll n c us) us
+
+-- ---- one list at a time
+-- list j is a chain, so that it can be freed
+pub record Freeable (n : ℕ) (c : Cells) (j : ℕ) : Type 0 where
+  pub in-spans : 2 * n ≤ length (c .spans)
+  pub in-links : 2 * n ≤ length (c .links)
+  pub in-heads : j < length (c .heads)
+  pub chain : Chain (c .links) n (suc j) (getD (c .heads) j 0) (placesOf n (c .links) (c .heads) j)
+
+-- there are free records for the whole pairs of an update
+pub record Layable (n : ℕ) (c : Cells) (u : Update) : Type 0 where
+  pub in-spans : 2 * n ≤ length (c .spans)
+  pub in-links : 2 * n ≤ length (c .links)
+  pub in-heads : u .list < length (c .heads)
+  pub whole : length (u .ends) % 2 ≡ 0
+  pub enough : length (u .ends) / 2 ≤ length (freeFrom (c .spans) (c .links) 0 n)
+
+-- the list is laid, and no record before place r is free
+pub record Laid (n : ℕ) (c : Cells) (u : Update) (r : ℕ) (d : Cells) : Type 0 where
+  pub left : d ≡ laidList n c u
+  pub onward : Cursor n (d .spans) (d .links) r
+
+-- ---- what the law of an update speaks of
+-- a store in its cells, and list j of it
+abbrev pub SoundStore : ℕ → ℕ → ℕ → Cells → Type 0
+SoundStore n m total c = Sound n m total (c .spans) (c .links) (c .heads)
+
+abbrev pub held : ℕ → Cells → ℕ → List Float
+held n c j = listOf n (c .spans) (c .links) (c .heads) j
+
+-- the cells have n records and m heads
+pub record Room (n m : ℕ) (c : Cells) : Type 0 where
+  pub in-spans : 2 * n ≤ length (c .spans)
+  pub in-links : 2 * n ≤ length (c .links)
+  pub in-heads : m ≤ length (c .heads)
+
+-- the updates are of lists from k on, below m and ascending, and each has whole pairs
+pub data Ascending (m : ℕ) : ℕ → List Update → Type 0 where
+  none : {k : ℕ} → Ascending m k []
+  next : {k : ℕ} {u : Update} {us : List Update} → k ≤ u .list → u .list < m → length (u .ends) % 2 ≡ 0 → Ascending m (suc (u .list)) us → Ascending m k (u ∷ us)
+
+-- how many records the lists to be updated have, and how many the updates take
+unfoldable pub pairsFreed : ℕ → Cells → List Update → ℕ
+pairsFreed n c [] = 0
+pairsFreed n c (u ∷ us) = length (placesOf n (c .links) (c .heads) (u .list)) + pairsFreed n c us
+
+unfoldable pub pairsLaid : List Update → ℕ
+pairsLaid [] = 0
+pairsLaid (u ∷ us) = length (u .ends) / 2 + pairsLaid us
+
+-- list j after the updates, where it was l before
+unfoldable pub listAfter : List Update → ℕ → List Float → List Float
+listAfter [] j l = l
+listAfter (u ∷ us) j l = cond (eqb j (u .list)) (u .ends) (listAfter us j l)
+
+-- the sizes, and the cells past n records and m heads, are as before
+pub record Kept (n m : ℕ) (c d : Cells) : Type 0 where
+  pub spans-size : length (d .spans) ≡ length (c .spans)
+  pub links-size : length (d .links) ≡ length (c .links)
+  pub heads-size : length (d .heads) ≡ length (c .heads)
+  pub spans-past : drop (2 * n) (d .spans) ≡ drop (2 * n) (c .spans)
+  pub links-past : drop (2 * n) (d .links) ≡ drop (2 * n) (c .links)
+  pub heads-past : drop m (d .heads) ≡ drop m (c .heads)
+
+-- what the updates leave of a sound store with that total
+pub record Updated (n m total : ℕ) (c : Cells) (us : List Update) (d : Cells) : Type 0 where
+  pub fewer : pairsFreed n c us ≤ total
+  pub isSound : SoundStore n m (total - pairsFreed n c us + pairsLaid us) d
+  pub lists : (j : ℕ) → j < m → held n d j ≡ listAfter us j (held n c j)
+  pub kept : Kept n m c d

@@ -1,0 +1,34 @@
+-- What the functions that check a store answer.
+use mathlib.Core.Bool.{Bool, true, false, cond, _&&_}
+use mathlib.Core.List.{List}
+use Prim.Native.Nat.{ℕ, zero, suc, _+_, _-_}
+use lib.Dec.{eqb, ltb}
+use lib.ListN.{getD}
+use Rattle.store.specs.Store.{nextAt, ownerAt}
+use Rattle.store.specs.declared.Walk.{Walk}
+use Rattle.store.specs.declared.Walk.the-variants.{Ends, Broken}
+
+abbrev pub bit : Bool → ℕ
+bit true = 1
+bit false = 0
+
+-- how many of the first n places pass the test
+unfoldable pub countTo : (ℕ → Bool) → ℕ → ℕ
+countTo p zero = 0
+countTo p (suc n) = countTo p n + bit (p n)
+
+-- A walk from record number k over at most `fuel` records of the owner o, with c records counted before: the count at its end.
+unfoldable pub walkFrom : List ℕ → ℕ → ℕ → ℕ → ℕ → ℕ → Walk
+walkFrom links n o zero c zero = Ends c
+walkFrom links n o zero c (suc i) = Broken
+walkFrom links n o (suc fuel) c zero = Ends c
+walkFrom links n o (suc fuel) c (suc i) = cond (ltb i n && eqb (ownerAt links i) o) (walkFrom links n o fuel (suc c) (nextAt links i)) Broken
+
+abbrev pub andThen : Walk → (ℕ → Walk) → Walk
+andThen (Ends c) f = f c
+andThen Broken f = Broken
+
+-- the lists from j on, r of them, one after the other, with one limit on all of them
+unfoldable pub walkAll : List ℕ → List ℕ → ℕ → ℕ → ℕ → ℕ → ℕ → Walk
+walkAll links heads n limit zero j c = Ends c
+walkAll links heads n limit (suc r) j c = andThen (walkFrom links n (suc j) (limit - c) c (getD heads j 0)) (walkAll links heads n limit r (suc j))

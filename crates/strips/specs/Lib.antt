@@ -1,0 +1,3 @@
+pub mod Polygon
+pub mod Strip
+pub mod Examples

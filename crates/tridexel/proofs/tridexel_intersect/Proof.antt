@@ -1,0 +1,23 @@
+-- `tridexel::tridexel_intersect` meets its contract.
+use borrow.Author.Needs.{needs}
+use Rattle.tridexel.proofs.Handing.{listed-by}
+use Rattle.tridexel.proofs.tridexel_intersect.Statement.{statement}
+use Rattle.tridexel.proofs.tridexel_intersect.Tie as tie
+
+intersect-requires : tie.Need-intersect-requires
+intersect-requires c κs = search needs
+
+hand-listed-requires : tie.Need-hand-listed-requires
+hand-listed-requires c κs = search needs
+
+same-length : tie.Need-same-length
+same-length c = search needs
+
+returns : tie.Need-returns
+returns c =
+    let n = c .before .before .before .before in
+    listed-by _ _ _ _ _ (n .intersect .result) _ _ _ (n .intersect .ensures) (c .hand-listed .ensures)
+
+pub tridexel-intersect-spec : {M : Type 1} → statement M
+tridexel-intersect-spec =
+    tie.close (tie.spec intersect-requires hand-listed-requires same-length returns)

@@ -1,0 +1,23 @@
+-- `tridexel::tridexel_subtract` meets its contract.
+use borrow.Author.Needs.{needs}
+use Rattle.tridexel.proofs.Handing.{listed-by}
+use Rattle.tridexel.proofs.tridexel_subtract.Statement.{statement}
+use Rattle.tridexel.proofs.tridexel_subtract.Tie as tie
+
+subtract-requires : tie.Need-subtract-requires
+subtract-requires c κs = search needs
+
+hand-listed-requires : tie.Need-hand-listed-requires
+hand-listed-requires c κs = search needs
+
+same-length : tie.Need-same-length
+same-length c = search needs
+
+returns : tie.Need-returns
+returns c =
+    let n = c .before .before .before .before in
+    listed-by _ _ _ _ _ (n .subtract .result) _ _ _ (n .subtract .ensures) (c .hand-listed .ensures)
+
+pub tridexel-subtract-spec : {M : Type 1} → statement M
+tridexel-subtract-spec =
+    tie.close (tie.spec subtract-requires hand-listed-requires same-length returns)

@@ -1,0 +1,2 @@
+-- The definitions that the contracts of `tridexel` cite.
+pub mod Numbers

@@ -1,0 +1,102 @@
+// The C interface: every entry under a C name. A slice is a pointer and a length, a number handed back is a pointer.
+// The result is document 01's refusal number, 0 where the call is accepted. A refused call leaves every number and cell as it was.
+ghost use mathlib.Core.Path.{_≡_};
+ghost use mathlib.Core.Bool.{not, _&&_};
+ghost use Rattle.spans.specs.Spans.{holds};
+ghost use Rattle.spans.specs.Results.{Answer, Verdict, normalizeCauses, combineCauses, compareCauses, Within, Outside, Share, Apart};
+ghost use Rattle.tridexel.specs.Numbers.{ListedAs, ToldAs, ListedBy, ToldBy};
+use spans::Listed;
+use spans::Told;
+
+// Hands the answer of a list function back as numbers.
+fn hand_listed(l: Listed, pairs: &mut usize) -> u32
+    ensures { λ r. ⌜ ListedAs l r (now (pairs .entry)) (now (pairs .exit)) ⌝ }
+{
+    match l {
+        Listed::Pairs(n) => {
+            *pairs = n;
+            return 0;
+        }
+        Listed::Refused(k) => {
+            return k;
+        }
+    }
+}
+
+// Hands a yes or a no back as numbers.
+fn hand_told(t: Told, yes: &mut u32) -> u32
+    ensures { λ r. ⌜ ToldAs t r (now (yes .entry)) (now (yes .exit)) ⌝ }
+{
+    match t {
+        Told::Yes => {
+            *yes = 1;
+            return 0;
+        }
+        Told::No => {
+            *yes = 0;
+            return 0;
+        }
+        Told::Refused(k) => {
+            return k;
+        }
+    }
+}
+
+// `spans::normalize`; `pairs` becomes the number of pairs.
+#[no_mangle]
+pub extern "C" fn tridexel_normalize(spans: &[f64], out: &mut [f64], pairs: &mut usize) -> u32
+    ensures { λ r. ⌜ ListedBy (Answer (holds (now (spans .entry))) (normalizeCauses (now (spans .entry)) (now (out .entry))) (now (out .entry)) (now (out .exit)))
+        r (now (pairs .entry)) (now (pairs .exit)) ⌝ }
+{
+    let l = spans::normalize(spans, out);
+    hand_listed(l, pairs)
+}
+
+// `spans::subtract`; `pairs` becomes the number of pairs.
+#[no_mangle]
+pub extern "C" fn tridexel_subtract(a: &[f64], b: &[f64], out: &mut [f64], pairs: &mut usize) -> u32
+    ensures { λ r. ⌜ ListedBy (Answer (λ p. holds (now (a .entry)) p && not (holds (now (b .entry)) p))
+        (combineCauses (now (a .entry)) (now (b .entry)) (now (out .entry))) (now (out .entry)) (now (out .exit)))
+        r (now (pairs .entry)) (now (pairs .exit)) ⌝ }
+{
+    let l = spans::subtract(a, b, out);
+    hand_listed(l, pairs)
+}
+
+// `spans::intersect`; `pairs` becomes the number of pairs.
+#[no_mangle]
+pub extern "C" fn tridexel_intersect(
+    a: &[f64],
+    b: &[f64],
+    out: &mut [f64],
+    pairs: &mut usize,
+) -> u32
+    ensures { λ r. ⌜ ListedBy (Answer (λ p. holds (now (a .entry)) p && holds (now (b .entry)) p)
+        (combineCauses (now (a .entry)) (now (b .entry)) (now (out .entry))) (now (out .entry)) (now (out .exit)))
+        r (now (pairs .entry)) (now (pairs .exit)) ⌝ }
+{
+    let l = spans::intersect(a, b, out);
+    hand_listed(l, pairs)
+}
+
+// `spans::contains`; `yes` becomes 1 or 0.
+#[no_mangle]
+pub extern "C" fn tridexel_contains(outer: &[f64], inner: &[f64], yes: &mut u32) -> u32
+    ensures { λ r. ⌜ ToldBy (Verdict (compareCauses (now (outer .entry)) (now (inner .entry)))
+        (Within (now (outer .entry)) (now (inner .entry))) (Outside (now (outer .entry)) (now (inner .entry))))
+        r (now (yes .entry)) (now (yes .exit)) ⌝ }
+{
+    let t = spans::contains(outer, inner);
+    hand_told(t, yes)
+}
+
+// `spans::overlaps`; `yes` becomes 1 or 0.
+#[no_mangle]
+pub extern "C" fn tridexel_overlaps(a: &[f64], b: &[f64], yes: &mut u32) -> u32
+    ensures { λ r. ⌜ ToldBy (Verdict (compareCauses (now (a .entry)) (now (b .entry)))
+        (Share (now (a .entry)) (now (b .entry))) (Apart (now (a .entry)) (now (b .entry))))
+        r (now (yes .entry)) (now (yes .exit)) ⌝ }
+{
+    let t = spans::overlaps(a, b);
+    hand_told(t, yes)
+}

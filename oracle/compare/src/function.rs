@@ -1,0 +1,101 @@
+//! One function of the port: its inputs and how its answers are compared.
+use crate::explained::Explained;
+use harness::{generate::Gen, hex};
+
+pub enum Outcome {
+    Same,
+    /// different in a way that docs/DIFFERENCES.md lists
+    Meant(Explained),
+    Different {
+        rust: String,
+        port: String,
+    },
+}
+
+/// An input as hex words, lists in brackets.
+pub trait Words {
+    fn words(&self) -> String;
+}
+
+impl Words for f64 {
+    fn words(&self) -> String {
+        hex(*self)
+    }
+}
+
+impl Words for u64 {
+    fn words(&self) -> String {
+        format!("{self:016x}")
+    }
+}
+
+impl Words for usize {
+    fn words(&self) -> String {
+        self.to_string()
+    }
+}
+
+impl<T: Words> Words for [T] {
+    fn words(&self) -> String {
+        format!("[{}]", self.iter().map(Words::words).collect::<Vec<_>>().join(" "))
+    }
+}
+
+impl<T: Words> Words for Vec<T> {
+    fn words(&self) -> String {
+        self.as_slice().words()
+    }
+}
+
+impl<A: Words, B: Words> Words for (A, B) {
+    fn words(&self) -> String {
+        format!("{} {}", self.0.words(), self.1.words())
+    }
+}
+
+impl<A: Words, B: Words, C: Words> Words for (A, B, C) {
+    fn words(&self) -> String {
+        format!("{} {} {}", self.0.words(), self.1.words(), self.2.words())
+    }
+}
+
+/// What one case found, with its input where it is a difference.
+pub enum Found {
+    Same,
+    Meant(Explained),
+    Different { input: String, rust: String, port: String },
+}
+
+pub struct Function {
+    pub name: &'static str,
+    /// how many fixed cases there are; they have the numbers from 0 on
+    pub edges: u64,
+    case: Box<dyn Fn(u64, u64) -> Found>,
+}
+
+impl Function {
+    /// `edges` are compared on every run, then inputs that `make` generates.
+    pub fn new<I: Words + 'static>(
+        name: &'static str,
+        edges: Vec<I>,
+        make: impl Fn(&mut Gen) -> I + 'static,
+        compare: impl Fn(&I) -> Outcome + 'static,
+    ) -> Self {
+        let judge = move |input: &I| match compare(input) {
+            Outcome::Same => Found::Same,
+            Outcome::Meant(e) => Found::Meant(e),
+            Outcome::Different { rust, port } => Found::Different { input: input.words(), rust, port },
+        };
+        let count = edges.len() as u64;
+        let case = Box::new(move |seed, number| match edges.get(number as usize) {
+            Some(input) => judge(input),
+            None => judge(&make(&mut Gen::new(seed, name, number))),
+        });
+        Self { name, edges: count, case }
+    }
+
+    /// Compares the case of this number: an edge, or past these a generated one.
+    pub fn case(&self, seed: u64, number: u64) -> Found {
+        (self.case)(seed, number)
+    }
+}

@@ -1,0 +1,15 @@
+//! The port against the Rust. Each module of the port has one file here: the declarations of its C exports (nothing checks them
+//! against the Rattle source), a generator and a comparison per function, and a line in `modules`.
+pub mod doubles;
+pub mod explained;
+pub mod function;
+pub mod spans;
+
+use function::Function;
+
+pub fn modules() -> Vec<(&'static str, Vec<Function>)> {
+    vec![
+        ("doubles", doubles::functions()), //
+        ("spans", spans::functions()),
+    ]
+}

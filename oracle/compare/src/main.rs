@@ -1,0 +1,104 @@
+//! `compare [--quick] [--only MODULE::FUNCTION] [--case NUMBER] [SEED] [COUNT]`: COUNT generated inputs for each function.
+use compare::{
+    explained::Explained,
+    function::{Found, Function},
+    modules,
+};
+use std::{collections::BTreeMap, process::ExitCode, time::Instant};
+
+struct Options {
+    only: Option<String>,
+    case: Option<u64>,
+    seed: u64,
+    count: u64,
+}
+
+const USAGE: &str = "usage: oracle/run [--quick] [--only MODULE::FUNCTION] [--case NUMBER] [SEED] [COUNT]";
+
+fn options() -> Option<Options> {
+    let mut o = Options { only: None, case: None, seed: 1, count: 1_000_000 };
+    let mut numbers = vec![];
+    let mut words = std::env::args().skip(1);
+    while let Some(w) = words.next() {
+        match w.as_str() {
+            "--quick" => o.count = 100_000,
+            "--only" => o.only = Some(words.next()?),
+            "--case" => o.case = Some(words.next()?.parse().ok()?),
+            n => numbers.push(n.parse().ok()?),
+        }
+    }
+    match numbers[..] {
+        [] => {}
+        [seed] => o.seed = seed,
+        [seed, count] => (o.seed, o.count) = (seed, count),
+        _ => return None,
+    }
+    Some(o)
+}
+
+#[derive(Default)]
+struct Tally {
+    cases: u64,
+    meant: BTreeMap<Explained, u64>,
+    different: u64,
+    /// the first difference: its number, input and both answers
+    first: Option<(u64, String, String, String)>,
+}
+
+fn run(f: &Function, numbers: impl Iterator<Item = u64>, seed: u64) -> Tally {
+    let mut t = Tally::default();
+    for number in numbers {
+        t.cases += 1;
+        match f.case(seed, number) {
+            Found::Same => {}
+            Found::Meant(e) => *t.meant.entry(e).or_default() += 1,
+            Found::Different { input, rust, port } => {
+                t.different += 1;
+                t.first.get_or_insert((number, input, rust, port));
+            }
+        }
+    }
+    t
+}
+
+fn main() -> ExitCode {
+    let Some(o) = options() else {
+        eprintln!("{USAGE}");
+        return ExitCode::from(2);
+    };
+    println!("seed {}, {} generated inputs for each function, after its fixed ones", o.seed, o.count);
+    println!("{:<24} {:>10} {:>22} {:>10} {:>8}", "function", "cases", "meant (row: times)", "different", "seconds");
+    let (mut functions, mut cases, mut different) = (0, 0, 0);
+    for (module, list) in modules() {
+        for f in list {
+            let name = format!("{module}::{}", f.name);
+            if o.only.as_ref().is_some_and(|only| *only != name) {
+                continue;
+            }
+            let start = Instant::now();
+            let t = match o.case {
+                Some(number) => run(&f, number..number + 1, o.seed),
+                None => run(&f, 0..f.edges + o.count, o.seed),
+            };
+            let meant: Vec<_> = t.meant.iter().map(|(e, n)| format!("{}: {n}", e.number())).collect();
+            let seconds = start.elapsed().as_secs_f64();
+            println!("{name:<24} {:>10} {:>22} {:>10} {seconds:>8.1}", t.cases, meant.join(", "), t.different);
+            if let Some((number, input, rust, port)) = &t.first {
+                println!("  first difference, again by: oracle/run --only {name} --case {number} {} {}", o.seed, o.count);
+                println!("  input {input}\n  Rust  {rust}\n  port  {port}");
+            }
+            functions += 1;
+            cases += t.cases;
+            different += t.different;
+        }
+    }
+    if functions == 0 {
+        eprintln!("no function of this name\n{USAGE}");
+        return ExitCode::from(2);
+    }
+    for e in Explained::ALL {
+        println!("row {} of docs/DIFFERENCES.md: {}", e.number(), e.text());
+    }
+    println!("{functions} functions, {cases} cases, {different} unexplained differences");
+    ExitCode::from((different > 0) as u8)
+}
