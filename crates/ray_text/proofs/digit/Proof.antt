@@ -1,3 +1,4 @@
+-- `ray_text::digit` meets its contract.
 use Rattle.ray_text.specs.Format.{digitOf}
 use borrow.Author.Tests.{le-leb, le-ltb, lt-leb, lt-ltb}
 use borrow.Author.Needs.{needs}

@@ -6,7 +6,6 @@ use lib.ListN.{getD}
 use borrow.Author.Tests.{eq-eqb, ne-eqb}
 use Rattle.ray_text.specs.Format.{isLetter, digits}
 use Rattle.ray_text.proofs.Reading.{found, found-not, no-letter, no-space, no-lo, no-second, no-hi, last-byte}
--- `ray_text::is_line` meets its contract.
 use borrow.Author.Needs.{needs}
 use Rattle.ray_text.proofs.is_line.Statement.{statement}
 use Rattle.ray_text.proofs.is_line.Tie as tie

@@ -1,8 +1,8 @@
+-- `ray_text::put_hex` meets its contract.
 use mathlib.Core.Path.{_≡_, sym, subst}
 use Prim.Native.Nat.{ℕ, _+_, _-_, _/_}
 use lib.ListN.{length, set}
 use Rattle.ray_text.proofs.Printing.{Hexing, hex-start, hex-step, hex-size, hex-done}
--- `ray_text::put_hex` meets its contract.
 use borrow.Author.Needs.{needs}
 use native.Mathlib.Omega.{arith}
 use Rattle.ray_text.proofs.put_hex.Statement.{statement}

@@ -1,3 +1,4 @@
+-- `ray_text::put_text` meets its contract.
 use mathlib.Core.Path.{_≡_, sym, subst}
 use mathlib.Core.List.{List, [], _∷_, _++_}
 use Prim.Native.Nat.{ℕ, _+_, _-_, _≤_, _<_}
@@ -6,7 +7,6 @@ use lib.ListN.{length, take, getD}
 use lib.Seq.{take-suc, take-all, length-take-le}
 use Rattle.ray_text.specs.Steps.{Appended}
 use Rattle.ray_text.proofs.Writing.{put-none, put-then, same-size}
--- `ray_text::put_text` meets its contract.
 use borrow.Author.Needs.{needs}
 use native.Mathlib.Omega.{arith}
 use Rattle.ray_text.proofs.put_text.Statement.{statement}
