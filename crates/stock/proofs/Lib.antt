@@ -1,0 +1,5 @@
+pub mod Rays
+pub mod Causes
+pub mod Uncut
+pub mod Lengths
+pub mod Answers
