@@ -3,3 +3,4 @@ pub mod Causes
 pub mod Uncut
 pub mod Lengths
 pub mod Answers
+pub mod UncutSound
