@@ -13,8 +13,9 @@ use Rattle.refusal.specs.Refusal.{Due, NoneDue}
 use Rattle.doubles.proofs.Bools.{and-left, and-right, both, or-cases, or-left, or-right, not-true, not-false, by-cases, clash}
 use Rattle.doubles.proofs.Order.{lt-number, le-number, lt→le, le-refl, le-trans, lt-irrefl, le-lt-trans, lt-le-trans, not-le→lt}
 use Rattle.spans.specs.Spans.{within, holds, rising, sound}
-use Rattle.spans.specs.Results.{Within, Outside, Share, Apart, compareCauses, Verdict}
-use Rattle.spans.specs.declared.Told.the-variants.{Yes, No, Refused}
+use Rattle.spans.specs.Spans.{Within, Outside, Share, Apart}
+use Rattle.comparing.specs.Verdicts.{compareCauses, Verdict, Covers, Meets}
+use Rattle.comparing.specs.declared.Told.the-variants.{Yes, No, Refused}
 use Rattle.spans.proofs.Sets.{sound-rising, sound-mod, make-sound}
 use Rattle.spans.proofs.Ends.{rising-tail}
 use Rattle.merge.specs.Ray.{bounded, Nested, ValidRay, Decides}
