@@ -25,17 +25,13 @@ module _ (low high : Float) where
   -- the bounds of the ends of a pair, and those of the pair
   two-bounded : (a b : Float) (l : List Float) → le low a ≡ true → lt a b ≡ true → le b high ≡ true → bounded low high l ≡ true → bounded low high (a ∷ b ∷ l) ≡ true
   unfolding bounded
-  two-bounded a b l la ab bh rest =
-      both (le low a && le a high) _ (both (le low a) _ la (le-trans a b high (lt→le a b ab) bh)) (both (le low b && le b high) _ (both (le low b) _ (le-trans low a b la (lt→le a b ab)) bh) rest)
+  two-bounded a b l la ab bh rest = both (le low a) _ la (both (le a high) _ (le-trans a b high (lt→le a b ab) bh) (both (le low b) _ (le-trans low a b la (lt→le a b ab)) (both (le b high) _ bh rest)))
 
   two-bounds : (a b : Float) (l : List Float) → bounded low high (a ∷ b ∷ l) ≡ true → (le low a ≡ true) × (le b high ≡ true) × (bounded low high l ≡ true)
   unfolding bounded
   two-bounds a b l h =
-      let rest = and-right (le low a && le a high) (bounded low high (b ∷ l)) h in (
-        and-left (le low a) (le a high) (and-left (le low a && le a high) (bounded low high (b ∷ l)) h),
-        and-right (le low b) (le b high) (and-left (le low b && le b high) (bounded low high l) rest),
-        and-right (le low b && le b high) (bounded low high l) rest,
-      )
+      let of-b = and-right (le low b) _ (and-right (le a high) _ (and-right (le low a) _ h)) in
+      (and-left (le low a) _ h, and-left (le b high) (bounded low high l) of-b, and-right (le b high) (bounded low high l) of-b)
 
   -- a list that comes after a pair that ends at x
   unfoldable pub follows : Float → List Float → Bool
@@ -164,13 +160,13 @@ module _ (low high : Float) (possible certain : List Float) where
   pub possible-bad : (r : Bool) → r ≡ (sound possible && bounded low high possible) → not r ≡ true → Told false
   possible-bad r e h = (
     (λ z. absurd (clash false z refl)),
-    λ v. absurd (clash (sound possible && bounded low high possible) (both _ _ (v .nested .possibleSound) (v .possibleBounded)) (sym e ∙ not-true r h)),
+    λ v. absurd (clash (sound possible && bounded low high possible) (both _ _ (v .possible-sound) (v .possible-bounded)) (sym e ∙ not-true r h)),
   )
 
   pub certain-bad : (r : Bool) → r ≡ (sound certain && bounded low high certain) → not r ≡ true → Told false
   certain-bad r e h = (
     (λ z. absurd (clash false z refl)),
-    λ v. absurd (clash (sound certain && bounded low high certain) (both _ _ (v .nested .certainSound) (v .certainBounded)) (sym e ∙ not-true r h)),
+    λ v. absurd (clash (sound certain && bounded low high certain) (both _ _ (v .certain-sound) (v .certain-bounded)) (sym e ∙ not-true r h)),
   )
 
   pub both-good : (p c r : Bool) → p ≡ (sound possible && bounded low high possible) → not p ≡ false → c ≡ (sound certain && bounded low high certain) → not c ≡ false → r ≡ contained possible certain → Told r

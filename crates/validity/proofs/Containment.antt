@@ -3,13 +3,10 @@ use mathlib.Core.Path.{_≡_, refl, sym, ap, subst}
 use mathlib.Core.Logic.{⊎-elim}
 use mathlib.Core.Bool.{Bool, true, false, cond}
 use mathlib.Core.List.{List, [], _∷_}
-use Prim.Native.Nat.{_%_}
-use lib.Dec.{eqb}
-use lib.ListN.{length}
 use lib.Ieee.{Float, lt, le}
 use Rattle.doubles.proofs.Bools.{or-cases, or-left, or-right, and-left, and-right, both, clash, by-cases}
 use Rattle.doubles.proofs.Order.{lt-number, le-refl, le-trans, lt→le, lt-irrefl, lt-asym, le→not-lt, not-lt→le, lt-trans, lt-le-trans}
-use Rattle.spans.specs.Spans.{within, holds, leads, rising, sound}
+use Rattle.spans.specs.Spans.{within, holds, rising, sound}
 use Rattle.spans.proofs.Ends.{rising-tail}
 use Rattle.spans.proofs.Sets.{sound-rising}
 use Rattle.validity.specs.Ray.{bounded, ValidRay, from, covers, contained, valid}
@@ -147,16 +144,18 @@ module _ (lo hi : Float) (possible certain : List Float) where
       let v₂ = and-right (sound certain) _ v₁ in
       let v₃ = and-right (bounded lo hi possible) _ v₂ in
       record {
-        nested = record { possibleSound = and-left (sound possible) _ v; certainSound = and-left (sound certain) _ v₁; inside = contained-points possible certain (and-right (bounded lo hi certain) _ v₃) };
-        possibleBounded = and-left (bounded lo hi possible) _ v₂;
-        certainBounded = and-left (bounded lo hi certain) _ v₃;
+        possible-sound = and-left (sound possible) _ v;
+        certain-sound = and-left (sound certain) _ v₁;
+        possible-bounded = and-left (bounded lo hi possible) _ v₂;
+        certain-bounded = and-left (bounded lo hi certain) _ v₃;
+        inside = contained-points possible certain (and-right (bounded lo hi certain) _ v₃);
       }
 
   pub ray-valid : ValidRay lo hi possible certain → valid lo hi possible certain ≡ true
   unfolding valid
   ray-valid r =
-      both (sound possible) _ (r .nested .possibleSound)
-      (both (sound certain) _ (r .nested .certainSound)
-      (both (bounded lo hi possible) _ (r .possibleBounded)
-      (both (bounded lo hi certain) _ (r .certainBounded)
-      (points-contained possible certain (sound-rising possible (r .nested .possibleSound)) (sound-rising certain (r .nested .certainSound)) (r .nested .inside)))))
+      both (sound possible) _ (r .possible-sound)
+      (both (sound certain) _ (r .certain-sound)
+      (both (bounded lo hi possible) _ (r .possible-bounded)
+      (both (bounded lo hi certain) _ (r .certain-bounded)
+      (points-contained possible certain (sound-rising possible (r .possible-sound)) (sound-rising certain (r .certain-sound)) (r .inside)))))
