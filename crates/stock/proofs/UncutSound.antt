@@ -148,7 +148,7 @@ module _ (spec : DexelStockSpec) (g : DexelGrid) (before : Cells) (facts : GridF
   store = record {
     chains = λ j h. subst (Chain (uncut spec g before .links) (spec .«max_intervals») (suc j) (getD (uncut spec g before .heads) j 0)) (sym (place-is j h)) (chain-one j h);
     others = λ i h u. let l : i < 2 * rayCount g = in-use i h u in
-    mem-to (spec .«max_intervals») (uncut spec g before .links) (uncut spec g before .heads) (2 * rayCount g) 0 i i (omega arith) (omega arith) (subst (List·Memᴰ i) (sym (place-is i l)) (List·Memᴰ·head refl));
+        mem-to (spec .«max_intervals») (uncut spec g before .links) (uncut spec g before .heads) (2 * rayCount g) 0 i i (omega arith) (omega arith) (subst (List·Memᴰ i) (sym (place-is i l)) (List·Memᴰ·head refl));
     counts = sym (one-each (spec .«max_intervals») (uncut spec g before .links) (uncut spec g before .heads) (2 * rayCount g) 0 (λ i lo hi. place-is i (omega arith)));
   }
 
@@ -160,9 +160,9 @@ module _ (spec : DexelStockSpec) (g : DexelGrid) (before : Cells) (facts : GridF
   uncut-sound = record {
     store = store;
     valid = λ ray h. let l = uncut-lists ray h in
-    subst (λ (c : List Float). ValidRay (boundsOf spec g ray .lo) (boundsOf spec g ray .hi) (possibleIn spec (uncut spec g before) ray) c) (sym (l .1))
-    (subst (λ (p : List Float). ValidRay (boundsOf spec g ray .lo) (boundsOf spec g ray .hi) p (boundsOf spec g ray .lo ∷ boundsOf spec g ray .hi ∷ [])) (sym (l .0))
-    (full-valid (boundsOf spec g ray .lo) (boundsOf spec g ray .hi) (in-box ray)));
+        subst (λ (c : List Float). ValidRay (boundsOf spec g ray .lo) (boundsOf spec g ray .hi) (possibleIn spec (uncut spec g before) ray) c) (sym (l .1))
+        (subst (λ (p : List Float). ValidRay (boundsOf spec g ray .lo) (boundsOf spec g ray .hi) p (boundsOf spec g ray .lo ∷ boundsOf spec g ray .hi ∷ [])) (sym (l .0))
+        (full-valid (boundsOf spec g ray .lo) (boundsOf spec g ray .hi) (in-box ray)));
   }
 
   pub uncut-kept : Kept (spec .«max_intervals») (2 * rayCount g) before (uncut spec g before)

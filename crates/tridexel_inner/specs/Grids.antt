@@ -1,6 +1,4 @@
 -- The answer of `grid` as numbers: the refusal's number, or 0 and the grid.
-use Prim.Native.Nat.{ℕ}
-use lib.Ieee.{Float, binary64, ofBits}
 use Rattle.grid.specs.declared.Gridded.{Gridded}
 use Rattle.grid.specs.declared.Gridded.the-variants.{Accepted, Refused}
 use Rattle.grid.specs.declared.DexelGrid.{DexelGrid}

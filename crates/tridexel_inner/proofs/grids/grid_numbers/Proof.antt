@@ -1,3 +1,4 @@
+-- `grid_numbers` meets its contract. Assumes nothing.
 use Rattle.tridexel_inner.specs.Grids.{gridAs}
 use borrow.Author.Needs.{needs}
 use Rattle.tridexel_inner.proofs.grids.grid_numbers.Statement.{statement}

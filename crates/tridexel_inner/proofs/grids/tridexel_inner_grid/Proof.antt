@@ -1,3 +1,4 @@
+-- `tridexel_inner_grid` meets its contract. Assumes nothing.
 use borrow.Author.Needs.{needs}
 use Rattle.tridexel_inner.proofs.grids.tridexel_inner_grid.Statement.{statement}
 use Rattle.tridexel_inner.proofs.grids.tridexel_inner_grid.Tie as tie
