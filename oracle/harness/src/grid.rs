@@ -131,7 +131,10 @@ fn shape(g: &mut Gen) -> Query {
         }
         // at the limits
         _ => {
-            let min = of(&mut || { let x = g.pick(&[0., -1e6, 1e6 - 1.]); nudged(g, x) });
+            let min = of(&mut || {
+                let x = g.pick(&[0., -1e6, 1e6 - 1.]);
+                nudged(g, x)
+            });
             let max = min.map(|x| if x < 1. && x > -1. { nudged(g, 1e-6) } else { nudged(g, x.abs()) });
             let cell = g.pick(&[1e-5, 1e6, 1e-6, 2e6]);
             Query::new(min, max, nudged(g, cell))

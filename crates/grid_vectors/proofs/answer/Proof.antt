@@ -1,3 +1,4 @@
+-- `grid_vectors::answer` asks only about an accepted grid. Assumes nothing.
 use mathlib.Core.Path.{subst}
 use Rattle.grid_vectors.specs.Facts.{FactsOf}
 use borrow.Author.Needs.{needs}

@@ -1,3 +1,4 @@
+-- `grid_vectors::asked` meets what the functions over a grid ask, by the facts of an accepted grid. Assumes nothing.
 use Rattle.grid.specs.Axes.{crossOf}
 use Rattle.grid.proofs.Facts.{cells-positive}
 use borrow.Author.Needs.{needs}

@@ -1,3 +1,4 @@
+-- `grid_vectors::gridded` meets its contract. Assumes nothing.
 use Rattle.grid_vectors.proofs.Accepted.{facts-of}
 use borrow.Author.Needs.{needs}
 use Rattle.grid_vectors.proofs.gridded.Statement.{statement}
