@@ -1,6 +1,6 @@
 // The program's text: the lines that it reads, and those that it writes.
 ghost use mathlib.Core.Path.{_≡_};
-ghost use mathlib.Core.Bool.{true, false};
+ghost use mathlib.Core.Bool.{true, false, _||_};
 ghost use mathlib.Core.List.{[], _∷_};
 ghost use Prim.Native.Nat.{_+_, _*_, _/_, _%_, _≤_, _<_};
 ghost use lib.ListN.{length};
@@ -8,6 +8,8 @@ ghost use lib.Ieee.{binary64, ofBits, toBits};
 ghost use lib.ListN.{getD};
 ghost use Rattle.ray_text.specs.Format.{digitOf, digits, number, isLetter, isLine, lines, count, pairAt, pairs, few, readable, total};
 ghost use Rattle.ray_text.specs.Steps.{Appended};
+ghost use Rattle.ray_text.specs.Run.{Ran, Printed, rayCauses, Small};
+use merge::Merged;
 ghost use Rattle.ray_text.specs.Output.{glyph, hex, fieldText, lineText, linesText, endText, refusedText};
 
 // The value of a small hex digit, and 16 for any other byte.
@@ -302,12 +304,15 @@ fn put_text(out: &mut [u8], at: usize, text: &[u8]) -> usize
     n
 }
 
-// Puts `changed` or `same`.
-fn put_end(out: &mut [u8], at: usize, changed: bool) -> usize
+// Puts `changed` where a list moved, else `same`.
+fn put_end(out: &mut [u8], at: usize, p: bool, c: bool) -> usize
     requires { ⌜ at + 8 ≤ length (now out) ⌝ }
-    ensures { λ r. ⌜ Appended (now (out .entry)) at (endText changed) (now (out .exit)) r ⌝ }
+    ensures { λ r. ⌜ Appended (now (out .entry)) at (endText (p || c)) (now (out .exit)) r ⌝ }
 {
-    if changed {
+    if p {
+        return put_text(out, at, b"changed\n");
+    }
+    if c {
         return put_text(out, at, b"changed\n");
     }
     put_text(out, at, b"same\n")
@@ -322,4 +327,65 @@ fn put_refused(out: &mut [u8], k: u32) -> usize
     let n2 = put_byte(out, n1, 48 + ((k / 10) as u8));
     let n3 = put_byte(out, n2, 48 + ((k % 10) as u8));
     put_byte(out, n3, b'\n')
+}
+
+// Merges the hits into a ray, and prints both lists or the refusal.
+fn print_merged(
+    possible: &[f64],
+    certain: &[f64],
+    lo: f64,
+    hi: f64,
+    outer: &[f64],
+    inner: &[f64],
+    out: &mut [u8],
+) -> usize
+    requires { ⌜ Small (now possible) (now certain) (now outer) (now inner) × (65536 ≤ length (now out)) ⌝ }
+    ensures { λ r. ⌜ Printed (rayCauses lo hi (now (possible .entry)) (now (certain .entry))) lo hi (now (possible .entry)) (now (certain .entry))
+        (now (outer .entry)) (now (inner .entry)) (now (out .entry)) (now (out .exit)) r ⌝ }
+{
+    let mut work = [0.0; 3072];
+    let answer = merge::merge(possible, certain, lo, hi, outer, inner, &mut work);
+    match answer {
+        Merged::Refused(k) => put_refused(out, k),
+        Merged::Lists(p, c) => {
+            let n = put_lines(out, 0, b'P', merge::possible_of(possible, &work, answer));
+            let m = put_lines(out, n, b'C', merge::certain_of(certain, &work, answer));
+            put_end(out, m, p.moved, c.moved)
+        }
+    }
+}
+
+// Merges the ray of a readable text.
+fn run_readable(s: &[u8], out: &mut [u8]) -> usize
+    requires { ⌜ (readable (now s) ≡ true) × (65536 ≤ length (now out)) ⌝ }
+    ensures { λ r. ⌜ Ran (now (s .entry)) (now (out .entry)) (now (out .exit)) r ⌝ }
+{
+    let n = s.len() / 36;
+    let mut possible = [0.0; 128];
+    let mut certain = [0.0; 128];
+    let mut outer = [0.0; 128];
+    let mut inner = [0.0; 128];
+    let np = collect(s, n, b'P', &mut possible);
+    let nc = collect(s, n, b'C', &mut certain);
+    let no = collect(s, n, b'O', &mut outer);
+    let ni = collect(s, n, b'I', &mut inner);
+    print_merged(
+        &possible[..np],
+        &certain[..nc],
+        double_at(s, 2),
+        double_at(s, 19),
+        &outer[..no],
+        &inner[..ni],
+        out,
+    )
+}
+
+// The program on slices: what it writes for an input stands at the front of `out`, and the answer is its length.
+pub fn run(s: &[u8], out: &mut [u8; 65536]) -> usize
+    ensures { λ r. ⌜ Ran (now (s .entry)) (now (out .entry)) (now (out .exit)) r ⌝ }
+{
+    if !is_readable(s) {
+        return put_refused(out, 18);
+    }
+    run_readable(s, out)
 }
