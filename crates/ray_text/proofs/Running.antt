@@ -5,7 +5,7 @@ use mathlib.Core.List.{List, [], _∷_, _++_}
 use mathlib.Core.Logic.{_⊎_, inl, inr}
 use Prim.Native.Nat.{ℕ, _+_, _*_, _/_, _%_, _≤_, _<_}
 use native.Mathlib.Omega.{arith}
-use borrow.Author.Tests.{eqb-true, leb-true}
+use borrow.Author.Tests.{leb-true}
 use lib.Dec.{eqb, leb}
 use lib.ListN.{length, take, drop}
 use lib.Ieee.{Float}
@@ -14,18 +14,16 @@ use Rattle.spans.specs.Spans.{holds}
 use Rattle.merge.specs.Ray.{ValidRay}
 use Rattle.merge.specs.Merge.{eitherHit, cellsOf, handed, Spared, Left, Mergeable, mergeCauses}
 use Rattle.merge.specs.declared.Part.{Part}
-use Rattle.ray_text.specs.Format.{letterB, letterP, letterC, letterO, letterI, digits, number, isLine, lines, letterOf, count, pairs, few, total, readable}
+use Rattle.ray_text.specs.Format.{letterB, letterP, letterC, letterO, letterI, lines, letterOf, count, pairs, few, total, readable}
 use Rattle.ray_text.specs.Output.{linesText, endText, refusedText}
 use Rattle.ray_text.specs.Run.{loOf, hiOf, possibleIn, certainIn, outerIn, innerIn, After, Written, rayCauses, runCauses, Result, refused, written, Printed, Ran, Small}
 use Rattle.ray_text.specs.Steps.{Appended}
-use Rattle.ray_text.proofs.Reading.{and-left, and-right, each-at, line-lo, line-hi, pairs-length, count-most}
+use Rattle.ray_text.proofs.Reading.{and-left, and-right, pairs-length}
 use Rattle.ray_text.proofs.Printing.{lines-length}
 use Rattle.ray_text.proofs.Writing.{front, put-then}
 
 -- ---- what a readable text has
 pub record Reads (s : List ℕ) : Type 0 where
-  pub allLines : lines s (total s) ≡ true
-  pub some : 36 ≤ length s
   pub possibleFew : count letterP s (total s) ≤ 64
   pub certainFew : count letterC s (total s) ≤ 64
   pub outerFew : count letterO s (total s) ≤ 64
@@ -48,8 +46,6 @@ reads s h =
     let cs = and-right p (c && (o && i)) ps in
     let is = and-right c (o && i) cs in
     record {
-      allLines = and-left (lines s (total s)) (first && (once && (p && (c && (o && i))))) ls;
-      some = omega (arith, eqb-true (count letterB s (total s)) 1 (and-left once (p && (c && (o && i))) os), count-most letterB s (total s));
       possibleFew = leb-true (count letterP s (total s)) 64 (and-left p (c && (o && i)) ps);
       certainFew = leb-true (count letterC s (total s)) 64 (and-left c (o && i) cs);
       outerFew = leb-true (count letterO s (total s)) 64 (and-left o i is);
@@ -57,17 +53,8 @@ reads s h =
     }
 
 module _ (s : List ℕ) (r : Reads s) where
-  pub collects : (c : ℕ) → count c s (total s) ≤ 64 → (36 * (length s / 36) ≤ length s) × (lines s (length s / 36) ≡ true) × (2 * count c s (length s / 36) ≤ 128)
-  collects c h = (omega arith, r .allLines, omega arith)
-
-  first-line : isLine s (36 * 0) ≡ true
-  first-line = each-at (λ k. isLine s (36 * k)) 0 (total s) (omega (arith, r .some)) (r .allLines)
-
-  pub first-lo : (18 ≤ length s) × (digits s 2 16 ≡ true)
-  first-lo = (omega (arith, r .some), line-lo s 0 first-line)
-
-  pub first-hi : (35 ≤ length s) × (digits s 19 16 ≡ true)
-  first-hi = (omega (arith, r .some), line-hi s 0 first-line)
+  pub collects : (c : ℕ) → count c s (total s) ≤ 64 → (36 * (length s / 36) ≤ length s) × (2 * count c s (length s / 36) ≤ 128)
+  collects c h = (omega arith, omega arith)
 
 -- ---- the lists that are collected
 module _ (before cells after : List Float) (r : ℕ) (p : Appended before 0 cells after r) where

@@ -9,16 +9,16 @@ use Rattle.refusal.specs.Refusal.{Cause, cause, Due, NoneDue}
 use Rattle.spans.specs.Spans.{holds, ListOf}
 use Rattle.merge.specs.Ray.{ValidRay}
 use Rattle.merge.specs.Merge.{Moves, eitherHit, spared}
-use Rattle.ray_text.specs.Format.{letterP, letterC, letterO, letterI, number, pairs, total, readable}
+use Rattle.ray_text.specs.Format.{letterP, letterC, letterO, letterI, bitsAt, pairs, total, readable}
 use Rattle.ray_text.specs.Output.{answerText, refusedText}
 use Rattle.ray_text.specs.Steps.{Appended}
 
 -- the bounds, which the first line gives, the ray's lists and the hits
 abbrev pub loOf : List ℕ → Float
-loOf s = ofBits binary64 (number s 2 16)
+loOf s = ofBits binary64 (bitsAt s 2)
 
 abbrev pub hiOf : List ℕ → Float
-hiOf s = ofBits binary64 (number s 19 16)
+hiOf s = ofBits binary64 (bitsAt s 19)
 
 abbrev pub possibleIn : List ℕ → List Float
 possibleIn s = pairs letterP s (total s)

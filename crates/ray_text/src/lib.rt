@@ -6,59 +6,31 @@ ghost use Prim.Native.Nat.{_+_, _*_, _/_, _%_, _≤_, _<_};
 ghost use lib.ListN.{length};
 ghost use lib.Ieee.{binary64, ofBits, toBits};
 ghost use lib.ListN.{getD};
-ghost use Rattle.ray_text.specs.Format.{digitOf, digits, number, isLetter, isLine, lines, count, pairAt, pairs, few, readable, total};
+ghost use Rattle.ray_text.specs.Format.{isNumber, bitsAt, isLetter, isLine, lines, count, pairAt, pairs, few, readable, total};
 ghost use Rattle.ray_text.specs.Steps.{Appended};
 ghost use Rattle.ray_text.specs.Run.{Ran, Printed, rayCauses, Small};
 use merge::Merged;
+use rows::Word;
 ghost use Rattle.ray_text.specs.Output.{glyph, hex, fieldText, lineText, linesText, endText, refusedText};
-
-// The value of a small hex digit, and 16 for any other byte.
-fn digit(b: u8) -> u64
-    ensures { λ r. ⌜ r ≡ digitOf b ⌝ }
-{
-    if b < 48 {
-        return 16;
-    }
-    if b < 58 {
-        return (b - 48) as u64;
-    }
-    if b < 97 {
-        return 16;
-    }
-    if b < 103 {
-        return (b - 87) as u64;
-    }
-    16
-}
 
 // Whether 16 small hex digits stand at `at`.
 fn is_number(s: &[u8], at: usize) -> bool
-    requires { ⌜ at + 16 ≤ length (now s) ⌝ }
-    ensures { λ r. ⌜ r ≡ digits (now (s .entry)) at 16 ⌝ }
+    ensures { λ r. ⌜ r ≡ isNumber (now (s .entry)) at ⌝ }
 {
-    let mut k = 0;
-    while k < 16 {
-        if digit(s[at + k]) < 16 {
-            k += 1;
-        } else {
-            return false;
-        }
+    match rows::word_at(s, at) {
+        Word::Value(_) => true,
+        Word::Missing => false,
     }
-    true
 }
 
-// The number that the 16 digits at `at` spell.
-fn number_at(s: &[u8], at: usize) -> u64
-    requires { ⌜ (at + 16 ≤ length (now s)) × (digits (now s) at 16 ≡ true) ⌝ }
-    ensures { λ r. ⌜ r ≡ number (now (s .entry)) at 16 ⌝ }
+// The double whose bits the 16 digits at `at` spell.
+fn double_at(s: &[u8], at: usize) -> f64
+    ensures { λ r. ⌜ r ≡ ofBits binary64 (bitsAt (now (s .entry)) at) ⌝ }
 {
-    let mut v = 0;
-    let mut k = 0;
-    while k < 16 {
-        v = v * 16 + digit(s[at + k]);
-        k += 1;
+    match rows::word_at(s, at) {
+        Word::Value(v) => doubles::of_bits(v),
+        Word::Missing => doubles::of_bits(0),
     }
-    v
 }
 
 // Whether a line may begin with this byte.
@@ -175,14 +147,6 @@ fn few_lines(s: &[u8], n: usize) -> bool
     count_of(s, n, b'I') <= 64
 }
 
-// The double whose bits the 16 digits at `at` spell.
-fn double_at(s: &[u8], at: usize) -> f64
-    requires { ⌜ (at + 16 ≤ length (now s)) × (digits (now s) at 16 ≡ true) ⌝ }
-    ensures { λ r. ⌜ r ≡ ofBits binary64 (number (now (s .entry)) at 16) ⌝ }
-{
-    doubles::of_bits(number_at(s, at))
-}
-
 // Puts a pair at place m.
 fn put_pair(out: &mut [f64], m: usize, lo: f64, hi: f64) -> usize
     requires { ⌜ m + 2 ≤ length (now out) ⌝ }
@@ -195,7 +159,7 @@ fn put_pair(out: &mut [f64], m: usize, lo: f64, hi: f64) -> usize
 
 // Puts the pair of the line at `at` at place m, where that line has the letter c.
 fn put_line_of(s: &[u8], at: usize, c: u8, out: &mut [f64], m: usize) -> usize
-    requires { ⌜ (at + 36 ≤ length (now s)) × (isLine (now s) at ≡ true) × (m ≤ length (now out)) × (getD (now s) at 0 ≡ c → m + 2 ≤ length (now out)) ⌝ }
+    requires { ⌜ (at + 36 ≤ length (now s)) × (m ≤ length (now out)) × (getD (now s) at 0 ≡ c → m + 2 ≤ length (now out)) ⌝ }
     ensures { λ r. ⌜ Appended (now (out .entry)) m (pairAt c (now (s .entry)) at) (now (out .exit)) r ⌝ }
 {
     if s[at] != c {
@@ -208,7 +172,7 @@ fn put_line_of(s: &[u8], at: usize, c: u8, out: &mut [f64], m: usize) -> usize
 
 // Puts the pairs of the first n lines that have the letter c at the front of `out`, and answers how many ends they have.
 fn collect(s: &[u8], n: usize, c: u8, out: &mut [f64]) -> usize
-    requires { ⌜ (36 * n ≤ length (now s)) × (lines (now s) n ≡ true) × (2 * count c (now s) n ≤ length (now out)) ⌝ }
+    requires { ⌜ (36 * n ≤ length (now s)) × (2 * count c (now s) n ≤ length (now out)) ⌝ }
     ensures { λ r. ⌜ Appended (now (out .entry)) 0 (pairs c (now (s .entry)) n) (now (out .exit)) r ⌝ }
 {
     let mut m = 0;

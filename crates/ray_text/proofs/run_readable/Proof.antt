@@ -1,6 +1,6 @@
 -- `ray_text::run_readable` meets its contract.
 use Rattle.ray_text.specs.Format.{letterP, letterC, letterO, letterI}
-use Rattle.ray_text.proofs.Running.{reads, collects, first-lo, first-hi, collected, collected-size, small, run-merged}
+use Rattle.ray_text.proofs.Running.{reads, collects, collected, collected-size, small, run-merged}
 use borrow.Author.Needs.{needs}
 use native.Mathlib.Omega.{arith}
 use Rattle.ray_text.proofs.run_readable.Statement.{statement}
@@ -43,10 +43,10 @@ slice-aggregate-print-merged-2 : tie.Need-slice-aggregate-print-merged-2
 slice-aggregate-print-merged-2 c = let k = c .before .before .before .before .before .before .before .before .before in collected-size _ _ (k .collect2 .last .1 .1 .1 .0) (k .collect2 .result) (k .collect2 .ensures)
 
 double-at-requires : tie.Need-double-at-requires
-double-at-requires c κs = let s = c .before .before .before .before .before .before .before .before .before .before .before .before .before .before .before .before in first-lo (s .args .s .now) (reads (s .args .s .now) (s .pre .0))
+double-at-requires c κs = search needs
 
 double-at-requires-2 : tie.Need-double-at-requires-2
-double-at-requires-2 c κs = let s = c .before .before .before .before .before .before .before .before .before .before .before .before .before .before .before .before .before in first-hi (s .args .s .now) (reads (s .args .s .now) (s .pre .0))
+double-at-requires-2 c κs = search needs
 
 array-share-prefix-outer : tie.Need-array-share-prefix-outer
 array-share-prefix-outer c = search needs
