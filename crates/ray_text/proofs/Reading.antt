@@ -2,16 +2,15 @@
 use mathlib.Core.Path.{_≡_, refl, sym, _∙_, ap, subst}
 use mathlib.Core.Bool.{Bool, true, false, not, cond, _&&_, true≢false, false≢true}
 use mathlib.Core.List.{List, [], _∷_, _++_}
-use Prim.Native.Nat.{ℕ, zero, suc, _+_, _*_, _/_, _%_, _^_, _≤_, _<_}
+use Prim.Native.Nat.{ℕ, zero, suc, _+_, _*_, _/_, _%_, _≤_, _<_}
 use native.Mathlib.Omega.{arith}
 use native.Mathlib.Numerals.{add-one}
 use native.Mathlib.Decide.{decLt}
-use native.Mathlib.Nat.{pow-suc, pow-le-pow-right, lt-of-lt-of-le}
 use borrow.Author.Tests.{lt-leb, le-leb, eq-eqb, ne-eqb, eqb-false}
 use lib.Dec.{ltb, leb, eqb}
 use lib.ListN.{length, getD, length-append}
 use lib.Ieee.{Float, binary64, ofBits}
-use Rattle.ray_text.specs.Format.{space, newline, letterB, letterP, letterC, letterO, letterI, isLetter, eachBelow, digitOf, digits, number, isLine, lines, letterOf, count, pairAt, pairs, few, total, readable}
+use Rattle.ray_text.specs.Format.{space, newline, letterB, letterP, letterC, letterO, letterI, isLetter, eachBelow, isNumber, bitsAt, isLine, lines, letterOf, count, pairAt, pairs, few, total, readable}
 
 pub and-left : (a b : Bool) → (a && b) ≡ true → a ≡ true
 and-left true b h = refl
@@ -52,22 +51,6 @@ module _ (test : ℕ → Bool) where
     | yes g ↦ each-at k n g (and-left (eachBelow test n) (test n) t)
     | no g ↦ subst (λ (m : ℕ). test m ≡ true) (omega arith) (and-right (eachBelow test n) (test n) t)
   ]
-
--- ---- the number that digits spell
-pub number-none : (s : List ℕ) (at : ℕ) → number s at 0 ≡ 0
-unfolding number
-number-none s at = refl
-
-pub number-more : (s : List ℕ) (at k : ℕ) → number s at (k + 1) ≡ number s at k * 16 + digitOf (getD s (at + k) 0)
-unfolding number
-number-more s at k = rw (add-one k)
-
--- the numbers below a power of 16
-pub below-more : (v d k : ℕ) → v < 16 ^ k → d < 16 → v * 16 + d < 16 ^ (k + 1)
-below-more v d k h g = rw (add-one k, pow-suc) (omega arith)
-
-pub below-last : (v k : ℕ) → k < 16 → v < 16 ^ k → v < 2 ^ 60
-below-last v k h g = lt-of-lt-of-le g (pow-le-pow-right (omega arith) {i = k} {j = 15} (omega arith))
 
 -- ---- the lines of a letter
 pub count-none : (c : ℕ) (s : List ℕ) → count c s 0 ≡ 0
@@ -117,7 +100,7 @@ pub pairs-length : (c : ℕ) (s : List ℕ) (k : ℕ) → length (pairs c s k) �
 unfolding pairs count
 pairs-length c s zero = refl
 pairs-length c s (suc k) =
-    length-append (pairs c s k) (pairAt c s (36 * k)) ∙ omega (arith, pairs-length c s k, two (eqb (letterOf s k) c) (ofBits binary64 (number s (36 * k + 2) 16)) (ofBits binary64 (number s (36 * k + 19) 16)))
+    length-append (pairs c s k) (pairAt c s (36 * k)) ∙ omega (arith, pairs-length c s k, two (eqb (letterOf s k) c) (ofBits binary64 (bitsAt s (36 * k + 2))) (ofBits binary64 (bitsAt s (36 * k + 19))))
   where
     two : (b : Bool) (x y : Float) → length (cond b (x ∷ y ∷ []) []) ≡ 2 * cond b 1 0
     two true x y = refl
@@ -144,39 +127,28 @@ module _ (s : List ℕ) (at : ℕ) where
     no-space h = rw (l, h)
 
     module _ (x : eqb (getD s (at + 1) 0) space ≡ true) where
-      pub no-lo : digits s (at + 2) 16 ≡ false → false ≡ isLine s at
+      pub no-lo : isNumber s (at + 2) ≡ false → false ≡ isLine s at
       unfolding isLine
       no-lo h = rw (l, x, h)
 
-      module _ (d : digits s (at + 2) 16 ≡ true) where
+      module _ (d : isNumber s (at + 2) ≡ true) where
         pub no-second : eqb (getD s (at + 18) 0) space ≡ false → false ≡ isLine s at
         unfolding isLine
         no-second h = rw (l, x, d, h)
 
         module _ (y : eqb (getD s (at + 18) 0) space ≡ true) where
-          pub no-hi : digits s (at + 19) 16 ≡ false → false ≡ isLine s at
+          pub no-hi : isNumber s (at + 19) ≡ false → false ≡ isLine s at
           unfolding isLine
           no-hi h = rw (l, x, d, y, h)
 
-          pub last-byte : digits s (at + 19) 16 ≡ true → eqb (getD s (at + 35) 0) newline ≡ isLine s at
+          pub last-byte : isNumber s (at + 19) ≡ true → eqb (getD s (at + 35) 0) newline ≡ isLine s at
           unfolding isLine
           last-byte h = rw (l, x, d, y, h)
-
-  -- the parts of a line
-  pub line-lo : isLine s at ≡ true → digits s (at + 2) 16 ≡ true
-  unfolding isLine
-  line-lo h = and-left _ _ (and-right (eqb (getD s (at + 1) 0) space) _ (and-right (isLetter (getD s at 0)) _ h))
-
-  pub line-hi : isLine s at ≡ true → digits s (at + 19) 16 ≡ true
-  unfolding isLine
-  line-hi h =
-      and-left _ _ (and-right (eqb (getD s (at + 18) 0) space) _ (and-right (digits s (at + 2) 16) _
-      (and-right (eqb (getD s (at + 1) 0) space) _ (and-right (isLetter (getD s at 0)) _ h))))
 
   pub pair-miss : (c : ℕ) → (getD s at 0 ≡ c → ⊥) → [] ≡ pairAt c s at
   pair-miss c h = rw (ne-eqb _ _ h)
 
-  pub pair-hit : (c : ℕ) (lo hi : Float) → getD s at 0 ≡ c → lo ≡ ofBits binary64 (number s (at + 2) 16) → hi ≡ ofBits binary64 (number s (at + 19) 16)
+  pub pair-hit : (c : ℕ) (lo hi : Float) → getD s at 0 ≡ c → lo ≡ ofBits binary64 (bitsAt s (at + 2)) → hi ≡ ofBits binary64 (bitsAt s (at + 19))
       → lo ∷ hi ∷ [] ≡ pairAt c s at
   pair-hit c lo hi h e f = rw (eq-eqb _ _ h, e, f)
 

@@ -2,10 +2,13 @@
 -- So line k of a text of such lines starts at byte 36 * k.
 use mathlib.Core.Bool.{Bool, true, false, cond, _&&_, _||_}
 use mathlib.Core.List.{List, [], _∷_, _++_}
-use Prim.Native.Nat.{ℕ, zero, suc, _+_, _-_, _*_, _/_, _%_}
-use lib.Dec.{eqb, ltb, leb}
+use Prim.Native.Nat.{ℕ, zero, suc, _+_, _*_, _/_, _%_}
+use lib.Dec.{eqb, leb}
 use lib.ListN.{length, getD}
 use lib.Ieee.{Float, binary64, ofBits}
+use Rattle.rows.specs.Hex.{hexAt}
+use Rattle.rows.specs.declared.Word.{Word}
+use Rattle.rows.specs.declared.Word.the-variants.{Value, Missing}
 
 -- the letters: B bounds, P and C the ray's lists, O and I the hits
 abbrev pub letterB : ℕ
@@ -32,32 +35,34 @@ newline = 10
 abbrev pub isLetter : ℕ → Bool
 isLetter b = eqb b letterB || (eqb b letterP || (eqb b letterC || (eqb b letterO || eqb b letterI)))
 
--- the value of a small hex digit, and 16 for any other byte
-unfoldable pub digitOf : ℕ → ℕ
-digitOf b = cond (ltb b 48) 16 (cond (ltb b 58) (b - 48) (cond (ltb b 97) 16 (cond (ltb b 103) (b - 87) 16)))
-
 -- the test holds of each number below n
 unfoldable pub eachBelow : (ℕ → Bool) → ℕ → Bool
 eachBelow test zero = true
 eachBelow test (suc k) = eachBelow test k && test k
 
--- the k bytes from place `at` on are small hex digits
-abbrev pub digits : List ℕ → ℕ → ℕ → Bool
-digits s at k = eachBelow (λ i. ltb (digitOf (getD s (at + i) 0)) 16) k
+-- whether 16 small hex digits stand at place `at`, and the bits that they spell
+abbrev pub isSpelled : Word → Bool
+isSpelled (Value v) = true
+isSpelled Missing = false
 
--- the number that they spell, its highest digit first
-unfoldable pub number : List ℕ → ℕ → ℕ → ℕ
-number s at zero = 0
-number s at (suc k) = number s at k * 16 + digitOf (getD s (at + k) 0)
+abbrev pub valueOf : Word → ℕ
+valueOf (Value v) = v
+valueOf Missing = 0
+
+abbrev pub isNumber : List ℕ → ℕ → Bool
+isNumber s at = isSpelled (hexAt s at 16)
+
+abbrev pub bitsAt : List ℕ → ℕ → ℕ
+bitsAt s at = valueOf (hexAt s at 16)
 
 -- document 01's line, from place `at` on
 unfoldable pub isLine : List ℕ → ℕ → Bool
 isLine s at =
     isLetter (getD s at 0)
     && (eqb (getD s (at + 1) 0) space
-    && (digits s (at + 2) 16
+    && (isNumber s (at + 2)
     && (eqb (getD s (at + 18) 0) space
-    && (digits s (at + 19) 16
+    && (isNumber s (at + 19)
     && eqb (getD s (at + 35) 0) newline))))
 
 -- the first n lines are such lines
@@ -75,7 +80,7 @@ count c s (suc k) = count c s k + cond (eqb (letterOf s k) c) 1 0
 
 -- the pair of the line at place `at`, where that line has the letter c
 abbrev pub pairAt : ℕ → List ℕ → ℕ → List Float
-pairAt c s at = cond (eqb (getD s at 0) c) (ofBits binary64 (number s (at + 2) 16) ∷ ofBits binary64 (number s (at + 19) 16) ∷ []) []
+pairAt c s at = cond (eqb (getD s at 0) c) (ofBits binary64 (bitsAt s (at + 2)) ∷ ofBits binary64 (bitsAt s (at + 19)) ∷ []) []
 
 -- the pairs of those lines, as a span list; a NaN's bits give the one NaN
 unfoldable pub pairs : ℕ → List ℕ → ℕ → List Float

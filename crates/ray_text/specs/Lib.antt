@@ -2,3 +2,4 @@
 pub mod Format
 pub mod Steps
 pub mod Output
+pub mod Run

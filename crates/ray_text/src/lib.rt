@@ -1,62 +1,36 @@
 // The program's text: the lines that it reads, and those that it writes.
 ghost use mathlib.Core.Path.{_≡_};
-ghost use mathlib.Core.Bool.{true, false};
+ghost use mathlib.Core.Bool.{true, false, _||_};
 ghost use mathlib.Core.List.{[], _∷_};
 ghost use Prim.Native.Nat.{_+_, _*_, _/_, _%_, _≤_, _<_};
 ghost use lib.ListN.{length};
 ghost use lib.Ieee.{binary64, ofBits, toBits};
 ghost use lib.ListN.{getD};
-ghost use Rattle.ray_text.specs.Format.{digitOf, digits, number, isLetter, isLine, lines, count, pairAt, pairs, few, readable, total};
+ghost use Rattle.ray_text.specs.Format.{isNumber, bitsAt, isLetter, isLine, lines, count, pairAt, pairs, few, readable, total};
 ghost use Rattle.ray_text.specs.Steps.{Appended};
+ghost use Rattle.ray_text.specs.Run.{Ran, Printed, rayCauses, Small};
+use merge::Merged;
+use rows::Word;
 ghost use Rattle.ray_text.specs.Output.{glyph, hex, fieldText, lineText, linesText, endText, refusedText};
-
-// The value of a small hex digit, and 16 for any other byte.
-fn digit(b: u8) -> u64
-    ensures { λ r. ⌜ r ≡ digitOf b ⌝ }
-{
-    if b < 48 {
-        return 16;
-    }
-    if b < 58 {
-        return (b - 48) as u64;
-    }
-    if b < 97 {
-        return 16;
-    }
-    if b < 103 {
-        return (b - 87) as u64;
-    }
-    16
-}
 
 // Whether 16 small hex digits stand at `at`.
 fn is_number(s: &[u8], at: usize) -> bool
-    requires { ⌜ at + 16 ≤ length (now s) ⌝ }
-    ensures { λ r. ⌜ r ≡ digits (now (s .entry)) at 16 ⌝ }
+    ensures { λ r. ⌜ r ≡ isNumber (now (s .entry)) at ⌝ }
 {
-    let mut k = 0;
-    while k < 16 {
-        if digit(s[at + k]) < 16 {
-            k += 1;
-        } else {
-            return false;
-        }
+    match rows::word_at(s, at) {
+        Word::Value(_) => true,
+        Word::Missing => false,
     }
-    true
 }
 
-// The number that the 16 digits at `at` spell.
-fn number_at(s: &[u8], at: usize) -> u64
-    requires { ⌜ (at + 16 ≤ length (now s)) × (digits (now s) at 16 ≡ true) ⌝ }
-    ensures { λ r. ⌜ r ≡ number (now (s .entry)) at 16 ⌝ }
+// The double whose bits the 16 digits at `at` spell.
+fn double_at(s: &[u8], at: usize) -> f64
+    ensures { λ r. ⌜ r ≡ ofBits binary64 (bitsAt (now (s .entry)) at) ⌝ }
 {
-    let mut v = 0;
-    let mut k = 0;
-    while k < 16 {
-        v = v * 16 + digit(s[at + k]);
-        k += 1;
+    match rows::word_at(s, at) {
+        Word::Value(v) => doubles::of_bits(v),
+        Word::Missing => doubles::of_bits(0),
     }
-    v
 }
 
 // Whether a line may begin with this byte.
@@ -173,14 +147,6 @@ fn few_lines(s: &[u8], n: usize) -> bool
     count_of(s, n, b'I') <= 64
 }
 
-// The double whose bits the 16 digits at `at` spell.
-fn double_at(s: &[u8], at: usize) -> f64
-    requires { ⌜ (at + 16 ≤ length (now s)) × (digits (now s) at 16 ≡ true) ⌝ }
-    ensures { λ r. ⌜ r ≡ ofBits binary64 (number (now (s .entry)) at 16) ⌝ }
-{
-    doubles::of_bits(number_at(s, at))
-}
-
 // Puts a pair at place m.
 fn put_pair(out: &mut [f64], m: usize, lo: f64, hi: f64) -> usize
     requires { ⌜ m + 2 ≤ length (now out) ⌝ }
@@ -193,7 +159,7 @@ fn put_pair(out: &mut [f64], m: usize, lo: f64, hi: f64) -> usize
 
 // Puts the pair of the line at `at` at place m, where that line has the letter c.
 fn put_line_of(s: &[u8], at: usize, c: u8, out: &mut [f64], m: usize) -> usize
-    requires { ⌜ (at + 36 ≤ length (now s)) × (isLine (now s) at ≡ true) × (m ≤ length (now out)) × (getD (now s) at 0 ≡ c → m + 2 ≤ length (now out)) ⌝ }
+    requires { ⌜ (at + 36 ≤ length (now s)) × (m ≤ length (now out)) × (getD (now s) at 0 ≡ c → m + 2 ≤ length (now out)) ⌝ }
     ensures { λ r. ⌜ Appended (now (out .entry)) m (pairAt c (now (s .entry)) at) (now (out .exit)) r ⌝ }
 {
     if s[at] != c {
@@ -206,7 +172,7 @@ fn put_line_of(s: &[u8], at: usize, c: u8, out: &mut [f64], m: usize) -> usize
 
 // Puts the pairs of the first n lines that have the letter c at the front of `out`, and answers how many ends they have.
 fn collect(s: &[u8], n: usize, c: u8, out: &mut [f64]) -> usize
-    requires { ⌜ (36 * n ≤ length (now s)) × (lines (now s) n ≡ true) × (2 * count c (now s) n ≤ length (now out)) ⌝ }
+    requires { ⌜ (36 * n ≤ length (now s)) × (2 * count c (now s) n ≤ length (now out)) ⌝ }
     ensures { λ r. ⌜ Appended (now (out .entry)) 0 (pairs c (now (s .entry)) n) (now (out .exit)) r ⌝ }
 {
     let mut m = 0;
@@ -302,12 +268,15 @@ fn put_text(out: &mut [u8], at: usize, text: &[u8]) -> usize
     n
 }
 
-// Puts `changed` or `same`.
-fn put_end(out: &mut [u8], at: usize, changed: bool) -> usize
+// Puts `changed` where a list moved, else `same`.
+fn put_end(out: &mut [u8], at: usize, p: bool, c: bool) -> usize
     requires { ⌜ at + 8 ≤ length (now out) ⌝ }
-    ensures { λ r. ⌜ Appended (now (out .entry)) at (endText changed) (now (out .exit)) r ⌝ }
+    ensures { λ r. ⌜ Appended (now (out .entry)) at (endText (p || c)) (now (out .exit)) r ⌝ }
 {
-    if changed {
+    if p {
+        return put_text(out, at, b"changed\n");
+    }
+    if c {
         return put_text(out, at, b"changed\n");
     }
     put_text(out, at, b"same\n")
@@ -322,4 +291,65 @@ fn put_refused(out: &mut [u8], k: u32) -> usize
     let n2 = put_byte(out, n1, 48 + ((k / 10) as u8));
     let n3 = put_byte(out, n2, 48 + ((k % 10) as u8));
     put_byte(out, n3, b'\n')
+}
+
+// Merges the hits into a ray, and prints both lists or the refusal.
+fn print_merged(
+    possible: &[f64],
+    certain: &[f64],
+    lo: f64,
+    hi: f64,
+    outer: &[f64],
+    inner: &[f64],
+    out: &mut [u8],
+) -> usize
+    requires { ⌜ Small (now possible) (now certain) (now outer) (now inner) × (65536 ≤ length (now out)) ⌝ }
+    ensures { λ r. ⌜ Printed (rayCauses lo hi (now (possible .entry)) (now (certain .entry))) lo hi (now (possible .entry)) (now (certain .entry))
+        (now (outer .entry)) (now (inner .entry)) (now (out .entry)) (now (out .exit)) r ⌝ }
+{
+    let mut work = [0.0; 3072];
+    let answer = merge::merge(possible, certain, lo, hi, outer, inner, &mut work);
+    match answer {
+        Merged::Refused(k) => put_refused(out, k),
+        Merged::Lists(p, c) => {
+            let n = put_lines(out, 0, b'P', merge::possible_of(possible, &work, answer));
+            let m = put_lines(out, n, b'C', merge::certain_of(certain, &work, answer));
+            put_end(out, m, p.moved, c.moved)
+        }
+    }
+}
+
+// Merges the ray of a readable text.
+fn run_readable(s: &[u8], out: &mut [u8]) -> usize
+    requires { ⌜ (readable (now s) ≡ true) × (65536 ≤ length (now out)) ⌝ }
+    ensures { λ r. ⌜ Ran (now (s .entry)) (now (out .entry)) (now (out .exit)) r ⌝ }
+{
+    let n = s.len() / 36;
+    let mut possible = [0.0; 128];
+    let mut certain = [0.0; 128];
+    let mut outer = [0.0; 128];
+    let mut inner = [0.0; 128];
+    let np = collect(s, n, b'P', &mut possible);
+    let nc = collect(s, n, b'C', &mut certain);
+    let no = collect(s, n, b'O', &mut outer);
+    let ni = collect(s, n, b'I', &mut inner);
+    print_merged(
+        &possible[..np],
+        &certain[..nc],
+        double_at(s, 2),
+        double_at(s, 19),
+        &outer[..no],
+        &inner[..ni],
+        out,
+    )
+}
+
+// The program on slices: what it writes for an input stands at the front of `out`, and the answer is its length.
+pub fn run(s: &[u8], out: &mut [u8; 65536]) -> usize
+    ensures { λ r. ⌜ Ran (now (s .entry)) (now (out .entry)) (now (out .exit)) r ⌝ }
+{
+    if !is_readable(s) {
+        return put_refused(out, 18);
+    }
+    run_readable(s, out)
 }

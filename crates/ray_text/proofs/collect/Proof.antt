@@ -3,9 +3,9 @@ use mathlib.Core.Path.{_≡_, subst}
 use mathlib.Core.List.{List}
 use Prim.Native.Nat.{_+_, _*_, _-_, _≤_}
 use lib.Ieee.{Float}
-use Rattle.ray_text.specs.Format.{isLine, pairAt, pairs}
+use Rattle.ray_text.specs.Format.{pairAt, pairs}
 use Rattle.ray_text.specs.Steps.{Appended}
-use Rattle.ray_text.proofs.Reading.{each-at, count-hit, count-mono, pairs-none, pairs-more, pairs-length}
+use Rattle.ray_text.proofs.Reading.{count-hit, count-mono, pairs-none, pairs-more, pairs-length}
 use Rattle.ray_text.proofs.Writing.{put-none, put-then, same-size}
 use borrow.Author.Needs.{needs}
 use native.Mathlib.Omega.{arith}
@@ -35,9 +35,8 @@ put-line-of-requires c κs =
     let put = pairs-length (a .c) (a .s .now) (l .loop .k) in
     let more = l .loop .inv .1 .next in (
       omega (arith, s .pre .0),
-      each-at (λ k. isLine (a .s .now) (36 * k)) (l .loop .k) (a .n) (c .before .loop-test .taken) (s .pre .1),
       omega (arith, size, l .loop .inv .1 .room),
-      λ h. omega (arith, size, put, more, s .pre .2, count-hit (a .c) (a .s .now) (l .loop .k) h, count-mono (a .c) (a .s .now) (l .loop .k + 1) (a .n) (omega arith)),
+      λ h. omega (arith, size, put, more, s .pre .1, count-hit (a .c) (a .s .now) (l .loop .k) h, count-mono (a .c) (a .s .now) (l .loop .k + 1) (a .n) (omega arith)),
     )
 
 add-k : tie.Need-add-k Inv-loop μ-loop

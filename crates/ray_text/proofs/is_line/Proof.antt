@@ -4,7 +4,7 @@ use mathlib.Core.Bool.{true}
 use Prim.Native.Nat.{_+_}
 use lib.ListN.{getD}
 use borrow.Author.Tests.{eq-eqb, ne-eqb}
-use Rattle.ray_text.specs.Format.{isLetter, digits}
+use Rattle.ray_text.specs.Format.{isLetter, isNumber}
 use Rattle.ray_text.proofs.Reading.{found, found-not, no-letter, no-space, no-lo, no-second, no-hi, last-byte}
 use borrow.Author.Needs.{needs}
 use Rattle.ray_text.proofs.is_line.Statement.{statement}
@@ -13,10 +13,10 @@ use Rattle.ray_text.proofs.is_line.Tie as tie
 letter : (c : tie.Else1) → let a = c .before .before .before .before .args in isLetter (getD (a .s .now) (a .at) 0) ≡ true
 letter c = found (c .before .is-letter .result) _ (c .before .is-letter .ensures) (c .if1 .left)
 
-lo : (c : tie.Else3) → let a = c .before .before .before .before .before .before .before .before .args in digits (a .s .now) (a .at + 2) 16 ≡ true
+lo : (c : tie.Else3) → let a = c .before .before .before .before .before .before .before .before .args in isNumber (a .s .now) (a .at + 2) ≡ true
 lo c = found (c .before .is-number .result) _ (c .before .is-number .ensures) (c .if3 .left)
 
-hi : (c : tie.Else5) → let a = c .before .before .before .before .before .before .before .before .before .before .before .before .args in digits (a .s .now) (a .at + 19) 16 ≡ true
+hi : (c : tie.Else5) → let a = c .before .before .before .before .before .before .before .before .before .before .before .before .args in isNumber (a .s .now) (a .at + 19) ≡ true
 hi c = found (c .before .is-number2 .result) _ (c .before .is-number2 .ensures) (c .if5 .left)
 
 shared-slice-read-is-letter : tie.Need-shared-slice-read-is-letter

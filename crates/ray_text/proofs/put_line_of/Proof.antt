@@ -3,7 +3,7 @@ use mathlib.Core.Path.{subst}
 use mathlib.Core.List.{List}
 use lib.Ieee.{Float}
 use Rattle.ray_text.specs.Steps.{Appended}
-use Rattle.ray_text.proofs.Reading.{line-lo, line-hi, pair-miss, pair-hit}
+use Rattle.ray_text.proofs.Reading.{pair-miss, pair-hit}
 use Rattle.ray_text.proofs.Writing.{put-none}
 use borrow.Author.Needs.{needs}
 use native.Mathlib.Omega.{arith}
@@ -18,26 +18,22 @@ returns c =
     let s = c .before .before .before .before in
     let a = s .args in
     subst (λ (l : List Float). Appended (a .out .now) (a .m) l (a .out .now) (a .m)) (pair-miss (a .s .now) (a .at) (a .c) (c .if1 .taken))
-    (put-none (a .out .now) (a .m) (s .pre .2))
+    (put-none (a .out .now) (a .m) (s .pre .1))
 
 add-double-at : tie.Need-add-double-at
 add-double-at c = search needs
 
 double-at-requires : tie.Need-double-at-requires
-double-at-requires c κs =
-    let s = c .before .before .before .before in
-    (omega (arith, s .pre .0), line-lo (s .args .s .now) (s .args .at) (s .pre .1))
+double-at-requires c κs = search needs
 
 add-double-at-2 : tie.Need-add-double-at-2
 add-double-at-2 c = search needs
 
 double-at-requires-2 : tie.Need-double-at-requires-2
-double-at-requires-2 c κs =
-    let s = c .before .before .before .before .before in
-    (omega (arith, s .pre .0), line-hi (s .args .s .now) (s .args .at) (s .pre .1))
+double-at-requires-2 c κs = search needs
 
 put-pair-requires : tie.Need-put-pair-requires
-put-pair-requires c κs = c .before .before .before .before .before .before .before .pre .3 (c .before .before .before .if1 .left)
+put-pair-requires c κs = c .before .before .before .before .before .before .before .pre .2 (c .before .before .before .if1 .left)
 
 same-length : tie.Need-same-length
 same-length c = search needs
