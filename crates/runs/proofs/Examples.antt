@@ -2,15 +2,15 @@
 use mathlib.Core.Path.{_≡_, refl, sym, ap, ap₂, _∙_, subst}
 use mathlib.Core.Bool.{Bool, true, false, not, _&&_, _||_, false≢true}
 use mathlib.Core.List.{List, [], _∷_, _++_, map, List·Memᴰ, List·Memᴰ·head, List·Memᴰ·tail}
-use mathlib.Core.Logic.{_⊎_, inl, inr}
+use mathlib.Core.Logic.{inl, inr}
 use Prim.Native.Nat.{ℕ, zero, suc, _<_}
 use native.Mathlib.Omega.{arith}
 use native.Mathlib.Decide.{decLt}
 use borrow.Author.Tests.{eqb-true}
 use lib.Dec.{lit<, eqb}
 use lib.IntN.{pos}
-use lib.ListN.{length, getD}
-use lib.Ieee.{Float, nan, inf, fin, binary64, lt, le, eq, neg, ofInt, ofBits, toUnsigned, isNan, sub, add, mul, div}
+use lib.ListN.{getD}
+use lib.Ieee.{Float, nan, inf, binary64, lt, le, eq, neg, ofInt, ofBits, toUnsigned, isNan, sub, add, mul, div}
 use Rattle.doubles.specs.Doubles.{ratio, largerOf, ceilOf, absOf}
 use Rattle.doubles.proofs.Bools.{or-cases, and-left, and-right, clash, not-true}
 use Rattle.spans.specs.Spans.{holds, sound, ListOf}
@@ -22,16 +22,17 @@ use Rattle.grid.specs.declared.DexelStockSpec.{DexelStockSpec}
 use Rattle.grid.specs.declared.DexelGrid.{DexelGrid}
 use Rattle.grid.specs.declared.Gridded.the-variants.{Accepted}
 use Rattle.store.specs.Store.{usedAt, places, Chain, ends, more, placesOf, chained, endsAt}
+use Rattle.validity.specs.Ray.{bounded, ValidRay}
 use Rattle.runs.specs.Logs.{Ray, Kind, possible, certain, entries, namesOne, Commit}
 use Rattle.runs.specs.Model.{Answer, changed, refused, causes, Judged}
 use Rattle.runs.specs.Counts.{hitsOn, raysChanged}
 use Rattle.runs.specs.Runs.{points, Left, Committed, Run, done, next, Settled}
-use Rattle.runs.specs.Lent.{bounded, ValidRay, Stock, listIn, SoundStock, lentStore}
+use Rattle.runs.specs.Lent.{Stock, listIn, SoundStock, lentStore}
 use Rattle.runs.proofs.Unique.{judged-unsound}
 use Rattle.runs.proofs.Less.{less}
 use Rattle.runs.proofs.Decided.{tests, answerBy, judged, left-list}
 use Rattle.runs.proofs.Lent.{lent-laws, demand3-lent}
-use Rattle.runs.proofs.Plain.{Plain, Valid, plain, answers, final}
+use Rattle.runs.proofs.Plain.{Plain, Valid, answers, final}
 
 -- a whole number as a double
 abbrev num : ℕ → Float

@@ -1,3 +1,4 @@
+pub mod Entries
 pub mod Hits
 pub mod Unique
 pub mod Naming

@@ -37,9 +37,3 @@ plus-bits x f = at (isPlusZero x) refl
         let same : x ≡ fin false 0 (pos 0) = sym (ofBits-toBits binary64 x f) ∙ ap (ofBits binary64) e ∙ bits-zero in
         let yes′ : isPlusZero x ≡ true = ap isPlusZero same in
         let z : _≡_ {A = ℕ} 0 1 = cc in omega arith) ∙ sym h
-
-pub not-nan : (x : Float) → ne x x ≡ false → T (not (isNan x))
-unfolding isNan
-not-nan nan h = absurd (let d : ne nan nan ≡ true = nan-differs in let z : _≡_ {A = ℕ} 0 1 = cc in omega arith)
-not-nan (inf s) h = tt
-not-nan (fin s m e) h = tt

@@ -5,18 +5,22 @@ use mathlib.Core.List.{List, [], _∷_}
 use lib.Ieee.{Float, lt, le}
 use Rattle.spans.specs.Spans.{holds, sound}
 
--- each end is at least lo and at most hi
+-- each end lies within the bounds; a NaN bound admits the empty list only
 unfoldable pub bounded : Float → Float → List Float → Bool
 bounded lo hi [] = true
-bounded lo hi (e ∷ l) = le lo e && (le e hi && bounded lo hi l)
+bounded lo hi (x ∷ l) = (le lo x && le x hi) && bounded lo hi l
 
--- document 01's valid ray: both its lists are sound and within its bounds, and certain lies within possible
-pub record ValidRay (lo hi : Float) (possible certain : List Float) : Type 0 where
-  pub possible-sound : sound possible ≡ true
-  pub certain-sound : sound certain ≡ true
-  pub possible-bounded : bounded lo hi possible ≡ true
-  pub certain-bounded : bounded lo hi certain ≡ true
+-- both lists are sound, and certain lies within possible
+pub record Nested (possible certain : List Float) : Type 0 where
+  pub possibleSound : sound possible ≡ true
+  pub certainSound : sound certain ≡ true
   pub inside : (p : Float) → holds certain p ≡ true → holds possible p ≡ true
+
+-- document 01's valid ray: both lists sound and within the bounds, and certain within possible
+pub record ValidRay (lo hi : Float) (possible certain : List Float) : Type 0 where
+  pub nested : Nested possible certain
+  pub possibleBounded : bounded lo hi possible ≡ true
+  pub certainBounded : bounded lo hi certain ≡ true
 
 -- the list from its first pair whose upper end is not below x
 unfoldable pub from : Float → List Float → List Float

@@ -54,40 +54,40 @@ pub struct Tool {
     pub h: [f64; 2],
 }
 
-impl Tool {
-    /// The nine numbers beside the shape, in the order of the struct.
+impl PreparedCutter {
+    /// The numbers in the order of the struct.
     pub fn numbers(&self) -> [f64; 9] {
-        let c = &self.c;
-        let definition = [c.diameter_mm, c.cutting_length_mm, c.overall_length_mm, c.neck_diameter_mm, c.shank_diameter_mm];
-        let mut all = [0.; 9];
-        all[..5].copy_from_slice(&definition);
-        all[5..].copy_from_slice(&[c.radius, c.tip_height, c.slope, c.shoulder]);
-        all
+        [
+            self.diameter_mm,
+            self.cutting_length_mm,
+            self.overall_length_mm,
+            self.neck_diameter_mm,
+            self.shank_diameter_mm,
+            self.radius,
+            self.tip_height,
+            self.slope,
+            self.shoulder,
+        ]
     }
 
-    fn with(mut self, i: u64, x: f64) -> Self {
-        let c = &mut self.c;
-        let fields = [
-            &mut c.diameter_mm,
-            &mut c.cutting_length_mm,
-            &mut c.overall_length_mm,
-            &mut c.neck_diameter_mm,
-            &mut c.shank_diameter_mm,
-            &mut c.radius,
-            &mut c.tip_height,
-            &mut c.slope,
-            &mut c.shoulder,
-            &mut self.own[0],
-            &mut self.own[1],
-        ];
-        *fields.into_iter().nth(i as usize).unwrap() = x;
-        self
+    fn of(x: [f64; 9]) -> Self {
+        PreparedCutter {
+            diameter_mm: x[0],
+            cutting_length_mm: x[1],
+            overall_length_mm: x[2],
+            neck_diameter_mm: x[3],
+            shank_diameter_mm: x[4],
+            radius: x[5],
+            tip_height: x[6],
+            slope: x[7],
+            shoulder: x[8],
+        }
     }
 }
 
 impl Words for Tool {
     fn words(&self) -> String {
-        format!("{} {} {} {}", self.kind, self.own.words(), self.numbers().words(), self.h.words())
+        format!("{} {} {} {}", self.kind, self.own.words(), self.c.numbers().words(), self.h.words())
     }
 }
 
@@ -176,17 +176,21 @@ pub fn likely(g: &mut Gen) -> Tool {
     t
 }
 
-/// One number in four is any double, or stands at a limit.
-pub fn any(g: &mut Gen) -> Tool {
-    let mut t = likely(g);
-    for i in 0..11 {
-        if g.once_in(12) {
-            let limit = g.pick(&[0., 1e6, 1e-6]);
-            let x = g.pick(&[limit, limit.next_up(), limit.next_down()]);
-            t = t.with(i, if g.once_in(3) { g.double() } else { x });
-        }
+fn odd(g: &mut Gen, x: f64) -> f64 {
+    let limit: f64 = g.pick(&[0., 1e6, 1e-6]);
+    match g.below(24) {
+        0 => g.pick(&[limit, limit.next_up(), limit.next_down()]),
+        1 => g.double(),
+        _ => x,
     }
-    t
+}
+
+/// A likely tool with a number here and there that is any double, or stands at a limit.
+pub fn any(g: &mut Gen) -> Tool {
+    let t = likely(g);
+    let own = t.own.map(|x| odd(g, x));
+    let c = PreparedCutter::of(t.c.numbers().map(|x| odd(g, x)));
+    Tool { own, c, ..t }
 }
 
 /// A tool for which camlib's `Profile` is made and its `clamp` does not panic.
@@ -229,7 +233,7 @@ pub fn refusal(t: &Tool) -> Answer {
         4 => &t.own[..],
         _ => &[],
     };
-    let nan = t.numbers().iter().chain(own).any(|x| x.is_nan());
+    let nan = c.numbers().iter().chain(own).any(|x| x.is_nan());
     let positive = [c.diameter_mm, c.cutting_length_mm, c.radius];
     let limit = positive.iter().any(|x| *x <= 0. || *x > 1e6)
         || [c.tip_height, c.slope, c.shoulder].iter().chain(own).any(|x| *x < 0. || *x > 1e6)

@@ -37,18 +37,17 @@ impl Words for Answer {
     }
 }
 
-/// The same case; each double equal in every bit, or zeros or NaNs of other bits.
+/// The same case and equal doubles; zeros or NaNs of other bits are meant.
 pub fn answers(rust: Answer, port: Answer) -> Outcome {
-    let alike = rust.0 == port.0 && rust.1.iter().zip(port.1).all(|(a, b)| same(*a, b));
-    if !alike {
-        return Outcome::Different { rust: rust.words(), port: port.words() };
-    }
-    let other = rust.1.iter().zip(port.1).find(|(a, b)| a.to_bits() != b.to_bits());
-    match other {
-        None => Outcome::Same,
-        Some((a, _)) if a.is_nan() => Outcome::Meant(Explained::OneNan),
-        Some(_) => Outcome::Meant(Explained::Zeros),
-    }
+    let ends = || rust.1.into_iter().zip(port.1);
+    let alike = rust.0 == port.0 && ends().all(|(a, b)| same(a, b));
+    let meant = match ends().find(|(a, b)| a.to_bits() != b.to_bits()) {
+        None if alike => return Outcome::Same,
+        Some((a, _)) if alike && a.is_nan() => Some(Explained::OneNan),
+        Some(_) if alike => Some(Explained::Zeros),
+        _ => None,
+    };
+    Outcome::differs(meant, rust.words(), port.words())
 }
 
 fn answer(strip: Option<[f64; 2]>) -> Answer {
