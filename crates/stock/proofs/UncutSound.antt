@@ -37,7 +37,7 @@ use Rattle.stock.proofs.Uncut.{rec, record-listed, record-free, spans-l
 
 -- ---- the ray of one full pair
 full-valid : (lo hi : Float) → lt lo hi ≡ true → ValidRay lo hi (lo ∷ hi ∷ []) (lo ∷ hi ∷ [])
-full-valid lo hi h = record { possible-sound = rises; certain-sound = rises; possible-bounded = bound; certain-bounded = bound; inside = λ p e. e }
+full-valid lo hi h = record { nested = record { possibleSound = rises; certainSound = rises; inside = λ p e. e }; possibleBounded = bound; certainBounded = bound }
   where
     rises : sound (lo ∷ hi ∷ []) ≡ true
     rises = unfold sound rising in both (lt lo hi) true h refl
@@ -45,7 +45,7 @@ full-valid lo hi h = record { possible-sound = rises; certain-sound = rises; pos
     bound : bounded lo hi (lo ∷ hi ∷ []) ≡ true
     bound = let n = lt-number lo hi h in
         unfold bounded in
-        both (le lo lo) _ (le-refl lo (n .0)) (both (le lo hi) _ (lt→le lo hi h) (both (le lo hi) _ (lt→le lo hi h) (both (le hi hi) true (le-refl hi (n .1)) refl)))
+        both (le lo lo && le lo hi) _ (both (le lo lo) (le lo hi) (le-refl lo (n .0)) (lt→le lo hi h)) (both (le lo hi && le hi hi) true (both (le lo hi) (le hi hi) (lt→le lo hi h) (le-refl hi (n .1))) refl)
 
 -- ---- each cell
 module _ (spec : DexelStockSpec) (g : DexelGrid) (spans : List Float) (links : List ℕ) where
@@ -148,7 +148,7 @@ module _ (spec : DexelStockSpec) (g : DexelGrid) (before : Cells) (facts : GridF
   store = record {
     chains = λ j h. subst (Chain (uncut spec g before .links) (spec .«max_intervals») (suc j) (getD (uncut spec g before .heads) j 0)) (sym (place-is j h)) (chain-one j h);
     others = λ i h u. let l : i < 2 * rayCount g = in-use i h u in
-    mem-to (spec .«max_intervals») (uncut spec g before .links) (uncut spec g before .heads) (2 * rayCount g) 0 i i (omega arith) (omega arith) (subst (List·Memᴰ i) (sym (place-is i l)) (List·Memᴰ·head refl));
+        mem-to (spec .«max_intervals») (uncut spec g before .links) (uncut spec g before .heads) (2 * rayCount g) 0 i i (omega arith) (omega arith) (subst (List·Memᴰ i) (sym (place-is i l)) (List·Memᴰ·head refl));
     counts = sym (one-each (spec .«max_intervals») (uncut spec g before .links) (uncut spec g before .heads) (2 * rayCount g) 0 (λ i lo hi. place-is i (omega arith)));
   }
 
@@ -160,9 +160,9 @@ module _ (spec : DexelStockSpec) (g : DexelGrid) (before : Cells) (facts : GridF
   uncut-sound = record {
     store = store;
     valid = λ ray h. let l = uncut-lists ray h in
-    subst (λ (c : List Float). ValidRay (boundsOf spec g ray .lo) (boundsOf spec g ray .hi) (possibleIn spec (uncut spec g before) ray) c) (sym (l .1))
-    (subst (λ (p : List Float). ValidRay (boundsOf spec g ray .lo) (boundsOf spec g ray .hi) p (boundsOf spec g ray .lo ∷ boundsOf spec g ray .hi ∷ [])) (sym (l .0))
-    (full-valid (boundsOf spec g ray .lo) (boundsOf spec g ray .hi) (in-box ray)));
+        subst (λ (c : List Float). ValidRay (boundsOf spec g ray .lo) (boundsOf spec g ray .hi) (possibleIn spec (uncut spec g before) ray) c) (sym (l .1))
+        (subst (λ (p : List Float). ValidRay (boundsOf spec g ray .lo) (boundsOf spec g ray .hi) p (boundsOf spec g ray .lo ∷ boundsOf spec g ray .hi ∷ [])) (sym (l .0))
+        (full-valid (boundsOf spec g ray .lo) (boundsOf spec g ray .hi) (in-box ray)));
   }
 
   pub uncut-kept : Kept (spec .«max_intervals») (2 * rayCount g) before (uncut spec g before)
