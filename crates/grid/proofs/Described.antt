@@ -12,6 +12,7 @@ use lib.IntN.{ℤ}
 use lib.Ieee.{Float, nan, inf, fin, binary64, ofBits, neg, lt, le, eq, isNan}
 use lib.Ieee.Scale.{finite}
 use Rattle.doubles.specs.Doubles.{Number, absOf}
+use Rattle.doubles.proofs.Bools.{or-cases, not-true, not-false, and-true}
 use Rattle.doubles.proofs.Order.{not-le→lt, lt→not-le, fin-number, nan-none, le-number, le-neg, side→le}
 use Rattle.grid.specs.Axes.{byDigit, byAxis, worldAxis, alongOf}
 use Rattle.grid.specs.Grid.{micro, leastSize, million, within, allWithin, anyBelow, anyAbove, isMm, extentsOf, misdescribed}
@@ -32,10 +33,6 @@ each P x y z p q r a = go (a .0)
 
 -- ---- tests taken apart
 
-pub or-split : (a b : Bool) → (a || b) ≡ true → (a ≡ true) ⊎ (b ≡ true)
-or-split true b h = inl refl
-or-split false b h = inr h
-
 pub or-neither : (a b : Bool) → (a || b) ≡ false → (a ≡ false) × (b ≡ false)
 or-neither true b h = absurd (true≢false h)
 or-neither false b h = (refl, h)
@@ -47,14 +44,6 @@ and-split false b h = inl refl
 pub and-both : (a b : Bool) → (a && b) ≡ true → (a ≡ true) × (b ≡ true)
 and-both true b h = (refl, h)
 and-both false b h = absurd (true≢false (sym h))
-
-not-is : (b : Bool) → not b ≡ true → b ≡ false
-not-is true h = absurd (true≢false (sym h))
-not-is false h = refl
-
-not-isn't : (b : Bool) → not b ≡ false → b ≡ true
-not-isn't true h = refl
-not-isn't false h = absurd (true≢false h)
 
 -- a test that fails somewhere on the three axes, and one that holds on all
 module _ (f : Float → Bool) (p : Vec3) where
@@ -88,10 +77,6 @@ above-axis p limit = some-axis (λ x. lt limit x) p
 pub not-above : (p : Vec3) (limit : Float) → anyAbove p limit ≡ false → (a : WorldAxis) → lt limit (alongOf p a) ≡ false
 unfolding anyAbove
 not-above p limit = no-axis (λ x. lt limit x) p
-
-and-true : (b : Bool) → (b && true) ≡ b
-and-true true = refl
-and-true false = refl
 
 -- ---- within bounds
 
@@ -216,10 +201,10 @@ module _ (s : DexelStockSpec) (sizes : Vec3) where
       let b6 = or-neither _ _ (b5 .1) in
       let b7 = or-neither _ _ (b6 .1) in
       record {
-        version = eqb-true _ _ (not-isn't _ (b1 .0));
-        min = within-axis (s .«min_mm») (neg million) million (not-isn't _ (b2 .0));
-        max = within-axis (s .«max_mm») (neg million) million (not-isn't _ (b3 .0));
-        size = within-axis sizes leastSize million (not-isn't _ (b4 .0));
+        version = eqb-true _ _ (not-false _ (b1 .0));
+        min = within-axis (s .«min_mm») (neg million) million (not-false _ (b2 .0));
+        max = within-axis (s .«max_mm») (neg million) million (not-false _ (b3 .0));
+        size = within-axis sizes leastSize million (not-false _ (b4 .0));
         some-rays = eqb-false _ _ (b5 .0);
         few-rays = ltb-false _ _ (b6 .0);
         some-intervals = eqb-false _ _ (b7 .0);
@@ -240,12 +225,12 @@ module _ (s : DexelStockSpec) (sizes : Vec3) where
   pub clause : (units : List ℕ) → misdescribed s sizes (extentsOf s) ≡ true → Misdescribed s sizes units
   unfolding misdescribed
   clause units h =
-      ⊎-elim (λ t. version-not-1 (eqb-false _ _ (not-is _ t)))
-      (λ k. ⊎-elim (λ t. let o = out-axis (s .«min_mm») (neg million) million low-finite million-finite (not-is _ t) in min-out (o .0) (o .1))
-      (λ k. ⊎-elim (λ t. let o = out-axis (s .«max_mm») (neg million) million low-finite million-finite (not-is _ t) in max-out (o .0) (o .1))
-      (λ k. ⊎-elim (λ t. let o = out-axis sizes leastSize million size-finite million-finite (not-is _ t) in size-out (o .0) (o .1))
+      ⊎-elim (λ t. version-not-1 (eqb-false _ _ (not-true _ t)))
+      (λ k. ⊎-elim (λ t. let o = out-axis (s .«min_mm») (neg million) million low-finite million-finite (not-true _ t) in min-out (o .0) (o .1))
+      (λ k. ⊎-elim (λ t. let o = out-axis (s .«max_mm») (neg million) million low-finite million-finite (not-true _ t) in max-out (o .0) (o .1))
+      (λ k. ⊎-elim (λ t. let o = out-axis sizes leastSize million size-finite million-finite (not-true _ t) in size-out (o .0) (o .1))
       (λ k. ⊎-elim (λ t. no-rays (eqb-true _ _ t))
       (λ k. ⊎-elim (λ t. too-many-rays (ltb-true _ _ t))
       (λ k. ⊎-elim (λ t. no-intervals (eqb-true _ _ t))
       (λ t. let o = below-axis (extentsOf s) micro t in thin (o .0) (o .1))
-      (or-split _ _ k)) (or-split _ _ k)) (or-split _ _ k)) (or-split _ _ k)) (or-split _ _ k)) (or-split _ _ k)) (or-split _ _ h)
+      (or-cases _ _ k)) (or-cases _ _ k)) (or-cases _ _ k)) (or-cases _ _ k)) (or-cases _ _ k)) (or-cases _ _ k)) (or-cases _ _ h)

@@ -22,6 +22,17 @@ module _ (low high : Float) where
   abbrev pub pairIn : Float → Float → Bool
   pairIn lo hi = le low lo && (lt lo hi && le hi high)
 
+  -- the bounds of the ends of a pair, and those of the pair
+  two-bounded : (a b : Float) (l : List Float) → le low a ≡ true → lt a b ≡ true → le b high ≡ true → bounded low high l ≡ true → bounded low high (a ∷ b ∷ l) ≡ true
+  unfolding bounded
+  two-bounded a b l la ab bh rest = both (le low a) _ la (both (le a high) _ (le-trans a b high (lt→le a b ab) bh) (both (le low b) _ (le-trans low a b la (lt→le a b ab)) (both (le b high) _ bh rest)))
+
+  two-bounds : (a b : Float) (l : List Float) → bounded low high (a ∷ b ∷ l) ≡ true → (le low a ≡ true) × (le b high ≡ true) × (bounded low high l ≡ true)
+  unfolding bounded
+  two-bounds a b l h =
+      let of-b = and-right (le low b) _ (and-right (le a high) _ (and-right (le low a) _ h)) in
+      (and-left (le low a) _ h, and-left (le b high) (bounded low high l) of-b, and-right (le b high) (bounded low high l) of-b)
+
   -- a list that comes after a pair that ends at x
   unfoldable pub follows : Float → List Float → Bool
   follows x [] = true
@@ -46,7 +57,7 @@ module _ (low high : Float) where
       record {
         whole = omega (arith, rest .whole);
         rises = both (lt x a) _ (and-left (lt x a) (pairIn a b && follows b l) h) (both (lt a b) _ ab (rest .rises));
-        inside = both (le low a) _ la (both (le a high) _ (le-trans a b high (lt→le a b ab) bh) (both (le low b) _ (le-trans low a b la (lt→le a b ab)) (both (le b high) _ bh (rest .inside))));
+        inside = two-bounded a b l la ab bh (rest .inside);
       }
 
   fits-to : (x : Float) (l : List Float) → Fits x l → follows x l ≡ true
@@ -55,13 +66,11 @@ module _ (low high : Float) where
   fits-to x (a ∷ []) f = absurd (omega (arith, f .whole))
   fits-to x (a ∷ b ∷ l) f =
       let r₁ = and-right (lt x a) (rising (a ∷ b ∷ l)) (f .rises) in
-      let i₁ = and-right (le low a) _ (f .inside) in
-      let i₂ = and-right (le a high) _ i₁ in
-      let i₃ = and-right (le low b) _ i₂ in
+      let i = two-bounds a b l (f .inside) in
       both (lt x a) _ (and-left (lt x a) (rising (a ∷ b ∷ l)) (f .rises))
       (both (pairIn a b) _
-      (both (le low a) _ (and-left (le low a) _ (f .inside)) (both (lt a b) _ (and-left (lt a b) (rising (b ∷ l)) r₁) (and-left (le b high) (bounded low high l) i₃)))
-      (fits-to b l (record { whole = omega (arith, f .whole); rises = and-right (lt a b) (rising (b ∷ l)) r₁; inside = and-right (le b high) (bounded low high l) i₃ })))
+      (both (le low a) _ (i .0) (both (lt a b) _ (and-left (lt a b) (rising (b ∷ l)) r₁) (i .1)))
+      (fits-to b l (record { whole = omega (arith, f .whole); rises = and-right (lt a b) (rising (b ∷ l)) r₁; inside = i .2 })))
 
   -- the whole list, from its first pair
   pub between-pair : (a b : Float) (l : List Float) → (sound (a ∷ b ∷ l) && bounded low high (a ∷ b ∷ l)) ≡ (pairIn a b && follows b l)
@@ -73,12 +82,10 @@ module _ (low high : Float) where
           let s = and-left (sound (a ∷ b ∷ l)) (bounded low high (a ∷ b ∷ l)) h in
           let w : length (a ∷ b ∷ l) % 2 ≡ 0 = eqb-true (length (a ∷ b ∷ l) % 2) 0 (and-left (eqb (length (a ∷ b ∷ l) % 2) 0) (rising (a ∷ b ∷ l)) s) in
           let r = and-right (eqb (length (a ∷ b ∷ l) % 2) 0) (rising (a ∷ b ∷ l)) s in
-          let i₀ = and-right (sound (a ∷ b ∷ l)) (bounded low high (a ∷ b ∷ l)) h in
-          let i₂ = and-right (le a high) _ (and-right (le low a) _ i₀) in
-          let i₃ = and-right (le low b) _ i₂ in
+          let i = two-bounds a b l (and-right (sound (a ∷ b ∷ l)) (bounded low high (a ∷ b ∷ l)) h) in
           both (pairIn a b) _
-          (both (le low a) _ (and-left (le low a) _ i₀) (both (lt a b) _ (and-left (lt a b) (rising (b ∷ l)) r) (and-left (le b high) (bounded low high l) i₃)))
-          (fits-to b l (record { whole = omega arith; rises = and-right (lt a b) (rising (b ∷ l)) r; inside = and-right (le b high) (bounded low high l) i₃ }))
+          (both (le low a) _ (i .0) (both (lt a b) _ (and-left (lt a b) (rising (b ∷ l)) r) (i .1)))
+          (fits-to b l (record { whole = omega arith; rises = and-right (lt a b) (rising (b ∷ l)) r; inside = i .2 }))
 
       of : (pairIn a b && follows b l) ≡ true → (sound (a ∷ b ∷ l) && bounded low high (a ∷ b ∷ l)) ≡ true
       of h =
@@ -89,7 +96,7 @@ module _ (low high : Float) where
           let bh : le b high ≡ true = and-right (lt a b) (le b high) (and-right (le low a) (lt a b && le b high) p) in
           let w : length (a ∷ b ∷ l) % 2 ≡ 0 = omega (arith, rest .whole) in
           both (sound (a ∷ b ∷ l)) _ (both (eqb (length (a ∷ b ∷ l) % 2) 0) _ (eq-eqb (length (a ∷ b ∷ l) % 2) 0 w) (both (lt a b) _ ab (rest .rises)))
-          (both (le low a) _ la (both (le a high) _ (le-trans a b high (lt→le a b ab) bh) (both (le low b) _ (le-trans low a b la (lt→le a b ab)) (both (le b high) _ bh (rest .inside)))))
+          (two-bounded a b l la ab bh (rest .inside))
 
   -- ---- the loop of `sound_between`
   module _ (n : ℕ) (spans : List Float) (links : List ℕ) where

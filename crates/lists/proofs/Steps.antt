@@ -1,12 +1,12 @@
 -- One record of a chain that is read: its pair, and the list from the next record on.
 use mathlib.Core.Path.{_≡_, refl, ap}
 use mathlib.Core.List.{List, [], _∷_}
-use Prim.Native.Nat.{ℕ, zero, suc, _-_, _*_, _≤_, _<_}
+use Prim.Native.Nat.{ℕ, suc, _-_, _*_, _≤_, _<_}
 use native.Mathlib.Omega.{arith}
 use lib.Ieee.{Float}
 use lib.ListN.{length, getD}
 use Rattle.store.specs.Store.{loAt, hiAt, nextAt, places, endsAt, Sound}
-use Rattle.store.proofs.Chains.{chain-step, less-step}
+use Rattle.store.proofs.Chains.{chain-step, less-step, places-zero}
 use Rattle.lists.specs.Reading.{listFrom, Linked, Readable}
 
 pub record LinkStep (n : ℕ) (links : List ℕ) (k : ℕ) : Type 0 where
@@ -32,14 +32,9 @@ step {n} {spans} {links} {k} r ne =
     let s = link-step (r .linked) ne in
     record { counted = s .counted; read = ap (endsAt spans) (s .more); next = record { in-spans = r .in-spans; linked = s .next }; less = s .less }
 
-pub no-places : (links : List ℕ) (n k : ℕ) → k ≡ 0 → places links n k ≡ []
-unfolding places
-no-places links zero k e = refl
-no-places links (suc n) k e = ap (places links (suc n)) e
-
 pub no-ends : (n : ℕ) (spans : List Float) (links : List ℕ) (k : ℕ) → k ≡ 0 → listFrom n spans links k ≡ []
 unfolding endsAt
-no-ends n spans links k e = ap (endsAt spans) (no-places links n k e)
+no-ends n spans links k e = ap (endsAt spans) (places-zero links n k e)
 
 pub ends-length : (spans : List Float) (ps : List ℕ) → length (endsAt spans ps) ≡ 2 * length ps
 unfolding endsAt

@@ -6,7 +6,7 @@
 use mathlib.Core.Path.{_≡_, refl, sym, ap, _∙_, subst}
 use mathlib.Core.Bool.{true}
 use mathlib.Core.Logic.{_⊎_, inl, inr, ⊎-elim}
-use mathlib.Core.List.{List, _∷_, List·Memᴰ, List·Memᴰ·cases-cons, List·Memᴰ·append-cases, List·Memᴰ·not-nil}
+use mathlib.Core.List.{List, [], _∷_, List·Memᴰ, List·Memᴰ·cases-cons, List·Memᴰ·append-cases, List·Memᴰ·not-nil}
 use Prim.Native.Nat.{ℕ, zero, suc, _+_, _-_, _≤_, _<_}
 use native.Mathlib.Omega.{arith}
 use lib.Ieee.{Float}
@@ -123,3 +123,14 @@ chain-places links n o k ps c =
 
 pub less-step : (links : List ℕ) (n o k : ℕ) → Chain links n o k (places links n k) → (k ≡ 0 → ⊥) → length (places links n (nextAt links (k - 1))) < length (places links n k)
 less-step links n o k c ne = omega (arith, ap length (chain-step links n o k c ne .read))
+
+-- an empty list
+pub places-zero : (links : List ℕ) (n k : ℕ) → k ≡ 0 → places links n k ≡ []
+unfolding places
+places-zero links zero k e = refl
+places-zero links (suc n) k e = ap (places links (suc n)) e
+
+pub chain-zero : (links : List ℕ) (n o k : ℕ) → k ≡ 0 → Chain links n o k (places links n k)
+chain-zero links n o k e =
+    let none : Chain links n o 0 [] = ends in
+    subst (λ (ps : List ℕ). Chain links n o k ps) (sym (places-zero links n k e)) (subst (λ (x : ℕ). Chain links n o x []) (sym e) none)

@@ -3,23 +3,18 @@ use mathlib.Core.Path.{_≡_, refl, sym, ap, subst}
 use mathlib.Core.Logic.{⊎-elim}
 use mathlib.Core.Bool.{Bool, true, false, cond}
 use mathlib.Core.List.{List, [], _∷_}
-use Prim.Native.Nat.{_%_}
-use lib.Dec.{eqb}
-use lib.ListN.{length}
 use lib.Ieee.{Float, lt, le}
 use Rattle.doubles.proofs.Bools.{or-cases, or-left, or-right, and-left, and-right, both, clash, by-cases}
 use Rattle.doubles.proofs.Order.{lt-number, le-refl, le-trans, lt→le, lt-irrefl, lt-asym, le→not-lt, not-lt→le, lt-trans, lt-le-trans}
-use Rattle.spans.specs.Spans.{within, holds, leads, rising, sound}
+use Rattle.spans.specs.Spans.{within, holds, rising, sound}
+use Rattle.spans.proofs.Ends.{rising-tail}
+use Rattle.spans.proofs.Sets.{sound-rising}
 use Rattle.validity.specs.Ray.{bounded, ValidRay, from, covers, contained, valid}
 
 -- ---- rising lists
 first-lt : (a b : Float) (l : List Float) → rising (a ∷ b ∷ l) ≡ true → lt a b ≡ true
 unfolding rising
 first-lt a b l r = and-left (lt a b) (rising (b ∷ l)) r
-
-tail-rises : (a : Float) (l : List Float) → rising (a ∷ l) ≡ true → rising l ≡ true
-unfolding rising
-tail-rises a l r = and-right (leads a l) (rising l) r
 
 -- each point of a list is past what the list rises from
 past-first : (x : Float) (l : List Float) (p : Float) → rising (x ∷ l) ≡ true → holds l p ≡ true → lt x p ≡ true
@@ -28,7 +23,7 @@ past-first x [] p r h = absurd (clash false h refl)
 past-first x (a ∷ []) p r h = absurd (clash false h refl)
 past-first x (a ∷ b ∷ l) p r h = ⊎-elim
     (λ (w : within a b p ≡ true). lt-le-trans x a p (first-lt x a (b ∷ l) r) (and-left (le a p) (lt p b) w))
-    (λ (m : holds l p ≡ true). lt-trans x a p (first-lt x a (b ∷ l) r) (lt-trans a b p (first-lt a b l (tail-rises x (a ∷ b ∷ l) r)) (past-first b l p (tail-rises a (b ∷ l) (tail-rises x (a ∷ b ∷ l) r)) m)))
+    (λ (m : holds l p ≡ true). lt-trans x a p (first-lt x a (b ∷ l) r) (lt-trans a b p (first-lt a b l (rising-tail x (a ∷ b ∷ l) r)) (past-first b l p (rising-tail a (b ∷ l) (rising-tail x (a ∷ b ∷ l) r)) m)))
     (or-cases (within a b p) (holds l p) h)
 
 -- ---- the list from its first pair that does not end below x
@@ -45,7 +40,7 @@ unfolding from rising
 from-rises x [] r = refl
 from-rises x (a ∷ []) r = refl
 from-rises x (a ∷ b ∷ l) r = ⊎-elim
-    (λ (t : lt b x ≡ true). subst (λ (m : List Float). rising m ≡ true) (sym (from-skip x a b l t)) (from-rises x l (tail-rises b l (tail-rises a (b ∷ l) r))))
+    (λ (t : lt b x ≡ true). subst (λ (m : List Float). rising m ≡ true) (sym (from-skip x a b l t)) (from-rises x l (rising-tail b l (rising-tail a (b ∷ l) r))))
     (λ (t : lt b x ≡ false). subst (λ (m : List Float). rising m ≡ true) (sym (from-stop x a b l t)) r)
     (by-cases (lt b x))
 
@@ -95,7 +90,7 @@ unfolding holds from
 covered [] lo hi r lh all = absurd (clash false (all lo (both (le lo lo) (lt lo hi) (le-refl lo (lt-number lo hi lh .0)) lh)) refl)
 covered (a ∷ []) lo hi r lh all = absurd (clash false (all lo (both (le lo lo) (lt lo hi) (le-refl lo (lt-number lo hi lh .0)) lh)) refl)
 covered (a ∷ b ∷ l) lo hi r lh all = ⊎-elim
-    (λ (t : lt b hi ≡ true). subst (λ (m : List Float). covers m lo hi ≡ true) (sym (from-skip hi a b l t)) (covered l lo hi (tail-rises b l (tail-rises a (b ∷ l) r)) lh (later t)))
+    (λ (t : lt b hi ≡ true). subst (λ (m : List Float). covers m lo hi ≡ true) (sym (from-skip hi a b l t)) (covered l lo hi (rising-tail b l (rising-tail a (b ∷ l) r)) lh (later t)))
     (λ (t : lt b hi ≡ false). subst (λ (m : List Float). covers m lo hi ≡ true) (sym (from-stop hi a b l t)) (here t))
     (by-cases (lt b hi))
   where
@@ -106,7 +101,7 @@ covered (a ∷ b ∷ l) lo hi r lh all = ⊎-elim
     gap : holds (a ∷ b ∷ l) b ≡ true → ⊥
     gap h = ⊎-elim
         (λ (w : within a b b ≡ true). clash (lt b b) (and-right (le a b) (lt b b) w) (lt-irrefl b))
-        (λ (m : holds l b ≡ true). clash (lt b b) (past-first b l b (tail-rises a (b ∷ l) r) m) (lt-irrefl b))
+        (λ (m : holds l b ≡ true). clash (lt b b) (past-first b l b (rising-tail a (b ∷ l) r) m) (lt-irrefl b))
         (or-cases (within a b b) (holds l b) h)
 
     -- where the first pair ends below hi, it ends at lo or before
@@ -127,7 +122,7 @@ covered (a ∷ b ∷ l) lo hi r lh all = ⊎-elim
         let hb : le hi b ≡ true = not-lt→le b hi (lt-number a b ab .1) (lt-number lo hi lh .1) t in
         both (le a lo) (le hi b) (⊎-elim
         (λ (w : within a b lo ≡ true). and-left (le a lo) (lt lo b) w)
-        (λ (m : holds l lo ≡ true). absurd (clash (lt lo b) (lt-le-trans lo hi b lh hb) (lt-asym b lo (past-first b l lo (tail-rises a (b ∷ l) r) m))))
+        (λ (m : holds l lo ≡ true). absurd (clash (lt lo b) (lt-le-trans lo hi b lh hb) (lt-asym b lo (past-first b l lo (rising-tail a (b ∷ l) r) m))))
         (or-cases (within a b lo) (holds l lo) (all lo (both (le lo lo) (lt lo hi) (le-refl lo (lt-number lo hi lh .0)) lh)))) hb
 
 pub points-contained : (outer inner : List Float) → rising outer ≡ true → rising inner ≡ true → ((p : Float) → holds inner p ≡ true → holds outer p ≡ true) → contained outer inner ≡ true
@@ -137,14 +132,10 @@ points-contained outer (lo ∷ []) ro ri all = refl
 points-contained outer (lo ∷ hi ∷ inner) ro ri all =
     both (covers (from hi outer) lo hi) (contained (from hi outer) inner)
     (covered outer lo hi ro (first-lt lo hi inner ri) (λ p w. all p (or-left (within lo hi p) (holds inner p) w)))
-    (points-contained (from hi outer) inner (from-rises hi outer ro) (tail-rises hi inner (tail-rises lo (hi ∷ inner) ri))
-    (λ p m. from-keeps hi outer p (past-first hi inner p (tail-rises lo (hi ∷ inner) ri) m) (all p (or-right (within lo hi p) (holds inner p) m))))
+    (points-contained (from hi outer) inner (from-rises hi outer ro) (rising-tail hi inner (rising-tail lo (hi ∷ inner) ri))
+    (λ p m. from-keeps hi outer p (past-first hi inner p (rising-tail lo (hi ∷ inner) ri) m) (all p (or-right (within lo hi p) (holds inner p) m))))
 
 -- ---- the test of a ray
-sound-rises : (l : List Float) → sound l ≡ true → rising l ≡ true
-unfolding sound
-sound-rises l s = and-right (eqb (length l % 2) 0) (rising l) s
-
 module _ (lo hi : Float) (possible certain : List Float) where
   pub valid-ray : valid lo hi possible certain ≡ true → ValidRay lo hi possible certain
   unfolding valid
@@ -167,4 +158,4 @@ module _ (lo hi : Float) (possible certain : List Float) where
       (both (sound certain) _ (r .certain-sound)
       (both (bounded lo hi possible) _ (r .possible-bounded)
       (both (bounded lo hi certain) _ (r .certain-bounded)
-      (points-contained possible certain (sound-rises possible (r .possible-sound)) (sound-rises certain (r .certain-sound)) (r .inside)))))
+      (points-contained possible certain (sound-rising possible (r .possible-sound)) (sound-rising certain (r .certain-sound)) (r .inside)))))

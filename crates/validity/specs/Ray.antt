@@ -5,7 +5,7 @@ use mathlib.Core.List.{List, [], _∷_}
 use lib.Ieee.{Float, lt, le}
 use Rattle.spans.specs.Spans.{holds, sound}
 
--- each end is at least lo and at most hi
+-- each end is at least lo and at most hi; a NaN bound admits the empty list only
 unfoldable pub bounded : Float → Float → List Float → Bool
 bounded lo hi [] = true
 bounded lo hi (e ∷ l) = le lo e && (le e hi && bounded lo hi l)

@@ -4,9 +4,9 @@ use mathlib.Core.Path.{_≡_, ap}
 use native.Mathlib.Omega.{arith}
 use lib.ListN.{length}
 use Rattle.store.specs.Store.{places}
-use Rattle.store.proofs.Chains.{places-within}
+use Rattle.store.proofs.Chains.{places-within, places-zero}
 use Rattle.lists.specs.Reading.{Linked}
-use Rattle.lists.proofs.Steps.{link-step, no-places}
+use Rattle.lists.proofs.Steps.{link-step}
 use Rattle.lists.proofs.list_pairs.Statement.{statement}
 use Rattle.lists.proofs.list_pairs.Tie as tie
 
@@ -41,7 +41,7 @@ loop-again : tie.Need-loop-again Inv-loop μ-loop
 loop-again c = let s = link-step (c .before .before .loop .inv .0) (c .before .loop-test .taken) in (s .next, omega (arith, c .before .before .loop .inv .1, ap length (s .more)))
 
 returns : tie.Need-returns Inv-loop μ-loop
-returns c = omega (arith, c .before .loop .inv .1, ap length (no-places (c .before .before .args .links .now) (c .before .before .args .n) _ (c .loop-test .left)))
+returns c = omega (arith, c .before .loop .inv .1, ap length (places-zero (c .before .before .args .links .now) (c .before .before .args .n) _ (c .loop-test .left)))
 
 pub list-pairs-spec : {M : Type 1} → statement M
 list-pairs-spec =
