@@ -37,7 +37,7 @@ use Rattle.stock.proofs.Uncut.{rec, record-listed, record-free, spans-l
 
 -- ---- the ray of one full pair
 full-valid : (lo hi : Float) → lt lo hi ≡ true → ValidRay lo hi (lo ∷ hi ∷ []) (lo ∷ hi ∷ [])
-full-valid lo hi h = record { nested = record { possibleSound = rises; certainSound = rises; inside = λ p e. e }; possibleBounded = bound; certainBounded = bound }
+full-valid lo hi h = record { possible-sound = rises; certain-sound = rises; possible-bounded = bound; certain-bounded = bound; inside = λ p e. e }
   where
     rises : sound (lo ∷ hi ∷ []) ≡ true
     rises = unfold sound rising in both (lt lo hi) true h refl
@@ -45,7 +45,7 @@ full-valid lo hi h = record { nested = record { possibleSound = rises; certainSo
     bound : bounded lo hi (lo ∷ hi ∷ []) ≡ true
     bound = let n = lt-number lo hi h in
         unfold bounded in
-        both (le lo lo && le lo hi) _ (both (le lo lo) (le lo hi) (le-refl lo (n .0)) (lt→le lo hi h)) (both (le lo hi && le hi hi) true (both (le lo hi) (le hi hi) (lt→le lo hi h) (le-refl hi (n .1))) refl)
+        both (le lo lo) _ (le-refl lo (n .0)) (both (le lo hi) _ (lt→le lo hi h) (both (le lo hi) _ (lt→le lo hi h) (both (le hi hi) true (le-refl hi (n .1)) refl)))
 
 -- ---- each cell
 module _ (spec : DexelStockSpec) (g : DexelGrid) (spans : List Float) (links : List ℕ) where
