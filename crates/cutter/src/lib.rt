@@ -202,26 +202,35 @@ fn is_from_zero(x: f64) -> bool
     false
 }
 
-fn sizes_fit(c: PreparedCutter) -> bool
-    ensures { λ r. ⌜ r ≡ sizesFit c ⌝ }
+fn all_three(a: bool, b: bool, c: bool) -> bool
+    ensures { λ r. ⌜ r ≡ (a && (b && c)) ⌝ }
 {
-    if is_above_zero(c.diameter_mm) {
-        if is_above_zero(c.cutting_length_mm) {
-            return is_above_zero(c.radius);
+    if a {
+        if b {
+            return c;
         }
     }
     false
 }
 
+fn sizes_fit(c: PreparedCutter) -> bool
+    ensures { λ r. ⌜ r ≡ sizesFit c ⌝ }
+{
+    all_three(
+        is_above_zero(c.diameter_mm),
+        is_above_zero(c.cutting_length_mm),
+        is_above_zero(c.radius),
+    )
+}
+
 fn heights_fit(c: PreparedCutter) -> bool
     ensures { λ r. ⌜ r ≡ heightsFit c ⌝ }
 {
-    if is_from_zero(c.tip_height) {
-        if is_from_zero(c.slope) {
-            return is_from_zero(c.shoulder);
-        }
-    }
-    false
+    all_three(
+        is_from_zero(c.tip_height),
+        is_from_zero(c.slope),
+        is_from_zero(c.shoulder),
+    )
 }
 
 fn lengths_fit(c: PreparedCutter) -> bool
@@ -280,23 +289,8 @@ fn shape_fits(shape: CutterShape, slope: f64) -> bool
 fn within_limits(shape: CutterShape, c: PreparedCutter) -> bool
     ensures { λ r. ⌜ r ≡ withinLimits shape c ⌝ }
 {
-    if sizes_fit(c) {
-        if heights_fit(c) {
-            if lengths_fit(c) {
-                return numbers_fit(shape, c);
-            }
-        }
-    }
-    false
-}
-
-fn numbers_fit(shape: CutterShape, c: PreparedCutter) -> bool
-    ensures { λ r. ⌜ r ≡ (diametersFit c && shapeFits shape (c .slope)) ⌝ }
-{
-    if diameters_fit(c) {
-        return shape_fits(shape, c.slope);
-    }
-    false
+    let rest = all_three(lengths_fit(c), diameters_fit(c), shape_fits(shape, c.slope));
+    all_three(sizes_fit(c), heights_fit(c), rest)
 }
 
 fn is_beam(shape: CutterShape) -> bool

@@ -1,27 +1,26 @@
 -- The answer of `grid` is given by document 01's causes: the tests in doubles, which are those of the Rust, find the same causes as whole numbers do. Assumes nothing.
-use mathlib.Core.Path.{_≡_, refl, sym, ap, _∙_, subst}
-use mathlib.Core.Logic.{_⊎_, inl, inr}
+use mathlib.Core.Path.{_≡_, refl, sym, ap, _∙_}
+use mathlib.Core.Logic.{inl, inr}
 use mathlib.Core.Bool.{Bool, true, false, cond, not, true≢false}
 use mathlib.Core.List.{List}
-use Prim.Native.Nat.{ℕ, zero, suc, _+_, _*_, _^_, _≤_, _<_}
+use Prim.Native.Nat.{ℕ, zero, suc, _*_, _^_, _≤_, _<_}
 use native.Mathlib.Omega.{arith}
 use borrow.Author.Tests.{ltb-true, ltb-false}
 use lib.Dec.{ltb}
-use lib.Ieee.{Float, binary64, mul, lt, toUnsigned}
+use lib.Ieee.{binary64, mul, lt, toUnsigned}
 use Rattle.refusal.specs.Refusal.{Due, NoneDue}
-use Rattle.grid.specs.Axes.{byDigit, worldAxis, alongOf, cellsAlong, stepAlong}
-use Rattle.grid.specs.Grid.{two, whole, anyAbove, isMm, sizesOf, extentsOf, misdescribed, cellsOf, dimsOf, raysOf, gridWith, leastStep, tooFine, gridOver, gridOf}
+use Rattle.grid.specs.Axes.{byDigit, worldAxis, alongOf, cellsAlong}
+use Rattle.grid.specs.Grid.{two, whole, anyAbove, isMm, sizesOf, extentsOf, misdescribed, raysOf, tooFine, gridOver, gridOf}
 use Rattle.grid.specs.Rays.{rayCount}
 use Rattle.grid.specs.Causes.{Misdescribed, Crowded, OverBudget, TooFine, dimsIn, gridIn, gridCauses, ByCauses, units-not-mm}
 use Rattle.grid.specs.declared.Vec3.{Vec3}
 use Rattle.grid.specs.declared.WorldAxis.{WorldAxis}
 use Rattle.grid.specs.declared.DexelStockSpec.{DexelStockSpec}
-use Rattle.grid.specs.declared.DexelGrid.{DexelGrid}
 use Rattle.grid.specs.declared.Gridded.{Gridded}
 use Rattle.grid.specs.declared.Gridded.the-variants.{Accepted, Refused}
 use Rattle.grid.proofs.Counts.{Cells, cells-whole, above-is, some-cell, cast-exact}
 use Rattle.grid.proofs.Sums.{wholes, total-test, total-exact, twice-test}
-use Rattle.grid.proofs.Described.{each, below-axis, not-below, above-axis, not-above, not-mm, Passes, passes, clause, no-clause}
+use Rattle.grid.proofs.Described.{each, below-axis, not-below, above-axis, not-above, not-mm, passes, clause, no-clause}
 
 -- ---- the cells along an axis
 

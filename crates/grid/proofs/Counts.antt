@@ -1,25 +1,21 @@
 -- Whole numbers as doubles: their order, sums and products, and the cells of an extent, which are a whole number from 1 up or infinity. Assumes nothing.
 use mathlib.Core.Path.{_≡_, refl, sym, ap, _∙_, subst}
-use mathlib.Core.Bool.{Bool, true, false, cond, not, _||_, true≢false}
+use mathlib.Core.Bool.{Bool, true, false, true≢false}
 use Prim.Native.Nat.{ℕ, zero, suc, _+_, _-_, _*_, _/_, _^_, _≤_, _<_, min}
-use native.Mathlib.Nat.{mul-one, one-mul, zero-mul, add-mul, mul-assoc, mul-comm, mul-right-comm, mul-pos, mul-le-mul-right, mul-lt-mul-of-pos-right, mul-div-cancel}
+use native.Mathlib.Nat.{mul-one, zero-mul, mul-assoc, mul-comm, mul-pos, mul-le-mul-right, mul-lt-mul-of-pos-right, mul-div-cancel}
 use native.Mathlib.Omega.{arith}
 use borrow.Author.Tests.{ltb-true, ltb-false, lt-ltb, le-ltb}
 use lib.Dec.{T, ltb, lit<}
-use lib.IntN.{ℤ, pos}
-use lib.Ieee.{Float, nan, inf, fin, up, down, binary64, ofBits, ofInt, toUnsigned, add, mul, div, sum, round, lt, le, fits, isNan}
+use lib.Ieee.{Float, nan, inf, fin, up, down, binary64, ofBits, ofInt, toUnsigned, div, round, lt, le, fits, isNan}
 use lib.Ieee.Bits.{is-true}
 use lib.Ieee.Exact.{HasValue}
 use lib.Ieee.Back.{round-whole}
-use lib.Ieee.Scale.{round-same}
 use lib.Ieee.Order.{round-mono}
-use lib.Ieee.Positive.{mul-at, positive-of-value}
 use lib.Ieee.Fits.{down-pos, div-fits}
-use Rattle.doubles.specs.Doubles.{Number, largerOf, ceilOf}
-use Rattle.doubles.proofs.Order.{le-number, lt-le-trans, le→not-lt, fin-number, side→lt}
+use Rattle.doubles.specs.Doubles.{largerOf, ceilOf}
+use Rattle.doubles.proofs.Order.{lt-le-trans, le→not-lt}
 use Rattle.doubles.proofs.Whole.{ceil-exact}
-use Rattle.grid.specs.Grid.{one, two, whole, cellsOf, raysOf}
-use Rattle.grid.specs.declared.Vec3.{Vec3}
+use Rattle.grid.specs.Grid.{one, whole, cellsOf}
 
 -- ---- the order of whole numbers
 

@@ -1,12 +1,12 @@
 -- Sizes of extents and steps: what is within ±1e6 has a finite extent, an extent that is not below 1e-6 is one of a box whose min is below its max, and a step is finite. Assumes nothing.
-use mathlib.Core.Path.{_≡_, refl, sym, ap, _∙_, subst}
-use mathlib.Core.Bool.{Bool, true, false, cond, not, _&&_, _||_, true≢false}
+use mathlib.Core.Path.{_≡_, refl, sym, _∙_, subst}
+use mathlib.Core.Bool.{Bool, true, false, cond, not, true≢false}
 use Prim.Native.Nat.{ℕ, zero, suc, _+_, _-_, _*_, _^_, _≤_, _<_}
-use native.Mathlib.Nat.{mul-one, zero-mul, mul-assoc, mul-comm, mul-right-comm, mul-left-comm, mul-pos, mul-le-mul-right, mul-le-mul-left, le-of-mul-le-mul-right, le-trans}
+use native.Mathlib.Nat.{mul-one, zero-mul, mul-right-comm, mul-pos, mul-le-mul-right, le-of-mul-le-mul-right}
 use native.Mathlib.Omega.{arith}
-use borrow.Author.Tests.{ltb-true, ltb-false, lt-ltb, le-ltb, ne-eqb}
-use lib.Dec.{ltb, eqb, lit<}
-use lib.IntN.{ℤ, pos}
+use borrow.Author.Tests.{ltb-false, ne-eqb}
+use lib.Dec.{ltb, lit<}
+use lib.IntN.{ℤ}
 use lib.Ieee.{Float, nan, inf, fin, up, down, binary64, ofBits, ofInt, add, sub, div, neg, sum, round, lt, le, eq, unlike, isNan}
 use lib.Ieee.Bits.{is-true}
 use lib.Ieee.Exact.{HasValue}

@@ -1,11 +1,11 @@
 -- What an accepted grid is good for. Assumes nothing.
-use mathlib.Core.Path.{_≡_, refl, sym, ap, _∙_, subst}
-use mathlib.Core.Logic.{inl, inr}
-use mathlib.Core.Bool.{Bool, true, false, true≢false}
+use mathlib.Core.Path.{_≡_, refl, sym, subst}
+use mathlib.Core.Logic.{inr}
+use mathlib.Core.Bool.{Bool, true, false}
 use mathlib.Core.List.{List}
 use Prim.Native.Nat.{ℕ, zero, suc, _*_, _^_, _≤_, _<_}
 use native.Mathlib.Omega.{arith}
-use lib.Ieee.{Float, nan, binary64, ofBits, sub, div, neg, lt, le, isNan}
+use lib.Ieee.{Float, binary64, ofBits, sub, div, neg, lt, le, isNan}
 use lib.Ieee.Exact.{HasValue}
 use lib.Ieee.Scale.{finite}
 use Rattle.refusal.specs.Refusal.{NoneDue}
@@ -13,14 +13,13 @@ use Rattle.doubles.specs.Doubles.{Number, largerOf}
 use Rattle.doubles.proofs.Order.{le-refl, lt-le-trans, not-lt→le, le-trans, le-number}
 use Rattle.doubles.proofs.Pick.{larger-left, larger-nan-right}
 use Rattle.grid.specs.Axes.{byDigit, worldAxis, alongOf, cellsAlong, stepAlong}
-use Rattle.grid.specs.Grid.{micro, million, whole, within, sizesOf, extentsOf, misdescribed, leastStep, magnitudeOf, gridOf}
+use Rattle.grid.specs.Grid.{micro, million, whole, within, sizesOf, extentsOf, misdescribed, leastStep, gridOf}
 use Rattle.grid.specs.Rays.{rayCount}
 use Rattle.grid.specs.Causes.{Misdescribed, Crowded, OverBudget, TooFine, dimsIn, gridIn, gridCauses, ByCauses, plusZero, GridFacts}
 use Rattle.grid.specs.declared.WorldAxis.{WorldAxis}
 use Rattle.grid.specs.declared.DexelStockSpec.{DexelStockSpec}
 use Rattle.grid.specs.declared.DexelGrid.{DexelGrid}
-use Rattle.grid.specs.declared.Gridded.{Gridded}
-use Rattle.grid.specs.declared.Gridded.the-variants.{Accepted, Refused}
+use Rattle.grid.specs.declared.Gridded.the-variants.{Accepted}
 use Rattle.grid.proofs.Counts.{value}
 use Rattle.grid.proofs.Described.{each, and-both, finite-number, Passes, passes, clause}
 use Rattle.grid.proofs.Extents.{Sized, sized-finite, million-sized, sub-sized, step-sized, box, micro-number}

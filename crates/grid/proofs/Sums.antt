@@ -1,5 +1,5 @@
 -- The rays of all grids, which the Rust adds up in doubles: the test against `max_rays` is the one of whole numbers, and a total that passes it is exact. Assumes nothing.
-use mathlib.Core.Path.{_≡_, refl, sym, ap, _∙_, subst}
+use mathlib.Core.Path.{_≡_, refl, sym, _∙_, subst}
 use mathlib.Core.Logic.{_⊎_, inl, inr}
 use mathlib.Core.Bool.{Bool, true, false, cond, true≢false}
 use Prim.Native.Nat.{ℕ, suc, _+_, _*_, _^_, _≤_, _<_}
@@ -7,7 +7,7 @@ use native.Mathlib.Nat.{mul-one, add-mul, mul-assoc, mul-comm, mul-right-comm, m
 use native.Mathlib.Omega.{arith}
 use borrow.Author.Tests.{ltb-true, ltb-false, lt-ltb}
 use lib.Dec.{ltb, lit<}
-use lib.IntN.{ℤ, pos}
+use lib.IntN.{ℤ}
 use lib.Ieee.{Float, nan, inf, fin, Format, prec, emax, low, up, down, binary64, ofBits, ofInt, odd, units, add, mul, sum, round, lt, le}
 use lib.Ieee.Bits.{is-true}
 use lib.Ieee.Exact.{HasValue, odd-sign}

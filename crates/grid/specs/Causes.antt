@@ -1,14 +1,14 @@
 -- The refusals of `grid` in document 01's own words, over whole numbers of cells and rays, and what an accepted grid is good for.
 use mathlib.Core.Path.{_≡_}
-use mathlib.Core.Bool.{Bool, true, false}
+use mathlib.Core.Bool.{true, false}
 use mathlib.Core.List.{List, [], _∷_}
 use mathlib.Core.Logic.{_⊎_}
 use Prim.Native.Nat.{ℕ, _*_, _^_, _≤_, _<_}
-use lib.Ieee.{Float, binary64, ofBits, neg, lt, toUnsigned}
+use lib.Ieee.{Float, binary64, ofBits, neg, lt}
 use lib.Ieee.Scale.{finite}
 use Rattle.refusal.specs.Refusal.{Cause, cause, Due, NoneDue}
 use Rattle.grid.specs.Axes.{alongOf, cellsAlong, stepAlong}
-use Rattle.grid.specs.Grid.{micro, leastSize, million, whole, sizesOf, extentsOf, dimsOf, raysOf, gridWith, leastStep, gridOf}
+use Rattle.grid.specs.Grid.{micro, leastSize, million, whole, sizesOf, extentsOf, dimsOf, raysOf, gridWith, leastStep}
 use Rattle.grid.specs.Rays.{rayCount}
 use Rattle.grid.specs.declared.Vec3.{Vec3}
 use Rattle.grid.specs.declared.WorldAxis.{WorldAxis}

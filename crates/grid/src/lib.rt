@@ -5,6 +5,7 @@ ghost use Rattle.grid.specs.Axes.{alongOf, cellsAlong, stepAlong, crossO
 ghost use Rattle.grid.specs.Grid.{isMm, within, allWithin, anyBelow, anyAbove, misdescribed, cellsOf, dimsOf, gridWith, magnitudeOf, tooFine, gridOver, gridOf};
 ghost use Rattle.grid.specs.Rays.{raysAlong, rayCount, offset, rayNumber, rayAxis, rayIndex, boundsOf, centerOf, cellBoundOf, cellAt};
 
+#[repr(C)]
 pub struct Vec3 {
     pub x: f64,
     pub y: f64,
@@ -21,6 +22,7 @@ pub struct CrossAxes {
 }
 
 // A blank's description, version 1. Its units are lent beside it.
+#[repr(C)]
 pub struct DexelStockSpec {
     pub version: u32,
     pub min_mm: Vec3,
@@ -31,6 +33,7 @@ pub struct DexelStockSpec {
 }
 
 // The cells along each axis, and their widths.
+#[repr(C)]
 pub struct DexelGrid {
     pub c0: u64,
     pub c1: u64,
@@ -46,6 +49,7 @@ pub enum Gridded {
 }
 
 // A ray's coordinates on the two axes across it.
+#[repr(C)]
 pub struct RayCenter {
     pub u: f64,
     pub v: f64,

@@ -7,7 +7,7 @@ use lib.Ieee.{Float, lt, le}
 use Rattle.doubles.proofs.Bools.{or-cases, or-left, or-right, and-left, and-right, both, by-cases, clash}
 use Rattle.doubles.proofs.Order.{lt-number, le-refl, lt→le, not-lt→le, le-lt-trans}
 use Rattle.spans.specs.Spans.{within, holds, rising, sound}
-use Rattle.spans.specs.Results.{Share, Apart}
+use Rattle.spans.specs.Spans.{Share, Apart}
 use Rattle.spans.proofs.Ends.{rising-tail, rising-above}
 use Rattle.spans.proofs.Sets.{sound-rising}
 use Rattle.runs.specs.Counts.{meets, hitBy}

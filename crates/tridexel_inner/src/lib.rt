@@ -1,5 +1,6 @@
 // Inner functions under C names, for the oracle and the benchmark only: each is its crate's function of the same name.
 mod geometry;
+mod grids;
 
 ghost use mathlib.Core.Path.{_≡_};
 ghost use lib.Ieee.{binary64, ofBits, toBits, toUnsigned};

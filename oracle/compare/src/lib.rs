@@ -4,6 +4,7 @@ pub mod cutter;
 pub mod doubles;
 pub mod explained;
 pub mod function;
+pub mod grid;
 pub mod spans;
 pub mod strips;
 
@@ -15,5 +16,6 @@ pub fn modules() -> Vec<(&'static str, Vec<Function>)> {
         ("spans", spans::functions()),
         ("cutter", cutter::functions()),
         ("strips", strips::functions()),
+        ("grid", grid::functions()),
     ]
 }

@@ -1,3 +1,4 @@
+-- Each answer is the first cause that is present, or that none is.
 use mathlib.Core.Path.{sym, _∙_}
 use Rattle.refusal.specs.Refusal.{NoneDue}
 use Rattle.refusal.proofs.Laws.{first, later}

@@ -1,3 +1,4 @@
+-- `grid::cell_at` meets its contract. Assumes nothing.
 use Rattle.grid.specs.Rays.{cellAt}
 use borrow.Author.Needs.{needs}
 use Rattle.grid.proofs.cell_at.Statement.{statement}

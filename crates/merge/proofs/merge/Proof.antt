@@ -1,0 +1,133 @@
+-- `merge::merge` meets its contract.
+use mathlib.Core.Path.{_≡_, ap₂}
+use mathlib.Core.Bool.{Bool, true, false, true≢false, false≢true}
+use Prim.Native.Nat.{ℕ, _+_, _/_, _<_}
+use lib.ListN.{length}
+use Rattle.doubles.proofs.Bools.{not-true, not-false}
+use Rattle.spans.proofs.Sets.{sound-mod}
+use Rattle.merge.specs.Ray.{ValidRay, Decides}
+use Rattle.merge.specs.Merge.{workPairs, Mergeable}
+use Rattle.merge.proofs.Answers.{refuse-short, refuse-bad, accept}
+use borrow.Author.Needs.{needs}
+use native.Mathlib.Omega.{arith}
+use Rattle.merge.proofs.merge.Statement.{statement}
+use Rattle.merge.proofs.merge.Tie as tie
+
+not-short : (c : tie.Else1) → let a = c .before .before .before .before .before .before .args in ¬ (length (a .work .now) / 2 < workPairs (a .possible .now) (a .certain .now) (a .outer .now) (a .inner .now))
+not-short c h = omega (arith, c .if1 .left)
+
+-- what the test of the ray found
+bad : {P : Type 0} (r : Bool) → r ≡ false → Decides r P → ¬ P
+bad true h d = absurd (true≢false h)
+bad false h d = d
+
+held : {P : Type 0} (r : Bool) → r ≡ true → Decides r P → P
+held true h d = d
+held false h d = absurd (false≢true h)
+
+good : (c : tie.Else4) → let a = c .before .before .before .before .before .before .before .before .before .before .args in Mergeable (a .lo) (a .hi) (a .possible .now) (a .certain .now) (a .outer .now) (a .inner .now)
+good c =
+    let v = c .before .valid-ray in
+    let t = c .before .before in
+    record { outerWhole = t .before .if2 .left; innerWhole = t .if3 .left; ray = held (v .result) (not-false (v .result) (c .if4 .left)) (v .ensures) }
+
+add-if1 : tie.Need-add-if1
+add-if1 c = search needs
+
+mul-if1 : tie.Need-mul-if1
+mul-if1 c = search needs
+
+add-if1-2 : tie.Need-add-if1-2
+add-if1-2 c = search needs
+
+mul-if1-2 : tie.Need-mul-if1-2
+mul-if1-2 c = search needs
+
+add-if1-3 : tie.Need-add-if1-3
+add-if1-3 c = search needs
+
+returns : tie.Need-returns
+returns c =
+    let a = c .before .before .before .before .before .before .args in
+    refuse-short (a .lo) (a .hi) (a .possible .now) (a .certain .now) (a .outer .now) (a .inner .now) (a .work .now) (c .if1 .taken)
+
+returns-2 : tie.Need-returns-2
+returns-2 c =
+    let a = c .before .before .before .before .before .before .before .args in
+    refuse-bad (a .lo) (a .hi) (a .possible .now) (a .certain .now) (a .outer .now) (a .inner .now) (a .work .now) (not-short (c .before)) (λ m. c .if2 .taken (m .outerWhole))
+
+returns-3 : tie.Need-returns-3
+returns-3 c =
+    let a = c .before .before .before .before .before .before .before .before .args in
+    refuse-bad (a .lo) (a .hi) (a .possible .now) (a .certain .now) (a .outer .now) (a .inner .now) (a .work .now) (not-short (c .before .before)) (λ m. c .if3 .taken (m .innerWhole))
+
+valid-ray-requires : tie.Need-valid-ray-requires
+valid-ray-requires c κs = search needs
+
+returns-4 : tie.Need-returns-4
+returns-4 c =
+    let v = c .before .valid-ray in
+    let a = c .before .before .before .before .before .before .before .before .before .before .args in
+    refuse-bad (a .lo) (a .hi) (a .possible .now) (a .certain .now) (a .outer .now) (a .inner .now) (a .work .now) (not-short (c .before .before .before .before)) (λ m. bad (v .result) (not-true (v .result) (c .if4 .taken)) (v .ensures) (m .ray))
+
+merge-lists-requires : tie.Need-merge-lists-requires
+merge-lists-requires c κs =
+    let e = c .before in
+    let m = good e in
+    let s = e .before .before .before .before .before .before .before .before .before .before in
+    record {
+      possibleSound = m .ray .nested .possibleSound;
+      certainSound = m .ray .nested .certainSound;
+      outerWhole = m .outerWhole;
+      innerWhole = m .innerWhole;
+      room = omega (arith, sound-mod (s .args .possible .now) (m .ray .nested .possibleSound), sound-mod (s .args .certain .now) (m .ray .nested .certainSound), m .outerWhole, m .innerWhole, e .before .before .before .before .if1 .left);
+    }
+
+cells-requires : tie.Need-cells-requires
+cells-requires c κs = search needs
+
+cells-requires-2 : tie.Need-cells-requires-2
+cells-requires-2 c κs = search needs
+
+add-clear-from : tie.Need-add-clear-from
+add-clear-from c = search needs
+
+clear-from-requires : tie.Need-clear-from-requires
+clear-from-requires c κs = search needs
+
+same-length : tie.Need-same-length
+same-length c = search needs
+
+returns-5 : tie.Need-returns-5
+returns-5 c =
+    let z = c .before .before in
+    let k = z .before in
+    let j = k .before in
+    let y = j .before .before .before .before .before .before in
+    let e = y .before .before in
+    let a = c .before .before .before .before .before .before .before .before .before .before .before .before .before .before .before .before .before .before .before .before .before .before .args in
+    accept (a .lo) (a .hi) (a .possible .now) (a .certain .now) (a .outer .now) (a .inner .now) (a .work .now) (y .merge-lists .last .1 .1 .1 .1 .0) (z .clear-from .last .0) (y .merge-lists .result)
+    (j .cells .result + k .cells2 .result) (not-short (e .before .before .before .before)) (good e) (y .merge-lists .ensures)
+    (ap₂ (λ (x y : ℕ). x + y) (j .cells .ensures) (k .cells2 .ensures)) (z .clear-from .ensures)
+
+pub merge-spec : {M : Type 1} → statement M
+merge-spec =
+    tie.close
+    (tie.spec
+    add-if1
+    mul-if1
+    add-if1-2
+    mul-if1-2
+    add-if1-3
+    returns
+    returns-2
+    returns-3
+    valid-ray-requires
+    returns-4
+    merge-lists-requires
+    cells-requires
+    cells-requires-2
+    add-clear-from
+    clear-from-requires
+    same-length
+    returns-5)

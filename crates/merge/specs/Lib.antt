@@ -1,0 +1,5 @@
+-- The definitions that the contracts of `merge` cite.
+pub mod Ray
+pub mod Merge
+pub mod Steps
+pub mod Sweep

@@ -1,0 +1,168 @@
+-- From a readable text to what is written of it.
+use mathlib.Core.Path.{_≡_, refl, sym, _∙_, ap, subst}
+use mathlib.Core.Bool.{Bool, true, false, cond, _&&_, _||_, true≢false, false≢true}
+use mathlib.Core.List.{List, [], _∷_, _++_}
+use mathlib.Core.Logic.{_⊎_, inl, inr}
+use Prim.Native.Nat.{ℕ, _+_, _*_, _/_, _%_, _≤_, _<_}
+use native.Mathlib.Omega.{arith}
+use borrow.Author.Tests.{leb-true}
+use lib.Dec.{eqb, leb}
+use lib.ListN.{length, take, drop}
+use lib.Ieee.{Float}
+use Rattle.refusal.specs.Refusal.{Due, NoneDue}
+use Rattle.spans.specs.Spans.{holds}
+use Rattle.merge.specs.Ray.{ValidRay}
+use Rattle.merge.specs.Merge.{eitherHit, cellsOf, handed, Spared, Left, Mergeable, mergeCauses}
+use Rattle.merge.specs.declared.Part.{Part}
+use Rattle.ray_text.specs.Format.{letterB, letterP, letterC, letterO, letterI, lines, letterOf, count, pairs, few, total, readable}
+use Rattle.ray_text.specs.Output.{linesText, endText, refusedText}
+use Rattle.ray_text.specs.Run.{loOf, hiOf, possibleIn, certainIn, outerIn, innerIn, After, Written, rayCauses, runCauses, Result, refused, written, Printed, Ran, Small}
+use Rattle.ray_text.specs.Steps.{Appended}
+use Rattle.ray_text.proofs.Reading.{and-left, and-right, pairs-length}
+use Rattle.ray_text.proofs.Printing.{lines-length}
+use Rattle.ray_text.proofs.Writing.{front, put-then}
+
+-- ---- what a readable text has
+pub record Reads (s : List ℕ) : Type 0 where
+  pub possibleFew : count letterP s (total s) ≤ 64
+  pub certainFew : count letterC s (total s) ≤ 64
+  pub outerFew : count letterO s (total s) ≤ 64
+  pub innerFew : count letterI s (total s) ≤ 64
+
+pub reads : (s : List ℕ) → readable s ≡ true → Reads s
+unfolding readable few
+reads s h =
+    let whole = eqb (length s % 36) 0 in
+    let first = eqb (letterOf s 0) letterB in
+    let once = eqb (count letterB s (total s)) 1 in
+    let p = leb (count letterP s (total s)) 64 in
+    let c = leb (count letterC s (total s)) 64 in
+    let o = leb (count letterO s (total s)) 64 in
+    let i = leb (count letterI s (total s)) 64 in
+    let ls = and-right whole (lines s (total s) && (first && (once && (p && (c && (o && i)))))) h in
+    let fs = and-right (lines s (total s)) (first && (once && (p && (c && (o && i))))) ls in
+    let os = and-right first (once && (p && (c && (o && i)))) fs in
+    let ps = and-right once (p && (c && (o && i))) os in
+    let cs = and-right p (c && (o && i)) ps in
+    let is = and-right c (o && i) cs in
+    record {
+      possibleFew = leb-true (count letterP s (total s)) 64 (and-left p (c && (o && i)) ps);
+      certainFew = leb-true (count letterC s (total s)) 64 (and-left c (o && i) cs);
+      outerFew = leb-true (count letterO s (total s)) 64 (and-left o i is);
+      innerFew = leb-true (count letterI s (total s)) 64 (and-right o i is);
+    }
+
+module _ (s : List ℕ) (r : Reads s) where
+  pub collects : (c : ℕ) → count c s (total s) ≤ 64 → (36 * (length s / 36) ≤ length s) × (2 * count c s (length s / 36) ≤ 128)
+  collects c h = (omega arith, omega arith)
+
+-- ---- the lists that are collected
+module _ (before cells after : List Float) (r : ℕ) (p : Appended before 0 cells after r) where
+  pub collected : take r after ≡ cells
+  collected = front before 0 cells after r p
+
+  pub collected-size : r ≡ length (take r after)
+  collected-size = p .next ∙ omega (arith, ap length collected)
+
+small-list : (c : ℕ) (s : List ℕ) → count c s (total s) ≤ 64 → (length (pairs c s (total s)) % 2 ≡ 0) × (length (pairs c s (total s)) ≤ 128)
+small-list c s h = (omega (arith, pairs-length c s (total s)), omega (arith, pairs-length c s (total s)))
+
+pub small : (s : List ℕ) → Reads s → (p c o i : List Float) → p ≡ possibleIn s → c ≡ certainIn s → o ≡ outerIn s → i ≡ innerIn s → Small p c o i
+small s r p c o i ep ec eo ei = rw (ep, ec, eo, ei) record {
+  outerWhole = small-list letterO s (r .outerFew) .0;
+  innerWhole = small-list letterI s (r .innerFew) .0;
+  possibleMost = small-list letterP s (r .possibleFew) .1;
+  certainMost = small-list letterC s (r .certainFew) .1;
+  outerMost = small-list letterO s (r .outerFew) .1;
+  innerMost = small-list letterI s (r .innerFew) .1;
+}
+
+-- ---- the answer of the merge
+module _ (lo hi : Float) (possible certain outer inner : List Float) (few· : Small possible certain outer inner) where
+  pub due-ray : (k : ℕ) → Due (mergeCauses lo hi possible certain outer inner 3072) k → (k < 100) × Due (rayCauses lo hi possible certain) k
+  unfolding Due
+  due-ray k (inl d) = absurd (omega (arith, d .0, few· .possibleMost, few· .certainMost, few· .outerMost, few· .innerMost))
+  due-ray k (inr (n, inl d)) =
+      (omega (arith, d .1), inl ((λ v. d .0 (record { outerWhole = few· .outerWhole; innerWhole = few· .innerWhole; ray = v })), d .1))
+  due-ray k (inr (n, inr d)) = absurd (d .1)
+
+  pub none-due-ray : NoneDue (mergeCauses lo hi possible certain outer inner 3072) → NoneDue (rayCauses lo hi possible certain)
+  unfolding NoneDue
+  none-due-ray n = ((λ v. n .1 .0 (λ m. v (m .ray))), tt)
+
+  -- how long the lists are
+  list-most : (p : Part) (a : List Float) (w : List Float) (k : ℕ) (hit : Float → Bool) → length a ≤ 128 → Spared a hit p (handed p a w k) → length (handed p a w k) ≤ cellsOf p + 128
+  list-most p a w k hit h s = go (p .moved) refl
+    where
+      go : (b : Bool) → p .moved ≡ b → length (handed p a w k) ≤ cellsOf p + 128
+      go true e = let cells : cellsOf p ≡ 2 * p .pairs = rw e in omega (arith, s .pairs)
+      go false e =
+          let same : handed p a w k ≡ a = ap (λ (b : Bool). cond (b && leb (k + 2 * p .pairs) (length w)) (take (2 * p .pairs) (drop k w)) a) e in
+          omega (arith, ap length same)
+
+  module _ (p c : Part) (work : List Float) (size : length work ≡ 3072) (left : Left lo hi possible certain outer inner p c work) where
+    abbrev possibleNew : List Float
+    possibleNew = handed p possible work 0
+
+    abbrev certainNew : List Float
+    certainNew = handed c certain work (cellsOf p)
+
+    pub even-lists : (length possibleNew % 2 ≡ 0) × (length certainNew % 2 ≡ 0) × (18 * length possibleNew + 18 * length certainNew + 8 ≤ 65536)
+    even-lists = (
+      omega (arith, left .possibleLeft .pairs),
+      omega (arith, left .certainLeft .pairs),
+      omega (
+        arith,
+        list-most p possible work 0 (holds inner) (few· .possibleMost) (left .possibleLeft),
+        list-most c certain work (cellsOf p) (eitherHit outer inner) (few· .certainMost) (left .certainLeft),
+        left .room,
+      ),
+    )
+
+    pub lines-long : (length (linesText letterP possibleNew) ≡ 18 * length possibleNew) × (length (linesText letterC certainNew) ≡ 18 * length certainNew)
+    lines-long = (lines-length letterP possibleNew (even-lists .0), lines-length letterC certainNew (even-lists .1))
+
+    kept : (q : Part) (a : List Float) (w : List Float) (k : ℕ) → q .moved ≡ false → handed q a w k ≡ a
+    kept q a w k e = ap (λ (b : Bool). cond (b && leb (k + 2 * q .pairs) (length w)) (take (2 * q .pairs) (drop k w)) a) e
+
+    pub writes : (out out₁ out₂ out₃ : List ℕ) (n m r : ℕ) → NoneDue (mergeCauses lo hi possible certain outer inner 3072)
+        → Appended out 0 (linesText letterP possibleNew) out₁ n → Appended out₁ n (linesText letterC certainNew) out₂ m → Appended out₂ m (endText (p .moved || c .moved)) out₃ r
+        → Printed (rayCauses lo hi possible certain) lo hi possible certain outer inner out out₃ r
+    writes out out₁ out₂ out₃ n m r none a b e = record {
+      text = linesText letterP possibleNew ++ (linesText letterC certainNew ++ endText (p .moved || c .moved));
+      result = written (none-due-ray none) record {
+        p = p .moved;
+        c = c .moved;
+        possibleAfter = possibleNew;
+        certainAfter = certainNew;
+        possibleLeft = record { moves = left .possibleLeft .moves; same = kept p possible work 0; left = left .possibleLeft .list };
+        certainLeft = record { moves = left .certainLeft .moves; same = kept c certain work (cellsOf p); left = left .certainLeft .list };
+        valid = left .valid;
+        printed = refl;
+      };
+      put = put-then out 0 (linesText letterP possibleNew) out₁ n a (linesText letterC certainNew ++ endText (p .moved || c .moved)) out₃ r
+          (put-then out₁ n (linesText letterC certainNew) out₂ m b (endText (p .moved || c .moved)) out₃ r e);
+    }
+
+  pub refuses : (out after : List ℕ) (r k : ℕ) → Due (mergeCauses lo hi possible certain outer inner 3072) k → Appended out 0 (refusedText k) after r
+      → Printed (rayCauses lo hi possible certain) lo hi possible certain outer inner out after r
+  refuses out after r k d a = record { text = refusedText k; result = refused k (due-ray k d .1) refl; put = a }
+
+-- ---- the whole program
+module _ (s out after : List ℕ) (r : ℕ) where
+  pub run-refused : readable s ≡ false → Appended out 0 (refusedText 18) after r → Ran s out after r
+  unfolding Due
+  run-refused h a = record { text = refusedText 18; result = refused 18 (inl (h, refl)) refl; put = a }
+
+  pub run-merged : readable s ≡ true
+      → Printed (rayCauses (loOf s) (hiOf s) (possibleIn s) (certainIn s)) (loOf s) (hiOf s) (possibleIn s) (certainIn s) (outerIn s) (innerIn s) out after r → Ran s out after r
+  unfolding Due NoneDue
+  run-merged h p = record { text = p .text; result = later (p .result); put = p .put }
+    where
+      readable· : ¬ (readable s ≡ false)
+      readable· k = true≢false (sym h ∙ k)
+
+      later : Result (rayCauses (loOf s) (hiOf s) (possibleIn s) (certainIn s)) (loOf s) (hiOf s) (possibleIn s) (certainIn s) (outerIn s) (innerIn s) (p .text)
+          → Result (runCauses s) (loOf s) (hiOf s) (possibleIn s) (certainIn s) (outerIn s) (innerIn s) (p .text)
+      later (refused k d e) = refused k (inr (readable·, d)) e
+      later (written n w) = written (readable·, n) w

@@ -1,0 +1,80 @@
+-- What the program writes for an input, as document 01 defines it.
+use mathlib.Core.Path.{_≡_}
+use mathlib.Core.Bool.{Bool, true, false, _||_}
+use mathlib.Core.List.{List, [], _∷_}
+use Prim.Native.Nat.{ℕ, _%_, _≤_}
+use lib.ListN.{length}
+use lib.Ieee.{Float, binary64, ofBits}
+use Rattle.refusal.specs.Refusal.{Cause, cause, Due, NoneDue}
+use Rattle.spans.specs.Spans.{holds, ListOf}
+use Rattle.merge.specs.Ray.{ValidRay}
+use Rattle.merge.specs.Merge.{Moves, eitherHit, spared}
+use Rattle.ray_text.specs.Format.{letterP, letterC, letterO, letterI, bitsAt, pairs, total, readable}
+use Rattle.ray_text.specs.Output.{answerText, refusedText}
+use Rattle.ray_text.specs.Steps.{Appended}
+
+-- the bounds, which the first line gives, the ray's lists and the hits
+abbrev pub loOf : List ℕ → Float
+loOf s = ofBits binary64 (bitsAt s 2)
+
+abbrev pub hiOf : List ℕ → Float
+hiOf s = ofBits binary64 (bitsAt s 19)
+
+abbrev pub possibleIn : List ℕ → List Float
+possibleIn s = pairs letterP s (total s)
+
+abbrev pub certainIn : List ℕ → List Float
+certainIn s = pairs letterC s (total s)
+
+abbrev pub outerIn : List ℕ → List Float
+outerIn s = pairs letterO s (total s)
+
+abbrev pub innerIn : List ℕ → List Float
+innerIn s = pairs letterI s (total s)
+
+-- a list after the merge: the one sound list of the points that lie in no hit, and the list as it was read where no point does
+pub record After (list : List Float) (hit : Float → Bool) (moved : Bool) (after : List Float) : Type 0 where
+  pub moves : Moves list hit moved
+  pub same : moved ≡ false → after ≡ list
+  pub left : ListOf (spared list hit) after
+
+-- both lists after the merge, and their text
+pub record Written (lo hi : Float) (possible certain outer inner : List Float) (text : List ℕ) : Type 0 where
+  pub p : Bool
+  pub c : Bool
+  pub possibleAfter : List Float
+  pub certainAfter : List Float
+  pub possibleLeft : After possible (holds inner) p possibleAfter
+  pub certainLeft : After certain (eitherHit outer inner) c certainAfter
+  pub valid : ValidRay lo hi possibleAfter certainAfter
+  pub printed : text ≡ answerText possibleAfter certainAfter (p || c)
+
+-- 18 for a text that cannot be read, then 11 for a ray that is not valid within its bounds
+abbrev pub rayCauses : Float → Float → List Float → List Float → List Cause
+rayCauses lo hi possible certain = cause 11 (¬ ValidRay lo hi possible certain) ∷ []
+
+abbrev pub runCauses : List ℕ → List Cause
+runCauses s = cause 18 (readable s ≡ false) ∷ rayCauses (loOf s) (hiOf s) (possibleIn s) (certainIn s)
+
+-- the text for causes: the refusal that is due, or else what is written of the merge
+pub data Result (causes : List Cause) (lo hi : Float) (possible certain outer inner : List Float) (text : List ℕ) : Type 0 where
+  refused : (k : ℕ) → Due causes k → text ≡ refusedText k → Result causes lo hi possible certain outer inner text
+  written : NoneDue causes → Written lo hi possible certain outer inner text → Result causes lo hi possible certain outer inner text
+
+-- the text stands at the front of the buffer, r bytes long, and the other bytes are as before
+pub record Printed (causes : List Cause) (lo hi : Float) (possible certain outer inner : List Float) (before after : List ℕ) (r : ℕ) : Type 0 where
+  pub text : List ℕ
+  pub result : Result causes lo hi possible certain outer inner text
+  pub put : Appended before 0 text after r
+
+abbrev pub Ran : List ℕ → List ℕ → List ℕ → ℕ → Type 0
+Ran s before after r = Printed (runCauses s) (loOf s) (hiOf s) (possibleIn s) (certainIn s) (outerIn s) (innerIn s) before after r
+
+-- what is asked of the lists that are merged and printed: whole pairs of hits, and as many as the buffers hold
+pub record Small (possible certain outer inner : List Float) : Type 0 where
+  pub outerWhole : length outer % 2 ≡ 0
+  pub innerWhole : length inner % 2 ≡ 0
+  pub possibleMost : length possible ≤ 128
+  pub certainMost : length certain ≤ 128
+  pub outerMost : length outer ≤ 128
+  pub innerMost : length inner ≤ 128
