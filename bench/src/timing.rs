@@ -2,8 +2,8 @@
 use std::{hint::black_box, time::Instant};
 
 const REPETITIONS: usize = 25;
-/// Seconds per row and side after which no further repetition starts.
-const LIMIT: f64 = 1.;
+/// Seconds per row after which no further repetition starts.
+const LIMIT: f64 = 2.;
 /// Seconds that one repetition takes, about.
 const STRETCH: f64 = 0.004;
 
@@ -11,13 +11,13 @@ pub struct Table {
     only: Option<String>,
 }
 
-/// How many calls take a repetition's time.
-fn calls<T>(f: &mut impl FnMut() -> T) -> usize {
+/// How many calls take a repetition's time, and the seconds of one call.
+fn calls<T>(f: &mut impl FnMut() -> T) -> (usize, f64) {
     let mut n = 1;
     loop {
         let t = stretch(n, f);
         if t > STRETCH / 4. || n > 1 << 24 {
-            return ((n as f64 * STRETCH / t.max(1e-9)) as usize).clamp(1, 1 << 26);
+            return (((n as f64 * STRETCH / t.max(1e-9)) as usize).clamp(1, 1 << 26), t / n as f64);
         }
         n *= 2;
     }
@@ -47,15 +47,15 @@ impl Table {
         if self.only.as_ref().is_some_and(|only| !what.contains(only.as_str())) {
             return;
         }
-        let (p, r) = (calls(&mut port), calls(&mut rust));
-        let mut best = [f64::INFINITY; 2];
         let start = Instant::now();
-        for _ in 0..REPETITIONS {
-            best[0] = best[0].min(stretch(p, &mut port) / p as f64);
-            best[1] = best[1].min(stretch(r, &mut rust) / r as f64);
-            if start.elapsed().as_secs_f64() > 2. * LIMIT {
+        let (p, r) = (calls(&mut port), calls(&mut rust));
+        let mut best = [p.1, r.1];
+        for _ in 1..REPETITIONS {
+            if start.elapsed().as_secs_f64() > LIMIT {
                 break;
             }
+            best[0] = best[0].min(stretch(p.0, &mut port) / p.0 as f64);
+            best[1] = best[1].min(stretch(r.0, &mut rust) / r.0 as f64);
         }
         let [p, r] = best.map(|s| s * 1e9 / per as f64);
         println!("{what:<40} {p:>12.1} {r:>12.1} {:>8.2}", p / r);

@@ -1,22 +1,15 @@
 -- A tool within document 01's limits, whatever its shape: over the cutting part every section cuts, so that the neck and the shank have no part in `cut_radius`.
-use mathlib.Core.Path.{_≡_, refl, sym, ap, _∙_}
+use mathlib.Core.Path.{_≡_, refl, ap}
 use mathlib.Core.Bool.{Bool, true, false, cond, _&&_, false≢true}
 use lib.Ieee.{Float, nan, inf, fin, ofBits, lt, le, eq}
-use Rattle.doubles.specs.Doubles.{Number}
-use Rattle.doubles.proofs.Order.{le-refl, le-trans, lt→le, le-number, le→not-lt, not-lt→le, fin-number}
+use Rattle.doubles.specs.Doubles.{Number, clampOf}
+use Rattle.doubles.proofs.Bools.{and-left, and-right}
+use Rattle.doubles.proofs.Order.{le-refl, le-trans, lt→le, le-number, le→not-lt, not-lt→le}
 use Rattle.cutter.specs.declared.CutterShape.{CutterShape}
 use Rattle.cutter.specs.declared.PreparedCutter.{PreparedCutter}
 use Rattle.cutter.specs.declared.ProfileSlice.the-variants.{Cutting}
-use Rattle.cutter.specs.Cutter.{plusZero, isFinite, clampOf, offTool, cuttingRadius, radiusAt, radiusOf, cutRadius}
+use Rattle.cutter.specs.Cutter.{plusZero, isFinite, offTool, cuttingRadius, radiusAt, radiusOf, cutRadius}
 use Rattle.cutter.specs.Limits.{million, aboveZero, sizesFit, heightsFit, lengthsFit, diametersFit, shapeFits, withinLimits}
-
-and-left : (a b : Bool) → (a && b) ≡ true → a ≡ true
-and-left true b h = refl
-and-left false b h = absurd (false≢true h)
-
-and-right : (a b : Bool) → (a && b) ≡ true → b ≡ true
-and-right true b h = h
-and-right false b h = absurd (false≢true h)
 
 finite-between : (x : Float) → le plusZero x ≡ true → le x million ≡ true → isFinite x ≡ true
 unfolding isFinite lt eq le ofBits

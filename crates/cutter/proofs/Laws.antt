@@ -1,6 +1,6 @@
--- Tests of the code as the definitions have them: finite doubles, and a choice whose test is known.
-use mathlib.Core.Path.{_≡_, refl, sym, _∙_}
-use mathlib.Core.Bool.{Bool, true, false, not, true≢false, false≢true}
+-- The code's test for a finite double, by the two infinities.
+use mathlib.Core.Path.{_≡_, refl}
+use mathlib.Core.Bool.{true, false, not, true≢false, false≢true}
 use lib.Ieee.{Float, nan, inf, fin, binary64, ofBits, div, neg, lt}
 use Rattle.cutter.specs.Cutter.{isFinite}
 
@@ -20,9 +20,3 @@ unfolding isFinite lt neg div ofBits
 not-finite nan h = refl
 not-finite (inf s) h = refl
 not-finite (fin s m e) h = absurd (true≢false h)
-
-pub not-true : {b : Bool} → b ≡ false → ¬ (b ≡ true)
-not-true h k = false≢true (sym h ∙ k)
-
-pub not-false : {b : Bool} → b ≡ true → ¬ (b ≡ false)
-not-false h k = true≢false (sym h ∙ k)

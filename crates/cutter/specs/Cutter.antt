@@ -1,7 +1,7 @@
 -- The radius of a cutter by height, each operation rounded (tool.rs: radius_at; sweep.rs: cut_radius, cut_max, cut_min).
 use mathlib.Core.Bool.{Bool, true, false, cond, not, _||_, _&&_}
 use lib.Ieee.{Float, nan, inf, fin, binary64, ofBits, add, sub, mul, div, lt, le}
-use Rattle.doubles.specs.Doubles.{largerOf, smallerOf}
+use Rattle.doubles.specs.Doubles.{largerOf, smallerOf, clampOf}
 use Rattle.doubles.specs.Root.{squareRoot}
 use Rattle.cutter.specs.declared.CutterShape.{CutterShape}
 use Rattle.cutter.specs.declared.CutterShape.the-variants.{Flat, Ball, Bull, Drill, Chamfer, Beam, Probe, Lollipop, Dovetail}
@@ -22,10 +22,6 @@ unfoldable pub isFinite : Float → Bool
 isFinite nan = false
 isFinite (inf s) = false
 isFinite (fin s m e) = true
-
--- Rust's `clamp`, for lo ≤ hi
-unfoldable pub clampOf : Float → Float → Float → Float
-clampOf x lo hi = cond (lt x lo) lo (cond (lt hi x) hi x)
 
 -- half the chord of a circle of radius r at the height z above its lowest point
 unfoldable pub arcAt : Float → Float → Float

@@ -1,7 +1,7 @@
 // The cutting part of a tool as radius by height: z = 0 is the tip, +z points toward the spindle (tool.rs; `Profile` of sweep.rs).
 ghost use mathlib.Core.Path.{_≡_};
 ghost use mathlib.Core.Bool.{_&&_};
-ghost use Rattle.cutter.specs.Cutter.{isFinite, clampOf, arcAt, cuttingRadius, offTool, shankDiameter, radiusAt, cutRadius, cutMax, cutMin};
+ghost use Rattle.cutter.specs.Cutter.{isFinite, arcAt, cuttingRadius, offTool, shankDiameter, radiusAt, cutRadius, cutMax, cutMin};
 ghost use Rattle.cutter.specs.Limits.{aboveZero, fromZero, number, sizesFit, heightsFit, lengthsFit, diametersFit, shapeFits, withinLimits, isBeam, Checked};
 
 // Document 01's `CutterShape`: Bull has the corner radius, Drill the point angle, Chamfer the included angle and the tip diameter, Dovetail the flank angle.
@@ -56,18 +56,6 @@ fn is_finite(x: f64) -> bool
         return x > -infinity;
     }
     false
-}
-
-fn clamp(x: f64, lo: f64, hi: f64) -> f64
-    ensures { λ r. ⌜ r ≡ clampOf x lo hi ⌝ }
-{
-    if x < lo {
-        return lo;
-    }
-    if x > hi {
-        return hi;
-    }
-    x
 }
 
 fn arc_at(r: f64, z: f64) -> f64
@@ -164,7 +152,7 @@ pub fn radius_at(shape: CutterShape, c: PreparedCutter, z: f64) -> ProfileSlice
 pub fn cut_radius(shape: CutterShape, c: PreparedCutter, h: f64) -> f64
     ensures { λ r. ⌜ r ≡ cutRadius shape c h ⌝ }
 {
-    let s = radius_at(shape, c, clamp(h, 0.0, c.cutting_length_mm));
+    let s = radius_at(shape, c, doubles::clamp(h, 0.0, c.cutting_length_mm));
     match s {
         ProfileSlice::Cutting(r) => r,
         ProfileSlice::NonCutting(r) => r,
@@ -179,7 +167,7 @@ pub fn cut_max(shape: CutterShape, c: PreparedCutter, h0: f64, h1: f64) -> Radiu
     let lo = doubles::larger(h0, 0.0);
     let hi = doubles::smaller(h1, c.cutting_length_mm);
     if lo <= hi {
-        return Radius::Is(cut_radius(shape, c, clamp(widest_height(c), lo, hi)));
+        return Radius::Is(cut_radius(shape, c, doubles::clamp(widest_height(c), lo, hi)));
     }
     Radius::Outside
 }
@@ -214,26 +202,35 @@ fn is_from_zero(x: f64) -> bool
     false
 }
 
-fn sizes_fit(c: PreparedCutter) -> bool
-    ensures { λ r. ⌜ r ≡ sizesFit c ⌝ }
+fn all_three(a: bool, b: bool, c: bool) -> bool
+    ensures { λ r. ⌜ r ≡ (a && (b && c)) ⌝ }
 {
-    if is_above_zero(c.diameter_mm) {
-        if is_above_zero(c.cutting_length_mm) {
-            return is_above_zero(c.radius);
+    if a {
+        if b {
+            return c;
         }
     }
     false
 }
 
+fn sizes_fit(c: PreparedCutter) -> bool
+    ensures { λ r. ⌜ r ≡ sizesFit c ⌝ }
+{
+    all_three(
+        is_above_zero(c.diameter_mm),
+        is_above_zero(c.cutting_length_mm),
+        is_above_zero(c.radius),
+    )
+}
+
 fn heights_fit(c: PreparedCutter) -> bool
     ensures { λ r. ⌜ r ≡ heightsFit c ⌝ }
 {
-    if is_from_zero(c.tip_height) {
-        if is_from_zero(c.slope) {
-            return is_from_zero(c.shoulder);
-        }
-    }
-    false
+    all_three(
+        is_from_zero(c.tip_height),
+        is_from_zero(c.slope),
+        is_from_zero(c.shoulder),
+    )
 }
 
 fn lengths_fit(c: PreparedCutter) -> bool
@@ -292,23 +289,8 @@ fn shape_fits(shape: CutterShape, slope: f64) -> bool
 fn within_limits(shape: CutterShape, c: PreparedCutter) -> bool
     ensures { λ r. ⌜ r ≡ withinLimits shape c ⌝ }
 {
-    if sizes_fit(c) {
-        if heights_fit(c) {
-            if lengths_fit(c) {
-                return numbers_fit(shape, c);
-            }
-        }
-    }
-    false
-}
-
-fn numbers_fit(shape: CutterShape, c: PreparedCutter) -> bool
-    ensures { λ r. ⌜ r ≡ (diametersFit c && shapeFits shape (c .slope)) ⌝ }
-{
-    if diameters_fit(c) {
-        return shape_fits(shape, c.slope);
-    }
-    false
+    let rest = all_three(lengths_fit(c), diameters_fit(c), shape_fits(shape, c.slope));
+    all_three(sizes_fit(c), heights_fit(c), rest)
 }
 
 fn is_beam(shape: CutterShape) -> bool

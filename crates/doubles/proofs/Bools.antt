@@ -1,7 +1,8 @@
 -- Laws of Bool that several crates use: what a test made of tests says of each.
-use mathlib.Core.Path.{_≡_, refl, sym, _∙_}
+use mathlib.Core.Path.{_≡_, refl, sym, _∙_, subst}
 use mathlib.Core.Logic.{_⊎_, inl, inr}
 use mathlib.Core.Bool.{Bool, true, false, not, _&&_, _||_, true≢false, false≢true}
+use lib.Dec.{T}
 
 pub or-cases : (a b : Bool) → (a || b) ≡ true → (a ≡ true) ⊎ (b ≡ true)
 or-cases true b h = inl refl
@@ -27,6 +28,10 @@ pub both : (a b : Bool) → a ≡ true → b ≡ true → (a && b) ≡ true
 both true b h k = k
 both false b h k = absurd (false≢true h)
 
+pub and-true : (a : Bool) → (a && true) ≡ a
+and-true true = refl
+and-true false = refl
+
 pub and-false : (a b : Bool) → b ≡ false → (a && b) ≡ false
 and-false true b h = h
 and-false false b h = refl
@@ -45,6 +50,13 @@ clash a h k = true≢false (sym h ∙ k)
 pub by-cases : (a : Bool) → (a ≡ true) ⊎ (a ≡ false)
 by-cases true = inl refl
 by-cases false = inr refl
+
+-- a test that passed, as a proposition
+pub of-true : {a : Bool} → a ≡ true → T a
+of-true h = subst T (sym h) tt
+
+pub of-false : {a : Bool} → a ≡ false → T (not a)
+of-false h = subst (λ (b : Bool). T (not b)) (sym h) tt
 
 -- two tests that imply each other are one
 pub same-if : (a b : Bool) → (a ≡ true → b ≡ true) → (b ≡ true → a ≡ true) → a ≡ b

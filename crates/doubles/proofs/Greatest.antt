@@ -1,4 +1,4 @@
--- The floor of a finite double is the greatest whole number that is not above it (`floor-is`), and the ceiling the least that is not below it (`ceil-is-least`);
+-- The floor of a finite double is the greatest whole number that is not above it (`floor-greatest`), and the ceiling the least that is not below it (`ceil-least`);
 -- an infinity and a NaN come back as they are. Assumes nothing.
 use mathlib.Core.Path.{_≡_, refl, sym, ap, _∙_, subst}
 use mathlib.Core.Bool.{Bool, true, false, true≢false}
@@ -7,11 +7,11 @@ use native.Mathlib.Nat.{le-trans, le-of-eq, mul-one, mul-right-comm, mul-le-mul-
 use native.Mathlib.Omega.{arith}
 use lib.Dec.{T}
 use lib.IntN.{ℤ}
-use lib.Ieee.{Float, nan, inf, fin, binary64, up, down, le, neg, fits, isNan}
+use lib.Ieee.{Float, nan, inf, fin, binary64, up, down, le, neg, fits}
 use lib.Ieee.Fits.{down-pos, round-fits, neg-fits}
 use lib.Ieee.Exact.{HasValue}
-use Rattle.doubles.specs.Doubles.{Number, ceilDiv, floorOf, ceilOf, Whole, FloorOf, CeilOf}
-use Rattle.doubles.proofs.Order.{side, le→side, side→le, le-neg, fin-number}
+use Rattle.doubles.specs.Doubles.{ceilDiv, floorOf, ceilOf, Whole, FloorOf, CeilOf}
+use Rattle.doubles.proofs.Order.{le→side, side→le, le-neg, fin-number}
 use Rattle.doubles.proofs.Whole.{exact-div, ceil-below, floor-exact, floor-le, ceil-is}
 
 -- ---- whole numbers c and q, with a and b the sizes of the doubles that hold them over the denominators d and j
@@ -37,7 +37,7 @@ turned a c d b q j f g h =
 none : (a d : ℕ) → 0 < d → a * d ≤ 0 → a ≤ 0
 none a d D h = le-of-mul-le-mul-right (le-trans h (le-of-eq (sym (zero-mul d)))) D
 
--- ---- every whole y that is at most x is at most w, for a w that is the floor q of an x of size M / E
+-- ---- every whole y that is at most x is at most w, where w is the whole number q
 
 module _ (w : Float) (q m : ℕ) (e : ℤ) where
   under-positive : HasValue w false q 1 → ((c : ℕ) → c * down e ≤ m * up e → c ≤ q) → (y : Float) → Whole y → le y (fin false m e) ≡ true → le y w ≡ true
@@ -100,15 +100,15 @@ module _ (w : Float) (q m : ℕ) (e : ℤ) where
 
 -- ---- the laws
 
-pub floor-is : (s : Bool) (m : ℕ) (e : ℤ) → T (fits binary64 (fin s m e)) → FloorOf (fin s m e) (floorOf (fin s m e))
-floor-is false m e t =
+pub floor-greatest : (s : Bool) (m : ℕ) (e : ℤ) → T (fits binary64 (fin s m e)) → FloorOf (fin s m e) (floorOf (fin s m e))
+floor-greatest false m e t =
     record {
       double = unfold floorOf in round-fits binary64 false (m * up e / down e) 1;
       whole = value-whole (floorOf (fin false m e)) false (m * up e / down e) (floor-exact false m e t);
       below = floor-le (fin false m e) t (fin-number false m e);
       greatest = under-positive (floorOf (fin false m e)) (m * up e / down e) m e (floor-exact false m e t) (λ c h. le-div-iff-mul-le (down-pos e) .1 h);
     }
-floor-is true m e t =
+floor-greatest true m e t =
     record {
       double = unfold floorOf in round-fits binary64 true (ceilDiv (m * up e) (down e)) 1;
       whole = value-whole (floorOf (fin true m e)) true (ceilDiv (m * up e) (down e)) (floor-exact true m e t);
@@ -133,7 +133,7 @@ neg-neg (fin true m e) = refl
 
 floored : (s : Bool) (m : ℕ) (e : ℤ) → T (fits binary64 (neg (fin s m e))) → FloorOf (neg (fin s m e)) (floorOf (neg (fin s m e)))
 unfolding neg
-floored s m e t = floor-is _ m e t
+floored s m e t = floor-greatest _ m e t
 
 -- the ceiling of x is the floor of -x, negated
 turn : (x r : Float) → FloorOf (neg x) r → CeilOf x (neg r)
@@ -145,14 +145,14 @@ turn x r f =
       least = λ y v l. subst (λ (z : Float). le (neg r) z ≡ true) (neg-neg y) (le-neg r (neg y) ∙ f .greatest (neg y) (neg-whole y v) (le-neg y x ∙ l));
     }
 
-pub ceil-is-least : (s : Bool) (m : ℕ) (e : ℤ) → T (fits binary64 (fin s m e)) → CeilOf (fin s m e) (ceilOf (fin s m e))
-ceil-is-least s m e t = subst (λ (r : Float). CeilOf (fin s m e) r) (ceil-is (fin s m e)) (turn (fin s m e) (floorOf (neg (fin s m e))) (floored s m e (neg-fits binary64 (fin s m e) t)))
+pub ceil-least : (s : Bool) (m : ℕ) (e : ℤ) → T (fits binary64 (fin s m e)) → CeilOf (fin s m e) (ceilOf (fin s m e))
+ceil-least s m e t = subst (λ (r : Float). CeilOf (fin s m e) r) (ceil-is (fin s m e)) (turn (fin s m e) (floorOf (neg (fin s m e))) (floored s m e (neg-fits binary64 (fin s m e) t)))
 
 -- an infinity and a NaN come back as they are
-pub floor-inf : (s : Bool) → (floorOf (inf s) ≡ inf s) × (ceilOf (inf s) ≡ inf s)
+pub inf-kept : (s : Bool) → (floorOf (inf s) ≡ inf s) × (ceilOf (inf s) ≡ inf s)
 unfolding floorOf ceilOf
-floor-inf s = (refl, refl)
+inf-kept s = (refl, refl)
 
-pub floor-nan : (floorOf nan ≡ nan) × (ceilOf nan ≡ nan)
+pub nan-kept : (floorOf nan ≡ nan) × (ceilOf nan ≡ nan)
 unfolding floorOf ceilOf
-floor-nan = (refl, refl)
+nan-kept = (refl, refl)

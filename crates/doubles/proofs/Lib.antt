@@ -1,9 +1,10 @@
 pub mod Bools
 pub mod Order
-pub mod Whole
 pub mod Pick
 pub mod Total
-pub mod Examples
+pub mod Held
+pub mod Whole
+pub mod Greatest
 pub mod WholeRoot
 pub mod Rounded
 pub mod Patterns
@@ -12,4 +13,4 @@ pub mod Halves
 pub mod Scale
 pub mod Result
 pub mod Nearest
-pub mod Greatest
+pub mod Examples

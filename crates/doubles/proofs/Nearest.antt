@@ -1,21 +1,22 @@
 -- `squareRoot` of a positive finite value is the value of the format that is nearest to the exact root (`nearest-root`), in either format. Assumes nothing.
 use mathlib.Core.Path.{_≡_, refl, sym, ap, _∙_, subst}
-use Prim.Native.Nat.{ℕ, zero, suc, _+_, _-_, _*_, _/_, _%_, _^_, _≤_, _<_, compare, Ordering, Ordering·lt, Ordering·eq, Ordering·gt}
-use native.Mathlib.Nat.{le-refl, le-trans, le-of-mul-le-mul-right, le-of-eq, le-of-lt, le-of-suc-le-suc, lt-of-lt-of-le, lt-of-le-of-lt, lt-of-not-le, not-le-of-lt, lt-irrefl, mul-pos, mul-le-mul-right, mul-lt-mul-of-pos-right, lt-of-mul-lt-mul-right, mul-mul-mul-comm, mul-assoc, mul-one, one-mul, zero-mul, add-mul, mul-comm, mul-right-comm, zero-lt-suc, le-div-iff-mul-le, div-lt-iff-lt-mul, eq-of-mul-eq-mul-right, div-one, mul-div-cancel, zero-div}
+use Prim.Native.Nat.{ℕ, zero, suc, _+_, _-_, _*_, _/_, _^_, _≤_, _<_, compare, Ordering, Ordering·lt, Ordering·eq, Ordering·gt}
+use native.Mathlib.Nat.{le-refl, le-trans, le-of-mul-le-mul-right, le-of-eq, le-of-lt, le-of-suc-le-suc, sub-add-cancel, lt-of-lt-of-le, lt-of-le-of-lt, lt-of-not-le, not-le-of-lt, lt-irrefl, mul-pos, mul-le-mul-right, mul-lt-mul-of-pos-right, lt-of-mul-lt-mul-right, mul-mul-mul-comm, mul-assoc, mul-one, one-mul, add-mul, mul-comm, mul-right-comm, zero-lt-suc, le-div-iff-mul-le, div-lt-iff-lt-mul, eq-of-mul-eq-mul-right, div-one, mul-div-cancel}
 use native.Mathlib.Omega.{arith}
 use native.Mathlib.Decide.{decLe}
-use mathlib.Core.Bool.{true, false, _&&_}
+use mathlib.Core.Bool.{true, false}
 use lib.IntN.{ℤ, pos, negsuc}
-use lib.Dec.{T, eqb, ltb, leb, ltb→lt, leb→le, lit≤}
+use lib.Dec.{T, lit≤}
 use lib.Pow.{pow-add, pow-pos, pow-mono, pow-lt, shl-lt}
 use lib.Ieee.{Float, nan, inf, fin, Format, binary32, binary64, prec, emax, low, up, down, size, nearest, units, fits, hid, ofBits, toBits, le}
 use lib.Ieee.Order.{le-of-values}
 use lib.Ieee.Bits.{ofBits-toBits}
 use lib.Ieee.Digits.{size-lt}
-use lib.Ieee.Fits.{two, two-le-pos, and-l, and-r, odd-fits, up-pos, down-pos}
+use lib.Ieee.Fits.{two, two-le-pos, odd-fits, up-pos, down-pos}
 use lib.Ieee.Exact.{HasValue, units-val}
 use lib.Ieee.Positive.{positive, positive-of-value, values-of-le}
 use Rattle.doubles.specs.Root.{wholeRoot, magnitude, rootOfUnits, squareRoot, NearestRoot}
+use Rattle.doubles.proofs.Held.{held}
 use Rattle.doubles.proofs.WholeRoot.{whole-root, square-lt, square-le}
 use Rattle.doubles.proofs.Rounded.{Compared, compared, dropped, kept, root-is, bracket, kept-ge, kept-under}
 use Rattle.doubles.proofs.Patterns.{magnitude-at, units-is}
@@ -34,24 +35,16 @@ value-shape f m (negsuc k) h d = (
   low f - suc k,
   h,
   ap (λ (x : ℕ). x * 2 ^ low f / 2 ^ suc k) (mul-one m)
-      ∙ ap (λ (x : ℕ). m * x / 2 ^ suc k) (ap (λ (x : ℕ). 2 ^ x) (sym (back (low f) (suc k) (power-le (suc k) (low f) d))) ∙ pow-add 2 (low f - suc k) (suc k))
+      ∙ ap (λ (x : ℕ). m * x / 2 ^ suc k) (ap (λ (x : ℕ). 2 ^ x) (sym (sub-add-cancel (power-le (suc k) (low f) d))) ∙ pow-add 2 (low f - suc k) (suc k))
       ∙ ap (λ (x : ℕ). x / 2 ^ suc k) (sym (mul-assoc m (2 ^ (low f - suc k)) (2 ^ suc k)))
       ∙ mul-div-cancel (m * 2 ^ (low f - suc k)) (pow-pos (suc k)),
 )
-  where
-    back : (a b : ℕ) → b ≤ a → a - b + b ≡ a
-    back a b h = omega arith
 
 shape : (f : Format) (y : Float) → T (fits f y) → Shape f (magnitude f y)
-unfolding fits magnitude
+unfolding magnitude
 shape f nan t = (0, 0, pow-pos (prec f), refl)
 shape f (inf s) t = (0, 0, pow-pos (prec f), refl)
-shape f (fin s zero e) t = (0, 0, pow-pos (prec f), ap (λ (x : ℕ). x * 2 ^ low f / down e) (zero-mul (up e)) ∙ ap (λ (x : ℕ). x / down e) (zero-mul (2 ^ low f)) ∙ zero-div (down e))
-shape f (fin s (suc m) e) t =
-    let t1 = and-l (eqb (suc m % 2) 1 && ltb (suc m) (2 ^ prec f) && leb (down e) (2 ^ low f)) (ltb (suc m * up e) (2 ^ suc (emax f) * down e)) t in
-    let t2 = and-l (eqb (suc m % 2) 1 && ltb (suc m) (2 ^ prec f)) (leb (down e) (2 ^ low f)) t1 in
-    value-shape f (suc m) e (ltb→lt (suc m) (2 ^ prec f) (and-r (eqb (suc m % 2) 1) (ltb (suc m) (2 ^ prec f)) t2))
-    (leb→le (down e) (2 ^ low f) (and-r (eqb (suc m % 2) 1 && ltb (suc m) (2 ^ prec f)) (leb (down e) (2 ^ low f)) t1))
+shape f (fin s m e) t = let h = held f s m e t in value-shape f m e (h .digits) (h .fine)
 
 -- ---- no value of p digits lies between q * 2 ^ k and (q + 1) * 2 ^ k, for a q of p digits
 no-value-between : (p M i k q Y : ℕ) → 0 < p → M < 2 ^ p → Y ≡ M * 2 ^ i → 2 ^ (p - 1) ≤ q → q * 2 ^ k < Y → suc q * 2 ^ k ≤ Y
@@ -249,15 +242,13 @@ module _ (f : Format) (x : Float) (X : ℕ) (X-is : magnitude f x ≡ X) (X-pos 
 -- ---- the theorem
 -- the bounds of a value above zero that the format holds
 bounds : (f : Format) (m : ℕ) (e : ℤ) → T (fits f (fin false (suc m) e)) → (0 < magnitude f (fin false (suc m) e)) × (magnitude f (fin false (suc m) e) < 2 ^ (low f + suc (emax f)))
-unfolding fits magnitude
+unfolding magnitude
 bounds f m e t =
-    let t1 = and-l (eqb (suc m % 2) 1 && ltb (suc m) (2 ^ prec f) && leb (down e) (2 ^ low f)) (ltb (suc m * up e) (2 ^ suc (emax f) * down e)) t in
-    let d : down e ≤ 2 ^ low f = leb→le (down e) (2 ^ low f) (and-r (eqb (suc m % 2) 1 && ltb (suc m) (2 ^ prec f)) (leb (down e) (2 ^ low f)) t1) in
-    let u : suc m * up e < 2 ^ suc (emax f) * down e = ltb→lt (suc m * up e) (2 ^ suc (emax f) * down e) (and-r (eqb (suc m % 2) 1 && ltb (suc m) (2 ^ prec f) && leb (down e) (2 ^ low f)) (ltb (suc m * up e) (2 ^ suc (emax f) * down e)) t) in (
+    let h = held f false (suc m) e t in (
       le-div-iff-mul-le (down-pos e) .1
-          (le-trans (le-of-eq (one-mul (down e))) (le-trans d (le-trans (le-of-eq (sym (one-mul (2 ^ low f)))) (mul-le-mul-right (2 ^ low f) (mul-pos (zero-lt-suc m) (up-pos e)))))),
+          (le-trans (le-of-eq (one-mul (down e))) (le-trans (h .fine) (le-trans (le-of-eq (sym (one-mul (2 ^ low f)))) (mul-le-mul-right (2 ^ low f) (mul-pos (zero-lt-suc m) (up-pos e)))))),
       div-lt-iff-lt-mul (down-pos e) .1
-          (lt-of-lt-of-le (mul-lt-mul-of-pos-right u (pow-pos (low f)))
+          (lt-of-lt-of-le (mul-lt-mul-of-pos-right (h .under) (pow-pos (low f)))
           (le-of-eq (mul-right-comm (2 ^ suc (emax f)) (down e) (2 ^ low f) ∙ ap (λ (z : ℕ). z * down e) (mul-comm (2 ^ suc (emax f)) (2 ^ low f) ∙ sym (pow-add 2 (low f) (suc (emax f))))))),
     )
 
@@ -316,17 +307,11 @@ whole-units : (f : Format) (m : ℕ) (e : ℤ) → down e ≤ 2 ^ low f → m * 
 whole-units f m (pos k) d = multiple (m * 2 ^ k * 2 ^ low f) (m * 2 ^ k * 2 ^ low f) 1 (pow-pos 0) (sym (mul-one (m * 2 ^ k * 2 ^ low f)))
 whole-units f m (negsuc k) d =
     multiple (m * 1 * 2 ^ low f) (m * 1 * 2 ^ (low f - suc k)) (2 ^ suc k) (pow-pos (suc k))
-    (ap (λ (x : ℕ). m * 1 * x) (ap (λ (x : ℕ). 2 ^ x) (sym (back (low f) (suc k) (power-le (suc k) (low f) d))) ∙ pow-add 2 (low f - suc k) (suc k)) ∙ sym (mul-assoc (m * 1) (2 ^ (low f - suc k)) (2 ^ suc k)))
-  where
-    back : (a b : ℕ) → b ≤ a → a - b + b ≡ a
-    back a b h = omega arith
+    (ap (λ (x : ℕ). m * 1 * x) (ap (λ (x : ℕ). 2 ^ x) (sym (sub-add-cancel (power-le (suc k) (low f) d))) ∙ pow-add 2 (low f - suc k) (suc k)) ∙ sym (mul-assoc (m * 1) (2 ^ (low f - suc k)) (2 ^ suc k)))
 
 in-units : (f : Format) (x : Float) → T (fits f x) → T (positive x) → HasValue x false (magnitude f x) (2 ^ low f)
-unfolding fits magnitude
-in-units f (fin false zero e) t p = absurd p
-in-units f (fin false (suc m) e) t p =
-    let t1 = and-l (eqb (suc m % 2) 1 && ltb (suc m) (2 ^ prec f) && leb (down e) (2 ^ low f)) (ltb (suc m * up e) (2 ^ suc (emax f) * down e)) t in
-    (refl, whole-units f (suc m) e (leb→le (down e) (2 ^ low f) (and-r (eqb (suc m % 2) 1 && ltb (suc m) (2 ^ prec f)) (leb (down e) (2 ^ low f)) t1)))
+unfolding magnitude
+in-units f (fin false m e) t p = (refl, whole-units f m e (held f false m e t .fine))
 
 pub root-keeps-order : (f : Format) (x y : Float) → T (fits f x) → T (positive x) → T (fits f y) → T (positive y) → T (le x y) → T (le (squareRoot f x) (squareRoot f y))
 root-keeps-order f x y s p t q h =

@@ -26,7 +26,7 @@ pub fn smaller(a: f64, b: f64) -> f64
     if b < a { b } else { a }
 }
 
-// Rust's `clamp`, without its panic: lo where x is below it, else hi where x is above that, else x, as a NaN is.
+// Rust's `clamp`, without its panic: lo where x is below it, else hi where x is above that, else x. A NaN stays.
 pub fn clamp(x: f64, lo: f64, hi: f64) -> f64
     ensures { λ r. ⌜ r ≡ clampOf x lo hi ⌝ }
 {

@@ -2,7 +2,8 @@
 use mathlib.Core.Bool.{cond}
 use Prim.Native.Nat.{ℕ, _+_, _-_, _*_, _/_, _%_}
 use lib.Dec.{eqb, ltb, leb}
-use lib.Ieee.{Float, binary64, ofBits, add, mul}
+use lib.Ieee.{Float, binary64, ofBits, toUnsigned, add, sub, mul, div}
+use Rattle.doubles.specs.Doubles.{clampOf, floorOf}
 use Rattle.grid.specs.Axes.{byAxis, worldAxis, alongOf, cellsAlong, stepAlong, crossOf}
 use Rattle.grid.specs.Grid.{whole}
 use Rattle.grid.specs.declared.WorldAxis.{WorldAxis}
@@ -63,3 +64,8 @@ cellBoundOf s g a i =
     cond (eqb i 0) (alongOf (s .«min_mm») a)
     (cond (leb (cellsAlong g a) i) (alongOf (s .«max_mm») a)
     (add binary64 (alongOf (s .«min_mm») a) (mul binary64 (whole i) (stepAlong g a))))
+
+-- the cell along an axis that x lies in, or the nearest
+unfoldable pub cellAt : DexelStockSpec → DexelGrid → WorldAxis → (x : Float) → ℕ
+cellAt s g a x =
+    toUnsigned 64 (clampOf (floorOf (div binary64 (sub binary64 x (alongOf (s .«min_mm») a)) (stepAlong g a))) (ofBits binary64 0) (whole (cellsAlong g a - 1)))

@@ -3,8 +3,9 @@ ghost use mathlib.Core.Path.{_≡_};
 ghost use Prim.Native.Nat.{_<_, _^_};
 ghost use Rattle.grid.specs.Axes.{alongOf, cellsAlong, stepAlong, crossOf};
 ghost use Rattle.grid.specs.Grid.{isMm, within, allWithin, anyBelow, anyAbove, misdescribed, cellsOf, dimsOf, gridWith, magnitudeOf, tooFine, gridOver, gridOf};
-ghost use Rattle.grid.specs.Rays.{raysAlong, rayCount, offset, rayNumber, rayAxis, rayIndex, boundsOf, centerOf, cellBoundOf};
+ghost use Rattle.grid.specs.Rays.{raysAlong, rayCount, offset, rayNumber, rayAxis, rayIndex, boundsOf, centerOf, cellBoundOf, cellAt};
 
+#[repr(C)]
 pub struct Vec3 {
     pub x: f64,
     pub y: f64,
@@ -21,6 +22,7 @@ pub struct CrossAxes {
 }
 
 // A blank's description, version 1. Its units are lent beside it.
+#[repr(C)]
 pub struct DexelStockSpec {
     pub version: u32,
     pub min_mm: Vec3,
@@ -31,6 +33,7 @@ pub struct DexelStockSpec {
 }
 
 // The cells along each axis, and their widths.
+#[repr(C)]
 pub struct DexelGrid {
     pub c0: u64,
     pub c1: u64,
@@ -46,6 +49,7 @@ pub enum Gridded {
 }
 
 // A ray's coordinates on the two axes across it.
+#[repr(C)]
 pub struct RayCenter {
     pub u: f64,
     pub v: f64,
@@ -346,6 +350,17 @@ pub fn cell_bound(spec: DexelStockSpec, g: DexelGrid, w: WorldAxis, i: u64) -> f
         return along(spec.max_mm, w);
     }
     along(spec.min_mm, w) + std::num::nearest_u64_to_f64(i) * step_along(g, w)
+}
+
+// The cell along an axis that x lies in, or the nearest.
+pub fn cell_at(spec: DexelStockSpec, g: DexelGrid, w: WorldAxis, x: f64) -> u64
+    requires { ⌜ 0 < cellsAlong g w ⌝ }
+    ensures { λ r. ⌜ r ≡ cellAt spec g w x ⌝ }
+{
+    let i = doubles::floor((x - along(spec.min_mm, w)) / step_along(g, w));
+    let n = cells_along(g, w);
+    let last = std::num::nearest_u64_to_f64(n - 1);
+    doubles::to_u64(doubles::clamp(i, 0.0, last))
 }
 
 // How many rays stand before the first along an axis: rays count through axis 0, then 1, 2.

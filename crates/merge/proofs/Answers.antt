@@ -11,7 +11,8 @@ use lib.Ieee.{Float, nan}
 use Rattle.refusal.specs.Refusal.{Due, NoneDue}
 use Rattle.doubles.proofs.Bools.{and-left, and-right, both, or-right, not-true, not-false, by-cases, clash}
 use Rattle.spans.specs.Spans.{holds, sound, ListOf}
-use Rattle.spans.specs.Results.{Within, plusZero}
+use Rattle.spans.specs.Results.{plusZero}
+use Rattle.spans.specs.Spans.{Within}
 use Rattle.merge.specs.Ray.{bounded, Nested, ValidRay}
 use Rattle.merge.specs.Merge.{eitherHit, spared, cellsOf, handed, Spared, Left, Mergeable, workPairs, mergeCauses, MergeAnswer}
 use Rattle.merge.specs.Steps.{part, Lies, Between, newList, Ready, Merging, Placed, Normal, Given, Lists}

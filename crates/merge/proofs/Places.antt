@@ -123,12 +123,12 @@ module _ (at : ℕ) (w ys : List Float) (fit : at ≤ length w) (size : length y
       none : (q : ℕ) → q ≡ 0 + q
       none q = omega arith
 
-  pub normal : (s : List Float) (r : ℕ) → Filled s (take (length w - at) (drop at w)) ys r → Normal s at w back r
+  pub normal : (s : List Float) (r : ℕ) → Filled (holds s) (take (length w - at) (drop at w)) (length s) ys r → Normal s at w back r
   normal s r f = record {
     size = tail-size;
     front = tail-front;
     most = f .most;
-    list = record { isSound = rw tail-drop (f .isSound); points = λ p. rw tail-drop (f .points p) };
+    list = record { isSound = rw tail-drop (f .list .isSound); points = λ p. rw tail-drop (f .list .points p) };
   }
 
   pub subtracted : (a n b m r : ℕ) → at ≤ a → at ≤ b

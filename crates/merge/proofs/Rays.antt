@@ -12,9 +12,9 @@ use lib.Ieee.{Float, nan, lt, le}
 use Rattle.refusal.specs.Refusal.{Due, NoneDue}
 use Rattle.doubles.proofs.Bools.{and-left, and-right, both, or-cases, or-left, or-right, not-true, not-false, by-cases, clash}
 use Rattle.doubles.proofs.Order.{lt-number, le-number, lt→le, le-refl, le-trans, lt-irrefl, le-lt-trans, lt-le-trans, not-le→lt}
-use Rattle.spans.specs.Spans.{within, holds, rising, sound}
-use Rattle.spans.specs.Results.{Within, Outside, Share, Apart, compareCauses, Verdict}
-use Rattle.spans.specs.declared.Told.the-variants.{Yes, No, Refused}
+use Rattle.spans.specs.Spans.{within, holds, rising, sound, Within, Outside, Share, Apart}
+use Rattle.comparing.specs.Verdicts.{compareCauses, Verdict, Covers, Meets}
+use Rattle.comparing.specs.declared.Told.the-variants.{Yes, No, Refused}
 use Rattle.spans.proofs.Sets.{sound-rising, sound-mod, make-sound}
 use Rattle.spans.proofs.Ends.{rising-tail}
 use Rattle.merge.specs.Ray.{bounded, Nested, ValidRay, Decides}
@@ -122,13 +122,13 @@ not-sound a b k (inl d) = d .0
 not-sound a b k (inr d) = absurd (d .1)
 
 module _ (possible certain : List Float) where
-  pub nested-yes : Verdict (compareCauses possible certain) (Within possible certain) (Outside possible certain) Yes → Nested possible certain
+  pub nested-yes : Verdict (compareCauses possible certain) (Covers possible certain) Yes → Nested possible certain
   nested-yes v = let s = both-sound possible certain (v .0) in record { possibleSound = s .0; certainSound = s .1; inside = v .1 }
 
-  pub nested-no : Verdict (compareCauses possible certain) (Within possible certain) (Outside possible certain) No → ¬ Nested possible certain
+  pub nested-no : Verdict (compareCauses possible certain) (Covers possible certain) No → ¬ Nested possible certain
   nested-no v n = clash (holds possible (v .1 .0)) (n .inside (v .1 .0) (v .1 .1)) (v .1 .2)
 
-  pub nested-bad : (k : ℕ) → Verdict (compareCauses possible certain) (Within possible certain) (Outside possible certain) (Refused k) → ¬ Nested possible certain
+  pub nested-bad : (k : ℕ) → Verdict (compareCauses possible certain) (Covers possible certain) (Refused k) → ¬ Nested possible certain
   nested-bad k v n =
       clash (sound possible && sound certain) (both (sound possible) (sound certain) (n .possibleSound) (n .certainSound)) (not-sound possible certain k v)
 
@@ -150,11 +150,11 @@ is-in r x e h = sym e ∙ not-false r h
 
 -- ---- whether two lists share a point
 module _ (a b : List Float) where
-  pub share-yes : Verdict (compareCauses a b) (Share a b) (Apart a b) Yes → Share a b
+  pub share-yes : Verdict (compareCauses a b) (Meets a b) Yes → Share a b
   share-yes v = v .1
 
-  pub share-no : Verdict (compareCauses a b) (Share a b) (Apart a b) No → Apart a b
+  pub share-no : Verdict (compareCauses a b) (Meets a b) No → Apart a b
   share-no v = v .1
 
-  pub share-bad : (k : ℕ) → Verdict (compareCauses a b) (Share a b) (Apart a b) (Refused k) → sound a ≡ true → sound b ≡ true → Apart a b
+  pub share-bad : (k : ℕ) → Verdict (compareCauses a b) (Meets a b) (Refused k) → sound a ≡ true → sound b ≡ true → Apart a b
   share-bad k v s r = absurd (clash (sound a && sound b) (both (sound a) (sound b) s r) (not-sound a b k v))

@@ -9,7 +9,7 @@ use lib.ListN.{length, getD, take, drop, replicate, length-drop}
 use lib.Ieee.{Float, nan}
 use Rattle.doubles.proofs.Bools.{and-left, and-right, both, not-true, not-false, by-cases, clash}
 use Rattle.spans.specs.Spans.{holds, sound, ListOf}
-use Rattle.spans.specs.Results.{Within}
+use Rattle.spans.specs.Spans.{Within}
 use Rattle.spans.proofs.Sets.{sound-mod}
 use Rattle.merge.specs.Ray.{bounded, Nested, ValidRay}
 use Rattle.merge.specs.Merge.{Moves, eitherHit, spared, cellsOf, handed, Spared, Left}

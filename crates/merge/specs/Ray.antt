@@ -4,7 +4,7 @@ use mathlib.Core.Bool.{Bool, true, false, _&&_}
 use mathlib.Core.List.{List, [], _∷_}
 use lib.Ieee.{Float, le}
 use Rattle.spans.specs.Spans.{sound}
-use Rattle.spans.specs.Results.{Within}
+use Rattle.spans.specs.Spans.{Within}
 
 -- each end of the list lies within the bounds; a NaN bound admits the empty list only
 unfoldable pub bounded : Float → Float → List Float → Bool

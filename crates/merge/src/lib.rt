@@ -10,7 +10,7 @@ ghost use Rattle.merge.specs.Ray.{bounded, Nested, ValidRay, Decides};
 ghost use Rattle.merge.specs.Merge.{Moves, MergeAnswer, eitherHit, possibleHanded, certainHanded, handed, cellsOf};
 ghost use Rattle.merge.specs.Sweep.{parityOf, Turn};
 ghost use Rattle.merge.specs.Steps.{part, Lies, Subtracted, Reduced, Ready, Merging, Placed, Normal, Given, Lists};
-use spans::Told;
+use comparing::Told;
 
 // One list after a merge: whether it moved, and how many pairs it has.
 pub struct Part {
@@ -51,7 +51,7 @@ fn is_bounded(s: &[f64], lo: f64, hi: f64) -> bool
 fn is_nested(possible: &[f64], certain: &[f64]) -> bool
     ensures { λ r. ⌜ Decides r (Nested (now (possible .entry)) (now (certain .entry))) ⌝ }
 {
-    match spans::contains(possible, certain) {
+    match comparing::contains(possible, certain) {
         Told::Yes => true,
         Told::No => false,
         Told::Refused(_) => false,
@@ -78,7 +78,7 @@ fn share_point(w: &[f64], a: usize, n: usize, b: usize, m: usize) -> bool
 {
     let e = a + n;
     let f = b + m;
-    match spans::overlaps(&w[a..e], &w[b..f]) {
+    match comparing::overlaps(&w[a..e], &w[b..f]) {
         Told::Yes => true,
         Told::No => false,
         Told::Refused(_) => false,

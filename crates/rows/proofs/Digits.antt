@@ -11,7 +11,6 @@ use lib.Pow.{pow-add, pow-mono}
 use lib.ListN.{length, take, drop, getD}
 use lib.Seq.{drop-cons}
 use Rattle.rows.specs.Hex.{digitOf, number}
-use Rattle.rows.specs.declared.Word.{Word}
 use Rattle.rows.specs.declared.Word.the-variants.{Value, Missing}
 
 pub digit-le : (c : ℕ) → digitOf c ≤ 16

@@ -2,7 +2,7 @@
 -- anything is written, and the order always has an answer.
 use mathlib.Core.Path.{_≡_, refl, sym, ap, ap₂, _∙_, subst, fun-ext}
 use mathlib.Core.Bool.{Bool, true, false, cond, not, _&&_, _||_, true≢false, false≢true}
-use mathlib.Core.List.{List, [], _∷_, _++_, List·Memᴰ, List·Memᴰ·head, List·Memᴰ·tail, List·Memᴰ·not-nil, List·Memᴰ·cases-cons}
+use mathlib.Core.List.{List, [], _∷_, _++_, List·Memᴰ·head, List·Memᴰ·tail, List·Memᴰ·not-nil, List·Memᴰ·cases-cons}
 use mathlib.Core.Logic.{_⊎_, inl, inr, _↔_}
 use Prim.Native.Nat.{ℕ, zero, suc, _+_, _*_, _/_, _%_, _-_, _^_, _≤_, _<_}
 use native.Mathlib.Nat.{le-refl, le-of-lt, add-zero}
@@ -12,8 +12,8 @@ use borrow.Author.Tests.{ltb-true, ltb-false, eqb-true, eqb-false}
 use lib.Dec.{ltb, eqb}
 use lib.ListN.{length}
 use lib.Ieee.{Float}
-use Rattle.doubles.proofs.Bools.{or-cases, or-left, or-right, by-cases, clash, not-true, not-false}
-use Rattle.refusal.specs.Refusal.{Cause, cause, Due, NoneDue}
+use Rattle.doubles.proofs.Bools.{or-cases, or-left, clash, not-true, not-false}
+use Rattle.refusal.specs.Refusal.{Cause, Due, NoneDue}
 use Rattle.spans.specs.Spans.{within, holds, ListOf}
 use Rattle.grid.specs.Rays.{rayCount}
 use Rattle.grid.specs.declared.DexelStockSpec.{DexelStockSpec}
@@ -21,7 +21,6 @@ use Rattle.grid.specs.declared.DexelGrid.{DexelGrid}
 use Rattle.runs.specs.Logs.{Ray, Kind, possible, certain, Entry, entries, entryCount, namesOne, names, HitKind, outer, inner, loOf, hiOf, pairsOn, taken, Commit}
 use Rattle.runs.specs.Model.{Sets, without, Changes, Count, none, counted, skipped, sumTo, sumOver, pairs, Intervals, Lent, Short, Bad, NoRay, TooManyRays, TooManyIntervals, causes, Answer, changed, refused, Judged}
 use Rattle.runs.specs.Counts.{hitBy, startsLeft, hitsOn, changesRay, raysChanged, pairsLeft}
-use Rattle.runs.proofs.Hits.{pairs-cons}
 use Rattle.runs.proofs.Unique.{count-unique, intervals-unique}
 use Rattle.runs.proofs.Meets.{kept-unhit}
 use Rattle.runs.proofs.Starts.{pairs-left}

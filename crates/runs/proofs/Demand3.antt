@@ -3,8 +3,8 @@
 use mathlib.Core.Path.{_≡_, refl, sym, ap, _∙_, subst, subst₂, fun-ext}
 use mathlib.Core.Bool.{Bool, true, false, not, _&&_, _||_}
 use mathlib.Core.List.{List, [], _∷_, _++_}
-use mathlib.Core.Logic.{_⊎_, inl, inr}
-use Prim.Native.Nat.{ℕ, zero, suc, _+_}
+use mathlib.Core.Logic.{inl, inr}
+use Prim.Native.Nat.{ℕ, _+_}
 use native.Mathlib.Nat.{add-zero, add-suc, suc-add}
 use lib.ListN.{length}
 use lib.Ieee.{Float}
@@ -13,7 +13,7 @@ use Rattle.spans.specs.Spans.{holds, equal, ListOf}
 use Rattle.grid.specs.declared.DexelStockSpec.{DexelStockSpec}
 use Rattle.grid.specs.declared.DexelGrid.{DexelGrid}
 use Rattle.runs.specs.Logs.{Ray, Kind, possible, certain, inner, outer, Lies, Alike, entries, taken, Commit}
-use Rattle.runs.specs.Model.{Sets, without, pairs, Lent, Answer, changed, refused, Model, step, Modelled, ended, accepted}
+use Rattle.runs.specs.Model.{Sets, Lent, Answer, changed, refused, Model, step, Modelled, ended, accepted}
 use Rattle.runs.specs.Runs.{Reading, Lawful, points, Cut, Left, Committed, Run, done, next, start, Settled, Agree, Demand3}
 use Rattle.runs.proofs.Hits.{takenBy, takenBy-none, takenBy-more, to-inner, of-inner, to-either, of-either, alike-take}
 use Rattle.runs.proofs.Unique.{one-list, pairs-same, judged-sound, modelled-unique}

@@ -1,14 +1,14 @@
 -- The points that a list of logs takes, by their hits.
-use mathlib.Core.Path.{_≡_, refl, sym, ap, ap₂, _∙_, subst}
-use mathlib.Core.Bool.{Bool, true, false, not, cond, _&&_, _||_, false≢true}
+use mathlib.Core.Path.{_≡_, refl, sym, ap, _∙_, subst}
+use mathlib.Core.Bool.{Bool, true, false, cond, _&&_, _||_, false≢true}
 use mathlib.Core.List.{List, [], _∷_, List·Memᴰ, List·Memᴰ·head, List·Memᴰ·tail, List·Memᴰ·not-nil, List·Memᴰ·cases-cons}
 use mathlib.Core.Logic.{_⊎_, inl, inr}
 use lib.Ieee.{Float, lt, le, eq}
-use Rattle.doubles.proofs.Bools.{or-cases, or-left, or-right, and-left, and-right, both, by-cases, same-if}
+use Rattle.doubles.proofs.Bools.{or-cases, or-left, or-right, and-left, and-right, both, same-if}
 use Rattle.doubles.proofs.Order.{le-trans, le-lt-trans, lt-le-trans, eq→le, eq→ge}
 use Rattle.spans.specs.Spans.{within, holds}
 use Rattle.grid.specs.declared.DexelGrid.{DexelGrid}
-use Rattle.runs.specs.Logs.{Ray, Kind, possible, certain, Entry, entries, names, HitKind, outer, inner, loOf, hiOf, pairsOn, taken, Hit, Lies, Among, Alike}
+use Rattle.runs.specs.Logs.{Ray, Kind, possible, certain, Entry, entries, names, HitKind, outer, inner, loOf, hiOf, pairsOn, taken, Lies, Among, Alike}
 
 -- ---- pairs and points
 

@@ -1,7 +1,7 @@
 -- Demand 3 of the lent store.
 use mathlib.Core.Path.{_≡_, refl, sym, ap, ap₂, _∙_}
-use mathlib.Core.List.{List, [], _∷_, _++_, append-assoc}
-use Prim.Native.Nat.{ℕ, zero, suc, _+_, _*_, _/_, _≤_, _<_}
+use mathlib.Core.List.{List, [], _∷_}
+use Prim.Native.Nat.{ℕ, zero, suc, _+_, _*_, _/_, _≤_}
 use native.Mathlib.Nat.{le-refl, le-of-lt}
 use native.Mathlib.Omega.{arith}
 use lib.ListN.{length, length-append}
@@ -9,11 +9,11 @@ use lib.Ieee.{Float}
 use Rattle.grid.specs.Rays.{rayCount}
 use Rattle.grid.specs.declared.DexelStockSpec.{DexelStockSpec}
 use Rattle.grid.specs.declared.DexelGrid.{DexelGrid}
-use Rattle.store.specs.Store.{placesOf, chained, endsAt, Sound}
-use Rattle.runs.specs.Logs.{Ray, Kind, possible, certain}
+use Rattle.store.specs.Store.{placesOf, chained, endsAt}
+use Rattle.runs.specs.Logs.{Kind, possible, certain}
 use Rattle.runs.specs.Model.{sumTo, pairs}
 use Rattle.runs.specs.Runs.{Lawful, Demand3}
-use Rattle.runs.specs.Lent.{Stock, listNumber, listIn, SoundStock, lentStore}
+use Rattle.runs.specs.Lent.{Stock, listNumber, listIn, lentStore}
 use Rattle.runs.proofs.Demand3.{demand3}
 
 -- a list has one pair for each of its places

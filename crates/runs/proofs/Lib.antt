@@ -1,3 +1,4 @@
+pub mod Entries
 pub mod Hits
 pub mod Unique
 pub mod Naming
@@ -8,3 +9,4 @@ pub mod Starts
 pub mod Less
 pub mod Decided
 pub mod Plain
+pub mod Examples

@@ -1,13 +1,13 @@
 -- A sound list changes when hits are taken from it exactly when a hit has a point of it, which `hitBy` tests.
 use mathlib.Core.Path.{_≡_, refl, sym, ap, _∙_}
-use mathlib.Core.Bool.{Bool, true, false, not, _&&_, _||_, true≢false, false≢true}
+use mathlib.Core.Bool.{Bool, true, false, not, _&&_, false≢true}
 use mathlib.Core.List.{List, [], _∷_}
-use mathlib.Core.Logic.{_⊎_, inl, inr, _↔_}
+use mathlib.Core.Logic.{inl, inr, _↔_}
 use lib.Ieee.{Float, lt, le}
-use Rattle.doubles.proofs.Bools.{or-cases, or-left, or-right, and-left, and-right, both, by-cases, clash, not-false}
+use Rattle.doubles.proofs.Bools.{or-cases, or-left, or-right, and-left, and-right, both, by-cases, clash}
 use Rattle.doubles.proofs.Order.{lt-number, le-refl, lt→le, not-lt→le, le-lt-trans}
 use Rattle.spans.specs.Spans.{within, holds, rising, sound}
-use Rattle.spans.specs.Results.{Share, Apart}
+use Rattle.spans.specs.Spans.{Share, Apart}
 use Rattle.spans.proofs.Ends.{rising-tail, rising-above}
 use Rattle.spans.proofs.Sets.{sound-rising}
 use Rattle.runs.specs.Counts.{meets, hitBy}

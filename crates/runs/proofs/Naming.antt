@@ -1,19 +1,19 @@
 -- Which ray an entry names: its axis and its index, as numbers, are those of the ray.
 use mathlib.Core.Path.{_≡_, refl, sym, ap, _∙_, subst}
-use mathlib.Core.Bool.{Bool, true, false, cond, _&&_, _||_, true≢false, false≢true}
-use mathlib.Core.Logic.{_⊎_, inl, inr, _↔_}
-use Prim.Native.Nat.{ℕ, zero, suc, _+_, _-_, _*_, _/_, _^_, _≤_, _<_, min}
+use mathlib.Core.Bool.{true, false, _&&_, false≢true}
+use mathlib.Core.Logic.{inl, inr, _↔_}
+use Prim.Native.Nat.{ℕ, _-_, _*_, _/_, _^_, _≤_, _<_, min}
 use native.Mathlib.Nat.{mul-div-mul-right, mul-comm, zero-div, eq-zero-or-pos, mul-pos}
 use native.Mathlib.Omega.{arith}
 use borrow.Author.Tests.{ltb-true, lt-ltb, eqb-true, eq-eqb}
 use lib.Dec.{ltb, eqb, le→leb}
-use lib.IntN.{ℤ, pos}
+use lib.IntN.{pos}
 use lib.Ieee.{Float, nan, inf, fin, up, down, binary64, eq, ofInt, toUnsigned, inFloat}
 use lib.Ieee.Fits.{down-pos}
 use lib.Ieee.Back.{unsigned-back}
 use Rattle.doubles.proofs.Bools.{and-left, and-right, both}
 use Rattle.grid.specs.Axes.{worldAxis}
-use Rattle.grid.specs.Rays.{rayCount, raysAlong, offset, rayNumber}
+use Rattle.grid.specs.Rays.{rayCount, raysAlong, rayNumber}
 use Rattle.grid.specs.declared.DexelGrid.{DexelGrid}
 use Rattle.grid.proofs.Numbering.{offset-le}
 use Rattle.runs.specs.Logs.{Ray, Entry, isWhole, wholeOf, namesOne, rayOf, names}

@@ -1,17 +1,17 @@
 -- `Committed` can be met: over a store that is nothing but its lists and numbers, every list of commits has a run from a sound store, and it is
 -- worked out here. So neither the run nor demand 3 is empty.
 use mathlib.Core.Path.{_≡_, refl, sym, ap, _∙_}
-use mathlib.Core.Bool.{Bool, true, false, not, _&&_, _||_}
+use mathlib.Core.Bool.{true, false, not}
 use mathlib.Core.List.{List, [], _∷_}
-use mathlib.Core.Logic.{_⊎_, inl, inr}
+use mathlib.Core.Logic.{inl, inr}
 use Prim.Native.Nat.{ℕ, suc}
 use lib.Ieee.{Float}
 use Rattle.doubles.proofs.Bools.{or-right, and-left, and-right, both, by-cases, clash, not-true}
 use Rattle.spans.specs.Spans.{holds, sound, ListOf}
 use Rattle.grid.specs.declared.DexelStockSpec.{DexelStockSpec}
 use Rattle.grid.specs.declared.DexelGrid.{DexelGrid}
-use Rattle.runs.specs.Logs.{Ray, Kind, possible, certain, Entry, entries, outer, inner, pairsOn, taken, Commit}
-use Rattle.runs.specs.Model.{Sets, without, pairs, Lent, Answer, changed, refused, causes, Judged}
+use Rattle.runs.specs.Logs.{Ray, Kind, possible, certain, entries, outer, inner, pairsOn, taken, Commit}
+use Rattle.runs.specs.Model.{without, pairs, Lent, Answer, changed, refused, causes}
 use Rattle.runs.specs.Counts.{hitsOn, raysChanged}
 use Rattle.runs.specs.Runs.{Reading, Lawful, points, Cut, Left, Committed, Run, done, next}
 use Rattle.runs.proofs.Unique.{judged-unsound}

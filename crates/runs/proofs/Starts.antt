@@ -1,18 +1,18 @@
 -- The sound list of (l less hits) has one pair for each distinct number among the los of l and the his of the hits that is in l and in no hit.
-use mathlib.Core.Path.{_≡_, refl, sym, ap, ap₂, _∙_, subst}
-use mathlib.Core.Bool.{Bool, true, false, cond, not, _&&_, _||_, true≢false, false≢true}
+use mathlib.Core.Path.{_≡_, refl, sym, ap, ap₂, _∙_}
+use mathlib.Core.Bool.{Bool, true, false, cond, not, _&&_, _||_, false≢true}
 use mathlib.Core.List.{List, [], _∷_, _++_}
 use mathlib.Core.Logic.{_⊎_, inl, inr}
-use Prim.Native.Nat.{ℕ, zero, suc, _+_, _/_}
+use Prim.Native.Nat.{ℕ, suc, _/_}
 use native.Mathlib.Omega.{arith}
 use lib.ListN.{length}
-use lib.Ieee.{Float, lt, le, eq, isNan}
+use lib.Ieee.{Float, lt, le, eq}
 use Rattle.doubles.specs.Doubles.{Number}
-use Rattle.doubles.proofs.Bools.{or-cases, or-left, or-right, and-left, and-right, both, by-cases, clash, not-true, same-if}
-use Rattle.doubles.proofs.Order.{lt-number, le-number, eq-number, le-refl, le-trans, le-total, lt→le, not-lt→le, not-le→lt, le-lt-trans, lt-le-trans, lt→not-le, le→not-lt, lt-trans, eq→le, eq→ge, eq-refl, eq-sym, eq-trans, lt-eq-left, lt-eq-right, le-eq-left, le-eq-right, le-cases}
+use Rattle.doubles.proofs.Bools.{or-cases, or-left, or-right, and-left, and-right, both, by-cases, clash, not-true}
+use Rattle.doubles.proofs.Order.{lt-number, le-number, le-refl, le-trans, le-total, lt→le, not-lt→le, not-le→lt, le-lt-trans, lt-le-trans, lt→not-le, le→not-lt, lt-trans, eq→le, eq→ge, eq-refl, eq-sym, eq-trans, lt-eq-left, le-eq-right, le-cases}
 use Rattle.spans.specs.Spans.{within, holds, rising, sound, ListOf}
-use Rattle.spans.specs.Ends.{All, Over, Above}
-use Rattle.spans.proofs.Ends.{all-map, all-append, rising-tail, rising-above, rising-cons, above-less}
+use Rattle.spans.proofs.Ends.{All, Above}
+use Rattle.spans.proofs.Ends.{all-map, rising-tail, rising-above, rising-cons}
 use Rattle.spans.proofs.Sets.{sound-rising}
 use Rattle.runs.specs.Counts.{losOf, hisOf, among, distinct, startsLeft}
 

@@ -1,6 +1,6 @@
 -- What is counted is counted in one way, and document 01's order gives one answer.
 use mathlib.Core.Path.{_≡_, refl, sym, ap, ap₂, _∙_, subst, fun-ext}
-use mathlib.Core.Bool.{Bool, true, false, _&&_, false≢true}
+use mathlib.Core.Bool.{Bool, true, false≢true}
 use mathlib.Core.List.{List, [], _∷_}
 use mathlib.Core.Logic.{_⊎_, inl, inr}
 use Prim.Native.Nat.{ℕ, suc, _+_, _/_, _<_}
@@ -8,7 +8,6 @@ use native.Mathlib.Bridge.{le-prop}
 use lib.ListN.{length}
 use lib.Ieee.{Float, eq}
 use Rattle.doubles.proofs.Bools.{and-right}
-use Rattle.refusal.specs.Refusal.{Due, NoneDue}
 use Rattle.refusal.proofs.Laws.{due-unique, none-due}
 use Rattle.spans.specs.Spans.{equal, ListOf}
 use Rattle.spans.proofs.Sets.{same-set}

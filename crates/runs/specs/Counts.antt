@@ -1,6 +1,6 @@
 -- Whether a sound list changes when hits are taken from it, and how many pairs it then has, told from the list and the hits alone. So a
 -- log commit decides 9 and 10 before it writes anything.
-use mathlib.Core.Bool.{Bool, true, false, cond, not, _&&_, _||_}
+use mathlib.Core.Bool.{Bool, false, cond, not, _&&_, _||_}
 use mathlib.Core.List.{List, [], _∷_, _++_}
 use Prim.Native.Nat.{ℕ, suc, _+_}
 use lib.Ieee.{Float, lt, eq}
@@ -22,12 +22,13 @@ hitBy l [] = false
 hitBy l (lo ∷ []) = false
 hitBy l (lo ∷ hi ∷ hits) = (lt lo hi && meets lo hi l) || hitBy l hits
 
--- the list's los, and the hits' his
+-- the los of a list, and the his of hits
 unfoldable pub losOf : List Float → List Float
 losOf [] = []
 losOf (lo ∷ []) = []
 losOf (lo ∷ hi ∷ l) = lo ∷ losOf l
 
+-- only a pair with lo < hi is a hit
 unfoldable pub hisOf : List Float → List Float
 hisOf [] = []
 hisOf (lo ∷ []) = []

@@ -1,31 +1,20 @@
 -- How a run reads the lent store: the cells that crate `store` defines, and the small record beside them.
 use mathlib.Core.Path.{_≡_}
-use mathlib.Core.Bool.{Bool, true, _&&_}
-use mathlib.Core.List.{List, [], _∷_}
+use mathlib.Core.List.{List}
 use Prim.Native.Nat.{ℕ, _+_, _*_, _/_, min}
 use lib.ListN.{length}
-use lib.Ieee.{Float, le}
-use Rattle.spans.specs.Spans.{holds, sound}
+use lib.Ieee.{Float}
 use Rattle.grid.specs.Rays.{rayCount, boundsOf}
 use Rattle.grid.specs.declared.DexelStockSpec.{DexelStockSpec}
 use Rattle.grid.specs.declared.DexelGrid.{DexelGrid}
+use Rattle.grid.specs.declared.Gridded.{Gridded}
+use Rattle.grid.specs.declared.Gridded.the-variants.{Accepted, Refused}
 use Rattle.store.specs.Store.{listOf, Sound}
 use Rattle.store.specs.Updates.{Cells}
-use Rattle.runs.specs.Logs.{Ray, Kind, possible, certain}
-use Rattle.runs.specs.Runs.{Reading}
-
--- each end is at least lo and at most hi
-unfoldable pub bounded : Float → Float → List Float → Bool
-bounded lo hi [] = true
-bounded lo hi (e ∷ l) = le lo e && (le e hi && bounded lo hi l)
-
--- document 01's valid ray: both its lists are sound and within its bounds, and certain lies within possible
-pub record ValidRay (lo hi : Float) (possible certain : List Float) : Type 0 where
-  pub possible-sound : sound possible ≡ true
-  pub certain-sound : sound certain ≡ true
-  pub possible-bounded : bounded lo hi possible ≡ true
-  pub certain-bounded : bounded lo hi certain ≡ true
-  pub inside : (p : Float) → holds certain p ≡ true → holds possible p ≡ true
+use Rattle.validity.specs.Ray.{ValidRay}
+use Rattle.runs.specs.Logs.{Ray, Kind, possible, certain, Commit}
+use Rattle.runs.specs.Model.{Answer, refused}
+use Rattle.runs.specs.Runs.{Reading, Committed}
 
 -- Document 01's store and small record. With a description that `grid` accepts they are a stock.
 pub record Stock : Type 0 where
@@ -38,6 +27,7 @@ unfoldable pub listNumber : ℕ → Kind → ℕ
 listNumber r possible = 2 * r
 listNumber r certain = 2 * r + 1
 
+-- the list of the ray r and the kind k, as it stands in the cells
 unfoldable pub listIn : DexelStockSpec → Stock → ℕ → Kind → List Float
 unfolding listNumber
 listIn spec s r k = listOf (spec .«max_intervals») (s .cells .spans) (s .cells .links) (s .cells .heads) (listNumber r k)
@@ -47,6 +37,7 @@ pub record SoundStock (spec : DexelStockSpec) (g : DexelGrid) (s : Stock) : Type
   pub store : Sound (spec .«max_intervals») (2 * rayCount g) (s .intervals) (s .cells .spans) (s .cells .links) (s .cells .heads)
   pub valid : (r : Ray g) → ValidRay (boundsOf spec g (r .0) .lo) (boundsOf spec g (r .0) .hi) (listIn spec s (r .0) possible) (listIn spec s (r .0) certain)
 
+-- the reading that the log commit's contract cites
 abbrev pub lentStore : DexelStockSpec → (g : DexelGrid) → Reading g
 lentStore spec g = record {
   Store = Stock;
@@ -56,3 +47,8 @@ lentStore spec g = record {
   lent = λ s. record { records = min (length (s .cells .spans) / 2) (length (s .cells .links) / 2); heads = length (s .cells .heads) };
   Sound = SoundStock spec g;
 }
+
+-- A log commit on the lent store, whatever the description is. The answer of `grid` stands first: its causes 1 to 4 come before all others.
+unfoldable pub LogCommit : Gridded → DexelStockSpec → Stock → Commit → Answer → Stock → Type 0
+LogCommit (Refused k) spec s c a t = (a ≡ refused k) × (t ≡ s)
+LogCommit (Accepted g) spec s c a t = Committed spec g (lentStore spec g) s c a t

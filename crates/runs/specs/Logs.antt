@@ -1,8 +1,8 @@
 -- Rays, logs and log commits, and which points a log takes.
 use mathlib.Core.Path.{_≡_}
-use mathlib.Core.Bool.{Bool, true, false, cond, _&&_, _||_}
+use mathlib.Core.Bool.{Bool, true, cond, _&&_, _||_}
 use mathlib.Core.List.{List, [], _∷_, List·Memᴰ}
-use Prim.Native.Nat.{ℕ, zero, suc, _+_, _*_, _/_, _%_, _<_}
+use Prim.Native.Nat.{ℕ, zero, suc, _+_, _*_, _/_, _<_}
 use lib.Dec.{ltb, eqb}
 use lib.ListN.{length, getD}
 use lib.IntN.{pos}
@@ -22,6 +22,7 @@ pub data Kind : Type 0 where
 
 -- ---- a log: six doubles for each entry
 
+-- document 01's log entry: axis, index, outer, inner
 pub record Entry : Type 0 where
   pub axis : Float
   pub index : Float
@@ -30,6 +31,7 @@ pub record Entry : Type 0 where
   pub innerLo : Float
   pub innerHi : Float
 
+-- the entry in the doubles from 6 i on
 unfoldable pub entryAt : List Float → ℕ → Entry
 entryAt log i = record {
   axis = getD log (6 * i) nan;
@@ -46,10 +48,11 @@ unfolding entryAt
 entriesFrom log i zero = []
 entriesFrom log i (suc n) = entryAt log i ∷ entriesFrom log (suc i) n
 
+-- how many whole entries the log has
 abbrev pub entryCount : List Float → ℕ
 entryCount log = length log / 6
 
--- the whole entries of a log
+-- its whole entries, in order
 unfoldable pub entries : List Float → List Entry
 unfolding entriesFrom
 entries log = entriesFrom log 0 (entryCount log)
@@ -80,9 +83,11 @@ names g e r = namesOne g e && eqb (rayOf g e) (r .0)
 
 -- ---- the points that a log takes
 
+-- a hit is an outer or an inner one
 pub data HitKind : Type 0 where
   outer inner : HitKind
 
+-- the two ends of an entry's pair
 unfoldable pub loOf : HitKind → Entry → Float
 loOf outer e = e .outerLo
 loOf inner e = e .innerLo

@@ -1,7 +1,7 @@
 -- The causes of a log commit in document 01's order, and document 01's model of a list of log commits: it keeps two point sets per ray and the
 -- generation, and is fed the first stock and the commits alone.
 use mathlib.Core.Path.{_≡_}
-use mathlib.Core.Bool.{Bool, true, false, not, _&&_}
+use mathlib.Core.Bool.{Bool, false, not, _&&_}
 use mathlib.Core.List.{List, [], _∷_, List·Memᴰ}
 use mathlib.Core.Logic.{_⊎_}
 use Prim.Native.Nat.{ℕ, zero, suc, _+_, _-_, _*_, _/_, _%_, _^_, _≤_, _<_}
@@ -17,6 +17,7 @@ use Rattle.runs.specs.Logs.{Ray, Kind, possible, certain, Entry, entries
 
 -- ---- the sets of all rays
 
+-- two point sets for each ray
 abbrev pub Sets : DexelGrid → Type 0
 Sets g = Ray g → Kind → Float → Bool
 
@@ -41,6 +42,7 @@ unfoldable pub sumTo : (g : DexelGrid) → (Ray g → ℕ) → (i : ℕ) → i �
 sumTo g f zero h = 0
 sumTo g f (suc i) h = sumTo g f i (le-of-lt h) + f (i, h)
 
+-- and over all rays
 abbrev pub sumOver : (g : DexelGrid) → (Ray g → ℕ) → ℕ
 sumOver g f = sumTo g f (rayCount g) (le-refl (rayCount g))
 
@@ -113,6 +115,7 @@ Judged spec g b Unsound s n c (changed m) =
 
 -- ---- the model
 
+-- document 01's model keeps these
 pub record Model (g : DexelGrid) : Type 0 where
   pub sets : Sets g
   pub generation : ℕ

@@ -4,16 +4,14 @@
 --     chained-distinct nor in all the chains together: the owner tells the lists apart
 --     chained-pass     each place in a chain is counted and in use
 use mathlib.Core.Path.{_≡_, refl, sym, ap, _∙_, subst}
-use mathlib.Core.Bool.{Bool, true, false, not, _&&_, and-false}
+use mathlib.Core.Bool.{true}
 use mathlib.Core.Logic.{_⊎_, inl, inr, ⊎-elim}
-use mathlib.Core.List.{List, [], _∷_, _++_, List·Memᴰ, List·Memᴰ·head, List·Memᴰ·tail, List·Memᴰ·cases-cons, List·Memᴰ·append-cases, List·Memᴰ·not-nil}
+use mathlib.Core.List.{List, [], _∷_, List·Memᴰ, List·Memᴰ·cases-cons, List·Memᴰ·append-cases, List·Memᴰ·not-nil}
 use Prim.Native.Nat.{ℕ, zero, suc, _+_, _-_, _≤_, _<_}
 use native.Mathlib.Omega.{arith}
-use lib.Dec.{eqb}
-use lib.Ieee.{Float, binary64, add, sub}
+use lib.Ieee.{Float}
 use lib.ListN.{length, getD}
-use borrow.Author.Tests.{ne-eqb}
-use Rattle.store.specs.Store.{isPlusZero, loAt, hiAt, nextAt, ownerAt, usedAt, places, Chain, ends, more, placesOf, chained, lengthFrom}
+use Rattle.store.specs.Store.{nextAt, ownerAt, usedAt, places, Chain, ends, more, placesOf, chained}
 use Rattle.store.specs.Walks.{countTo}
 use Rattle.store.proofs.Records.{owned-used}
 use Rattle.store.proofs.Counting.{Distinct, Pass, distinct-append, distinct-le, count-max}
@@ -123,15 +121,16 @@ chain-places links n o k ps c =
     let short : length ps ≤ countTo (λ i. true) n = distinct-le (λ i. true) n ps (chain-distinct links n o c) (λ x m. (chain-owner links n o c x m .0, refl)) in
     sym (places-of links n o n c (omega (arith, short, count-max (λ i. true) n)))
 
-pub length-step : (spans : List Float) (links : List ℕ) (n o k : ℕ) (sum : Float) → Chain links n o k (places links n k) → (k ≡ 0 → ⊥)
-    → lengthFrom spans sum (places links n k) ≡ lengthFrom spans (add binary64 sum (sub binary64 (hiAt spans (k - 1)) (loAt spans (k - 1)))) (places links n (nextAt links (k - 1)))
-unfolding lengthFrom
-length-step spans links n o k sum c ne = ap (lengthFrom spans sum) (chain-step links n o k c ne .read)
-
-pub length-end : (spans : List Float) (links : List ℕ) (n k : ℕ) (sum : Float) → k ≡ 0 → lengthFrom spans sum (places links n k) ≡ sum
-unfolding lengthFrom places
-length-end spans links zero k sum e = refl
-length-end spans links (suc n) k sum e = ap (λ (x : ℕ). lengthFrom spans sum (places links (suc n) x)) e
-
 pub less-step : (links : List ℕ) (n o k : ℕ) → Chain links n o k (places links n k) → (k ≡ 0 → ⊥) → length (places links n (nextAt links (k - 1))) < length (places links n k)
 less-step links n o k c ne = omega (arith, ap length (chain-step links n o k c ne .read))
+
+-- an empty list
+pub places-zero : (links : List ℕ) (n k : ℕ) → k ≡ 0 → places links n k ≡ []
+unfolding places
+places-zero links zero k e = refl
+places-zero links (suc n) k e = ap (places links (suc n)) e
+
+pub chain-zero : (links : List ℕ) (n o k : ℕ) → k ≡ 0 → Chain links n o k (places links n k)
+chain-zero links n o k e =
+    let none : Chain links n o 0 [] = ends in
+    subst (λ (ps : List ℕ). Chain links n o k ps) (sym (places-zero links n k e)) (subst (λ (x : ℕ). Chain links n o x []) (sym e) none)

@@ -1,23 +1,19 @@
 -- A store is sound exactly where as many records are in use as the total says, and the walk of all lists ends at that count.
-use mathlib.Core.Path.{_≡_, sym, ap, _∙_, subst}
-use mathlib.Core.Bool.{Bool, true, false}
-use mathlib.Core.List.{List, List·Memᴰ}
+use mathlib.Core.Path.{_≡_, sym, ap, _∙_}
+use mathlib.Core.Bool.{true, false, false≢true}
+use mathlib.Core.List.{List}
 use lib.Dec.{eqb}
 use borrow.Author.Tests.{eq-eqb, eqb-true}
-use Prim.Native.Nat.{ℕ, zero, suc, _+_, _≤_, _<_}
+use Prim.Native.Nat.{ℕ, _+_, _≤_}
 use native.Mathlib.Omega.{arith}
 use lib.Ieee.{Float}
 use lib.ListN.{length}
-use Rattle.store.specs.declared.Walk.{Walk}
 use Rattle.store.specs.declared.Walk.the-variants.{Ends, Broken}
 use Rattle.store.specs.Store.{usedAt, chained, Sound}
 use Rattle.store.specs.Walks.{countTo, walkAll}
 use Rattle.store.proofs.Counting.{distinct-le, distinct-full, covers-le, count-max}
 use Rattle.store.proofs.Chains.{Run, chained-distinct, chained-pass}
 use Rattle.store.proofs.Walking.{AllWalked, all-of, all-to, ends-eq, never}
-
-no-true : false ≡ true → ⊥
-no-true e = let z : _≡_ {A = ℕ} 0 1 = cc in omega arith
 
 module _ (n m total : ℕ) (spans : List Float) (links heads : List ℕ) where
   pub sound-of : countTo (usedAt spans links) n ≡ total → walkAll links heads n total m 0 0 ≡ Ends total → Sound n m total spans links heads
@@ -46,7 +42,7 @@ module _ (n m total : ℕ) (spans : List Float) (links heads : List ℕ) where
 
   -- the three answers of the check: the count u of records in use differs from the total; or the walk ends at a count e; or it breaks off
   pub differs : (u : ℕ) → u ≡ countTo (usedAt spans links) n → (u ≡ total → ⊥) → (false ≡ true → Sound n m total spans links heads) × (Sound n m total spans links heads → false ≡ true)
-  differs u e ne = ((λ z. absurd (no-true z)), λ s. absurd (ne (e ∙ count-of s)))
+  differs u e ne = ((λ z. absurd (false≢true z)), λ s. absurd (ne (e ∙ count-of s)))
 
   pub ended : (u e : ℕ) → u ≡ countTo (usedAt spans links) n → u ≡ total → walkAll links heads n u m 0 0 ≡ Ends e → (eqb e u ≡ true → Sound n m total spans links heads) × (Sound n m total spans links heads → eqb e u ≡ true)
   ended u e eu et w = (
@@ -55,4 +51,4 @@ module _ (n m total : ℕ) (spans : List Float) (links heads : List ℕ) where
   )
 
   pub broke : (u : ℕ) → u ≡ total → walkAll links heads n u m 0 0 ≡ Broken → (false ≡ true → Sound n m total spans links heads) × (Sound n m total spans links heads → false ≡ true)
-  broke u et w = ((λ z. absurd (no-true z)), λ s. absurd (never (sym w ∙ ap (λ (l : ℕ). walkAll links heads n l m 0 0) et ∙ walk-of-sound s)))
+  broke u et w = ((λ z. absurd (false≢true z)), λ s. absurd (never (sym w ∙ ap (λ (l : ℕ). walkAll links heads n l m 0 0) et ∙ walk-of-sound s)))

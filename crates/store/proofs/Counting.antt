@@ -2,9 +2,9 @@
 --     distinct-le      a list of distinct places that pass is no longer than the count
 --     distinct-full    and where it is as long, each place that passes is in it
 --     covers-le        where each place that passes is in a list, the count is at most the list's length
-use mathlib.Core.Path.{_≡_, refl, sym, ap, _∙_, subst}
-use mathlib.Core.Bool.{Bool, true, false, not, _&&_, and-false}
-use mathlib.Core.Logic.{_⊎_, inl, inr, ⊎-elim}
+use mathlib.Core.Path.{_≡_, refl, ap, _∙_, subst}
+use mathlib.Core.Bool.{Bool, true, false, not, _&&_}
+use mathlib.Core.Logic.{⊎-elim}
 use mathlib.Core.List.{List, [], _∷_, _++_, List·Memᴰ, List·Memᴰ·head, List·Memᴰ·tail, List·Memᴰ·cases-cons, List·Memᴰ·append-cases, List·Memᴰ·not-nil}
 use Prim.Native.Nat.{ℕ, zero, suc, _+_, _≤_, _<_}
 use native.Mathlib.Decide.{ℕ-discrete}
@@ -12,6 +12,7 @@ use native.Mathlib.Omega.{arith}
 use lib.Dec.{eqb}
 use lib.ListN.{length}
 use borrow.Author.Tests.{eq-eqb, ne-eqb}
+use Rattle.doubles.proofs.Bools.{and-left, and-false, clash}
 use Rattle.store.specs.Walks.{bit, countTo}
 
 -- the test, but for the place x
@@ -19,23 +20,16 @@ abbrev pub without : (ℕ → Bool) → ℕ → ℕ → Bool
 without p x k = p k && not (eqb k x)
 
 without-same : (p : ℕ → Bool) (x k : ℕ) → k ≡ x → without p x k ≡ false
-without-same p x k e = ap (λ (t : Bool). p k && not t) (eq-eqb k x e) ∙ and-false (p k)
+without-same p x k e = ap (λ (t : Bool). p k && not t) (eq-eqb k x e) ∙ and-false (p k) false refl
 
 without-other : (p : ℕ → Bool) (x k : ℕ) → (k ≡ x → ⊥) → p k ≡ true → without p x k ≡ true
 without-other p x k ne h = ap (λ (t : Bool). p k && not t) (ne-eqb k x ne) ∙ ap (λ (t : Bool). t && true) h
 
-and-left : (a b : Bool) → a && b ≡ true → a ≡ true
-and-left true b h = refl
-and-left false b h = h
-
 without-was : (p : ℕ → Bool) (x k : ℕ) → without p x k ≡ true → p k ≡ true
 without-was p x k h = and-left (p k) (not (eqb k x)) h
 
-true-false : true ≡ false → ⊥
-true-false e = let z : _≡_ {A = ℕ} 0 1 = cc in omega arith
-
 without-ne : (p : ℕ → Bool) (x k : ℕ) → without p x k ≡ true → k ≡ x → ⊥
-without-ne p x k h e = true-false (sym h ∙ without-same p x k e)
+without-ne p x k h e = clash (without p x k) h (without-same p x k e)
 
 -- ---- the count without one place
 out-step : (p : ℕ → Bool) (x k : ℕ) → (k ≡ x → ⊥) → (t : Bool) → p k ≡ t → bit (without p x k) ≡ bit (p k)

@@ -7,11 +7,11 @@ use Prim.Native.Nat.{ℕ, zero, suc, _+_, _-_, _*_, _≤_, _<_}
 use native.Mathlib.Decide.{decLt, ℕ-discrete}
 use native.Mathlib.Omega.{arith}
 use lib.Ieee.{Float, nan}
-use lib.ListN.{length, getD, set, take, drop, length-set}
+use lib.ListN.{length, getD, take, drop, length-set}
 use lib.Seq.{getD-drop, drop-drop}
 use native.Mathlib.Nat.{add-zero}
 use native.Mathlib.Numerals.{add-one}
-use Rattle.store.specs.Fills.{NextFree, Cursor, Fillable, Fills}
+use Rattle.store.specs.Fills.{NextFree, Cursor, Fillable}
 use Rattle.store.proofs.FreePlaces.{free-at}
 use Rattle.store.proofs.Records.{put-other, put-here, same-used, owned-used}
 use Rattle.store.specs.Store.{ownerAt, usedAt, freeFrom, headOf, filledLinks, filledSpans, putSpan, putLink}

@@ -1,19 +1,18 @@
 -- Laws of freeing: the cells of the records at the places are zero and all others are as they were; a chain after one of its records is freed; a sound store after one of its lists is freed.
 use mathlib.Core.Path.{_≡_, refl, sym, ap, _∙_, subst}
-use mathlib.Core.Bool.{true, false}
-use mathlib.Core.Logic.{_⊎_, inl, inr, ⊎-elim}
+use mathlib.Core.Logic.{⊎-elim}
 use mathlib.Core.List.{List, [], _∷_, List·Memᴰ, List·Memᴰ·head, List·Memᴰ·tail, List·Memᴰ·cases-cons, List·Memᴰ·not-nil}
-use Prim.Native.Nat.{ℕ, zero, suc, _+_, _-_, _*_, _≤_, _<_}
+use Prim.Native.Nat.{ℕ, zero, suc, _+_, _-_, _*_, _<_}
 use native.Mathlib.Numerals.{add-one}
 use native.Mathlib.Omega.{arith}
-use lib.Ieee.{Float, nan}
-use lib.ListN.{length, getD, set, drop, length-set}
+use lib.Ieee.{Float}
+use lib.ListN.{length, getD, set, length-set}
 use lib.Seq.{getD-set-other, getD-set-same, drop-set-lt}
-use Rattle.store.specs.Store.{nextAt, ownerAt, usedAt, places, placesOf, Chain, ends, more, plusZero, freeSpan, freeLink, freedSpans, freedLinks}
+use Rattle.store.specs.Store.{nextAt, places, placesOf, Chain, ends, plusZero, freeSpan, freeLink, freedSpans, freedLinks}
 use Rattle.store.specs.Updates.{Cells, cells, SoundStore, Room, Kept, Freeable, freedList}
 use Rattle.store.proofs.Counting.{Distinct}
-use Rattle.store.proofs.Records.{Same, same-refl, same-trans, Written, written-same, put-other, put-here, pair-length, pair-past, Free, free-used, among, Within, within-none, within-put, within-then}
-use Rattle.store.proofs.Chains.{places-of, chain-owner, chain-distinct, chain-places, Step, chain-step, places-within}
+use Rattle.store.proofs.Records.{Same, same-refl, same-trans, written-same, put-other, put-here, Free, free-used, among, Within, within-none, within-put, within-then}
+use Rattle.store.proofs.Chains.{chain-owner, chain-distinct, chain-places, chain-step}
 use Rattle.store.proofs.Replacing.{Replaces, Replaced, replaced, chain-kept}
 
 -- ---- the records at the places

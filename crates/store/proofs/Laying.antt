@@ -2,14 +2,14 @@
 use mathlib.Core.Path.{_≡_, refl, sym, ap, _∙_, subst}
 use mathlib.Core.Bool.{true, false}
 use mathlib.Core.List.{List, [], _∷_, List·Memᴰ, List·Memᴰ·head, List·Memᴰ·tail, List·Memᴰ·not-nil}
-use Prim.Native.Nat.{ℕ, zero, suc, _+_, _-_, _*_, _/_, _%_, _≤_, _<_}
+use Prim.Native.Nat.{ℕ, suc, _+_, _*_, _/_, _%_, _≤_, _<_}
 use native.Mathlib.Nat.{div-add-mod'}
 use native.Mathlib.Numerals.{add-one}
 use native.Mathlib.Omega.{arith}
 use lib.Ieee.{Float, nan}
 use lib.ListN.{length, getD, set, take, drop, length-set, length-drop}
 use lib.Seq.{getD-set-other, getD-set-same, drop-set-lt}
-use Rattle.store.specs.Store.{loAt, hiAt, nextAt, ownerAt, usedAt, placesOf, Chain, ends, more, endsAt, freeFrom, headOf, filledLinks, filledSpans, putSpan, putLink}
+use Rattle.store.specs.Store.{usedAt, placesOf, Chain, ends, more, endsAt, freeFrom, headOf, filledLinks, filledSpans, putSpan, putLink}
 use Rattle.store.specs.Updates.{Cells, cells, Update, update, SoundStore, held, Room, Kept, taken, laidList, Laid}
 use Rattle.store.specs.Fills.{Cursor, Fills}
 use Rattle.store.proofs.Counting.{Distinct}

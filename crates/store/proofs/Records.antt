@@ -1,16 +1,17 @@
 -- The cells of one record when another is written, and of that one.
-use mathlib.Core.Path.{_≡_, refl, sym, ap, _∙_}
-use mathlib.Core.Bool.{Bool, true, false, not, _&&_, and-false}
+use mathlib.Core.Path.{_≡_, refl, sym, _∙_}
+use mathlib.Core.Bool.{true, false, not, and-false as and-no}
 use mathlib.Core.List.{List, [], _∷_, List·Memᴰ, List·Memᴰ·head, List·Memᴰ·tail, List·Memᴰ·cases-cons, List·Memᴰ·not-nil}
 use mathlib.Core.Logic.{_⊎_, inl, inr}
-use Prim.Native.Nat.{ℕ, zero, suc, _+_, _-_, _*_, _≤_, _<_}
+use Prim.Native.Nat.{ℕ, zero, suc, _+_, _*_, _<_}
 use native.Mathlib.Decide.{ℕ-discrete}
 use native.Mathlib.Omega.{arith}
 use lib.Dec.{eqb}
-use lib.Ieee.{Float, nan, binary64, ofBits}
+use lib.Ieee.{Float, nan, ofBits}
 use lib.ListN.{length, getD, set, drop, length-set}
 use lib.Seq.{getD-set-other, getD-set-same, drop-set-lt}
 use borrow.Author.Tests.{ne-eqb, eqb-true}
+use Rattle.doubles.proofs.Bools.{and-left, and-right, not-false}
 use Rattle.store.specs.Store.{isPlusZero, loAt, hiAt, nextAt, ownerAt, usedAt, plusZero, putSpan, putLink}
 use Rattle.store.proofs.Zero.{plus-is, bits-zero}
 
@@ -111,22 +112,10 @@ pub free-used : {spans : List Float} {links : List ℕ} {x : ℕ} → Free spans
 unfolding usedAt ofBits
 free-used f = simp (f .lo, f .hi, f .next, f .owner)
 
-and-left : (a b : Bool) → a && b ≡ true → a ≡ true
-and-left true b h = refl
-and-left false b h = h
-
-and-right : (a b : Bool) → a && b ≡ true → b ≡ true
-and-right true b h = h
-and-right false b h = absurd (let z : _≡_ {A = ℕ} 0 1 = cc in omega arith)
-
-not-used : (a : Bool) → not a ≡ false → a ≡ true
-not-used true h = refl
-not-used false h = sym h
-
 pub free-zero : (spans : List Float) (links : List ℕ) (x : ℕ) → usedAt spans links x ≡ false → Free spans links x
 unfolding usedAt
 free-zero spans links x u =
-    let all = not-used _ u in
+    let all = not-false _ u in
     let rest = and-right (isPlusZero (loAt spans x)) _ all in
     let last = and-right (isPlusZero (hiAt spans x)) _ rest in
     record {
@@ -141,7 +130,7 @@ pub owned-used : (spans : List Float) (links : List ℕ) (x i : ℕ) → ownerAt
 unfolding usedAt
 owned-used spans links x i e =
     let none : eqb (ownerAt links x) 0 ≡ false = ne-eqb (ownerAt links x) 0 (λ (z : ownerAt links x ≡ 0). omega arith) in
-    simp (none, and-false)
+    simp (none, and-no)
 
 -- ---- a place is in a list or not
 pub among : (x : ℕ) (l : List ℕ) → Dec (List·Memᴰ x l)

@@ -1,14 +1,14 @@
 -- A sound store stays sound when one of its lists is replaced by another: that list then has the new places, and each other list is what it was.
 use mathlib.Core.Path.{_≡_, refl, sym, ap, _∙_, subst}
-use mathlib.Core.Bool.{Bool, true, false}
-use mathlib.Core.Logic.{_⊎_, inl, inr, ⊎-elim}
+use mathlib.Core.Bool.{true}
+use mathlib.Core.Logic.{⊎-elim}
 use mathlib.Core.List.{List, [], _∷_, _++_, List·Memᴰ, List·Memᴰ·head, List·Memᴰ·tail, List·Memᴰ·not-nil, List·Memᴰ·append-cases, Memᴰ·append-left, Memᴰ·append-right}
-use Prim.Native.Nat.{ℕ, zero, suc, _+_, _-_, _*_, _≤_, _<_}
+use Prim.Native.Nat.{ℕ, zero, suc, _+_, _≤_, _<_}
 use native.Mathlib.Decide.{ℕ-discrete}
 use native.Mathlib.Omega.{arith}
 use lib.Ieee.{Float}
 use lib.ListN.{length, getD, length-append}
-use Rattle.store.specs.Store.{nextAt, ownerAt, usedAt, Chain, ends, more, placesOf, chained, Sound, endsAt}
+use Rattle.store.specs.Store.{nextAt, ownerAt, usedAt, Chain, ends, more, placesOf, chained, endsAt}
 use Rattle.store.specs.Updates.{Cells, SoundStore, held}
 use Rattle.store.proofs.Records.{Same, same-used, among}
 use Rattle.store.proofs.Chains.{chain-owner, chain-places}

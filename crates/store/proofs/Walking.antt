@@ -10,19 +10,12 @@ use lib.Dec.{eqb, ltb}
 use lib.Ieee.{Float}
 use lib.ListN.{length, getD, length-append}
 use borrow.Author.Tests.{ltb-true, lt-ltb, eqb-true, eq-eqb}
+use Rattle.doubles.proofs.Bools.{and-left, and-right}
 use Rattle.store.specs.declared.Walk.{Walk}
 use Rattle.store.specs.declared.Walk.the-variants.{Ends, Broken}
-use Rattle.store.specs.Store.{nextAt, ownerAt, places, Chain, ends, more, placesOf, chained}
+use Rattle.store.specs.Store.{nextAt, ownerAt, Chain, ends, more, placesOf, chained}
 use Rattle.store.specs.Walks.{walkFrom, andThen, walkAll}
 use Rattle.store.proofs.Chains.{places-of, Run, run-head, run-tail}
-
-and-left : (a b : Bool) → a && b ≡ true → a ≡ true
-and-left true b h = refl
-and-left false b h = h
-
-and-right : (a b : Bool) → a && b ≡ true → b ≡ true
-and-right true b h = h
-and-right false b h = absurd (let z : _≡_ {A = ℕ} 0 1 = cc in omega arith)
 
 pub never : {c : ℕ} → Broken ≡ Ends c → ⊥
 never {c} e = let z : _≡_ {A = ℕ} 0 1 = cc in omega arith

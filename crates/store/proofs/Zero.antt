@@ -1,12 +1,11 @@
 -- Plus zero by its bits.
-use mathlib.Core.Path.{_≡_, refl, sym, ap, _∙_, subst}
-use mathlib.Core.Bool.{Bool, true, false, not}
+use mathlib.Core.Path.{_≡_, refl, sym, ap, _∙_}
+use mathlib.Core.Bool.{Bool, true, false}
 use Prim.Native.Nat.{ℕ, zero, suc}
 use native.Mathlib.Omega.{arith}
 use lib.Dec.{T, eqb}
-use lib.IntN.{ℤ, pos, negsuc}
-use lib.Ieee.{Float, nan, inf, fin, binary64, fits, toBits, ofBits, ne, isNan}
-use lib.Ieee.Compare.{nan-differs}
+use lib.IntN.{pos, negsuc}
+use lib.Ieee.{Float, nan, inf, fin, binary64, fits, toBits, ofBits}
 use lib.Ieee.Bits.{ofBits-toBits}
 use borrow.Author.Tests.{eq-eqb, ne-eqb}
 use Rattle.store.specs.Store.{isPlusZero}
@@ -37,9 +36,3 @@ plus-bits x f = at (isPlusZero x) refl
         let same : x ≡ fin false 0 (pos 0) = sym (ofBits-toBits binary64 x f) ∙ ap (ofBits binary64) e ∙ bits-zero in
         let yes′ : isPlusZero x ≡ true = ap isPlusZero same in
         let z : _≡_ {A = ℕ} 0 1 = cc in omega arith) ∙ sym h
-
-pub not-nan : (x : Float) → ne x x ≡ false → T (not (isNan x))
-unfolding isNan
-not-nan nan h = absurd (let d : ne nan nan ≡ true = nan-differs in let z : _≡_ {A = ℕ} 0 1 = cc in omega arith)
-not-nan (inf s) h = tt
-not-nan (fin s m e) h = tt

@@ -5,8 +5,8 @@ use mathlib.Core.Bool.{Bool, true, false, not, cond, _&&_}
 use mathlib.Core.List.{List, [], _∷_, _++_, List·Memᴰ}
 use Prim.Native.Nat.{ℕ, zero, suc, _+_, _*_, _<_}
 use lib.Dec.{eqb}
-use lib.IntN.{ℤ, pos, negsuc}
-use lib.Ieee.{Float, nan, inf, fin, binary64, add, sub, ofBits}
+use lib.IntN.{pos, negsuc}
+use lib.Ieee.{Float, nan, inf, fin, binary64, ofBits}
 use lib.ListN.{length, getD, set, drop}
 
 -- ---- the cells of the record at place i
@@ -71,11 +71,6 @@ endsAt spans (i ∷ ps) = loAt spans i ∷ hiAt spans i ∷ endsAt spans ps
 -- list j of a store: what commit, volume and the model of a run speak of
 abbrev pub listOf : ℕ → List Float → List ℕ → List ℕ → ℕ → List Float
 listOf n spans links heads j = endsAt spans (placesOf n links heads j)
-
--- the sum of the lengths of the records at the places, each operation rounded
-unfoldable pub lengthFrom : List Float → Float → List ℕ → Float
-lengthFrom spans sum [] = sum
-lengthFrom spans sum (i ∷ ps) = lengthFrom spans (add binary64 sum (sub binary64 (hiAt spans i) (loAt spans i))) ps
 
 -- ---- freeing records
 abbrev pub plusZero : Float

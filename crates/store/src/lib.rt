@@ -3,8 +3,7 @@ ghost use mathlib.Core.Path.{_≡_};
 ghost use mathlib.Core.Bool.{true};
 ghost use Prim.Native.Nat.{_+_, _-_, _*_, _<_, _≤_};
 ghost use lib.ListN.{length};
-ghost use lib.Ieee.{binary64, ofBits};
-ghost use Rattle.store.specs.Store.{isPlusZero, usedAt, Sound, Chain, places, lengthFrom, freedSpans, freedLinks, freeFrom, putSpan, putLink};
+ghost use Rattle.store.specs.Store.{isPlusZero, usedAt, Sound, Chain, places, freedSpans, freedLinks, freeFrom, putSpan, putLink};
 ghost use Rattle.store.specs.Fills.{NextFree, Cursor, Fillable, Fills};
 ghost use Rattle.store.specs.Updates.{cells, update, freedList, Freeable, Layable, Laid};
 ghost use Rattle.store.specs.Walks.{countTo, walkFrom, walkAll};
@@ -120,21 +119,6 @@ pub fn check_store(
         Walk::Ends(c) => c == u,
         Walk::Broken => false,
     }
-}
-
-// The sum of the lengths of a list, read off its chain. Whoever knows that the store is sound has the chain.
-pub fn list_length(spans: &[f64], links: &[u64], n: usize, owner: u64, head: u64) -> f64
-    requires { ⌜ (2 * n ≤ length (now spans)) × (2 * n ≤ length (now links)) × Chain (now links) n owner head (places (now links) n head) ⌝ }
-    ensures { λ r. ⌜ r ≡ lengthFrom (now (spans .entry)) (ofBits binary64 0) (places (now (links .entry)) n head) ⌝ }
-{
-    let mut sum = 0.0;
-    let mut k = head;
-    while k != 0 {
-        let i = (k - 1) as usize;
-        sum = sum + (spans[2 * i + 1] - spans[2 * i]);
-        k = links[2 * i];
-    }
-    sum
 }
 
 // Frees the records of a chain.

@@ -22,11 +22,6 @@ unfolding widenAll
 widen-append e [] r = refl
 widen-append e (p ∷ l) r = widen-append (widen e p) l r
 
-pub same-default : (A : Type 0) (l : List A) (i : ℕ) (a b : A) → i < length l → getD l i a ≡ getD l i b
-same-default A [] i a b h = (let z : ⊥ = omega arith in absurd z)
-same-default A (x ∷ l) zero a b h = refl
-same-default A (x ∷ l) (suc i) a b h = same-default A l i a b (omega arith)
-
 -- the corner after the one at j - 1, of the first n of a buffer
 pub next-in : (f d : Point) (at : List Point) (n j : ℕ) → j < n → n ≤ length at → headOr f (drop j (take n at)) ≡ getD at j d
 next-in f d at n j h k =

@@ -5,6 +5,7 @@ ghost use Prim.Native.Nat.{_+_, _<_, _≤_};
 ghost use Rattle.strips.specs.Strip.{bandDistance, halfChord, chordStrip, diskStrip, hull, sideStrip, stadiumStrip};
 ghost use Rattle.strips.specs.Polygon.{inside, crossing, edge, clip, widen, widenAll, empty, polygonStrip, corners};
 
+#[repr(C)]
 pub struct Point {
     pub x: f64,
     pub y: f64,

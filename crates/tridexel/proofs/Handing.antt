@@ -7,9 +7,10 @@ use native.Mathlib.Omega.{arith}
 use Prim.Native.Nat.{ℕ, zero, suc, _<_}
 use lib.Ieee.{Float}
 use Rattle.refusal.specs.Refusal.{Cause, Due}
-use Rattle.spans.specs.Results.{Answer, Verdict, listCauses, compareCauses}
-use Rattle.spans.specs.declared.Told.{Told}
-use Rattle.spans.specs.declared.Told.the-variants.{Yes, No, Refused as Invalid}
+use Rattle.spans.specs.Results.{Answer, listCauses}
+use Rattle.comparing.specs.Verdicts.{Verdict, compareCauses}
+use Rattle.comparing.specs.declared.Told.{Told}
+use Rattle.comparing.specs.declared.Told.the-variants.{Yes, No, Refused as Invalid}
 use Rattle.spans.specs.declared.Listed.{Listed}
 use Rattle.spans.specs.declared.Listed.the-variants.{Pairs, Refused}
 use Rattle.tridexel.specs.Numbers.{ListedAs, ToldAs, ListedBy, ToldBy}
@@ -41,9 +42,9 @@ module _ (want : Float → Bool) (short bad : Type 0) (cells cells' : List Float
   listed-by (Refused (suc k)) r b a p e =
       subst (λ (x : ℕ). ListedBy Promise x b a) (sym (e .0)) record { answer = p; kept = λ h. e .1 }
 
-module _ (a b : List Float) (whenYes whenNo : Type 0) where
+module _ (a b : List Float) (found : Bool → Type 0) where
   abbrev Promise' : Told → Type 0
-  Promise' = Verdict (compareCauses a b) whenYes whenNo
+  Promise' = Verdict (compareCauses a b) found
 
   pub told-by : (t : Told) (r y y' : ℕ) → Promise' t → ToldAs t r y y' → ToldBy Promise' r y y'
   told-by Yes r y y' p e =

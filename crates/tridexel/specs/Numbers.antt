@@ -1,8 +1,8 @@
 -- Answers as C has them: the refusal's number, 0 for none, and a number that the caller keeps, which a refused call leaves as it was.
 use mathlib.Core.Path.{_≡_}
 use Prim.Native.Nat.{ℕ, zero, suc, _<_}
-use Rattle.spans.specs.declared.Told.{Told}
-use Rattle.spans.specs.declared.Told.the-variants.{Yes, No, Refused as Invalid}
+use Rattle.comparing.specs.declared.Told.{Told}
+use Rattle.comparing.specs.declared.Told.the-variants.{Yes, No, Refused as Invalid}
 use Rattle.spans.specs.declared.Listed.{Listed}
 use Rattle.spans.specs.declared.Listed.the-variants.{Pairs, Refused}
 

@@ -3,10 +3,12 @@
 ghost use mathlib.Core.Path.{_≡_};
 ghost use mathlib.Core.Bool.{not, _&&_};
 ghost use Rattle.spans.specs.Spans.{holds};
-ghost use Rattle.spans.specs.Results.{Answer, Verdict, normalizeCauses, combineCauses, compareCauses, Within, Outside, Share, Apart};
+ghost use lib.ListN.{length};
+ghost use Rattle.spans.specs.Results.{Answer, normalizeCauses, combineCauses};
+ghost use Rattle.comparing.specs.Verdicts.{Verdict, compareCauses, Covers, Meets};
 ghost use Rattle.tridexel.specs.Numbers.{ListedAs, ToldAs, ListedBy, ToldBy};
+use comparing::Told;
 use spans::Listed;
-use spans::Told;
 
 // Hands the answer of a list function back as numbers.
 fn hand_listed(l: Listed, pairs: &mut usize) -> u32
@@ -45,7 +47,7 @@ fn hand_told(t: Told, yes: &mut u32) -> u32
 // `spans::normalize`; `pairs` becomes the number of pairs.
 #[no_mangle]
 pub extern "C" fn tridexel_normalize(spans: &[f64], out: &mut [f64], pairs: &mut usize) -> u32
-    ensures { λ r. ⌜ ListedBy (Answer (holds (now (spans .entry))) (normalizeCauses (now (spans .entry)) (now (out .entry))) (now (out .entry)) (now (out .exit)))
+    ensures { λ r. ⌜ ListedBy (Answer (holds (now (spans .entry))) (normalizeCauses (now (spans .entry)) (length (now (out .entry)))) (now (out .entry)) (now (out .exit)))
         r (now (pairs .entry)) (now (pairs .exit)) ⌝ }
 {
     let l = spans::normalize(spans, out);
@@ -56,7 +58,7 @@ pub extern "C" fn tridexel_normalize(spans: &[f64], out: &mut [f64], pairs: &mut
 #[no_mangle]
 pub extern "C" fn tridexel_subtract(a: &[f64], b: &[f64], out: &mut [f64], pairs: &mut usize) -> u32
     ensures { λ r. ⌜ ListedBy (Answer (λ p. holds (now (a .entry)) p && not (holds (now (b .entry)) p))
-        (combineCauses (now (a .entry)) (now (b .entry)) (now (out .entry))) (now (out .entry)) (now (out .exit)))
+        (combineCauses (now (a .entry)) (now (b .entry)) (length (now (out .entry)))) (now (out .entry)) (now (out .exit)))
         r (now (pairs .entry)) (now (pairs .exit)) ⌝ }
 {
     let l = spans::subtract(a, b, out);
@@ -72,31 +74,31 @@ pub extern "C" fn tridexel_intersect(
     pairs: &mut usize,
 ) -> u32
     ensures { λ r. ⌜ ListedBy (Answer (λ p. holds (now (a .entry)) p && holds (now (b .entry)) p)
-        (combineCauses (now (a .entry)) (now (b .entry)) (now (out .entry))) (now (out .entry)) (now (out .exit)))
+        (combineCauses (now (a .entry)) (now (b .entry)) (length (now (out .entry)))) (now (out .entry)) (now (out .exit)))
         r (now (pairs .entry)) (now (pairs .exit)) ⌝ }
 {
     let l = spans::intersect(a, b, out);
     hand_listed(l, pairs)
 }
 
-// `spans::contains`; `yes` becomes 1 or 0.
+// `comparing::contains`; `yes` becomes 1 or 0.
 #[no_mangle]
 pub extern "C" fn tridexel_contains(outer: &[f64], inner: &[f64], yes: &mut u32) -> u32
     ensures { λ r. ⌜ ToldBy (Verdict (compareCauses (now (outer .entry)) (now (inner .entry)))
-        (Within (now (outer .entry)) (now (inner .entry))) (Outside (now (outer .entry)) (now (inner .entry))))
+        (Covers (now (outer .entry)) (now (inner .entry))))
         r (now (yes .entry)) (now (yes .exit)) ⌝ }
 {
-    let t = spans::contains(outer, inner);
+    let t = comparing::contains(outer, inner);
     hand_told(t, yes)
 }
 
-// `spans::overlaps`; `yes` becomes 1 or 0.
+// `comparing::overlaps`; `yes` becomes 1 or 0.
 #[no_mangle]
 pub extern "C" fn tridexel_overlaps(a: &[f64], b: &[f64], yes: &mut u32) -> u32
     ensures { λ r. ⌜ ToldBy (Verdict (compareCauses (now (a .entry)) (now (b .entry)))
-        (Share (now (a .entry)) (now (b .entry))) (Apart (now (a .entry)) (now (b .entry))))
+        (Meets (now (a .entry)) (now (b .entry))))
         r (now (yes .entry)) (now (yes .exit)) ⌝ }
 {
-    let t = spans::overlaps(a, b);
+    let t = comparing::overlaps(a, b);
     hand_told(t, yes)
 }

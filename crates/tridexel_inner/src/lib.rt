@@ -1,7 +1,10 @@
 // Inner functions under C names, for the oracle and the benchmark only: each is its crate's function of the same name.
+mod geometry;
+mod grids;
+
 ghost use mathlib.Core.Path.{_≡_};
 ghost use lib.Ieee.{binary64, ofBits, toBits, toUnsigned};
-ghost use Rattle.doubles.specs.Doubles.{largerOf, smallerOf, floorOf, ceilOf, keyOf, totalOf, absOf};
+ghost use Rattle.doubles.specs.Doubles.{largerOf, smallerOf, clampOf, floorOf, ceilOf, keyOf, totalOf, absOf};
 ghost use Rattle.doubles.specs.Root.{squareRoot};
 ghost use Rattle.tridexel_inner.specs.Orderings.{numberOf};
 
@@ -17,6 +20,13 @@ pub extern "C" fn tridexel_inner_smaller(a: f64, b: f64) -> f64
     ensures { λ r. ⌜ r ≡ smallerOf a b ⌝ }
 {
     doubles::smaller(a, b)
+}
+
+#[no_mangle]
+pub extern "C" fn tridexel_inner_clamp(x: f64, lo: f64, hi: f64) -> f64
+    ensures { λ r. ⌜ r ≡ clampOf x lo hi ⌝ }
+{
+    doubles::clamp(x, lo, hi)
 }
 
 #[no_mangle]

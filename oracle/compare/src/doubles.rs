@@ -9,6 +9,7 @@ use std::cmp::Ordering;
 unsafe extern "C" {
     pub safe fn tridexel_inner_larger(a: f64, b: f64) -> f64;
     pub safe fn tridexel_inner_smaller(a: f64, b: f64) -> f64;
+    pub safe fn tridexel_inner_clamp(x: f64, lo: f64, hi: f64) -> f64;
     pub safe fn tridexel_inner_floor(x: f64) -> f64;
     pub safe fn tridexel_inner_ceil(x: f64) -> f64;
     pub safe fn tridexel_inner_abs(x: f64) -> f64;
@@ -20,38 +21,28 @@ unsafe extern "C" {
     pub safe fn tridexel_inner_total_cmp(a: f64, b: f64) -> u32;
 }
 
-fn different<T: Words>(rust: T, port: T) -> Outcome {
-    Outcome::Different { rust: rust.words(), port: port.words() }
+/// Equal in every bit, or a difference that `meant` explains.
+fn judge<T: Words>(rust: T, port: T, meant: Option<Explained>) -> Outcome {
+    let (rust, port) = (rust.words(), port.words());
+    if rust == port { Outcome::Same } else { Outcome::differs(meant, rust, port) }
 }
 
-/// Equal in every bit, or NaNs of other bits.
+/// NaNs of other bits are meant.
 fn doubles(rust: f64, port: f64) -> Outcome {
-    if rust.to_bits() == port.to_bits() {
-        Outcome::Same
-    } else if rust.is_nan() && port.is_nan() {
-        Outcome::Meant(Explained::OneNan)
-    } else {
-        different(rust, port)
-    }
+    judge(rust, port, (rust.is_nan() && port.is_nan()).then_some(Explained::OneNan))
 }
 
 /// As `doubles`; where both arguments are zeros, the port's answer is the first.
 fn zeros_first(a: f64, b: f64, rust: f64, port: f64) -> Outcome {
-    if a == 0. && b == 0. && port.to_bits() == a.to_bits() && rust.to_bits() != port.to_bits() {
-        return Outcome::Meant(Explained::Zeros);
+    if a == 0. && b == 0. && port.to_bits() == a.to_bits() {
+        return judge(rust, port, Some(Explained::Zeros));
     }
     doubles(rust, port)
 }
 
-/// Equal, or where an argument is a NaN, the port's answer is that of the one NaN.
+/// Where an argument is a NaN, the port's answer is that of the one NaN.
 fn one_nan(any_nan: bool, rust: u64, of_one_nan: u64, port: u64) -> Outcome {
-    if any_nan && port == of_one_nan && rust != port {
-        Outcome::Meant(Explained::OneNan)
-    } else if rust == port {
-        Outcome::Same
-    } else {
-        different(rust, port)
-    }
+    judge(rust, port, (any_nan && port == of_one_nan).then_some(Explained::OneNan))
 }
 
 /// The place of x in the `total_cmp` order, counted from 0: Rust's own key, a signed number, moved up by 2^63.
@@ -81,6 +72,21 @@ fn pair(g: &mut Gen) -> (f64, f64) {
         _ => g.double(),
     };
     (a, b)
+}
+
+/// A number and bounds that Rust's `clamp` takes: it panics where one is a NaN or they are reversed.
+fn bounded(g: &mut Gen) -> (f64, f64, f64) {
+    let (a, b) = (g.point(), g.point());
+    let x = match g.below(4) {
+        0 => g.pick(&[a, b]),
+        _ => g.double(),
+    };
+    if a <= b { (x, a, b) } else { (x, b, a) }
+}
+
+fn bounded_edges() -> Vec<(f64, f64, f64)> {
+    let bounds = edge_pairs().into_iter().filter(|(lo, hi)| lo <= hi);
+    bounds.flat_map(|(lo, hi)| edges().into_iter().map(move |x| (x, lo, hi))).collect()
 }
 
 /// Near whole numbers, halves and the powers of two where doubles become whole or leave 64 bits.
@@ -117,6 +123,9 @@ pub fn functions() -> Vec<Function> {
     vec![
         Function::new("larger", edge_pairs(), pair, |(a, b)| zeros_first(*a, *b, a.max(*b), tridexel_inner_larger(*a, *b))),
         Function::new("smaller", edge_pairs(), pair, |(a, b)| zeros_first(*a, *b, a.min(*b), tridexel_inner_smaller(*a, *b))),
+        Function::new("clamp", bounded_edges(), bounded, |(x, lo, hi)| {
+            doubles(x.clamp(*lo, *hi), tridexel_inner_clamp(*x, *lo, *hi)) //
+        }),
         one("floor", whole, f64::floor, tridexel_inner_floor),
         one("ceil", whole, f64::ceil, tridexel_inner_ceil),
         one("abs", Gen::double, f64::abs, tridexel_inner_abs),

@@ -27,8 +27,10 @@ impl Explained {
 
     pub fn text(self) -> &'static str {
         match self {
-            Explained::OneNan => "the port has one NaN, where the Rust has many by their bits",
-            Explained::Zeros => "zeros of opposite sign: which one is kept, or stands at an end, is open in the Rust",
+            Explained::OneNan => "the port has one NaN, where the Rust tells NaNs apart by their bits",
+            Explained::Zeros => {
+                "zeros of opposite sign: `max` and `min` leave open which one is kept, and ends of lists are equal as numbers"
+            }
         }
     }
 }

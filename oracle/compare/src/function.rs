@@ -2,14 +2,21 @@
 use crate::explained::Explained;
 use harness::{generate::Gen, hex};
 
+/// What a comparison found.
 pub enum Outcome {
     Same,
-    /// different in a way that docs/DIFFERENCES.md lists
-    Meant(Explained),
-    Different {
+    /// `meant`: the row of docs/DIFFERENCES.md that lists the difference
+    Differs {
+        meant: Option<Explained>,
         rust: String,
         port: String,
     },
+}
+
+impl Outcome {
+    pub fn differs(meant: Option<Explained>, rust: impl Into<String>, port: impl Into<String>) -> Self {
+        Outcome::Differs { meant, rust: rust.into(), port: port.into() }
+    }
 }
 
 /// An input as hex words, lists in brackets.
@@ -59,18 +66,19 @@ impl<A: Words, B: Words, C: Words> Words for (A, B, C) {
     }
 }
 
-/// What one case found, with its input where it is a difference.
-pub enum Found {
-    Same,
-    Meant(Explained),
-    Different { input: String, rust: String, port: String },
+/// A case whose answers differ.
+pub struct Difference {
+    pub meant: Option<Explained>,
+    pub input: String,
+    pub rust: String,
+    pub port: String,
 }
 
 pub struct Function {
     pub name: &'static str,
     /// how many fixed cases there are; they have the numbers from 0 on
     pub edges: u64,
-    case: Box<dyn Fn(u64, u64) -> Found>,
+    case: Box<dyn Fn(u64, u64) -> Option<Difference>>,
 }
 
 impl Function {
@@ -82,9 +90,8 @@ impl Function {
         compare: impl Fn(&I) -> Outcome + 'static,
     ) -> Self {
         let judge = move |input: &I| match compare(input) {
-            Outcome::Same => Found::Same,
-            Outcome::Meant(e) => Found::Meant(e),
-            Outcome::Different { rust, port } => Found::Different { input: input.words(), rust, port },
+            Outcome::Same => None,
+            Outcome::Differs { meant, rust, port } => Some(Difference { meant, input: input.words(), rust, port }),
         };
         let count = edges.len() as u64;
         let case = Box::new(move |seed, number| match edges.get(number as usize) {
@@ -95,7 +102,7 @@ impl Function {
     }
 
     /// Compares the case of this number: an edge, or past these a generated one.
-    pub fn case(&self, seed: u64, number: u64) -> Found {
+    pub fn case(&self, seed: u64, number: u64) -> Option<Difference> {
         (self.case)(seed, number)
     }
 }

@@ -1,9 +1,12 @@
 //! The port against the Rust. Each module of the port has one file here: the declarations of its C exports (nothing checks them
 //! against the Rattle source), a generator and a comparison per function, and a line in `modules`.
+pub mod cutter;
 pub mod doubles;
 pub mod explained;
 pub mod function;
+pub mod grid;
 pub mod spans;
+pub mod strips;
 
 use function::Function;
 
@@ -11,5 +14,8 @@ pub fn modules() -> Vec<(&'static str, Vec<Function>)> {
     vec![
         ("doubles", doubles::functions()), //
         ("spans", spans::functions()),
+        ("cutter", cutter::functions()),
+        ("strips", strips::functions()),
+        ("grid", grid::functions()),
     ]
 }

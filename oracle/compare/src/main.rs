@@ -1,27 +1,30 @@
-//! `compare [--quick] [--only MODULE::FUNCTION] [--case NUMBER] [SEED] [COUNT]`: COUNT generated inputs for each function.
+//! `compare [--quick] [--meant] [--only MODULE::FUNCTION] [--case NUMBER] [SEED] [COUNT]`: COUNT generated inputs for each function.
+//! `--meant` shows the first of each kind of meant difference too.
 use compare::{
     explained::Explained,
-    function::{Found, Function},
+    function::{Difference, Function},
     modules,
 };
 use std::{collections::BTreeMap, process::ExitCode, time::Instant};
 
 struct Options {
+    meant: bool,
     only: Option<String>,
     case: Option<u64>,
     seed: u64,
     count: u64,
 }
 
-const USAGE: &str = "usage: oracle/run [--quick] [--only MODULE::FUNCTION] [--case NUMBER] [SEED] [COUNT]";
+const USAGE: &str = "usage: oracle/run [--quick] [--meant] [--only MODULE::FUNCTION] [--case NUMBER] [SEED] [COUNT]";
 
 fn options() -> Option<Options> {
-    let mut o = Options { only: None, case: None, seed: 1, count: 1_000_000 };
+    let mut o = Options { meant: false, only: None, case: None, seed: 1, count: 1_000_000 };
     let mut numbers = vec![];
     let mut words = std::env::args().skip(1);
     while let Some(w) = words.next() {
         match w.as_str() {
-            "--quick" => o.count = 100_000,
+            "--quick" => o.count = 300_000,
+            "--meant" => o.meant = true,
             "--only" => o.only = Some(words.next()?),
             "--case" => o.case = Some(words.next()?.parse().ok()?),
             n => numbers.push(n.parse().ok()?),
@@ -41,24 +44,36 @@ struct Tally {
     cases: u64,
     meant: BTreeMap<Explained, u64>,
     different: u64,
-    /// the first difference: its number, input and both answers
-    first: Option<(u64, String, String, String)>,
+    /// the first difference of each row, and the first that no row explains
+    first: BTreeMap<Option<Explained>, (u64, Difference)>,
 }
 
 fn run(f: &Function, numbers: impl Iterator<Item = u64>, seed: u64) -> Tally {
     let mut t = Tally::default();
     for number in numbers {
         t.cases += 1;
-        match f.case(seed, number) {
-            Found::Same => {}
-            Found::Meant(e) => *t.meant.entry(e).or_default() += 1,
-            Found::Different { input, rust, port } => {
-                t.different += 1;
-                t.first.get_or_insert((number, input, rust, port));
+        if let Some(d) = f.case(seed, number) {
+            match d.meant {
+                Some(e) => *t.meant.entry(e).or_default() += 1,
+                None => t.different += 1,
             }
+            t.first.entry(d.meant).or_insert((number, d));
         }
     }
     t
+}
+
+/// Prints the difference that no row explains, and with `meant` the others too.
+fn print_first(t: &Tally, name: &str, o: &Options) {
+    for (row, (number, d)) in &t.first {
+        let what = match row {
+            Some(e) if o.meant => format!("first of row {}", e.number()),
+            Some(_) => continue,
+            None => "first difference".into(),
+        };
+        println!("  {what}, again by: oracle/run --meant --only {name} --case {number} {}", o.seed);
+        println!("  input {}\n  Rust  {}\n  port  {}", d.input, d.rust, d.port);
+    }
 }
 
 fn main() -> ExitCode {
@@ -83,10 +98,7 @@ fn main() -> ExitCode {
             let meant: Vec<_> = t.meant.iter().map(|(e, n)| format!("{}: {n}", e.number())).collect();
             let seconds = start.elapsed().as_secs_f64();
             println!("{name:<24} {:>10} {:>22} {:>10} {seconds:>8.1}", t.cases, meant.join(", "), t.different);
-            if let Some((number, input, rust, port)) = &t.first {
-                println!("  first difference, again by: oracle/run --only {name} --case {number} {} {}", o.seed, o.count);
-                println!("  input {input}\n  Rust  {rust}\n  port  {port}");
-            }
+            print_first(&t, &name, &o);
             functions += 1;
             cases += t.cases;
             different += t.different;

@@ -82,16 +82,12 @@ fn written<const N: usize>(
     let mut count = POISON as usize;
     let code = call(std::array::from_fn(|i| lent[i].read()), out.cells(), &mut count);
     let kept = lent.iter().zip(lists).all(|(l, before)| l.untouched(before));
-    let outcome = |rust| Outcome::Different {
-        rust,
-        port: format!("{code}, pairs {count}, buffer {}{}", out.read().words(), if kept { "" } else { ", an input was written" }),
-    };
-    match due {
+    let (meant, rust) = match due {
         Due::Refused(number) => {
             if code == number && count == POISON as usize && out.untouched(&[]) && kept {
                 return Outcome::Same;
             }
-            outcome(format!("{number}, nothing written"))
+            (None, format!("{number}, nothing written"))
         }
         Due::List(list) => {
             let want = flat(&list);
@@ -100,12 +96,12 @@ fn written<const N: usize>(
             if laid && cells().all(|(w, c)| w.to_bits() == c.to_bits()) {
                 return Outcome::Same;
             }
-            if laid && cells().all(|(w, c)| same(*w, *c)) {
-                return Outcome::Meant(Explained::Zeros);
-            }
-            outcome(format!("0, pairs {}, list {}, zeros past it", list.len(), want.words()))
+            let meant = (laid && cells().all(|(w, c)| same(*w, *c))).then_some(Explained::Zeros);
+            (meant, format!("0, pairs {}, list {}, zeros past it", list.len(), want.words()))
         }
-    }
+    };
+    let written = if kept { "" } else { ", an input was written" };
+    Outcome::differs(meant, rust, format!("{code}, pairs {count}, buffer {}{written}", out.read().words()))
 }
 
 /// Calls a yes-or-no function of two lists.
@@ -117,36 +113,53 @@ fn told(a: &[f64], b: &[f64], rust: fn(&[Pair], &[Pair]) -> bool, port: fn(&[f64
     if (code, yes) == due && lent[0].untouched(a) && lent[1].untouched(b) {
         return Outcome::Same;
     }
-    Outcome::Different { rust: format!("{}, answer {:x}", due.0, due.1), port: format!("{code}, answer {yes:x}") }
+    Outcome::differs(None, format!("{}, answer {:x}", due.0, due.1), format!("{code}, answer {yes:x}"))
 }
 
 /// A list and the doubles of the result buffer.
-type One = (Vec<f64>, usize);
+pub type One = (Vec<f64>, usize);
 /// Two lists and the doubles of the result buffer.
 pub type Two = (Vec<f64>, Vec<f64>, usize);
 
-fn compare_normalize((list, room): &One) -> Outcome {
-    let due = if room / 2 < list.len() / 2 {
-        Due::Refused(12)
+/// The refusal that document 01 asks for, 0 for none.
+pub fn normalize_refusal((list, room): &One) -> u32 {
+    if room / 2 < list.len() / 2 {
+        12
     } else if list.len() % 2 == 1 {
-        Due::Refused(11)
+        11
     } else {
-        Due::List(rust::normalize(pairs(list)))
+        0
+    }
+}
+
+pub fn two_list_refusal((a, b, room): &Two) -> u32 {
+    if room / 2 < a.len() / 2 + b.len() / 2 {
+        12
+    } else if !is_sound(a) || !is_sound(b) {
+        11
+    } else {
+        0
+    }
+}
+
+fn compare_normalize(input: &One) -> Outcome {
+    let (list, room) = input;
+    let due = match normalize_refusal(input) {
+        0 => Due::List(rust::normalize(pairs(list))),
+        number => Due::Refused(number),
     };
     written(due, [list], *room, |[l], out, n| normalize(l, out, n))
 }
 
 pub fn compare_two(
-    (a, b, room): &Two,
+    input: &Two,
     rust: fn(&[Pair], &[Pair]) -> Vec<Pair>,
     port: fn(&[f64], &[f64], &mut [f64], &mut usize) -> u32,
 ) -> Outcome {
-    let due = if room / 2 < a.len() / 2 + b.len() / 2 {
-        Due::Refused(12)
-    } else if !is_sound(a) || !is_sound(b) {
-        Due::Refused(11)
-    } else {
-        Due::List(rust(&pairs(a), &pairs(b)))
+    let (a, b, room) = input;
+    let due = match two_list_refusal(input) {
+        0 => Due::List(rust(&pairs(a), &pairs(b))),
+        number => Due::Refused(number),
     };
     written(due, [a, b], *room, |[a, b], out, n| port(a, b, out, n))
 }
@@ -156,7 +169,7 @@ fn choose_size(g: &mut Gen) {
     g.size = match g.below(1024) {
         0 => 400,
         1..=30 => 40,
-        _ => g.below(9) as usize,
+        _ => 2 + g.below(9) as usize,
     };
 }
 
@@ -231,7 +244,7 @@ pub fn two_lists_and_room(g: &mut Gen) -> Two {
     (a, b, room)
 }
 
-fn list_and_room(g: &mut Gen) -> One {
+pub fn list_and_room(g: &mut Gen) -> One {
     choose_size(g);
     let list = any_list(g);
     let list = with_odd_end(g, list);

@@ -1,6 +1,6 @@
 //! The comparison finds a wrong function: each fault below is put on top of the port's `intersect`.
 use compare::{
-    function::{Found, Function},
+    function::Function,
     spans::{compare_two, intersect, two_list_edges, two_lists_and_room},
 };
 use oracle::dexel::opened as rust;
@@ -9,7 +9,7 @@ type Port = fn(&[f64], &[f64], &mut [f64], &mut usize) -> u32;
 
 fn differences(port: Port) -> usize {
     let f = Function::new("intersect", two_list_edges(), two_lists_and_room, move |i| compare_two(i, rust::intersect, port));
-    (0..f.edges + 20_000).filter(|k| matches!(f.case(1, *k), Found::Different { .. })).count()
+    (0..f.edges + 20_000).filter(|k| f.case(1, *k).is_some_and(|d| d.meant.is_none())).count()
 }
 
 #[test]

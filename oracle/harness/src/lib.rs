@@ -1,5 +1,6 @@
 //! What the comparison, the benchmark and the tests of the oracle share.
 pub mod generate;
+pub mod grid;
 pub mod lent;
 pub mod store;
 

@@ -1,7 +1,8 @@
+-- Each answer is the first cause that is present, or that none is.
 use mathlib.Core.Path.{sym, _∙_}
 use Rattle.refusal.specs.Refusal.{NoneDue}
 use Rattle.refusal.proofs.Laws.{first, later}
-use Rattle.cutter.proofs.Laws.{not-true, not-false}
+use Rattle.doubles.proofs.Bools.{clash}
 use borrow.Author.Needs.{needs}
 use Rattle.cutter.proofs.check_tool.Statement.{statement}
 use Rattle.cutter.proofs.check_tool.Tie as tie
@@ -18,13 +19,13 @@ within-limits-requires c κs = search needs
 returns-2 : tie.Need-returns-2
 unfolding NoneDue
 returns-2 c = (
-  not-true (sym (c .before .before .before .is-beam .ensures) ∙ c .before .before .if1 .left),
-  (not-false (sym (c .before .within-limits .ensures) ∙ c .if2 .taken), tt),
+  λ beam. clash _ beam (sym (c .before .before .before .is-beam .ensures) ∙ c .before .before .if1 .left),
+  (λ outside. clash _ (sym (c .before .within-limits .ensures) ∙ c .if2 .taken) outside, tt),
 )
 
 returns-3 : tie.Need-returns-3
 returns-3 c =
-    later _ _ _ (not-true (sym (c .before .before .before .is-beam .ensures) ∙ c .before .before .if1 .left))
+    later _ _ _ (λ beam. clash _ beam (sym (c .before .before .before .is-beam .ensures) ∙ c .before .before .if1 .left))
     (first _ _ (sym (c .before .within-limits .ensures) ∙ c .if2 .left))
 
 pub check-tool-spec : {M : Type 1} → statement M

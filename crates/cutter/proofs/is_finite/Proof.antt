@@ -1,3 +1,4 @@
+-- A double is finite where it lies between the infinities.
 use Rattle.cutter.proofs.Laws.{finite-above, not-finite}
 use Rattle.cutter.proofs.is_finite.Statement.{statement}
 use Rattle.cutter.proofs.is_finite.Tie as tie

@@ -12,17 +12,12 @@ is-above-zero-requires-2 c κs = search needs
 is-above-zero-requires-3 : tie.Need-is-above-zero-requires-3
 is-above-zero-requires-3 c κs = search needs
 
+all-three-requires : tie.Need-all-three-requires
+all-three-requires c κs = search needs
+
 returns : tie.Need-returns
 unfolding sizesFit
-returns c = simp (← c .is-above-zero3 .ensures, c .before .if2 .taken, ← c .before .before .is-above-zero2 .ensures, c .before .before .before .if1 .taken, ← c .before .before .before .before .is-above-zero .ensures)
-
-returns-2 : tie.Need-returns-2
-unfolding sizesFit
-returns-2 c = simp (c .if2 .left, ← c .before .is-above-zero2 .ensures, c .before .before .if1 .taken, ← c .before .before .before .is-above-zero .ensures)
-
-returns-3 : tie.Need-returns-3
-unfolding sizesFit
-returns-3 c = simp (c .if1 .left, ← c .before .is-above-zero .ensures)
+returns c = simp (← c .all-three .ensures, ← c .before .is-above-zero3 .ensures, ← c .before .before .is-above-zero2 .ensures, ← c .before .before .before .is-above-zero .ensures)
 
 pub sizes-fit-spec : {M : Type 1} → statement M
 sizes-fit-spec =
@@ -31,6 +26,5 @@ sizes-fit-spec =
     is-above-zero-requires
     is-above-zero-requires-2
     is-above-zero-requires-3
-    returns
-    returns-2
-    returns-3)
+    all-three-requires
+    returns)

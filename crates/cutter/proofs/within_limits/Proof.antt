@@ -3,43 +3,40 @@ use borrow.Author.Needs.{needs}
 use Rattle.cutter.proofs.within_limits.Statement.{statement}
 use Rattle.cutter.proofs.within_limits.Tie as tie
 
+lengths-fit-requires : tie.Need-lengths-fit-requires
+lengths-fit-requires c κs = search needs
+
+diameters-fit-requires : tie.Need-diameters-fit-requires
+diameters-fit-requires c κs = search needs
+
+shape-fits-requires : tie.Need-shape-fits-requires
+shape-fits-requires c κs = search needs
+
+all-three-requires : tie.Need-all-three-requires
+all-three-requires c κs = search needs
+
 sizes-fit-requires : tie.Need-sizes-fit-requires
 sizes-fit-requires c κs = search needs
 
 heights-fit-requires : tie.Need-heights-fit-requires
 heights-fit-requires c κs = search needs
 
-lengths-fit-requires : tie.Need-lengths-fit-requires
-lengths-fit-requires c κs = search needs
-
-numbers-fit-requires : tie.Need-numbers-fit-requires
-numbers-fit-requires c κs = search needs
+all-three-requires-2 : tie.Need-all-three-requires-2
+all-three-requires-2 c κs = search needs
 
 returns : tie.Need-returns
 unfolding withinLimits
-returns c = simp (← c .numbers-fit .ensures, c .before .if3 .taken, ← c .before .before .lengths-fit .ensures, c .before .before .before .if2 .taken, ← c .before .before .before .before .heights-fit .ensures, c .before .before .before .before .before .if1 .taken, ← c .before .before .before .before .before .before .sizes-fit .ensures)
-
-returns-2 : tie.Need-returns-2
-unfolding withinLimits
-returns-2 c = simp (c .if3 .left, ← c .before .lengths-fit .ensures, c .before .before .if2 .taken, ← c .before .before .before .heights-fit .ensures, c .before .before .before .before .if1 .taken, ← c .before .before .before .before .before .sizes-fit .ensures)
-
-returns-3 : tie.Need-returns-3
-unfolding withinLimits
-returns-3 c = simp (c .if2 .left, ← c .before .heights-fit .ensures, c .before .before .if1 .taken, ← c .before .before .before .sizes-fit .ensures)
-
-returns-4 : tie.Need-returns-4
-unfolding withinLimits
-returns-4 c = simp (c .if1 .left, ← c .before .sizes-fit .ensures)
+returns c = simp (← c .all-three2 .ensures, ← c .before .heights-fit .ensures, ← c .before .before .sizes-fit .ensures, ← c .before .before .before .all-three .ensures, ← c .before .before .before .before .shape-fits .ensures, ← c .before .before .before .before .before .diameters-fit .ensures, ← c .before .before .before .before .before .before .lengths-fit .ensures)
 
 pub within-limits-spec : {M : Type 1} → statement M
 within-limits-spec =
     tie.close
     (tie.spec
+    lengths-fit-requires
+    diameters-fit-requires
+    shape-fits-requires
+    all-three-requires
     sizes-fit-requires
     heights-fit-requires
-    lengths-fit-requires
-    numbers-fit-requires
-    returns
-    returns-2
-    returns-3
-    returns-4)
+    all-three-requires-2
+    returns)

@@ -1,34 +1,26 @@
+-- `grid::all_within` meets its contract. Assumes nothing.
 use Rattle.grid.specs.Grid.{allWithin}
 use borrow.Author.Needs.{needs}
 use Rattle.grid.proofs.all_within.Statement.{statement}
 use Rattle.grid.proofs.all_within.Tie as tie
-use Rattle.grid.proofs.all_within.Reads as reads
-use Rattle.grid.proofs.all_within.Lts as lts
-use Rattle.grid.proofs.is_within.Reads as is-within-reads
 
--- src/lib.rt:84:8
 is-within-requires : tie.Need-is-within-requires
 is-within-requires c κs = search needs
 
--- src/lib.rt:85:12
 is-within-requires-2 : tie.Need-is-within-requires-2
 is-within-requires-2 c κs = search needs
 
--- src/lib.rt:86:13
 is-within-requires-3 : tie.Need-is-within-requires-3
 is-within-requires-3 c κs = search needs
 
--- src/lib.rt:86:13
 returns : tie.Need-returns
 unfolding allWithin
 returns c = simp (← c .is-within3 .ensures, c .before .if2 .taken, ← c .before .before .is-within2 .ensures, c .before .before .before .if1 .taken, ← c .before .before .before .before .is-within .ensures)
 
--- src/lib.rt:81:1
 returns-2 : tie.Need-returns-2
 unfolding allWithin
 returns-2 c = simp (c .if2 .left, ← c .before .is-within2 .ensures, c .before .before .if1 .taken, ← c .before .before .before .is-within .ensures)
 
--- src/lib.rt:81:1
 returns-3 : tie.Need-returns-3
 unfolding allWithin
 returns-3 c = simp (c .if1 .left, ← c .before .is-within .ensures)

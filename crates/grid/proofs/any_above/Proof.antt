@@ -1,3 +1,4 @@
+-- `grid::any_above` meets its contract, a test at a time. Assumes nothing.
 use mathlib.Core.Path.{refl}
 use Rattle.grid.specs.Grid.{anyAbove}
 use Rattle.grid.proofs.Tests.{or-yes, or-no}

@@ -1,3 +1,4 @@
+-- `grid::any_below` meets its contract, a test at a time. Assumes nothing.
 use mathlib.Core.Path.{refl}
 use Rattle.grid.specs.Grid.{anyBelow}
 use Rattle.grid.proofs.Tests.{or-yes, or-no}

@@ -1,3 +1,4 @@
+-- `grid::cell_bound` meets its contract. Assumes nothing.
 use Rattle.grid.specs.Rays.{cellBoundOf}
 use borrow.Author.Tests.{eq-eqb, ne-eqb, le-leb, lt-leb}
 use borrow.Author.Needs.{needs}

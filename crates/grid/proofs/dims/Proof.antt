@@ -1,3 +1,4 @@
+-- `grid::dims` meets its contract. Assumes nothing.
 use borrow.Author.Needs.{needs}
 use Rattle.grid.proofs.dims.Statement.{statement}
 use Rattle.grid.proofs.dims.Tie as tie

@@ -1,3 +1,4 @@
+-- `grid::grid` meets its contract. Assumes nothing.
 use Rattle.grid.specs.Grid.{gridOf}
 use borrow.Author.Needs.{needs}
 use Rattle.grid.proofs.grid.Statement.{statement}

@@ -1,3 +1,4 @@
+-- `grid::grid_over` meets its contract: each answer from the tests that lead to it. Assumes nothing.
 use Rattle.grid.specs.Grid.{gridOver}
 use borrow.Author.Needs.{needs}
 use Rattle.grid.proofs.grid_over.Statement.{statement}

@@ -1,3 +1,4 @@
+-- `grid::grid_with` meets its contract. Assumes nothing.
 use borrow.Author.Needs.{needs}
 use Rattle.grid.proofs.grid_with.Statement.{statement}
 use Rattle.grid.proofs.grid_with.Tie as tie

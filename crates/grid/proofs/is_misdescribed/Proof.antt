@@ -1,3 +1,4 @@
+-- `grid::is_misdescribed` meets its contract: each answer from the tests that lead to it. Assumes nothing.
 use Rattle.grid.specs.Grid.{misdescribed}
 use borrow.Author.Tests.{eq-eqb, ne-eqb, lt-ltb, le-ltb}
 use borrow.Author.Needs.{needs}

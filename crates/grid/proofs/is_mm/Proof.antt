@@ -1,3 +1,4 @@
+-- `grid::is_mm` meets its contract, a test at a time. Assumes nothing.
 use Rattle.grid.proofs.Tests.{and-yes, and-no}
 use Rattle.grid.specs.Grid.{isMm}
 use borrow.Author.Tests.{eq-eqb, ne-eqb}

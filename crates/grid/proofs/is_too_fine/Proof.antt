@@ -1,3 +1,4 @@
+-- `grid::is_too_fine` meets its contract. Assumes nothing.
 use Rattle.grid.specs.Grid.{tooFine, leastStep}
 use borrow.Author.Needs.{needs}
 use Rattle.grid.proofs.is_too_fine.Statement.{statement}

@@ -1,15 +1,12 @@
+-- `grid::is_within` meets its contract. Assumes nothing.
 use Rattle.grid.specs.Grid.{within}
 use Rattle.grid.proofs.is_within.Statement.{statement}
 use Rattle.grid.proofs.is_within.Tie as tie
-use Rattle.grid.proofs.is_within.Reads as reads
-use Rattle.grid.proofs.is_within.Lts as lts
 
--- src/lib.rt:76:9
 returns : tie.Need-returns
 unfolding within
 returns c = simp (c .if1 .taken)
 
--- src/lib.rt:72:1
 returns-2 : tie.Need-returns-2
 unfolding within
 returns-2 c = simp (c .if1 .left)

@@ -1,3 +1,4 @@
+-- `grid::ray_axis` meets its contract. Assumes nothing.
 use Rattle.grid.specs.Rays.{rayAxis}
 use borrow.Author.Tests.{lt-ltb, le-ltb}
 use borrow.Author.Needs.{needs}

@@ -1,3 +1,4 @@
+-- `grid::ray_bounds` meets its contract. Assumes nothing.
 use Rattle.grid.specs.Rays.{boundsOf}
 use borrow.Author.Needs.{needs}
 use Rattle.grid.proofs.ray_bounds.Statement.{statement}

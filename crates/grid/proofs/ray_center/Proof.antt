@@ -1,3 +1,4 @@
+-- `grid::ray_center` meets its contract. Assumes nothing.
 use Rattle.grid.specs.Rays.{centerOf, cellCenter}
 use borrow.Author.Needs.{needs}
 use Rattle.grid.proofs.ray_center.Statement.{statement}

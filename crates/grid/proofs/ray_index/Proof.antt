@@ -1,3 +1,4 @@
+-- `grid::ray_index` meets its contract: an axis begins at or before each of its rays. Assumes nothing.
 use Rattle.grid.proofs.Numbering.{before-le}
 use Rattle.grid.specs.Rays.{rayIndex}
 use borrow.Author.Needs.{needs}

@@ -1,3 +1,4 @@
+-- `grid::ray_number` meets its contract. Assumes nothing.
 use Rattle.grid.proofs.Numbering.{offset-le}
 use Rattle.grid.specs.Rays.{rayNumber}
 use native.Mathlib.Omega.{arith}

@@ -1,3 +1,4 @@
+-- `grid::ray_offset` meets its contract: what it adds up is at most the count of all rays. Assumes nothing.
 use Rattle.grid.proofs.Tests.{third}
 use Rattle.grid.proofs.Numbering.{total-is}
 use Rattle.grid.specs.Axes.{byDigit}

@@ -1,3 +1,4 @@
+-- `grid::rays` meets its contract: the product is at most the count of all rays, so it fits. Assumes nothing.
 use Rattle.grid.proofs.Numbering.{along-le}
 use Rattle.grid.specs.Rays.{raysAlong}
 use native.Mathlib.Omega.{arith}

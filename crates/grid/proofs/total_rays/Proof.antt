@@ -1,3 +1,4 @@
+-- `grid::total_rays` meets its contract: the three sums are the count of all rays. Assumes nothing.
 use Rattle.grid.proofs.Numbering.{total-is}
 use native.Mathlib.Omega.{arith}
 use borrow.Author.Needs.{needs}

@@ -4,7 +4,7 @@ use mathlib.Core.List.{List}
 use Prim.Native.Nat.{ℕ, _+_, _-_}
 use lib.ListN.{take, drop}
 use lib.Ieee.{Float}
-use Rattle.spans.specs.Results.{Share, Apart}
+use Rattle.spans.specs.Spans.{Share, Apart}
 use Rattle.merge.specs.Steps.{part}
 use Rattle.merge.proofs.Rays.{share-yes, share-no, share-bad}
 use borrow.Author.Needs.{needs}

@@ -1,17 +1,14 @@
 -- `rows::hex_at` meets its contract: each turn of its loop reads one digit more (`Read`). Assumes nothing.
-use mathlib.Core.Path.{_≡_, sym, ap, _∙_, subst}
-use mathlib.Core.Bool.{Bool, cond}
+use mathlib.Core.Path.{_≡_, sym, _∙_, subst}
 use Prim.Native.Nat.{ℕ, _+_, _-_, _*_, _≤_, _<_}
 use native.Mathlib.Nat.{le-of-eq}
 use native.Mathlib.Omega.{arith}
-use borrow.Author.Needs.{needs}
 use borrow.Author.Tests.{le-leb, lt-leb}
-use lib.Dec.{leb}
 use lib.ListN.{length, take, drop, getD}
 use mathlib.Core.List.{List}
 use Rattle.rows.specs.Hex.{digitOf, number, hexAt}
 use Rattle.rows.specs.declared.Word.{Word}
-use Rattle.rows.specs.declared.Word.the-variants.{Value, Missing}
+use Rattle.rows.specs.declared.Word.the-variants.{Missing}
 use Rattle.rows.proofs.Digits.{digit-le, Read, read-none, read-more, read-stop, read-all, small-at}
 use Rattle.rows.proofs.hex_at.Statement.{statement}
 use Rattle.rows.proofs.hex_at.Tie as tie

@@ -3,36 +3,25 @@ use Rattle.store.proofs.Checked.{differs, ended, broke}
 use borrow.Author.Needs.{needs}
 use Rattle.store.proofs.check_store.Statement.{statement}
 use Rattle.store.proofs.check_store.Tie as tie
-use Rattle.store.proofs.check_store.Reads as reads
-use Rattle.store.proofs.check_store.Lts as lts
-use Rattle.store.proofs.count_used.Reads as count-used-reads
-use Rattle.store.proofs.walk_all.Reads as walk-all-reads
 
--- src/lib.rt:105:9
 count-used-requires : tie.Need-count-used-requires
 count-used-requires c κs = search needs
 
--- src/lib.rt:107:9
 returns : tie.Need-returns
 returns c = differs _ _ _ _ _ _ _ (c .before .count-used .ensures) (c .if1 .taken)
 
--- src/lib.rt:109:11
 walk-all-requires : tie.Need-walk-all-requires
 walk-all-requires c κs = search needs
 
--- src/lib.rt:110:20
 enum-known-c : tie.Need-enum-known-c
 enum-known-c c = search needs
 
--- src/lib.rt:111:25
 enum-told : tie.Need-enum-told
 enum-told c = search needs
 
--- src/lib.rt:100:1
 returns-2 : tie.Need-returns-2
 returns-2 c = ended _ _ _ _ _ _ _ _ (c .before .before .before .before .before .count-used .ensures) (c .before .before .before .before .if1 .left) (sym (c .before .before .before .walk-all .ensures) ∙ c .before .c .given .1)
 
--- src/lib.rt:100:1
 returns-3 : tie.Need-returns-3
 returns-3 c = broke _ _ _ _ _ _ _ (c .before .before .before .if1 .left) (sym (c .before .before .walk-all .ensures) ∙ c .enum-told .given .1)
 

@@ -2,18 +2,14 @@ use mathlib.Core.Logic.{⊎-elim}
 use Rattle.store.proofs.InUse.{count-next}
 use mathlib.Core.Bool.{true, false}
 use native.Mathlib.Nat.{add-zero}
-use Prim.Native.Nat.{_≤_, _<_, _-_, _+_, _*_}
+use Prim.Native.Nat.{_≤_, _-_}
 use mathlib.Core.Path.{_≡_, refl, sym, ap, _∙_}
 use native.Mathlib.Omega.{arith}
 use borrow.Author.Needs.{needs}
-use lib.ListN.{length, getD}
 use Rattle.store.specs.Store.{usedAt}
 use Rattle.store.specs.Walks.{countTo}
 use Rattle.store.proofs.count_used.Statement.{statement}
 use Rattle.store.proofs.count_used.Tie as tie
-use Rattle.store.proofs.count_used.Reads as reads
-use Rattle.store.proofs.count_used.Lts as lts
-use Rattle.store.proofs.used.Reads as used-reads
 
 abbrev Inv-loop : tie.InvT-loop
 Inv-loop spans links n c₀ i₀ c i = (i ≤ n) × (c ≤ i) × (c ≡ countTo (usedAt spans links) i)
@@ -21,35 +17,28 @@ Inv-loop spans links n c₀ i₀ c i = (i ≤ n) × (c ≤ i) × (c ≡ countTo 
 abbrev μ-loop : tie.MeasureT-loop
 μ-loop spans links n c₀ i₀ c i = n - i
 
--- src/lib.rt:42:5
 loop-holds : tie.Need-loop-holds Inv-loop μ-loop
 unfolding countTo
 loop-holds c = (omega arith, omega arith, refl)
 
--- src/lib.rt:43:12
 used-requires : tie.Need-used-requires Inv-loop μ-loop
 used-requires c κs = search needs
 
--- src/lib.rt:44:13
 add-c : tie.Need-add-c Inv-loop μ-loop
 add-c c = search needs
 
--- src/lib.rt:46:9
 add-i : tie.Need-add-i Inv-loop μ-loop
 add-i c = search needs
 
--- src/lib.rt:42:5
 loop-less : tie.Need-loop-less Inv-loop μ-loop
 loop-less c = search needs
 
--- src/lib.rt:42:5
 loop-again : tie.Need-loop-again Inv-loop μ-loop
 loop-again c = ⊎-elim
     (λ w. (omega arith, omega (arith, w .1), count-next _ _ _ _ true (c .before .before .before .loop .inv .2) (sym (c .before .used .ensures) ∙ w .0 .taken) (w .1)))
     (λ w. (omega arith, omega (arith, w .1), count-next _ _ _ _ false (c .before .before .before .loop .inv .2) (sym (c .before .used .ensures) ∙ w .0 .left) (w .1 ∙ sym (add-zero _))))
     (c .if1 .came)
 
--- src/lib.rt:36:1
 returns : tie.Need-returns Inv-loop μ-loop
 returns c = let e : c .before .loop .i ≡ c .before .before .before .before .args .n = omega arith in c .before .loop .inv .2 ∙ ap (countTo _) e
 

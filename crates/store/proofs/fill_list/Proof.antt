@@ -1,16 +1,11 @@
-use Prim.Native.Nat.{_≤_, _<_, _-_, _+_, _*_}
-use mathlib.Core.Path.{_≡_, refl, sym, ap, subst, _∙_}
-use native.Mathlib.Omega.{arith}
+use Prim.Native.Nat.{_-_}
+use mathlib.Core.Path.{_∙_}
 use borrow.Author.Needs.{needs}
-use lib.ListN.{length, take}
-use Rattle.store.specs.Store.{freeFrom, headOf}
+use lib.ListN.{take}
+use Rattle.store.specs.Store.{freeFrom}
 use Rattle.store.proofs.Filling.{Filling, fill-some, fill-start, fill-turn, fill-end, fill-onward, refill, first-head, cursor-same}
 use Rattle.store.proofs.fill_list.Statement.{statement}
 use Rattle.store.proofs.fill_list.Tie as tie
-use Rattle.store.proofs.fill_list.Reads as reads
-use Rattle.store.proofs.fill_list.Lts as lts
-use Rattle.store.proofs.next_free.Reads as next-free-reads
-use Rattle.store.proofs.put_record.Reads as put-record-reads
 
 abbrev Inv-loop : tie.InvT-loop
 Inv-loop spans₀ links₀ n from owner pairs count first at₀ t₀ spans links at t =
@@ -19,125 +14,95 @@ Inv-loop spans₀ links₀ n from owner pairs count first at₀ t₀ spans links
 abbrev μ-loop : tie.MeasureT-loop
 μ-loop spans₀ links₀ n from owner pairs count first at₀ t₀ spans links at t = count - t
 
--- src/lib.rt:183:9
 next-free-requires : tie.Need-next-free-requires Inv-loop μ-loop
 next-free-requires c κs = let f = c .before .before .before .before .before .pre in (f .in-spans, f .in-links, fill-some _ _ _ _ _ _ _ f)
 
--- src/lib.rt:186:5
 loop-holds : tie.Need-loop-holds Inv-loop μ-loop
 loop-holds c = fill-start _ _ _ _ _ _ _ _ (c .before .before .before .before .before .before .pre) (c .next-free .ensures)
 
--- src/lib.rt:186:11
 add-loop : tie.Need-add-loop Inv-loop μ-loop
 add-loop c = search needs
 
--- src/lib.rt:187:48
 add-next-free : tie.Need-add-next-free Inv-loop μ-loop
 add-next-free c = search needs
 
--- src/lib.rt:187:13
 next-free-requires-2 : tie.Need-next-free-requires-2 Inv-loop μ-loop
 next-free-requires-2 c κs = search needs
 
--- src/lib.rt:188:24
 mul-lo : tie.Need-mul-lo Inv-loop μ-loop
 mul-lo c = search needs
 
--- src/lib.rt:188:18
 mul-lo-2 : tie.Need-mul-lo-2 Inv-loop μ-loop
 mul-lo-2 c = search needs
 
--- src/lib.rt:188:18
 shared-slice-read-lo : tie.Need-shared-slice-read-lo Inv-loop μ-loop
 shared-slice-read-lo c = search needs
 
--- src/lib.rt:189:24
 mul-hi : tie.Need-mul-hi Inv-loop μ-loop
 mul-hi c = search needs
 
--- src/lib.rt:189:24
 add-hi : tie.Need-add-hi Inv-loop μ-loop
 add-hi c = search needs
 
--- src/lib.rt:189:18
 mul-hi-2 : tie.Need-mul-hi-2 Inv-loop μ-loop
 mul-hi-2 c = search needs
 
--- src/lib.rt:189:18
 shared-slice-read-hi : tie.Need-shared-slice-read-hi Inv-loop μ-loop
 shared-slice-read-hi c = search needs
 
--- src/lib.rt:190:46
 add-put-record : tie.Need-add-put-record Inv-loop μ-loop
 add-put-record c = search needs
 
--- src/lib.rt:190:9
 put-record-requires : tie.Need-put-record-requires Inv-loop μ-loop
 put-record-requires c κs = search needs
 
--- src/lib.rt:192:9
 add-t : tie.Need-add-t Inv-loop μ-loop
 add-t c = search needs
 
--- src/lib.rt:186:5
 loop-less : tie.Need-loop-less Inv-loop μ-loop
 loop-less c = search needs
 
--- src/lib.rt:186:5
 loop-again : tie.Need-loop-again Inv-loop μ-loop
 loop-again c =
     refill (c .before .before .before .before .put-record .ensures .0) (c .before .before .before .before .put-record .ensures .1)
     (fill-turn _ _ _ _ _ _ _ _ _ _ _ (c .before .before .before .before .before .before .before .before .before .before .before .before .before .loop .inv) _ (c .before .before .before .before .before .before .before .before .before .before .before .before .loop-test .taken) (c .before .before .before .before .before .before .before .before .before .next-free2 .ensures))
 
--- src/lib.rt:194:20
 mul-lo-3 : tie.Need-mul-lo-3 Inv-loop μ-loop
 mul-lo-3 c = search needs
 
--- src/lib.rt:194:14
 mul-lo-4 : tie.Need-mul-lo-4 Inv-loop μ-loop
 mul-lo-4 c = search needs
 
--- src/lib.rt:194:14
 shared-slice-read-lo-2 : tie.Need-shared-slice-read-lo-2 Inv-loop μ-loop
 shared-slice-read-lo-2 c = search needs
 
--- src/lib.rt:195:20
 mul-hi-3 : tie.Need-mul-hi-3 Inv-loop μ-loop
 mul-hi-3 c = search needs
 
--- src/lib.rt:195:20
 add-hi-2 : tie.Need-add-hi-2 Inv-loop μ-loop
 add-hi-2 c = search needs
 
--- src/lib.rt:195:14
 mul-hi-4 : tie.Need-mul-hi-4 Inv-loop μ-loop
 mul-hi-4 c = search needs
 
--- src/lib.rt:195:14
 shared-slice-read-hi-2 : tie.Need-shared-slice-read-hi-2 Inv-loop μ-loop
 shared-slice-read-hi-2 c = search needs
 
--- src/lib.rt:196:5
 put-record-requires-2 : tie.Need-put-record-requires-2 Inv-loop μ-loop
 put-record-requires-2 c κs = search needs
 
--- src/lib.rt:198:15
 add-t50 : tie.Need-add-t50 Inv-loop μ-loop
 add-t50 c = search needs
 
--- src/lib.rt:199:17
 add-t38 : tie.Need-add-t38 Inv-loop μ-loop
 add-t38 c = search needs
 
--- src/lib.rt:179:1
 same-length : tie.Need-same-length Inv-loop μ-loop
 same-length c = search needs
 
--- src/lib.rt:179:1
 same-length-2 : tie.Need-same-length-2 Inv-loop μ-loop
 same-length-2 c = search needs
 
--- src/lib.rt:179:1
 returns : tie.Need-returns Inv-loop μ-loop
 returns c =
     let e = fill-end _ _ _ _ _ _ _ _ _ _ _ (c .before .before .before .before .before .before .before .before .before .before .loop .inv) (c .before .before .before .before .before .before .before .before .before .loop-test .left) in

@@ -1,8 +1,7 @@
-use Prim.Native.Nat.{_≤_, _<_, _-_, _+_, _*_}
-use mathlib.Core.Path.{_≡_, refl, sym, ap, _∙_}
+use mathlib.Core.Path.{_≡_, refl, sym, _∙_}
 use native.Mathlib.Omega.{arith}
 use borrow.Author.Needs.{needs}
-use lib.ListN.{length, getD, set, length-set}
+use lib.ListN.{length, length-set}
 use Rattle.store.specs.Store.{Chain, places, freedSpans, freedLinks}
 use Rattle.store.proofs.Chains.{Step, chain-step}
 use Rattle.store.proofs.Freeing.{Turn, turn, freed-end}
@@ -19,7 +18,6 @@ Inv-loop spans₀ links₀ n owner head k₀ spans links k =
 abbrev μ-loop : tie.MeasureT-loop
 μ-loop spans₀ links₀ n owner head k₀ spans links k = length (places links n k)
 
--- src/lib.rt:138:5
 -- the record that the loop comes to
 here : (c : lts.In-loop reads.Pre reads.Post Inv-loop μ-loop) → Step (c .before .loop .links) (c .before .before .args .n) (c .before .before .args .owner) (c .before .loop .k)
 here c = chain-step _ _ _ _ (c .before .loop .inv .2) (c .loop-test .taken)
@@ -30,97 +28,74 @@ freeing c = turn _ _ _ _ _ (c .before .loop .inv .2) (c .loop-test .taken)
 loop-holds : tie.Need-loop-holds Inv-loop μ-loop
 loop-holds c = (refl, refl, c .pre .2, refl, refl)
 
--- src/lib.rt:139:18
 sub-i : tie.Need-sub-i Inv-loop μ-loop
 sub-i c = let h = here c .counted in search needs
 
--- src/lib.rt:140:19
 mul-k : tie.Need-mul-k Inv-loop μ-loop
 mul-k c = let h = here c .counted in search needs
 
--- src/lib.rt:140:13
 mul-k-2 : tie.Need-mul-k-2 Inv-loop μ-loop
 mul-k-2 c = let h = here c .counted in search needs
 
--- src/lib.rt:140:13
 slice-read-k : tie.Need-slice-read-k Inv-loop μ-loop
 slice-read-k c = let h = here (c .before) .counted in search needs
 
--- src/lib.rt:141:15
 mul-spans : tie.Need-mul-spans Inv-loop μ-loop
 mul-spans c = let h = here (c .before) .counted in search needs
 
--- src/lib.rt:141:9
 mul-spans-2 : tie.Need-mul-spans-2 Inv-loop μ-loop
 mul-spans-2 c = let h = here (c .before) .counted in search needs
 
--- src/lib.rt:141:9
 slice-write-spans : tie.Need-slice-write-spans Inv-loop μ-loop
 slice-write-spans c = let h = here (c .before) .counted in search needs
 
--- src/lib.rt:142:15
 mul-spans-3 : tie.Need-mul-spans-3 Inv-loop μ-loop
 mul-spans-3 c = let h = here (c .before) .counted in search needs
 
--- src/lib.rt:142:15
 add-spans : tie.Need-add-spans Inv-loop μ-loop
 add-spans c = let h = here (c .before) .counted in search needs
 
--- src/lib.rt:142:9
 mul-spans-4 : tie.Need-mul-spans-4 Inv-loop μ-loop
 mul-spans-4 c = let h = here (c .before) .counted in search needs
 
--- src/lib.rt:142:9
 slice-write-spans-2 : tie.Need-slice-write-spans-2 Inv-loop μ-loop
 slice-write-spans-2 c = let h = here (c .before) .counted in simp length-set (omega arith)
 
--- src/lib.rt:143:15
 mul-links : tie.Need-mul-links Inv-loop μ-loop
 mul-links c = let h = here (c .before) .counted in search needs
 
--- src/lib.rt:143:9
 mul-links-2 : tie.Need-mul-links-2 Inv-loop μ-loop
 mul-links-2 c = let h = here (c .before) .counted in search needs
 
--- src/lib.rt:143:9
 slice-write-links : tie.Need-slice-write-links Inv-loop μ-loop
 slice-write-links c = let h = here (c .before) .counted in search needs
 
--- src/lib.rt:144:15
 mul-links-3 : tie.Need-mul-links-3 Inv-loop μ-loop
 mul-links-3 c = let h = here (c .before) .counted in search needs
 
--- src/lib.rt:144:15
 add-links : tie.Need-add-links Inv-loop μ-loop
 add-links c = let h = here (c .before) .counted in search needs
 
--- src/lib.rt:144:9
 mul-links-4 : tie.Need-mul-links-4 Inv-loop μ-loop
 mul-links-4 c = let h = here (c .before) .counted in search needs
 
--- src/lib.rt:144:9
 slice-write-links-2 : tie.Need-slice-write-links-2 Inv-loop μ-loop
 slice-write-links-2 c = let h = here (c .before) .counted in simp length-set (omega arith)
 
--- src/lib.rt:138:5
 loop-less : tie.Need-loop-less Inv-loop μ-loop
 loop-less c = freeing (c .before) .less
 
--- src/lib.rt:138:5
 loop-again : tie.Need-loop-again Inv-loop μ-loop
 loop-again c =
     let t = freeing (c .before) in
     (simp length-set (c .before .before .loop .inv .0), simp length-set (c .before .before .loop .inv .1), t .chain, c .before .before .loop .inv .3 ∙ t .spans-left, c .before .before .loop .inv .4 ∙ t .links-left)
 
--- src/lib.rt:132:1
 same-length : tie.Need-same-length Inv-loop μ-loop
 same-length c = search needs
 
--- src/lib.rt:132:1
 same-length-2 : tie.Need-same-length-2 Inv-loop μ-loop
 same-length-2 c = search needs
 
--- src/lib.rt:132:1
 returns : tie.Need-returns Inv-loop μ-loop
 returns c = let e = freed-end (c .before .loop .spans) (c .before .loop .links) (c .before .before .args .n) (c .before .loop .k) (c .loop-test .left) in
     (sym (c .before .loop .inv .3 ∙ e .0), sym (c .before .loop .inv .4 ∙ e .1))

@@ -2,55 +2,40 @@ use borrow.Author.Needs.{needs}
 use Rattle.store.proofs.Laying.{laid-none, laid-some}
 use Rattle.store.proofs.lay_list.Statement.{statement}
 use Rattle.store.proofs.lay_list.Tie as tie
-use Rattle.store.proofs.lay_list.Reads as reads
-use Rattle.store.proofs.lay_list.Lts as lts
-use Rattle.store.proofs.fill_list.Reads as fill-list-reads
 
--- src/lib.rt:252:9
 mul-heads : tie.Need-mul-heads
 mul-heads c = search needs
 
--- src/lib.rt:252:9
 slice-write-heads : tie.Need-slice-write-heads
 slice-write-heads c = search needs
 
--- src/lib.rt:253:9
 same-length : tie.Need-same-length
 same-length c = search needs
 
--- src/lib.rt:253:9
 returns : tie.Need-returns
 returns c = laid-none _ _ _ _ _ _ _ (c .if1 .taken) (c .before .before .before .before .before .pre .1)
 
--- src/lib.rt:255:51
 add-fill-list : tie.Need-add-fill-list
 add-fill-list c = search needs
 
--- src/lib.rt:255:9
 fill-list-requires : tie.Need-fill-list-requires
 fill-list-requires c κs = search needs
 
--- src/lib.rt:256:5
 mul-heads-2 : tie.Need-mul-heads-2
 mul-heads-2 c = search needs
 
--- src/lib.rt:256:5
 slice-write-heads-2 : tie.Need-slice-write-heads-2
 slice-write-heads-2 c = search needs
 
--- src/lib.rt:238:1
 same-length-2 : tie.Need-same-length-2
 same-length-2 c = search needs
 
--- src/lib.rt:238:1
 same-length-3 : tie.Need-same-length-3
 same-length-3 c = search needs
 
--- src/lib.rt:238:1
 same-length-4 : tie.Need-same-length-4
 same-length-4 c = search needs
 
--- src/lib.rt:238:1
 returns-2 : tie.Need-returns-2
 returns-2 c = laid-some _ _ _ _ _ _ _ _ _ _ (c .before .before .before .before .fill-list .ensures)
 

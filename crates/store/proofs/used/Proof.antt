@@ -1,92 +1,68 @@
 use borrow.Author.Tests.{not-true, not-false}
 use mathlib.Core.Bool.{not}
 use Rattle.store.proofs.InUse.{used-owner, used-next, used-lo, used-hi}
-use mathlib.Core.Path.{_≡_, refl, sym, ap, _∙_}
-use Rattle.store.specs.Store.{usedAt}
+use mathlib.Core.Path.{sym, ap, _∙_}
 use borrow.Author.Needs.{needs}
 use Rattle.store.proofs.used.Statement.{statement}
 use Rattle.store.proofs.used.Tie as tie
-use Rattle.store.proofs.used.Reads as reads
-use Rattle.store.proofs.used.Lts as lts
-use Rattle.store.proofs.plus_zero.Reads as plus-zero-reads
 
--- src/lib.rt:23:14
 mul-if1 : tie.Need-mul-if1
 mul-if1 c = search needs
 
--- src/lib.rt:23:14
 add-if1 : tie.Need-add-if1
 add-if1 c = search needs
 
--- src/lib.rt:23:8
 mul-if1-2 : tie.Need-mul-if1-2
 mul-if1-2 c = search needs
 
--- src/lib.rt:23:8
 shared-slice-read-if1 : tie.Need-shared-slice-read-if1
 shared-slice-read-if1 c = search needs
 
--- src/lib.rt:24:9
 returns : tie.Need-returns
 returns c = sym (used-owner _ _ _ (c .if1 .taken))
 
--- src/lib.rt:26:14
 mul-if2 : tie.Need-mul-if2
 mul-if2 c = search needs
 
--- src/lib.rt:26:8
 mul-if2-2 : tie.Need-mul-if2-2
 mul-if2-2 c = search needs
 
--- src/lib.rt:26:8
 shared-slice-read-if2 : tie.Need-shared-slice-read-if2
 shared-slice-read-if2 c = search needs
 
--- src/lib.rt:27:9
 returns-2 : tie.Need-returns-2
 returns-2 c = sym (used-next _ _ _ (c .if2 .taken))
 
--- src/lib.rt:29:25
 mul-plus-zero : tie.Need-mul-plus-zero
 mul-plus-zero c = search needs
 
--- src/lib.rt:29:19
 mul-plus-zero-2 : tie.Need-mul-plus-zero-2
 mul-plus-zero-2 c = search needs
 
--- src/lib.rt:29:19
 shared-slice-read-plus-zero : tie.Need-shared-slice-read-plus-zero
 shared-slice-read-plus-zero c = search needs
 
--- src/lib.rt:29:9
 plus-zero-requires : tie.Need-plus-zero-requires
 plus-zero-requires c κs = search needs
 
--- src/lib.rt:30:9
 returns-3 : tie.Need-returns-3
 returns-3 c = sym (used-lo _ _ _ (sym (c .before .plus-zero .ensures) ∙ not-true _ (c .if3 .taken)))
 
--- src/lib.rt:32:22
 mul-plus-zero-3 : tie.Need-mul-plus-zero-3
 mul-plus-zero-3 c = search needs
 
--- src/lib.rt:32:22
 add-plus-zero : tie.Need-add-plus-zero
 add-plus-zero c = search needs
 
--- src/lib.rt:32:16
 mul-plus-zero-4 : tie.Need-mul-plus-zero-4
 mul-plus-zero-4 c = search needs
 
--- src/lib.rt:32:16
 shared-slice-read-plus-zero-2 : tie.Need-shared-slice-read-plus-zero-2
 shared-slice-read-plus-zero-2 c = search needs
 
--- src/lib.rt:32:6
 plus-zero-requires-2 : tie.Need-plus-zero-requires-2
 plus-zero-requires-2 c κs = search needs
 
--- src/lib.rt:19:1
 returns-4 : tie.Need-returns-4
 returns-4 c = ap not (c .plus-zero2 .ensures) ∙ sym (used-hi _ _ _ (c .before .before .before .before .before .before .before .if1 .left) (c .before .before .before .before .before .if2 .left) (sym (c .before .before .before .plus-zero .ensures) ∙ not-false _ (c .before .before .if3 .left)))
 

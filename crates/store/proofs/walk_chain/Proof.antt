@@ -1,16 +1,11 @@
-use Prim.Native.Nat.{_≤_, _<_, _-_, _+_, _*_}
+use Prim.Native.Nat.{_-_}
 use mathlib.Core.Path.{_≡_, refl, sym, _∙_}
-use native.Mathlib.Omega.{arith}
 use borrow.Author.Needs.{needs}
 use borrow.Author.Tests.{lt-ltb, le-ltb, eq-eqb, ne-eqb}
-use mathlib.Core.Bool.{and-false}
-use lib.ListN.{length, getD}
 use Rattle.store.specs.Walks.{walkFrom}
 use Rattle.store.proofs.Walking.{walk-end, walk-full, walk-step}
 use Rattle.store.proofs.walk_chain.Statement.{statement}
 use Rattle.store.proofs.walk_chain.Tie as tie
-use Rattle.store.proofs.walk_chain.Reads as reads
-use Rattle.store.proofs.walk_chain.Lts as lts
 
 abbrev Inv-loop : tie.InvT-loop
 Inv-loop links n owner head from limit k₀ c₀ k c = walkFrom links n owner (limit - from) from head ≡ walkFrom links n owner (limit - c) c k
@@ -18,67 +13,51 @@ Inv-loop links n owner head from limit k₀ c₀ k c = walkFrom links n owner (l
 abbrev μ-loop : tie.MeasureT-loop
 μ-loop links n owner head from limit k₀ c₀ k c = limit - c
 
--- src/lib.rt:63:5
 loop-holds : tie.Need-loop-holds Inv-loop μ-loop
 loop-holds c = refl
 
--- src/lib.rt:65:13
 returns : tie.Need-returns Inv-loop μ-loop
 returns c = sym (c .before .before .loop .inv ∙ walk-full _ _ _ _ _ _ (c .if1 .taken) (c .before .loop-test .taken))
 
--- src/lib.rt:67:18
 sub-i : tie.Need-sub-i Inv-loop μ-loop
 sub-i c = search needs
 
--- src/lib.rt:69:13
 returns-2 : tie.Need-returns-2 Inv-loop μ-loop
 returns-2 c = sym (c .before .before .before .loop .inv ∙ walk-step _ _ _ _ _ _ (c .before .if1 .left) (c .before .before .loop-test .taken) ∙ simp (le-ltb _ _ (c .if2 .taken)))
 
--- src/lib.rt:71:18
 mul-if3 : tie.Need-mul-if3 Inv-loop μ-loop
 mul-if3 c = search needs
 
--- src/lib.rt:71:18
 add-if3 : tie.Need-add-if3 Inv-loop μ-loop
 add-if3 c = search needs
 
--- src/lib.rt:71:12
 mul-if3-2 : tie.Need-mul-if3-2 Inv-loop μ-loop
 mul-if3-2 c = search needs
 
--- src/lib.rt:71:12
 shared-slice-read-if3 : tie.Need-shared-slice-read-if3 Inv-loop μ-loop
 shared-slice-read-if3 c = search needs
 
--- src/lib.rt:72:13
 returns-3 : tie.Need-returns-3 Inv-loop μ-loop
 returns-3 c = sym (c .before .before .before .before .before .loop .inv ∙ walk-step _ _ _ _ _ _ (c .before .before .before .if1 .left) (c .before .before .before .before .loop-test .taken) ∙ simp (lt-ltb _ _ (c .before .before .if2 .left), ne-eqb _ _ (c .if3 .taken)))
 
--- src/lib.rt:74:19
 mul-k : tie.Need-mul-k Inv-loop μ-loop
 mul-k c = search needs
 
--- src/lib.rt:74:13
 mul-k-2 : tie.Need-mul-k-2 Inv-loop μ-loop
 mul-k-2 c = search needs
 
--- src/lib.rt:74:13
 shared-slice-read-k : tie.Need-shared-slice-read-k Inv-loop μ-loop
 shared-slice-read-k c = search needs
 
--- src/lib.rt:75:9
 add-c : tie.Need-add-c Inv-loop μ-loop
 add-c c = search needs
 
--- src/lib.rt:63:5
 loop-less : tie.Need-loop-less Inv-loop μ-loop
 loop-less c = search needs
 
--- src/lib.rt:63:5
 loop-again : tie.Need-loop-again Inv-loop μ-loop
 loop-again c = c .before .before .before .before .before .before .loop .inv ∙ walk-step _ _ _ _ _ _ (c .before .before .before .before .if1 .left) (c .before .before .before .before .before .loop-test .taken) ∙ simp (lt-ltb _ _ (c .before .before .before .if2 .left), eq-eqb _ _ (c .before .if3 .left))
 
--- src/lib.rt:57:1
 returns-4 : tie.Need-returns-4 Inv-loop μ-loop
 returns-4 c = sym (c .before .loop .inv ∙ walk-end _ _ _ 0 _ _ _ (c .loop-test .left))
 

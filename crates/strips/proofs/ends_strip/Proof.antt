@@ -1,3 +1,4 @@
+-- Two distances with the same bits are the same double, so the half chord at one is that at the other.
 use mathlib.Core.Path.{_≡_, sym, _∙_}
 use Rattle.strips.proofs.Laws.{same-bits}
 use Rattle.strips.specs.Strip.{diskStrip, chordStrip, hull}

@@ -1,3 +1,4 @@
+-- The corners of a buffer are its first n places, so that one more is appended at place n.
 use mathlib.Core.Path.{refl, _≡_}
 use Prim.Native.Nat.{_<_}
 use native.Mathlib.Numerals.{add-one}

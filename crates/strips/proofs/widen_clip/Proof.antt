@@ -1,3 +1,4 @@
+-- The invariant: what is left to go in, after what went in, gives the whole extent.
 use Prim.Native.Nat.{_+_, _≤_, _<_, _-_}
 use lib.Ieee.{nan}
 use mathlib.Core.Path.{_≡_, refl, sym, _∙_}

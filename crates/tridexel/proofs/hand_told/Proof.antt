@@ -1,7 +1,7 @@
 -- `tridexel::hand_told` meets its contract: each arm hands back the numbers of the case that it matched.
 use borrow.Author.Needs.{needs}
 use mathlib.Core.Path.{refl, sym, subst}
-use Rattle.spans.specs.declared.Told.{Told}
+use Rattle.comparing.specs.declared.Told.{Told}
 use Rattle.tridexel.specs.Numbers.{ToldAs}
 use Rattle.tridexel.proofs.hand_told.Statement.{statement}
 use Rattle.tridexel.proofs.hand_told.Tie as tie

@@ -13,7 +13,7 @@ hand-told-requires c κs = search needs
 returns : tie.Need-returns
 returns c =
     let n = c .before .before in
-    told-by _ _ _ _ (n .contains .result) _ _ _ (n .contains .ensures) (c .hand-told .ensures)
+    told-by _ _ _ (n .contains .result) _ _ _ (n .contains .ensures) (c .hand-told .ensures)
 
 pub tridexel-contains-spec : {M : Type 1} → statement M
 tridexel-contains-spec = tie.close (tie.spec contains-requires hand-told-requires returns)

@@ -13,7 +13,7 @@ hand-told-requires c κs = search needs
 returns : tie.Need-returns
 returns c =
     let n = c .before .before in
-    told-by _ _ _ _ (n .overlaps .result) _ _ _ (n .overlaps .ensures) (c .hand-told .ensures)
+    told-by _ _ _ (n .overlaps .result) _ _ _ (n .overlaps .ensures) (c .hand-told .ensures)
 
 pub tridexel-overlaps-spec : {M : Type 1} → statement M
 tridexel-overlaps-spec = tie.close (tie.spec overlaps-requires hand-told-requires returns)

@@ -12,7 +12,7 @@ const INF: f64 = f64::INFINITY;
 /// A name, what was found, and the run that shows it.
 type Finding = (&'static str, &'static str, fn(u64));
 
-const FINDINGS: [Finding; 19] = [
+const FINDINGS: [Finding; 20] = [
     ("zeros", "`max` and `min` of two zeros of opposite sign: Rust leaves open which one comes back", zeros),
     ("nan-order", "`total_cmp` puts NaNs at both ends, by their bits; the port has one NaN, above all else", nan_order),
     ("infinite-ends", "`Ray::valid` demands finite ends; document 01 does not", infinite_ends),
@@ -20,6 +20,11 @@ const FINDINGS: [Finding; 19] = [
     ("empty-length", "the length of an empty list is -0.0; document 01 says plus zero", empty_length),
     ("negative-radius", "a negative radius gives a strip", negative_radius),
     ("probe-cuts", "a probe cuts as a ball does, though its comment says that it never changes the stock", probe_cuts),
+    (
+        "visits-diameter",
+        "rays are visited by half the diameter and hit by the radius; as free inputs the two may disagree",
+        visits_diameter,
+    ),
     ("volume-order", "uncut stock: the remaining volume's lower bound is above its upper bound, by rounding", volume_order),
     ("volume-removed", "uncut stock: the removed volume's lower bound is above zero, by rounding", volume_removed),
     ("rounded-quotient", "cells come from the rounded quotient: fewer than the exact ceiling", rounded_quotient),
@@ -151,6 +156,17 @@ fn probe_cuts(_: u64) {
     sweep::across(&stock([0.; 3], [4.; 3], 0.5).unwrap(), &t, Axis::PosZ, 1e-3, c, 0, &mut visits, 999, &mut log);
     println!("  probe of radius 1, refused: {}", sweep::refuses(&t));
     println!("  box 0 to 4, cell 0.5, guard 1e-3, {c:?}: {visits} visited, {} hit, the first {:?}", log.len(), log[0]);
+}
+
+fn visits_diameter(_: u64) {
+    let c = chord([1., 2., 1.], [3., 2., 1.]);
+    for diameter in [4., 0.5] {
+        let t = tool::prepared(&tool::Given { diameter, ..given(CutterShape::Flat, 2., 2., 0., 0.) });
+        let (mut log, mut visits) = (vec![], 0);
+        sweep::across(&stock([0.; 3], [4.; 3], 0.5).unwrap(), &t, Axis::PosZ, 1e-3, c, 0, &mut visits, 999, &mut log);
+        println!("  flat cutter of radius 2 and diameter {diameter}, box 0 to 4, cell 0.5, guard 1e-3, {c:?}:");
+        println!("    {visits} visited, {} hit, the first {:?}", log.len(), log[0]);
+    }
 }
 
 /// The boxes whose extents are tenths up to `most`, with these cell sizes.

@@ -1,0 +1,19 @@
+use Rattle.across.specs.Lane.{planPoint}
+use borrow.Author.Tests.{eq-eqb, ne-eqb}
+use Rattle.across.proofs.plan_point.Statement.{statement}
+use Rattle.across.proofs.plan_point.Tie as tie
+use Rattle.across.proofs.plan_point.Reads as reads
+use Rattle.across.proofs.plan_point.Lts as lts
+
+-- src/lib.rt:172:9
+returns : tie.Need-returns
+unfolding planPoint
+returns c = simp (eq-eqb _ _ (c .if1 .taken))
+
+-- src/lib.rt:168:1
+returns-2 : tie.Need-returns-2
+unfolding planPoint
+returns-2 c = simp (ne-eqb _ _ (c .if1 .left))
+
+pub plan-point-spec : {M : Type 1} → statement M
+plan-point-spec = tie.close (tie.spec returns returns-2)

@@ -1,0 +1,29 @@
+-- Tests of a ray's possible list, a flat list of ends (sweep.rs: `spans_meet`; dexel.rs: `overlaps`). No comparison is true of a NaN, and `largerOf` and `smallerOf` pass one over.
+use mathlib.Core.Bool.{Bool, true, false, _&&_, _||_}
+use mathlib.Core.List.{List, [], _∷_}
+use lib.Ieee.{Float, lt}
+use Rattle.doubles.specs.Doubles.{largerOf, smallerOf}
+use Rattle.frame.specs.declared.Pair.{Pair}
+
+-- the last end of x and those after it
+unfoldable pub lastOf : Float → List Float → Float
+lastOf x [] = x
+lastOf x (y ∷ l) = lastOf y l
+
+-- from the list's first end to its last it has points in common with s
+unfoldable pub spansMeet : List Float → Pair → Bool
+unfolding lastOf
+spansMeet [] s = false
+spansMeet (lo ∷ l) s = lt lo (s .hi) && lt (s .lo) (lastOf lo l)
+
+-- an upper end is above x
+unfoldable pub someAbove : List Float → Float → Bool
+someAbove [] x = false
+someAbove (lo ∷ []) x = false
+someAbove (lo ∷ hi ∷ l) x = lt x hi || someAbove l x
+
+-- the intersection with the one pair s is not empty: a pair of the list that does not end below s's upper end is the last one looked at
+unfoldable pub overlapsOf : List Float → Pair → Bool
+overlapsOf [] s = false
+overlapsOf (lo ∷ []) s = false
+overlapsOf (lo ∷ hi ∷ l) s = lt (largerOf lo (s .lo)) (smallerOf hi (s .hi)) || (lt hi (s .hi) && overlapsOf l s)

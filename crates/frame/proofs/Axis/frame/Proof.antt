@@ -1,0 +1,77 @@
+use Rattle.frame.specs.Frame.{frameOf}
+use borrow.Author.Needs.{needs}
+use Rattle.frame.proofs.Axis.frame.Statement.{statement}
+use Rattle.frame.proofs.Axis.frame.Tie as tie
+use Rattle.frame.proofs.Axis.frame.Reads as reads
+use Rattle.frame.proofs.Axis.frame.Lts as lts
+
+-- src/lib.rt:44:24
+enum-told : tie.Need-enum-told
+enum-told c = search needs
+
+-- src/lib.rt:48:24
+enum-told-2 : tie.Need-enum-told-2
+enum-told-2 c = search needs
+
+-- src/lib.rt:52:24
+enum-told-3 : tie.Need-enum-told-3
+enum-told-3 c = search needs
+
+-- src/lib.rt:56:24
+enum-told-4 : tie.Need-enum-told-4
+enum-told-4 c = search needs
+
+-- src/lib.rt:60:24
+enum-told-5 : tie.Need-enum-told-5
+enum-told-5 c = search needs
+
+-- src/lib.rt:64:24
+enum-told-6 : tie.Need-enum-told-6
+enum-told-6 c = search needs
+
+-- src/lib.rt:39:5
+returns : tie.Need-returns
+unfolding frameOf
+returns c = rw (c .enum-told .given .1)
+
+-- src/lib.rt:39:5
+returns-2 : tie.Need-returns-2
+unfolding frameOf
+returns-2 c = rw (c .enum-told2 .given .1)
+
+-- src/lib.rt:39:5
+returns-3 : tie.Need-returns-3
+unfolding frameOf
+returns-3 c = rw (c .enum-told3 .given .1)
+
+-- src/lib.rt:39:5
+returns-4 : tie.Need-returns-4
+unfolding frameOf
+returns-4 c = rw (c .enum-told4 .given .1)
+
+-- src/lib.rt:39:5
+returns-5 : tie.Need-returns-5
+unfolding frameOf
+returns-5 c = rw (c .enum-told5 .given .1)
+
+-- src/lib.rt:39:5
+returns-6 : tie.Need-returns-6
+unfolding frameOf
+returns-6 c = rw (c .enum-told6 .given .1)
+
+pub frame-spec : {M : Type 1} → statement M
+frame-spec =
+    tie.close
+    (tie.spec
+    enum-told
+    enum-told-2
+    enum-told-3
+    enum-told-4
+    enum-told-5
+    enum-told-6
+    returns
+    returns-2
+    returns-3
+    returns-4
+    returns-5
+    returns-6)

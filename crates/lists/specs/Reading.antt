@@ -1,0 +1,39 @@
+-- Reading the lists of a store off their chains.
+use mathlib.Core.Path.{_≡_}
+use mathlib.Core.List.{List, [], _∷_, _++_}
+use Prim.Native.Nat.{ℕ, _+_, _*_, _≤_}
+use lib.ListN.{length, take, drop}
+use lib.Ieee.{Float, binary64, add, sub}
+use Rattle.store.specs.Store.{places, Chain, endsAt}
+use Rattle.validity.specs.Ray.{from}
+
+-- the list whose first record is number k, as a flat list; of an empty list k is zero
+abbrev pub listFrom : ℕ → List Float → List ℕ → ℕ → List Float
+listFrom n spans links k = endsAt spans (places links n k)
+
+-- from record number k a chain of one owner runs over counted records, as from each head of a sound store
+pub record Linked (n : ℕ) (links : List ℕ) (k : ℕ) : Type 0 where
+  pub in-links : 2 * n ≤ length links
+  pub owner : ℕ
+  pub chain : Chain links n owner k (places links n k)
+
+-- and the records have ends
+pub record Readable (n : ℕ) (spans : List Float) (links : List ℕ) (k : ℕ) : Type 0 where
+  pub in-spans : 2 * n ≤ length spans
+  pub linked : Linked n links k
+
+-- document 01's length of a list: the sum of the pairs' hi - lo in order, each operation rounded, begun with a given sum
+unfoldable pub lengthFrom : Float → List Float → Float
+lengthFrom sum [] = sum
+lengthFrom sum (lo ∷ []) = sum
+lengthFrom sum (lo ∷ hi ∷ l) = lengthFrom (add binary64 sum (sub binary64 hi lo)) l
+
+-- the list stands in the buffer from cell `at` on, and ends before cell r; the other cells are as before
+pub record Copied (l : List Float) (before : List Float) (at : ℕ) (after : List Float) (r : ℕ) : Type 0 where
+  pub past : r ≡ at + length l
+  pub cells : after ≡ take at before ++ l ++ drop (at + length l) before
+
+-- record number r begins the list from its first pair whose upper end is not below x
+pub record Reaches (n : ℕ) (spans : List Float) (links : List ℕ) (k : ℕ) (x : Float) (r : ℕ) : Type 0 where
+  pub rest : listFrom n spans links r ≡ from x (listFrom n spans links k)
+  pub readable : Readable n spans links r

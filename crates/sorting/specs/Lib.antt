@@ -1,0 +1,2 @@
+-- The definitions that the contracts of `sorting` cite.
+pub mod Pairs

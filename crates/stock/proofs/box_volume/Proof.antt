@@ -1,0 +1,14 @@
+use borrow.Author.Needs.{needs}
+use native.Mathlib.Omega.{arith}
+use Prim.Native.Nat.{_+_, _-_, _*_, _≤_}
+use Rattle.stock.specs.Volume.{boxVolume}
+use mathlib.Core.Path.{_≡_, refl, sym, ap, _∙_}
+use Rattle.stock.proofs.box_volume.Statement.{statement}
+use Rattle.stock.proofs.box_volume.Tie as tie
+
+returns : tie.Need-returns
+unfolding boxVolume
+returns c = refl
+
+pub box-volume-spec : {M : Type 1} → statement M
+box-volume-spec = tie.close (tie.spec returns)

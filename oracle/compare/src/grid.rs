@@ -1,0 +1,127 @@
+//! The grid of a blank against camlib's: refusals, cells and steps, and for an accepted description the functions over its grid.
+use crate::function::{Function, Outcome, Words};
+use harness::grid::{Answer, Query, UNITS, edges, query};
+
+#[derive(Clone, Copy)]
+#[repr(C)]
+pub struct Vec3 {
+    pub x: f64,
+    pub y: f64,
+    pub z: f64,
+}
+
+#[derive(Clone, Copy)]
+#[repr(C)]
+pub struct DexelStockSpec {
+    pub version: u32,
+    pub min_mm: Vec3,
+    pub max_mm: Vec3,
+    pub cell_size_mm: f64,
+    pub max_rays: u64,
+    pub max_intervals: u64,
+}
+
+#[derive(Clone, Copy)]
+#[repr(C)]
+pub struct DexelGrid {
+    pub c0: u64,
+    pub c1: u64,
+    pub c2: u64,
+    pub s0: f64,
+    pub s1: f64,
+    pub s2: f64,
+}
+
+#[derive(Clone, Copy)]
+#[repr(C)]
+pub struct GridNumbers {
+    pub refused: u32,
+    pub grid: DexelGrid,
+}
+
+#[derive(Clone, Copy)]
+#[repr(C)]
+pub struct RayCenter {
+    pub u: f64,
+    pub v: f64,
+}
+
+mod raw {
+    use super::{DexelGrid, DexelStockSpec, GridNumbers, RayCenter};
+    unsafe extern "C" {
+        pub fn tridexel_inner_grid(spec: DexelStockSpec, units: *const u8, units_len: usize) -> GridNumbers;
+        pub fn tridexel_inner_rays(g: DexelGrid, axis: u8) -> u64;
+        pub fn tridexel_inner_total_rays(g: DexelGrid) -> u64;
+        pub fn tridexel_inner_ray_number(g: DexelGrid, axis: u8, index: u64) -> u64;
+        pub fn tridexel_inner_ray_center(spec: DexelStockSpec, g: DexelGrid, axis: u8, index: u64) -> RayCenter;
+        pub fn tridexel_inner_cell_bound(spec: DexelStockSpec, g: DexelGrid, axis: u8, i: u64) -> f64;
+        pub fn tridexel_inner_cell_at(spec: DexelStockSpec, g: DexelGrid, axis: u8, x: f64) -> u64;
+    }
+}
+
+fn vec3(p: [f64; 3]) -> Vec3 {
+    Vec3 { x: p[0], y: p[1], z: p[2] }
+}
+
+/// The port's answer. What the exports ask of a grid holds of each that `tridexel_inner_grid` accepts; a query's index is one of its rays.
+pub fn port(q: &Query) -> Answer {
+    let spec = DexelStockSpec {
+        version: q.version,
+        min_mm: vec3(q.min),
+        max_mm: vec3(q.max),
+        cell_size_mm: q.cell,
+        max_rays: q.max_rays,
+        max_intervals: q.max_intervals,
+    };
+    let units = UNITS[q.units].as_bytes();
+    let r = unsafe { raw::tridexel_inner_grid(spec, units.as_ptr(), units.len()) };
+    let g = r.grid;
+    let cells = [g.c0, g.c1, g.c2];
+    let steps = [g.s0, g.s1, g.s2];
+    if r.refused != 0 {
+        return Answer { refused: r.refused as u64, cells, steps, ..Answer::default() };
+    }
+    let w = q.axis as u8;
+    unsafe {
+        let rays = raw::tridexel_inner_rays(g, w);
+        if rays <= q.index {
+            return Answer { cells, steps, rays, ..Answer::default() };
+        }
+        let center = raw::tridexel_inner_ray_center(spec, g, w, q.index);
+        Answer {
+            refused: 0,
+            cells,
+            steps,
+            rays,
+            total: raw::tridexel_inner_total_rays(g),
+            center: [center.u, center.v],
+            bound: raw::tridexel_inner_cell_bound(spec, g, w, q.i),
+            cell: raw::tridexel_inner_cell_at(spec, g, w, q.x),
+            number: raw::tridexel_inner_ray_number(g, w, q.index),
+        }
+    }
+}
+
+impl Words for Answer {
+    fn words(&self) -> String {
+        let numbers = [self.rays, self.total, self.cell, self.number];
+        let doubles = [self.center[0], self.center[1], self.bound];
+        format!("{} {} {} {} {}", self.refused, self.cells.words(), self.steps.words(), numbers.words(), doubles.words())
+    }
+}
+
+impl Words for Query {
+    fn words(&self) -> String {
+        let budgets = [self.max_rays, self.max_intervals];
+        let ask = [self.axis as u64, self.index, self.i];
+        let ends = (self.min.to_vec(), self.max.to_vec(), self.cell);
+        format!("{} {} {} {} {} {}", self.version, UNITS[self.units], ends.words(), budgets.words(), ask.words(), self.x.words())
+    }
+}
+
+pub fn functions() -> Vec<Function> {
+    vec![Function::new("grid", edges(), query, |q| {
+        let (rust, port) = (q.answer().words(), port(q).words());
+        if rust == port { Outcome::Same } else { Outcome::differs(None, rust, port) }
+    })]
+}
