@@ -1,0 +1,2 @@
+-- The definitions that the contracts of `hits` cite.
+pub mod Hits
