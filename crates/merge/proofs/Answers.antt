@@ -13,7 +13,7 @@ use Rattle.doubles.proofs.Bools.{and-left, and-right, both, or-right, not-true,
 use Rattle.spans.specs.Spans.{holds, sound, ListOf}
 use Rattle.spans.specs.Results.{plusZero}
 use Rattle.spans.specs.Spans.{Within}
-use Rattle.merge.specs.Ray.{bounded, Nested, ValidRay}
+use Rattle.validity.specs.Ray.{ValidRay}
 use Rattle.merge.specs.Merge.{eitherHit, spared, cellsOf, handed, Spared, Left, Mergeable, workPairs, mergeCauses, MergeAnswer}
 use Rattle.merge.specs.Steps.{part, Lies, Between, newList, Ready, Merging, Placed, Normal, Given, Lists}
 use Rattle.merge.specs.declared.Part.{Part}
@@ -118,14 +118,11 @@ module _ (lo hi : Float) (possible certain outer inner p′ c′ : List Float) (
 
   pub still-valid : ValidRay lo hi p′ c′
   still-valid = record {
-    nested = record {
-      possibleSound = s .list .isSound;
-      certainSound = t .list .isSound;
-      inside = λ x h.
-          s .list .points x ∙ both (holds possible x) (not (holds inner x)) (v .nested .inside x (within-certain x h)) (ap not (missed x h));
-    };
-    possibleBounded = bounded-within lo hi possible p′ (v .possibleBounded) (s .list .isSound) within-possible;
-    certainBounded = bounded-within lo hi certain c′ (v .certainBounded) (t .list .isSound) within-certain;
+    possible-sound = s .list .isSound;
+    certain-sound = t .list .isSound;
+    possible-bounded = bounded-within lo hi possible p′ (v .possible-bounded) (s .list .isSound) within-possible;
+    certain-bounded = bounded-within lo hi certain c′ (v .certain-bounded) (t .list .isSound) within-certain;
+    inside = λ x h. s .list .points x ∙ both (holds possible x) (not (holds inner x)) (v .inside x (within-certain x h)) (ap not (missed x h));
   }
 
 -- ---- the answers

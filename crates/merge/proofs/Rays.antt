@@ -9,15 +9,14 @@ use native.Mathlib.Numerals.{add-one}
 use lib.ListN.{length, getD, take}
 use lib.Seq.{take-suc}
 use lib.Ieee.{Float, nan, lt, le}
-use Rattle.refusal.specs.Refusal.{Due, NoneDue}
 use Rattle.doubles.proofs.Bools.{and-left, and-right, both, or-cases, or-left, or-right, not-true, not-false, by-cases, clash}
 use Rattle.doubles.proofs.Order.{lt-number, le-number, lt→le, le-refl, le-trans, lt-irrefl, le-lt-trans, lt-le-trans, not-le→lt}
-use Rattle.spans.specs.Spans.{within, holds, rising, sound, Within, Outside, Share, Apart}
-use Rattle.comparing.specs.Verdicts.{compareCauses, Verdict, Covers, Meets}
-use Rattle.comparing.specs.declared.Told.the-variants.{Yes, No, Refused}
+use Rattle.spans.specs.Spans.{within, holds, rising, sound, Within}
+use Rattle.comparing.specs.Verdicts.{Covers}
 use Rattle.spans.proofs.Sets.{sound-rising, sound-mod, make-sound}
 use Rattle.spans.proofs.Ends.{rising-tail}
-use Rattle.merge.specs.Ray.{bounded, Nested, ValidRay, Decides}
+use Rattle.validity.specs.Ray.{bounded, ValidRay}
+use Rattle.merge.specs.Steps.{Decides}
 
 pair-up : (x y : Float) (l : List Float) → rising (x ∷ y ∷ l) ≡ true → lt x y ≡ true
 unfolding rising
@@ -36,14 +35,21 @@ module _ (lo hi : Float) where
   unfolding bounded
   bounded-append [] b h k = k
   bounded-append (x ∷ a) b h k =
-      let t = le lo x && le x hi in
-      both t (bounded lo hi (a ++ b)) (and-left t (bounded lo hi a) h) (bounded-append a b (and-right t (bounded lo hi a) h) k)
+      let t = and-right (le lo x) (le x hi && bounded lo hi a) h in
+      both (le lo x) (le x hi && bounded lo hi (a ++ b)) (and-left (le lo x) (le x hi && bounded lo hi a) h)
+      (both (le x hi) (bounded lo hi (a ++ b)) (and-left (le x hi) (bounded lo hi a) t) (bounded-append a b (and-right (le x hi) (bounded lo hi a) t) k))
 
-  pub bounded-at : (l : List Float) (k : ℕ) → bounded lo hi l ≡ true → k < length l → (le lo (getD l k nan) && le (getD l k nan) hi) ≡ true
+  -- the first end, and the others
+  first : (x : Float) (l : List Float) → bounded lo hi (x ∷ l) ≡ true → (le lo x ≡ true) × (le x hi ≡ true) × (bounded lo hi l ≡ true)
   unfolding bounded
+  first x l h =
+      let t = and-right (le lo x) (le x hi && bounded lo hi l) h in
+      (and-left (le lo x) (le x hi && bounded lo hi l) h, and-left (le x hi) (bounded lo hi l) t, and-right (le x hi) (bounded lo hi l) t)
+
+  bounded-at : (l : List Float) (k : ℕ) → bounded lo hi l ≡ true → k < length l → (le lo (getD l k nan) ≡ true) × (le (getD l k nan) hi ≡ true)
   bounded-at [] k h g = absurd (omega arith)
-  bounded-at (x ∷ l) zero h g = and-left (le lo x && le x hi) (bounded lo hi l) h
-  bounded-at (x ∷ l) (suc k) h g = bounded-at l k (and-right (le lo x && le x hi) (bounded lo hi l) h) (omega arith)
+  bounded-at (x ∷ l) zero h g = let f = first x l h in (f .0, f .1)
+  bounded-at (x ∷ l) (suc k) h g = bounded-at l k (first x l h .2) (omega arith)
 
   pub bounded-none : (l : List Float) → bounded lo hi (take 0 l) ≡ true
   unfolding bounded
@@ -53,29 +59,25 @@ module _ (lo hi : Float) where
       → bounded lo hi (take (k + 1) l) ≡ true
   unfolding bounded
   bounded-more l k h b f g = rw (add-one k, take-suc l k nan h)
-      (bounded-append (take k l) (getD l k nan ∷ []) b (both (le lo (getD l k nan) && le (getD l k nan) hi) true (both (le lo (getD l k nan)) (le (getD l k nan) hi) f g) refl))
+      (bounded-append (take k l) (getD l k nan ∷ []) b (both (le lo (getD l k nan)) (le (getD l k nan) hi && true) f (both (le (getD l k nan) hi) true g refl)))
 
-  pub unbounded : (l : List Float) (k : ℕ) → k < length l → (le lo (getD l k nan) && le (getD l k nan) hi) ≡ false → false ≡ bounded lo hi l
-  unbounded l k h g = elim (by-cases (bounded lo hi l)) [
-    | inl t ↦ absurd (clash (le lo (getD l k nan) && le (getD l k nan) hi) (bounded-at l k t h) g)
-    | inr f ↦ sym f
-  ]
+  pub below-bounds : (l : List Float) (k : ℕ) → k < length l → le lo (getD l k nan) ≡ false → false ≡ bounded lo hi l
+  below-bounds l k h g = elim (by-cases (bounded lo hi l)) [ inl t ↦ absurd (clash (le lo (getD l k nan)) (bounded-at l k t h .0) g) | inr f ↦ sym f ]
+
+  pub above-bounds : (l : List Float) (k : ℕ) → k < length l → le (getD l k nan) hi ≡ false → false ≡ bounded lo hi l
+  above-bounds l k h g = elim (by-cases (bounded lo hi l)) [ inl t ↦ absurd (clash (le (getD l k nan) hi) (bounded-at l k t h .1) g) | inr f ↦ sym f ]
 
   -- the points of a bounded list lie within the bounds
-  pub point-bounds : (l : List Float) (p : Float) → bounded lo hi l ≡ true → holds l p ≡ true → (le lo p ≡ true) × (lt p hi ≡ true)
-  unfolding bounded holds
+  point-bounds : (l : List Float) (p : Float) → bounded lo hi l ≡ true → holds l p ≡ true → (le lo p ≡ true) × (lt p hi ≡ true)
+  unfolding holds
   point-bounds [] p b h = absurd (false≢true h)
   point-bounds (x ∷ []) p b h = absurd (false≢true h)
   point-bounds (x ∷ y ∷ l) p b h =
-      let first = and-left (le lo x && le x hi) (bounded lo hi (y ∷ l)) b in
-      let later = and-right (le lo x && le x hi) (bounded lo hi (y ∷ l)) b in
-      let second = and-left (le lo y && le y hi) (bounded lo hi l) later in
+      let f = first x (y ∷ l) b in
+      let g = first y l (f .2) in
       elim (or-cases (within x y p) (holds l p) h) [
-        | inl k ↦ (
-          le-trans lo x p (and-left (le lo x) (le x hi) first) (and-left (le x p) (lt p y) k),
-          lt-le-trans p y hi (and-right (le x p) (lt p y) k) (and-right (le lo y) (le y hi) second),
-        )
-        | inr k ↦ point-bounds l p (and-right (le lo y && le y hi) (bounded lo hi l) later) k
+        | inl k ↦ (le-trans lo x p (f .0) (and-left (le x p) (lt p y) k), lt-le-trans p y hi (and-right (le x p) (lt p y) k) (g .1))
+        | inr k ↦ point-bounds l p (g .2) k
       ]
 
   -- a sound list whose points lie in a bounded list is bounded
@@ -90,11 +92,10 @@ module _ (lo hi : Float) where
       let up : lt x y ≡ true = pair-up x y l (sound-rising (x ∷ y ∷ l) s) in
       let at-lo : (le lo x ≡ true) × (lt x hi ≡ true) =
       point-bounds m x b (w x (or-left (within x y x) (holds l x) (both (le x x) (lt x y) (le-refl x (lt-number x y up .0)) up))) in
-      both (le lo x && le x hi) ((le lo y && le y hi) && bounded lo hi l)
-      (both (le lo x) (le x hi) (at-lo .0) (lt→le x hi (at-lo .1)))
-      (both (le lo y && le y hi) (bounded lo hi l)
-      (both (le lo y) (le y hi) (le-trans lo x y (at-lo .0) (lt→le x y up)) (below up (at-lo .1)))
-      (bounded-within m l b (tail-sound x y l s) (λ p h. w p (or-right (within x y p) (holds l p) h))))
+      let tail = bounded-within m l b (tail-sound x y l s) (λ p h. w p (or-right (within x y p) (holds l p) h)) in
+      both (le lo x) (le x hi && (le lo y && (le y hi && bounded lo hi l))) (at-lo .0)
+      (both (le x hi) (le lo y && (le y hi && bounded lo hi l)) (lt→le x hi (at-lo .1))
+      (both (le lo y) (le y hi && bounded lo hi l) (le-trans lo x y (at-lo .0) (lt→le x y up)) (both (le y hi) (bounded lo hi l) (below up (at-lo .1)) tail)))
     where
       -- the upper bound is no point of the list
       below : lt x y ≡ true → lt x hi ≡ true → le y hi ≡ true
@@ -106,55 +107,19 @@ module _ (lo hi : Float) where
             absurd (clash (lt hi hi) (point-bounds m hi b in-m .1) (lt-irrefl hi))
       ]
 
--- ---- the lists of a ray
-both-sound : (a b : List Float) → NoneDue (compareCauses a b) → (sound a ≡ true) × (sound b ≡ true)
-unfolding NoneDue
-both-sound a b n = read (sound a) (sound b) (n .0)
-  where
-    read : (x y : Bool) → ¬ ((x && y) ≡ false) → (x ≡ true) × (y ≡ true)
-    read true true h = (refl, refl)
-    read true false h = absurd (h refl)
-    read false y h = absurd (h refl)
+-- ---- what the tests found
+-- a test r of x that a branch found false, or true
+pub found-not : (r x : Bool) → r ≡ x → not r ≡ true → ¬ (x ≡ true)
+found-not r x e h k = clash r (e ∙ k) (not-true r h)
 
-not-sound : (a b : List Float) (k : ℕ) → Due (compareCauses a b) k → (sound a && sound b) ≡ false
-unfolding Due
-not-sound a b k (inl d) = d .0
-not-sound a b k (inr d) = absurd (d .1)
+pub found : (r x : Bool) → r ≡ x → not r ≡ false → x ≡ true
+found r x e h = sym e ∙ not-false r h
 
-module _ (possible certain : List Float) where
-  pub nested-yes : Verdict (compareCauses possible certain) (Covers possible certain) Yes → Nested possible certain
-  nested-yes v = let s = both-sound possible certain (v .0) in record { possibleSound = s .0; certainSound = s .1; inside = v .1 }
-
-  pub nested-no : Verdict (compareCauses possible certain) (Covers possible certain) No → ¬ Nested possible certain
-  nested-no v n = clash (holds possible (v .1 .0)) (n .inside (v .1 .0) (v .1 .1)) (v .1 .2)
-
-  pub nested-bad : (k : ℕ) → Verdict (compareCauses possible certain) (Covers possible certain) (Refused k) → ¬ Nested possible certain
-  nested-bad k v n =
-      clash (sound possible && sound certain) (both (sound possible) (sound certain) (n .possibleSound) (n .certainSound)) (not-sound possible certain k v)
-
--- ---- a test that decides
 pub decides-no : {P Q : Type 0} → (P → Q) → ¬ Q → Decides false P
 decides-no f n p = n (f p)
 
-pub ray-decides : (lo hi : Float) (possible certain : List Float) (r : Bool) → bounded lo hi possible ≡ true → bounded lo hi certain ≡ true
-    → Decides r (Nested possible certain) → Decides r (ValidRay lo hi possible certain)
-ray-decides lo hi possible certain true p c n = record { nested = n; possibleBounded = p; certainBounded = c }
-ray-decides lo hi possible certain false p c n = λ v. n (v .nested)
-
--- a test r of x that a branch found false, or true
-pub not-bounded : (r x : Bool) → r ≡ x → not r ≡ true → ¬ (x ≡ true)
-not-bounded r x e h k = clash r (e ∙ k) (not-true r h)
-
-pub is-in : (r x : Bool) → r ≡ x → not r ≡ false → x ≡ true
-is-in r x e h = sym e ∙ not-false r h
-
--- ---- whether two lists share a point
-module _ (a b : List Float) where
-  pub share-yes : Verdict (compareCauses a b) (Meets a b) Yes → Share a b
-  share-yes v = v .1
-
-  pub share-no : Verdict (compareCauses a b) (Meets a b) No → Apart a b
-  share-no v = v .1
-
-  pub share-bad : (k : ℕ) → Verdict (compareCauses a b) (Meets a b) (Refused k) → sound a ≡ true → sound b ≡ true → Apart a b
-  share-bad k v s r = absurd (clash (sound a && sound b) (both (sound a) (sound b) s r) (not-sound a b k v))
+module _ (lo hi : Float) (possible certain : List Float) where
+  pub ray-decides : sound possible ≡ true → sound certain ≡ true → bounded lo hi possible ≡ true → bounded lo hi certain ≡ true → (r : Bool) → Covers possible certain r
+      → Decides r (ValidRay lo hi possible certain)
+  ray-decides sp sc bp bc true c = record { possible-sound = sp; certain-sound = sc; possible-bounded = bp; certain-bounded = bc; inside = c }
+  ray-decides sp sc bp bc false c = λ v. clash (holds possible (c .0)) (v .inside (c .0) (c .1)) (c .2)

@@ -11,7 +11,6 @@ use Rattle.doubles.proofs.Bools.{and-left, and-right, both, not-true, not-false
 use Rattle.spans.specs.Spans.{holds, sound, ListOf}
 use Rattle.spans.specs.Spans.{Within}
 use Rattle.spans.proofs.Sets.{sound-mod}
-use Rattle.merge.specs.Ray.{bounded, Nested, ValidRay}
 use Rattle.merge.specs.Merge.{Moves, eitherHit, spared, cellsOf, handed, Spared, Left}
 use Rattle.merge.specs.Steps.{part, Lies, Between, Subtracted, newList, Reduced, Ready, Merging, Placed, Normal, Given, Lists}
 use Rattle.merge.specs.declared.Part.{Part}

@@ -1,5 +1,4 @@
 -- The definitions that the contracts of `merge` cite.
-pub mod Ray
 pub mod Merge
 pub mod Steps
 pub mod Sweep

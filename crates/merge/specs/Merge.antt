@@ -9,7 +9,7 @@ use lib.Ieee.{Float}
 use Rattle.refusal.specs.Refusal.{Cause, cause, Due, NoneDue}
 use Rattle.spans.specs.Spans.{holds, ListOf}
 use Rattle.spans.specs.Results.{plusZero}
-use Rattle.merge.specs.Ray.{ValidRay}
+use Rattle.validity.specs.Ray.{ValidRay}
 use Rattle.merge.specs.declared.Part.{Part}
 use Rattle.merge.specs.declared.Merged.{Merged}
 use Rattle.merge.specs.declared.Merged.the-variants.{Lists, Refused}

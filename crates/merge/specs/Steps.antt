@@ -10,6 +10,11 @@ use Rattle.merge.specs.Merge.{eitherHit, cellsOf, workPairs, Spared}
 use Rattle.merge.specs.declared.Part.{Part}
 use Rattle.merge.specs.declared.Parts.{Parts}
 
+-- a test that is true exactly where the fact holds
+abbrev pub Decides : Bool → Type 0 → Type 0
+Decides true fact = fact
+Decides false fact = ¬ fact
+
 -- the n cells from cell `at` on
 abbrev pub part : ℕ → ℕ → List Float → List Float
 part at n w = take n (drop at w)

@@ -6,11 +6,11 @@ ghost use lib.Ieee.{nan, le};
 ghost use Prim.Native.Nat.{_+_, _-_, _*_, _/_, _%_, _^_, _≤_, _<_};
 ghost use lib.ListN.{length, getD};
 ghost use Rattle.spans.specs.Spans.{holds, sound, ListOf};
-ghost use Rattle.merge.specs.Ray.{bounded, Nested, ValidRay, Decides};
+ghost use Rattle.validity.specs.Ray.{bounded, ValidRay};
+ghost use Rattle.merge.specs.Steps.{Decides};
 ghost use Rattle.merge.specs.Merge.{Moves, MergeAnswer, eitherHit, possibleHanded, certainHanded, handed, cellsOf};
 ghost use Rattle.merge.specs.Sweep.{parityOf, Turn};
 ghost use Rattle.merge.specs.Steps.{part, Lies, Subtracted, Reduced, Ready, Merging, Placed, Normal, Given, Lists};
-use comparing::Told;
 
 // One list after a merge: whether it moved, and how many pairs it has.
 pub struct Part {
@@ -47,28 +47,23 @@ fn is_bounded(s: &[f64], lo: f64, hi: f64) -> bool
     true
 }
 
-// Whether both lists are sound, and certain lies within possible.
-fn is_nested(possible: &[f64], certain: &[f64]) -> bool
-    ensures { λ r. ⌜ Decides r (Nested (now (possible .entry)) (now (certain .entry))) ⌝ }
-{
-    match comparing::contains(possible, certain) {
-        Told::Yes => true,
-        Told::No => false,
-        Told::Refused(_) => false,
-    }
-}
-
 // Whether a ray is valid within its bounds.
 pub fn valid_ray(possible: &[f64], certain: &[f64], lo: f64, hi: f64) -> bool
     ensures { λ r. ⌜ Decides r (ValidRay lo hi (now (possible .entry)) (now (certain .entry))) ⌝ }
 {
+    if !spans::is_sound(possible) {
+        return false;
+    }
+    if !spans::is_sound(certain) {
+        return false;
+    }
     if !is_bounded(possible, lo, hi) {
         return false;
     }
     if !is_bounded(certain, lo, hi) {
         return false;
     }
-    is_nested(possible, certain)
+    comparing::covers(possible, certain)
 }
 
 // Whether the list of n cells at a and that of m cells at b share a point.
@@ -78,11 +73,7 @@ fn share_point(w: &[f64], a: usize, n: usize, b: usize, m: usize) -> bool
 {
     let e = a + n;
     let f = b + m;
-    match comparing::overlaps(&w[a..e], &w[b..f]) {
-        Told::Yes => true,
-        Told::No => false,
-        Told::Refused(_) => false,
-    }
+    comparing::meets(&w[a..e], &w[b..f])
 }
 
 // How many ends modulo 2 the result of a subtraction has, past i ends of the first list and j of the second.
@@ -225,7 +216,8 @@ pub fn merge_within(w: &mut [f64], at: usize, np: usize, nc: usize, no: usize, n
     ensures { λ r. ⌜ Merging at np nc no ni (now (w .entry)) (now (w .exit)) r ⌝ }
 {
     let c = at + np;
-    let i = c + nc + no;
+    let o = c + nc;
+    let i = o + no;
     let possible = take_inner(w, at, np, i, ni);
     let used = cells(possible);
     let certain = take_both(w, used, np + 2 * ni, c, nc, no, ni);

@@ -11,7 +11,7 @@ use lib.ListN.{length, take, drop}
 use lib.Ieee.{Float}
 use Rattle.refusal.specs.Refusal.{Due, NoneDue}
 use Rattle.spans.specs.Spans.{holds}
-use Rattle.merge.specs.Ray.{ValidRay}
+use Rattle.validity.specs.Ray.{ValidRay}
 use Rattle.merge.specs.Merge.{eitherHit, cellsOf, handed, Spared, Left, Mergeable, mergeCauses}
 use Rattle.merge.specs.declared.Part.{Part}
 use Rattle.ray_text.specs.Format.{letterB, letterP, letterC, letterO, letterI, lines, letterOf, count, pairs, few, total, readable}

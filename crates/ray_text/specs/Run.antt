@@ -7,7 +7,7 @@ use lib.ListN.{length}
 use lib.Ieee.{Float, binary64, ofBits}
 use Rattle.refusal.specs.Refusal.{Cause, cause, Due, NoneDue}
 use Rattle.spans.specs.Spans.{holds, ListOf}
-use Rattle.merge.specs.Ray.{ValidRay}
+use Rattle.validity.specs.Ray.{ValidRay}
 use Rattle.merge.specs.Merge.{Moves, eitherHit, spared}
 use Rattle.ray_text.specs.Format.{letterP, letterC, letterO, letterI, bitsAt, pairs, total, readable}
 use Rattle.ray_text.specs.Output.{answerText, refusedText}

@@ -1,13 +1,13 @@
 -- `merge::is_bounded` meets its contract.
-use mathlib.Core.Path.{_≡_, sym, _∙_, ap}
-use mathlib.Core.Bool.{Bool, true, false, _&&_}
+use mathlib.Core.Path.{_≡_, sym}
+use mathlib.Core.Bool.{true}
 use Prim.Native.Nat.{_-_, _≤_}
 use lib.ListN.{length, take, getD}
 use lib.Seq.{take-all}
 use lib.Ieee.{nan, le}
-use Rattle.doubles.proofs.Bools.{and-false, not-true, not-false}
-use Rattle.merge.specs.Ray.{bounded}
-use Rattle.merge.proofs.Rays.{bounded-none, bounded-more, unbounded}
+use Rattle.doubles.proofs.Bools.{not-true, not-false}
+use Rattle.validity.specs.Ray.{bounded}
+use Rattle.merge.proofs.Rays.{bounded-none, bounded-more, below-bounds, above-bounds}
 use borrow.Author.Needs.{needs}
 use native.Mathlib.Omega.{arith}
 use Rattle.merge.proofs.is_bounded.Statement.{statement}
@@ -33,14 +33,14 @@ returns c =
     let l = c .before .before .before in
     let a = l .before .args in
     let x = getD (a .s .now) (l .loop .k) nan in
-    unbounded (a .lo) (a .hi) (a .s .now) (l .loop .k) (c .before .before .loop-test .taken) (ap (λ (t : Bool). t && le x (a .hi)) (not-true (le (a .lo) x) (c .if1 .taken)))
+    below-bounds (a .lo) (a .hi) (a .s .now) (l .loop .k) (c .before .before .loop-test .taken) (not-true (le (a .lo) x) (c .if1 .taken))
 
 returns-2 : tie.Need-returns-2 Inv-loop μ-loop
 returns-2 c =
     let l = c .before .before .before .before in
     let a = l .before .args in
     let x = getD (a .s .now) (l .loop .k) nan in
-    unbounded (a .lo) (a .hi) (a .s .now) (l .loop .k) (c .before .before .before .loop-test .taken) (and-false (le (a .lo) x) (le x (a .hi)) (not-true (le x (a .hi)) (c .if2 .taken)))
+    above-bounds (a .lo) (a .hi) (a .s .now) (l .loop .k) (c .before .before .before .loop-test .taken) (not-true (le x (a .hi)) (c .if2 .taken))
 
 add-k : tie.Need-add-k Inv-loop μ-loop
 add-k c = search needs

@@ -5,7 +5,7 @@ use Prim.Native.Nat.{ℕ, _+_, _/_, _<_}
 use lib.ListN.{length}
 use Rattle.doubles.proofs.Bools.{not-true, not-false}
 use Rattle.spans.proofs.Sets.{sound-mod}
-use Rattle.merge.specs.Ray.{ValidRay, Decides}
+use Rattle.merge.specs.Steps.{Decides}
 use Rattle.merge.specs.Merge.{workPairs, Mergeable}
 use Rattle.merge.proofs.Answers.{refuse-short, refuse-bad, accept}
 use borrow.Author.Needs.{needs}
@@ -76,11 +76,11 @@ merge-lists-requires c κs =
     let m = good e in
     let s = e .before .before .before .before .before .before .before .before .before .before in
     record {
-      possibleSound = m .ray .nested .possibleSound;
-      certainSound = m .ray .nested .certainSound;
+      possibleSound = m .ray .possible-sound;
+      certainSound = m .ray .certain-sound;
       outerWhole = m .outerWhole;
       innerWhole = m .innerWhole;
-      room = omega (arith, sound-mod (s .args .possible .now) (m .ray .nested .possibleSound), sound-mod (s .args .certain .now) (m .ray .nested .certainSound), m .outerWhole, m .innerWhole, e .before .before .before .before .if1 .left);
+      room = omega (arith, sound-mod (s .args .possible .now) (m .ray .possible-sound), sound-mod (s .args .certain .now) (m .ray .certain-sound), m .outerWhole, m .innerWhole, e .before .before .before .before .if1 .left);
     }
 
 cells-requires : tie.Need-cells-requires

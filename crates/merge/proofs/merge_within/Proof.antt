@@ -8,11 +8,11 @@ use Rattle.merge.proofs.merge_within.Tie as tie
 add-c : tie.Need-add-c
 add-c c = search needs
 
+add-o : tie.Need-add-o
+add-o c = search needs
+
 add-i : tie.Need-add-i
 add-i c = search needs
-
-add-i-2 : tie.Need-add-i-2
-add-i-2 c = search needs
 
 take-inner-requires : tie.Need-take-inner-requires
 take-inner-requires c κs = search needs
@@ -52,8 +52,8 @@ merge-within-spec =
     tie.close
     (tie.spec
     add-c
+    add-o
     add-i
-    add-i-2
     take-inner-requires
     cells-requires
     mul-take-both
