@@ -67,6 +67,27 @@ holds-more l k p e h = rw (two k, add-one k) (holds-two l k p (oddN-mod k e) (om
     two : (k : ℕ) → k + 2 ≡ suc (suc k)
     two k = omega arith
 
+holds-drop-two : (l : List Float) (k : ℕ) (p : Float) → suc k < length l
+    → holds (drop k l) p ≡ (within (getD l k nan) (getD l (suc k) nan) p || holds (drop (suc (suc k)) l) p)
+unfolding holds
+holds-drop-two [] k p h = absurd (omega arith)
+holds-drop-two (x ∷ []) k p h = absurd (omega arith)
+holds-drop-two (x ∷ y ∷ l) zero p h = refl
+holds-drop-two (x ∷ y ∷ l) (suc k) p h = holds-drop-two (y ∷ l) k p (omega arith)
+
+-- one pair more, in front
+pub holds-drop : (l : List Float) (k : ℕ) (p : Float) → k + 2 ≤ length l
+    → holds (drop k l) p ≡ (within (getD l k nan) (getD l (k + 1) nan) p || holds (drop (k + 2) l) p)
+holds-drop l k p h = rw (two k, add-one k) (holds-drop-two l k p (omega arith))
+  where
+    two : (k : ℕ) → k + 2 ≡ suc (suc k)
+    two k = omega arith
+
+-- the ends in front of a place and those from it on
+pub holds-parts : (l : List Float) (k : ℕ) (p : Float) → k % 2 ≡ 0 → k ≤ length l → (holds (take k l) p || holds (drop k l) p) ≡ holds l p
+holds-parts l k p e h =
+    sym (holds-append (take k l) (drop k l) p (ap oddN (length-take-le k l h) ∙ oddN-mod k e)) ∙ ap (λ (m : List Float). holds m p) (take-append-drop k l)
+
 -- a list whose ends are all at most p, or all above it, does not hold p
 pub holds-upTo : (l : List Float) (p : Float) → UpTo p l → holds l p ≡ false
 unfolding holds

@@ -8,13 +8,13 @@ use Rattle.spans.proofs.gather.Statement.{statement}
 use Rattle.spans.proofs.gather.Tie as tie
 
 abbrev Inv-loop : tie.InvT-loop
-Inv-loop spans out₀ n₀ k₀ out n k = Gathered spans out₀ n k out
+Inv-loop spans out₀ n m₀ k₀ out m k = Gathered spans out₀ n m k out
 
 abbrev μ-loop : tie.MeasureT-loop
-μ-loop spans out₀ n₀ k₀ out n k = length spans - k
+μ-loop spans out₀ n m₀ k₀ out m k = length spans - k
 
 loop-holds : tie.Need-loop-holds Inv-loop μ-loop
-loop-holds c = gather-start _ _
+loop-holds c = gather-start _ _ _
 
 mul-put-pair : tie.Need-mul-put-pair Inv-loop μ-loop
 mul-put-pair c = search needs
@@ -41,13 +41,13 @@ loop-less : tie.Need-loop-less Inv-loop μ-loop
 loop-less c = search needs
 
 loop-again : tie.Need-loop-again Inv-loop μ-loop
-loop-again c = gather-step _ _ _ _ _ _ _ (omega arith) (c .before .before .before .before .before .before .before .loop .inv) (c .before .before .put-pair .ensures)
+loop-again c = gather-step _ _ _ _ _ _ _ _ (omega arith) (c .before .before .before .before .before .before .before .loop .inv) (c .before .before .put-pair .ensures)
 
 same-length : tie.Need-same-length Inv-loop μ-loop
 same-length c = search needs
 
 returns : tie.Need-returns Inv-loop μ-loop
-returns c = gather-done _ _ _ _ _ (omega arith) (c .loop-test .left) (c .before .loop .inv)
+returns c = gather-done _ _ _ _ _ _ (omega arith) (c .loop-test .left) (c .before .loop .inv)
 
 pub gather-spec : {M : Type 1} → statement M
 gather-spec =
