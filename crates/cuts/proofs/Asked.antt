@@ -30,11 +30,11 @@ above : (i j : ℕ) → i ≤ j → (i ≡ j → ⊥) → suc i ≤ j
 above i j h ne = omega arith
 
 -- ---- the numbers of a ray's lists
-number-possible : (r : ℕ) → listNumber r possible ≡ 2 * r
+pub number-possible : (r : ℕ) → listNumber r possible ≡ 2 * r
 unfolding listNumber
 number-possible r = refl
 
-number-certain : (r : ℕ) → listNumber r certain ≡ 2 * r + 1
+pub number-certain : (r : ℕ) → listNumber r certain ≡ 2 * r + 1
 unfolding listNumber
 number-certain r = refl
 
@@ -62,9 +62,9 @@ module _ (g : DexelGrid) (lists : Ray g → Kind → List Float) (es : List Entr
     where
       lower : {us : List Update} → Ascending (2 * rayCount g) (2 * suc ray) us → Ascending (2 * rayCount g) (2 * ray) us
       lower no-more = no-more
-      lower (next {u = u} lo hi whole a) = next {u = u} (omega arith) hi whole a
+      lower (next {u = u} lo hi whole a) = next {k = 2 * ray} {u = u} (omega arith) hi whole a
   merges-ascend (new {ray = ray} {p = p} {c = c} {us = us} h e a b t) =
-      next {u = update (2 * ray) p} (omega arith) (omega arith) (sound-mod p (a .isSound)) (next {u = update (2 * ray + 1) c} (omega arith) (omega arith) (sound-mod c (b .isSound)) (subst (λ (k : ℕ). Ascending (2 * rayCount g) k us) (numbers ray) (merges-ascend t)))
+      next {k = 2 * ray} {u = update (2 * ray) p} (omega arith) (omega arith) (sound-mod p (a .isSound)) (next {k = suc (2 * ray)} {u = update (2 * ray + 1) c} (omega arith) (omega arith) (sound-mod c (b .isSound)) (subst (λ (k : ℕ). Ascending (2 * rayCount g) k us) (numbers ray) (merges-ascend t)))
     where
       numbers : (ray : ℕ) → 2 * suc ray ≡ suc (2 * ray + 1)
       numbers ray = omega arith

@@ -61,6 +61,11 @@ module _ (spec : DexelStockSpec) (g : DexelGrid) (s : Stock) where
   unfolding listIn places
   list-pairs r k = ends-pairs (s .cells .spans) (placesOf (spec .«max_intervals») (s .cells .links) (s .cells .heads) (listNumber r k))
 
+  -- a list has one pair for each place of its chain
+  pub list-places : (r : ℕ) (k : Kind) → length (listIn spec s r k) / 2 ≡ length (placesOf (spec .«max_intervals») (s .cells .links) (s .cells .heads) (listNumber r k))
+  unfolding places
+  list-places r k = list-pairs r k
+
   -- two lists more
   two-more : (i : ℕ) → total (2 * suc i) ≡ total (2 * i) + (places (2 * i) + places (2 * i + 1))
   unfolding total places
