@@ -1,0 +1,1 @@
+// Frees and lays the lists of the changed rays of a log commit.
