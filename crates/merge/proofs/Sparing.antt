@@ -12,7 +12,7 @@ use Rattle.spans.specs.Spans.{holds, sound, ListOf}
 use Rattle.spans.specs.Spans.{Within}
 use Rattle.spans.proofs.Sets.{sound-mod}
 use Rattle.merge.specs.Merge.{Moves, eitherHit, spared, cellsOf, handed, Spared, Left}
-use Rattle.merge.specs.Steps.{part, Lies, Between, Subtracted, newList, Reduced, Ready, Merging, Placed, Normal, Given, Lists}
+use Rattle.merge.specs.Steps.{part, Lies, Between, Subtracted, Shortened, newList, Reduced, Ready, Merging, Placed, Normal, Given, Lists}
 use Rattle.merge.specs.declared.Part.{Part}
 use Rattle.merge.specs.declared.Parts.{Parts}
 use Rattle.merge.proofs.Rays.{bounded-within}
@@ -74,21 +74,19 @@ module _ (w w₁ w₂ : List Float) (to t c nc no ni m r : ℕ) (in-c : Lies c n
     omega (arith, first .most),
   )
 
-  pub both-moved : (b : Bool) → b ≡ true → Moves (part c nc w) (eitherHit (part (c + nc) no w) (part (c + nc + no) ni w)) b
-      → Subtracted (part t m w₁) (part (c + nc + no) ni w₁) to m ni w₁ w₂ r
-      → Reduced (part c nc w) (eitherHit (part (c + nc) no w) (part (c + nc + no) ni w)) to (t + nc + no) (nc + no + ni) w w₂ (record { moved = true; pairs = r / 2 })
-  both-moved b h v second =
-      reduced-moved (part c nc w) (eitherHit (part (c + nc) no w) (part (c + nc + no) ni w)) to (t + nc + no) (nc + no + ni) w w₂ r b h v
-      (between-both t (t + nc + no) to (to + m + ni) to (t + nc + no) w w₁ w₂ (first .between) (second .between) (omega arith) (omega arith) (omega arith) (omega (arith, first .most)))
-      (omega (arith, first .most, second .most))
-      (omega (arith, first .most, second .most, first .between .size, second .between .size, in-c .room))
-      record {
-        isSound = second .list .isSound;
-        points = λ p.
-            second .list .points p
-            ∙ ap₂ (λ (x y : Bool). x && not y) (first .list .points p) (ap (λ (l : List Float). holds l p) inner-kept)
-            ∙ both-less (holds (part c nc w) p) (holds (part (c + nc) no w) p) (holds (part (c + nc + no) ni w) p);
-      }
+  pub both-shortened : Subtracted (part t m w₁) (part (c + nc + no) ni w₁) to m ni w₁ w₂ r
+      → Shortened (part c nc w) (eitherHit (part (c + nc) no w) (part (c + nc + no) ni w)) to (t + nc + no) (nc + no + ni) w w₂ r
+  both-shortened second = record {
+    between = between-both t (t + nc + no) to (to + m + ni) to (t + nc + no) w w₁ w₂ (first .between) (second .between) (omega arith) (omega arith) (omega arith) (omega (arith, first .most));
+    most = omega (arith, first .most, second .most);
+    list = record {
+      isSound = second .list .isSound;
+      points = λ p.
+          second .list .points p
+          ∙ ap₂ (λ (x y : Bool). x && not y) (first .list .points p) (ap (λ (l : List Float). holds l p) inner-kept)
+          ∙ both-less (holds (part c nc w) p) (holds (part (c + nc) no w) p) (holds (part (c + nc + no) ni w) p);
+    };
+  }
 
 -- ---- both lists of a ray
 cells-of-moved : (r : Part) (a : List Float) (to : ℕ) (w w′ : List Float) → (r .moved ≡ true → part to (2 * r .pairs) w′ ≡ part to (2 * r .pairs) w) → newList r a to w ≡ newList r a to w′

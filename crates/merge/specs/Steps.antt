@@ -6,7 +6,7 @@ use Prim.Native.Nat.{ℕ, _+_, _*_, _%_, _≤_, _<_}
 use lib.ListN.{length, take, drop, getD}
 use lib.Ieee.{Float, nan}
 use Rattle.spans.specs.Spans.{holds, sound, ListOf}
-use Rattle.merge.specs.Merge.{eitherHit, cellsOf, workPairs, Spared}
+use Rattle.merge.specs.Merge.{eitherHit, spared, cellsOf, workPairs, Spared}
 use Rattle.merge.specs.declared.Part.{Part}
 use Rattle.merge.specs.declared.Parts.{Parts}
 
@@ -35,6 +35,12 @@ pub record Subtracted (a b : List Float) (to n m : ℕ) (before after : List Flo
   pub between : Between to (to + n + m) before after
   pub most : r ≤ n + m
   pub list : ListOf (λ p. holds a p && not (holds b p)) (part to r after)
+
+-- the sound list of the points of a that no hit has stands at `to`, r cells long, at most `limit`; only cells from `to` to `end` changed
+pub record Shortened (a : List Float) (hit : Float → Bool) (to end limit : ℕ) (before after : List Float) (r : ℕ) : Type 0 where
+  pub between : Between to end before after
+  pub most : r ≤ limit
+  pub list : ListOf (spared a hit) (part to r after)
 
 -- the list after a step: the new one at cell `to`, or the old one
 abbrev pub newList : Part → List Float → ℕ → List Float → List Float

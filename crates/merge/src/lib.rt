@@ -10,7 +10,7 @@ ghost use Rattle.validity.specs.Ray.{bounded, ValidRay};
 ghost use Rattle.merge.specs.Steps.{Decides};
 ghost use Rattle.merge.specs.Merge.{Moves, MergeAnswer, eitherHit, possibleHanded, certainHanded, handed, cellsOf};
 ghost use Rattle.merge.specs.Sweep.{parityOf, Turn};
-ghost use Rattle.merge.specs.Steps.{part, Lies, Subtracted, Reduced, Ready, Merging, Placed, Normal, Given, Lists};
+ghost use Rattle.merge.specs.Steps.{part, Lies, Subtracted, Shortened, Reduced, Ready, Merging, Placed, Normal, Given, Lists};
 
 // One list after a merge: whether it moved, and how many pairs it has.
 pub struct Part {
@@ -67,7 +67,7 @@ pub fn valid_ray(possible: &[f64], certain: &[f64], lo: f64, hi: f64) -> bool
 }
 
 // Whether the list of n cells at a and that of m cells at b share a point.
-fn share_point(w: &[f64], a: usize, n: usize, b: usize, m: usize) -> bool
+pub fn share_point(w: &[f64], a: usize, n: usize, b: usize, m: usize) -> bool
     requires { ⌜ Lies a n (now w) × Lies b m (now w) ⌝ }
     ensures { λ r. ⌜ Moves (part a n (now (w .entry))) (holds (part b m (now (w .entry)))) r ⌝ }
 {
@@ -118,7 +118,7 @@ fn comes_first(w: &[f64], b: usize, m: usize, j: usize, x: f64) -> bool
 
 // Writes the list of n cells at a less that of m cells at b to the start of w: the ends of both in ascending order. The result never reaches an
 // end that is still to be read.
-fn subtract_at(w: &mut [f64], a: usize, n: usize, b: usize, m: usize) -> usize
+pub fn subtract_at(w: &mut [f64], a: usize, n: usize, b: usize, m: usize) -> usize
     requires { ⌜ Lies a n (now w) × Lies b m (now w) × (m ≤ a) × (n ≤ b) ⌝ }
     ensures { λ r. ⌜ Subtracted (part a n (now (w .entry))) (part b m (now (w .entry))) 0 n m (now (w .entry)) (now (w .exit)) r ⌝ }
 {
@@ -177,7 +177,7 @@ fn take_inner(w: &mut [f64], a: usize, n: usize, b: usize, m: usize) -> Part
 }
 
 // Whether some point of certain, nc cells at c, lies in an outer or an inner hit; those stand behind it.
-fn is_hit(w: &[f64], c: usize, nc: usize, no: usize, ni: usize) -> bool
+pub fn is_hit(w: &[f64], c: usize, nc: usize, no: usize, ni: usize) -> bool
     requires { ⌜ Lies c nc (now w) × Lies (c + nc) no (now w) × Lies (c + nc + no) ni (now w) ⌝ }
     ensures { λ r. ⌜ Moves (part c nc (now (w .entry))) (eitherHit (part (c + nc) no (now (w .entry))) (part (c + nc + no) ni (now (w .entry)))) r ⌝ }
 {
@@ -188,7 +188,27 @@ fn is_hit(w: &[f64], c: usize, nc: usize, no: usize, ni: usize) -> bool
     share_point(w, c, nc, o + no, ni)
 }
 
-// Certain less the outer and the inner hits, to cell `to`; certain less the outer ones stands at cell t on the way.
+// Writes certain, nc cells at c, less the outer and the inner hits behind it to cell `to`; certain less the outer ones stands at cell t on the way.
+pub fn subtract_both(
+    w: &mut [f64],
+    to: usize,
+    t: usize,
+    c: usize,
+    nc: usize,
+    no: usize,
+    ni: usize,
+) -> usize
+    requires { ⌜ Lies c nc (now w) × Lies (c + nc) no (now w) × Lies (c + nc + no) ni (now w) × (to + ni ≤ t) × (t + nc + no ≤ c) ⌝ }
+    ensures { λ r. ⌜ Shortened (part c nc (now (w .entry))) (eitherHit (part (c + nc) no (now (w .entry))) (part (c + nc + no) ni (now (w .entry))))
+        to (t + nc + no) (nc + no + ni) (now (w .entry)) (now (w .exit)) r ⌝ }
+{
+    let o = c + nc;
+    let i = o + no;
+    let m = subtract_to(w, t, c, nc, o, no);
+    subtract_to(w, to, t, m, i, ni)
+}
+
+// Certain less the outer and the inner hits, to cell `to`, by way of cell t.
 fn take_both(w: &mut [f64], to: usize, t: usize, c: usize, nc: usize, no: usize, ni: usize) -> Part
     requires { ⌜ Lies c nc (now w) × Lies (c + nc) no (now w) × Lies (c + nc + no) ni (now w) × (to + ni ≤ t) × (t + nc + no ≤ c) ⌝ }
     ensures { λ r. ⌜ Reduced (part c nc (now (w .entry))) (eitherHit (part (c + nc) no (now (w .entry))) (part (c + nc + no) ni (now (w .entry))))
@@ -200,10 +220,7 @@ fn take_both(w: &mut [f64], to: usize, t: usize, c: usize, nc: usize, no: usize,
             pairs: nc / 2,
         };
     }
-    let o = c + nc;
-    let i = o + no;
-    let m = subtract_to(w, t, c, nc, o, no);
-    let r = subtract_to(w, to, t, m, i, ni);
+    let r = subtract_both(w, to, t, c, nc, no, ni);
     Part {
         moved: true,
         pairs: r / 2,

@@ -1,0 +1,63 @@
+// Reads a log: which rays its entries name.
+ghost use mathlib.Core.Path.{_≡_};
+ghost use mathlib.Core.Bool.{true};
+ghost use Prim.Native.Nat.{_+_, _*_, _^_, _<_};
+ghost use lib.ListN.{length};
+ghost use Rattle.grid.specs.Rays.{rayCount};
+ghost use Rattle.runs.specs.Logs.{entryAt, isWhole, namesOne, rayOf};
+ghost use Rattle.logs.specs.Named.{NamesAll};
+use grid::DexelGrid;
+use grid::WorldAxis;
+
+// Whether x is a whole number from 0 up.
+fn is_whole(x: f64) -> bool
+    ensures { λ r. ⌜ r ≡ isWhole x ⌝ }
+{
+    x == std::num::nearest_u64_to_f64(doubles::to_u64(x))
+}
+
+// Whether the entry at place i names a ray.
+pub fn named(g: DexelGrid, log: &[f64], i: usize) -> bool
+    requires { ⌜ (rayCount g < 2 ^ 64) × (6 * i + 5 < length (now log)) ⌝ }
+    ensures { λ r. ⌜ r ≡ namesOne g (entryAt (now (log .entry)) i) ⌝ }
+{
+    let axis = log[6 * i];
+    let index = log[6 * i + 1];
+    if !is_whole(axis) {
+        return false;
+    }
+    let a = doubles::to_u64(axis);
+    if a >= 3 {
+        return false;
+    }
+    if !is_whole(index) {
+        return false;
+    }
+    doubles::to_u64(index) < grid::rays(g, WorldAxis(a as u8))
+}
+
+// The number of the ray that the entry at place i names.
+pub fn ray_at(g: DexelGrid, log: &[f64], i: usize) -> usize
+    requires { ⌜ (rayCount g < 2 ^ 64) × (6 * i + 5 < length (now log)) × (namesOne g (entryAt (now log) i) ≡ true) ⌝ }
+    ensures { λ r. ⌜ r ≡ rayOf g (entryAt (now (log .entry)) i) ⌝ }
+{
+    let a = doubles::to_u64(log[6 * i]);
+    let index = doubles::to_u64(log[6 * i + 1]);
+    grid::ray_number(g, WorldAxis(a as u8), index) as usize
+}
+
+// Whether each whole entry of the log names a ray.
+pub fn names_all(g: DexelGrid, log: &[f64]) -> bool
+    requires { ⌜ rayCount g < 2 ^ 64 ⌝ }
+    ensures { λ r. ⌜ NamesAll g (now (log .entry)) r ⌝ }
+{
+    let n = log.len() / 6;
+    let mut i: usize = 0;
+    while i < n {
+        if !named(g, log, i) {
+            return false;
+        }
+        i += 1;
+    }
+    true
+}
