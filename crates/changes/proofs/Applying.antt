@@ -1,0 +1,91 @@
+-- The law of a change list: what its updates leave of a sound stock.
+use mathlib.Core.Path.{_≡_, refl, sym, ap, _∙_, subst}
+use mathlib.Core.List.{List, [], _∷_}
+use Prim.Native.Nat.{ℕ, suc, _+_, _-_, _*_, _%_, _≤_, _<_}
+use native.Mathlib.Decide.{ℕ-discrete}
+use native.Mathlib.Omega.{arith}
+use lib.Ieee.{Float}
+use lib.ListN.{length}
+use Rattle.spans.proofs.Sets.{sound-mod}
+use Rattle.grid.specs.Axes.{worldAxis}
+use Rattle.grid.specs.Rays.{rayCount, boundsOf}
+use Rattle.grid.specs.declared.DexelStockSpec.{DexelStockSpec}
+use Rattle.grid.specs.declared.DexelGrid.{DexelGrid}
+use Rattle.grid.proofs.Numbering.{number-lt}
+use Rattle.store.specs.Updates.{Cells, Update, update, Room, Ascending, none, next, pairsFreed, pairsLaid, listAfter, applied, held, Updated}
+use Rattle.store.proofs.Updating.{after-here, after-other, updated}
+use Rattle.validity.specs.Ray.{ValidRay}
+use Rattle.stock.specs.Stock.{possibleIn, certainIn, SoundCells}
+use Rattle.changes.specs.Changes.{Change, rayOf, Good, AllGood, updatesOf}
+
+module _ (spec : DexelStockSpec) (g : DexelGrid) (c : Cells) (pairs : List Float) where
+  ray-below : (from : ℕ) (d : Change) → Good spec g c pairs from d → rayOf g (d .axis) (d .index) < rayCount g
+  ray-below from d good = number-lt g (worldAxis (d .axis)) (d .index) (good .names .below)
+
+  -- the updates of good changes ascend
+  pub good-ascend : (ds : List Change) (from k : ℕ) → k ≤ 2 * from → AllGood spec g c pairs from ds → Ascending (2 * rayCount g) k (updatesOf g ds)
+  unfolding AllGood updatesOf
+  good-ascend [] from k h all = none
+  good-ascend (d ∷ ds) from k h all =
+      let ray : ℕ = rayOf g (d .axis) (d .index) in
+      let good = all .0 in
+      let v = good .cuts .loses .valid in
+      let below : ray < rayCount g = ray-below from d good in
+      let up : from ≤ ray = good .names .ascends in
+      let lo₁ : k ≤ 2 * ray = omega arith in
+      let hi₁ : 2 * ray < 2 * rayCount g = omega arith in
+      let lo₂ : suc (2 * ray) ≤ 2 * ray + 1 = omega arith in
+      let hi₂ : 2 * ray + 1 < 2 * rayCount g = omega arith in
+      let lo₃ : suc (2 * ray + 1) ≤ 2 * suc ray = omega arith in
+      next {u = update (2 * ray) (d .possible-after)} lo₁ hi₁ (sound-mod (d .possible-after) (v .possible-sound))
+      (next {u = update (2 * ray + 1) (d .certain-after)} lo₂ hi₂ (sound-mod (d .certain-after) (v .certain-sound))
+      (good-ascend ds (suc ray) (suc (2 * ray + 1)) lo₃ (all .1)))
+
+  -- a ray's lists after the updates, where they were p and q before, are valid
+  pub good-valid : (ds : List Change) (from ray : ℕ) (p q : List Float) → AllGood spec g c pairs from ds → ValidRay (boundsOf spec g ray .lo) (boundsOf spec g ray .hi) p q
+      → ValidRay (boundsOf spec g ray .lo) (boundsOf spec g ray .hi) (listAfter (updatesOf g ds) (2 * ray) p) (listAfter (updatesOf g ds) (2 * ray + 1) q)
+  unfolding AllGood updatesOf listAfter
+  good-valid [] from ray p q all v = v
+  good-valid (d ∷ ds) from ray p q all v = at (ℕ-discrete ray (rayOf g (d .axis) (d .index))) (good-valid ds (suc (rayOf g (d .axis) (d .index))) ray p q (all .1) v)
+    where
+      first : Update
+      first = update (2 * rayOf g (d .axis) (d .index)) (d .possible-after)
+
+      second : Update
+      second = update (2 * rayOf g (d .axis) (d .index) + 1) (d .certain-after)
+
+      at : Dec (ray ≡ rayOf g (d .axis) (d .index)) → ValidRay (boundsOf spec g ray .lo) (boundsOf spec g ray .hi) (listAfter (updatesOf g ds) (2 * ray) p) (listAfter (updatesOf g ds) (2 * ray + 1) q)
+          → ValidRay (boundsOf spec g ray .lo) (boundsOf spec g ray .hi) (listAfter (updatesOf g (d ∷ ds)) (2 * ray) p) (listAfter (updatesOf g (d ∷ ds)) (2 * ray + 1) q)
+      at (yes e) rest =
+          let pe : listAfter (updatesOf g (d ∷ ds)) (2 * ray) p ≡ d .possible-after = after-here first (second ∷ updatesOf g ds) (2 * ray) p (ap (λ (r : ℕ). 2 * r) e) in
+          let qe : listAfter (updatesOf g (d ∷ ds)) (2 * ray + 1) q ≡ d .certain-after
+          = after-other first (second ∷ updatesOf g ds) (2 * ray + 1) q (λ (z : 2 * ray + 1 ≡ 2 * rayOf g (d .axis) (d .index)). omega arith) ∙ after-here second (updatesOf g ds) (2 * ray + 1) q (ap (λ (r : ℕ). 2 * r + 1) e) in
+          subst (λ (x : List Float). ValidRay (boundsOf spec g ray .lo) (boundsOf spec g ray .hi) (listAfter (updatesOf g (d ∷ ds)) (2 * ray) p) x) (sym qe)
+          (subst (λ (x : List Float). ValidRay (boundsOf spec g ray .lo) (boundsOf spec g ray .hi) x (d .certain-after)) (sym pe)
+          (subst (λ (r : ℕ). ValidRay (boundsOf spec g r .lo) (boundsOf spec g r .hi) (d .possible-after) (d .certain-after)) (sym e) (all .0 .cuts .loses .valid)))
+      at (no ne) rest =
+          let pe : listAfter (updatesOf g (d ∷ ds)) (2 * ray) p ≡ listAfter (updatesOf g ds) (2 * ray) p
+          = after-other first (second ∷ updatesOf g ds) (2 * ray) p (λ (z : 2 * ray ≡ 2 * rayOf g (d .axis) (d .index)). ne (omega arith))
+          ∙ after-other second (updatesOf g ds) (2 * ray) p (λ (z : 2 * ray ≡ 2 * rayOf g (d .axis) (d .index) + 1). omega arith) in
+          let qe : listAfter (updatesOf g (d ∷ ds)) (2 * ray + 1) q ≡ listAfter (updatesOf g ds) (2 * ray + 1) q
+          = after-other first (second ∷ updatesOf g ds) (2 * ray + 1) q (λ (z : 2 * ray + 1 ≡ 2 * rayOf g (d .axis) (d .index)). omega arith)
+          ∙ after-other second (updatesOf g ds) (2 * ray + 1) q (λ (z : 2 * ray + 1 ≡ 2 * rayOf g (d .axis) (d .index) + 1). ne (omega arith)) in
+          subst (λ (x : List Float). ValidRay (boundsOf spec g ray .lo) (boundsOf spec g ray .hi) (listAfter (updatesOf g (d ∷ ds)) (2 * ray) p) x) (sym qe)
+          (subst (λ (x : List Float). ValidRay (boundsOf spec g ray .lo) (boundsOf spec g ray .hi) x (listAfter (updatesOf g ds) (2 * ray + 1) q)) (sym pe) rest)
+
+  -- the stock stays sound, with the intervals that are left and laid, and each list is the one that the changes say
+  module _ (total : ℕ) (sound : SoundCells spec g c total) (room : Room (spec .«max_intervals») (2 * rayCount g) c) (ds : List Change) (all : AllGood spec g c pairs 0 ds)
+      (budget : total - pairsFreed (spec .«max_intervals») c (updatesOf g ds) + pairsLaid (updatesOf g ds) ≤ spec .«max_intervals») where
+    pub changes-update : Updated (spec .«max_intervals») (2 * rayCount g) total c (updatesOf g ds) (applied (spec .«max_intervals») c (updatesOf g ds))
+    changes-update = updated (sound .store) room (good-ascend ds 0 0 (omega arith) all) budget
+
+    pub changes-sound : SoundCells spec g (applied (spec .«max_intervals») c (updatesOf g ds)) (total - pairsFreed (spec .«max_intervals») c (updatesOf g ds) + pairsLaid (updatesOf g ds))
+    changes-sound =
+        let u = changes-update in
+        record {
+          store = u .isSound;
+          valid = λ ray h.
+              subst (λ (x : List Float). ValidRay (boundsOf spec g ray .lo) (boundsOf spec g ray .hi) (possibleIn spec (applied (spec .«max_intervals») c (updatesOf g ds)) ray) x) (sym (u .lists (2 * ray + 1) (omega arith)))
+              (subst (λ (x : List Float). ValidRay (boundsOf spec g ray .lo) (boundsOf spec g ray .hi) x (listAfter (updatesOf g ds) (2 * ray + 1) (certainIn spec c ray))) (sym (u .lists (2 * ray) (omega arith)))
+              (good-valid ds 0 ray (possibleIn spec c ray) (certainIn spec c ray) all (sound .valid ray h)));
+        }

@@ -1,0 +1,55 @@
+-- The commit of a change list: its causes in document 01's order, and what it leaves.
+use mathlib.Core.Path.{_≡_}
+use mathlib.Core.Bool.{true}
+use mathlib.Core.List.{List, [], _∷_, _++_}
+use mathlib.Core.Logic.{_⊎_}
+use Prim.Native.Nat.{ℕ, _+_, _-_, _/_, _%_, _^_, _<_}
+use lib.Ieee.{Float}
+use lib.ListN.{length}
+use Rattle.refusal.specs.Refusal.{Cause, cause, Due, NoneDue}
+use Rattle.grid.specs.Causes.{gridCauses, gridIn}
+use Rattle.grid.specs.declared.DexelStockSpec.{DexelStockSpec}
+use Rattle.grid.specs.declared.DexelGrid.{DexelGrid}
+use Rattle.store.specs.Updates.{Cells, pairsFreed, pairsLaid, applied}
+use Rattle.stock.specs.Stock.{Stock, SoundStock, short}
+use Rattle.changes.specs.Changes.{changesOf, AllGood, updatesOf}
+use Rattle.stock.specs.declared.Committed.{Committed}
+use Rattle.stock.specs.declared.Committed.the-variants.{Changed, Refused}
+
+-- the intervals after the changes
+abbrev pub intervalsAfter : DexelStockSpec → DexelGrid → Stock → List ℕ → List Float → ℕ
+intervalsAfter spec g s changes pairs =
+    s .intervals - pairsFreed (spec .«max_intervals») (s .cells) (updatesOf g (changesOf changes pairs)) + pairsLaid (updatesOf g (changesOf changes pairs))
+
+-- 11: the store is not sound, or part of a change or of a pair is over
+abbrev pub Unsound : DexelStockSpec → DexelGrid → Stock → List ℕ → List Float → Type 0
+Unsound spec g s changes pairs = (SoundStock spec g s → ⊥) ⊎ ((length changes % 6 ≡ 0 → ⊥) ⊎ (length pairs % 2 ≡ 0 → ⊥))
+
+-- once `grid` accepts: 12, 11, 14, 13, 10, 15
+abbrev pub changeCauses : DexelStockSpec → DexelGrid → (base : ℕ) → Stock → List ℕ → List Float → List Cause
+changeCauses spec g base s changes pairs =
+    cause 12 (short spec g (s .cells) ≡ true)
+    ∷ cause 11 (Unsound spec g s changes pairs)
+    ∷ cause 14 (base ≡ s .generation → ⊥)
+    ∷ cause 13 (AllGood spec g (s .cells) pairs 0 (changesOf changes pairs) → ⊥)
+    ∷ cause 10 (spec .«max_intervals» < intervalsAfter spec g s changes pairs)
+    ∷ cause 15 (s .generation ≡ 2 ^ 64 - 1)
+    ∷ []
+
+-- and 1, 2, 3, 4 first
+abbrev pub commitCauses : DexelStockSpec → (units : List ℕ) → (base : ℕ) → Stock → List ℕ → List Float → List Cause
+commitCauses spec units base s changes pairs = gridCauses spec units ++ changeCauses spec (gridIn spec) base s changes pairs
+
+-- the stock past the changes
+abbrev pub changed : DexelStockSpec → DexelGrid → Stock → List ℕ → List Float → Stock
+changed spec g s changes pairs =
+    record {
+      cells = applied (spec .«max_intervals») (s .cells) (updatesOf g (changesOf changes pairs));
+      generation = s .generation + 1;
+      intervals = intervalsAfter spec g s changes pairs;
+    }
+
+-- a refused call gives the number that is due and leaves the stock as it was; an accepted one, with no cause, answers how many rays changed
+abbrev pub Commits : List Cause → DexelStockSpec → DexelGrid → List ℕ → List Float → (before after : Stock) → Committed → Type 0
+Commits causes spec g changes pairs before after (Refused k) = Due causes k × (after ≡ before)
+Commits causes spec g changes pairs before after (Changed n) = NoneDue causes × (n ≡ length changes / 6) × (after ≡ changed spec g before changes pairs)
