@@ -73,7 +73,7 @@ fn is_mm(units: &[u8]) -> bool
     units[1] == 109
 }
 
-fn is_within(x: f64, lo: f64, hi: f64) -> bool
+pub fn is_within(x: f64, lo: f64, hi: f64) -> bool
     ensures { λ r. ⌜ r ≡ within x lo hi ⌝ }
 {
     if lo <= x {
@@ -82,7 +82,7 @@ fn is_within(x: f64, lo: f64, hi: f64) -> bool
     false
 }
 
-fn all_within(p: Vec3, lo: f64, hi: f64) -> bool
+pub fn all_within(p: Vec3, lo: f64, hi: f64) -> bool
     ensures { λ r. ⌜ r ≡ allWithin p lo hi ⌝ }
 {
     if is_within(p.x, lo, hi) {

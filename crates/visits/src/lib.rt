@@ -1,27 +1,15 @@
-// Document 01's lateral sweep: chords in order, for each the two world axes other than the tool's, and the rays of each clamped rectangle.
+// The walk over the rays of a rectangle, v outside and u inside: the visit budget, and an entry in the log for each hit ray (sweep.rs: `Kernel::rays`).
 ghost use mathlib.Core.Path.{_≡_};
 ghost use mathlib.Core.List.{_++_, _∷_, []};
-ghost use Prim.Native.Nat.{_+_, _-_, _*_, _<_, _≤_};
-ghost use lib.ListN.{length, take, drop, replicate};
-ghost use Rattle.frame.specs.Frame.{zeroF};
-ghost use Rattle.across.specs.Lane.{laneOf, rectangleOf};
-ghost use Rattle.store.specs.Updates.{cells};
-ghost use Rattle.sweep.specs.Entries.{entryOf, rayEntry, rowEntries, rectEntries, trackOf, setting, axisEntries, chordOf, firstAxis, secondAxis, chordEntries};
-ghost use Rattle.sweep.specs.Walk.{Walks, RayReady, Ready};
-use across::Chord;
+ghost use Prim.Native.Nat.{_+_, _<_, _≤_};
+ghost use lib.ListN.{length, take, drop};
+ghost use Rattle.visits.specs.Entries.{entryOf, rayEntry, rowEntries, rectEntries};
+ghost use Rattle.visits.specs.Walk.{Walks, RayReady, Ready};
 use across::Hits;
-use across::Kernel;
 use across::Lane;
 use across::Profile;
 use across::RayHit;
 use across::Rect;
-use across::Rectangle;
-use frame::Frame;
-use frame::LocalAxis;
-use grid::DexelGrid;
-use grid::DexelStockSpec;
-use grid::Vec3;
-use grid::WorldAxis;
 
 // The place of a walk: the rays visited, and where the next entry goes in the log.
 pub struct Cursor {
@@ -40,18 +28,6 @@ pub struct Track {
     pub first: u64,
     pub row: u64,
     pub rows: u64,
-}
-
-// Zeros the log from cell `at` on.
-fn zero_from(log: &mut [f64], at: usize)
-    requires { ⌜ at ≤ length (now log) ⌝ }
-    ensures { λ _. ⌜ now (log .exit) ≡ take at (now (log .entry)) ++ replicate (length (now (log .entry)) - at) zeroF ⌝ }
-{
-    let mut i = at;
-    while i < log.len() {
-        log[i] = 0.0;
-        i += 1;
-    }
 }
 
 // Writes an entry at cell `at`.
@@ -152,7 +128,7 @@ fn sweep_row(
 }
 
 // The rows of a rectangle.
-fn sweep_rect(
+pub fn sweep_rect(
     n: usize,
     t: Track,
     r: Rect,

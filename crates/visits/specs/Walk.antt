@@ -8,11 +8,11 @@ use lib.Ieee.{Float}
 use lib.ListN.{length, take, getD}
 use Rattle.spans.specs.Spans.{sound}
 use Rattle.lists.specs.Reading.{listFrom, Readable}
-use Rattle.sweep.specs.declared.Cursor.{Cursor}
-use Rattle.sweep.specs.declared.Progress.{Progress}
-use Rattle.sweep.specs.declared.Progress.the-variants.{At, Stopped}
-use Rattle.sweep.specs.declared.Track.{Track}
-use Rattle.sweep.specs.Entries.{indexOf}
+use Rattle.visits.specs.declared.Cursor.{Cursor}
+use Rattle.visits.specs.declared.Progress.{Progress}
+use Rattle.visits.specs.declared.Progress.the-variants.{At, Stopped}
+use Rattle.visits.specs.declared.Track.{Track}
+use Rattle.visits.specs.Entries.{indexOf}
 
 -- all visited, with the visit total and the entries; or the number of a refusal
 pub data Walked : Type 0 where

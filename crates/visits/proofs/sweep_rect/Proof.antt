@@ -4,13 +4,13 @@ use mathlib.Core.Path.{_≡_, refl, sym, ap, _∙_}
 use mathlib.Core.List.{List, [], _∷_}
 use Prim.Native.Nat.{ℕ, _+_, _-_, _<_, _≤_}
 use lib.Ieee.{Float}
-use Rattle.sweep.specs.Entries.{rayEntry, rowEntries, rectEntries}
-use Rattle.sweep.proofs.Walks.{Sweeping, sweeping-start, sweeping-next, sweeping-halt, sweeping-all, halted-of, went-of}
-use Rattle.sweep.proofs.sweep_rect.Statement.{statement}
-use Rattle.sweep.proofs.sweep_rect.Tie as tie
-use Rattle.sweep.proofs.sweep_rect.Reads as reads
-use Rattle.sweep.proofs.sweep_rect.Lts as lts
-use Rattle.sweep.proofs.sweep_row.Reads as sweep-row-reads
+use Rattle.visits.specs.Entries.{rayEntry, rowEntries, rectEntries}
+use Rattle.visits.proofs.Walks.{Sweeping, sweeping-start, sweeping-next, sweeping-halt, sweeping-all, halted-of, went-of}
+use Rattle.visits.proofs.sweep_rect.Statement.{statement}
+use Rattle.visits.proofs.sweep_rect.Tie as tie
+use Rattle.visits.proofs.sweep_rect.Reads as reads
+use Rattle.visits.proofs.sweep_rect.Lts as lts
+use Rattle.visits.proofs.sweep_row.Reads as sweep-row-reads
 
 abbrev Inv-loop : tie.InvT-loop
 Inv-loop n t r p l budget spans links heads log₀ c₀ v₀ log c v = Sweeping budget (rowEntries (rayEntry n t p l spans links heads) r) (r .v0) (r .v1 + 1) c₀ log₀ c log v

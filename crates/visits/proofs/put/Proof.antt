@@ -1,13 +1,13 @@
 use native.Mathlib.Omega.{arith}
 use mathlib.Core.Path.{sym, _∙_}
 use lib.ListN.{length-set}
-use Rattle.sweep.specs.Entries.{entryOf}
-use Rattle.sweep.proofs.Cells.{six-stores}
+use Rattle.visits.specs.Entries.{entryOf}
+use Rattle.visits.proofs.Cells.{six-stores}
 use borrow.Author.Needs.{needs}
-use Rattle.sweep.proofs.put.Statement.{statement}
-use Rattle.sweep.proofs.put.Tie as tie
-use Rattle.sweep.proofs.put.Reads as reads
-use Rattle.sweep.proofs.put.Lts as lts
+use Rattle.visits.proofs.put.Statement.{statement}
+use Rattle.visits.proofs.put.Tie as tie
+use Rattle.visits.proofs.put.Reads as reads
+use Rattle.visits.proofs.put.Lts as lts
 use Rattle.std.proofs.num.nearest_u64_to_f64.Reads as nearest-u64-to-f64-reads
 
 -- src/lib.rt:64:15

@@ -11,19 +11,19 @@ use lib.Dec.{leb}
 use lib.Ieee.{Float}
 use lib.ListN.{length, take, drop}
 use lib.Seq.{length-take-le}
-use Rattle.sweep.specs.declared.Cursor.{Cursor}
-use Rattle.sweep.specs.declared.Progress.{Progress}
-use Rattle.sweep.specs.declared.Progress.the-variants.{At, Stopped}
-use Rattle.sweep.specs.declared.Track.{Track}
+use Rattle.visits.specs.declared.Cursor.{Cursor}
+use Rattle.visits.specs.declared.Progress.{Progress}
+use Rattle.visits.specs.declared.Progress.the-variants.{At, Stopped}
+use Rattle.visits.specs.declared.Track.{Track}
 use Rattle.across.specs.Across.{hitOf}
 use Rattle.across.specs.Lane.{sectionOf}
 use Rattle.across.specs.declared.Profile.{Profile}
 use Rattle.across.specs.declared.Lane.{Lane}
 use Rattle.across.specs.declared.Hits.{Hits}
 use Rattle.across.specs.declared.RayHit.the-variants.{On, Off}
-use Rattle.sweep.specs.Entries.{entryOf, entryFor, indexOf, possibleAt, rayEntry, each}
-use Rattle.sweep.specs.Walk.{Walked, Done, Stop, walk, Went, Halted, Walks, RayReady, Ready}
-use Rattle.sweep.proofs.Cells.{put-take, put-length}
+use Rattle.visits.specs.Entries.{entryOf, entryFor, indexOf, possibleAt, rayEntry, each}
+use Rattle.visits.specs.Walk.{Walked, Done, Stop, walk, Went, Halted, Walks, RayReady, Ready}
+use Rattle.visits.proofs.Cells.{put-take, put-length}
 
 abbrev onward : Walked → (ℕ → List Float → Walked) → Walked
 onward (Done k l) f = f k l

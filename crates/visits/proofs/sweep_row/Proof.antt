@@ -1,17 +1,17 @@
-use Rattle.sweep.proofs.Walks.{Sweeping, sweeping-start, sweeping-next, sweeping-halt, sweeping-all, ray-ready, halted-of, went-of}
+use Rattle.visits.proofs.Walks.{Sweeping, sweeping-start, sweeping-next, sweeping-halt, sweeping-all, ray-ready, halted-of, went-of}
 use borrow.Author.Needs.{needs}
 use native.Mathlib.Omega.{arith}
 use mathlib.Core.Path.{_≡_, refl, sym, ap, _∙_}
 use mathlib.Core.List.{List, [], _∷_}
 use Prim.Native.Nat.{ℕ, _+_, _-_, _<_, _≤_}
 use lib.Ieee.{Float}
-use Rattle.sweep.specs.Entries.{rayEntry, rowEntries}
-use Rattle.sweep.proofs.Walks.{Sweeping, sweeping-start, sweeping-next, sweeping-halt, sweeping-all, ray-ready}
-use Rattle.sweep.proofs.sweep_row.Statement.{statement}
-use Rattle.sweep.proofs.sweep_row.Tie as tie
-use Rattle.sweep.proofs.sweep_row.Reads as reads
-use Rattle.sweep.proofs.sweep_row.Lts as lts
-use Rattle.sweep.proofs.visit_ray.Reads as visit-ray-reads
+use Rattle.visits.specs.Entries.{rayEntry, rowEntries}
+use Rattle.visits.proofs.Walks.{Sweeping, sweeping-start, sweeping-next, sweeping-halt, sweeping-all, ray-ready}
+use Rattle.visits.proofs.sweep_row.Statement.{statement}
+use Rattle.visits.proofs.sweep_row.Tie as tie
+use Rattle.visits.proofs.sweep_row.Reads as reads
+use Rattle.visits.proofs.sweep_row.Lts as lts
+use Rattle.visits.proofs.visit_ray.Reads as visit-ray-reads
 
 abbrev Inv-loop : tie.InvT-loop
 Inv-loop n t r v p l budget spans links heads log₀ c₀ u₀ log c u = Sweeping budget (λ (w : ℕ). rayEntry n t p l spans links heads w v ∷ []) (r .u0) (r .u1 + 1) c₀ log₀ c log u

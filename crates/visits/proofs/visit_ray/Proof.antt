@@ -1,17 +1,17 @@
-use Rattle.sweep.proofs.Walks.{halt-8, halt-full, went-on, went-off, entry-off, entry-on, entry-length}
+use Rattle.visits.proofs.Walks.{halt-8, halt-full, went-on, went-off, entry-off, entry-on, entry-length}
 use native.Mathlib.Omega.{arith}
 use mathlib.Core.Path.{_≡_, refl, sym, ap, _∙_}
 use Prim.Native.Nat.{_+_, _<_, _≤_}
 use lib.ListN.{length}
 use denote.Ref.{now}
-use Rattle.sweep.specs.Entries.{entryOf, rayEntry}
+use Rattle.visits.specs.Entries.{entryOf, rayEntry}
 use borrow.Author.Needs.{needs}
-use Rattle.sweep.proofs.visit_ray.Statement.{statement}
-use Rattle.sweep.proofs.visit_ray.Tie as tie
-use Rattle.sweep.proofs.visit_ray.Reads as reads
-use Rattle.sweep.proofs.visit_ray.Lts as lts
+use Rattle.visits.proofs.visit_ray.Statement.{statement}
+use Rattle.visits.proofs.visit_ray.Tie as tie
+use Rattle.visits.proofs.visit_ray.Reads as reads
+use Rattle.visits.proofs.visit_ray.Lts as lts
 use Rattle.across.proofs.ray_hit.Reads as ray-hit-reads
-use Rattle.sweep.proofs.put.Reads as put-reads
+use Rattle.visits.proofs.put.Reads as put-reads
 
 -- src/lib.rt:91:9
 returns : tie.Need-returns
