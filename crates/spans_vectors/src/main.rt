@@ -112,10 +112,10 @@ fn reply_of(op: u64, a: &[f64], b: &[f64], out: &mut [f64]) -> Reply {
         return listed(spans::normalize(a, out));
     }
     if op == 1 {
-        return listed(spans::subtract(a, b, out));
+        return listed(combining::subtract(a, b, out));
     }
     if op == 2 {
-        return listed(spans::intersect(a, b, out));
+        return listed(combining::intersect(a, b, out));
     }
     if op == 3 {
         return told(comparing::contains(a, b));

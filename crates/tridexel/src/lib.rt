@@ -4,7 +4,8 @@ ghost use mathlib.Core.Path.{_≡_};
 ghost use mathlib.Core.Bool.{not, _&&_};
 ghost use Rattle.spans.specs.Spans.{holds};
 ghost use lib.ListN.{length};
-ghost use Rattle.spans.specs.Results.{Answer, normalizeCauses, combineCauses};
+ghost use Rattle.spans.specs.Results.{Answer, normalizeCauses};
+ghost use Rattle.combining.specs.Combining.{combineCauses};
 ghost use Rattle.comparing.specs.Verdicts.{Verdict, compareCauses, Covers, Meets};
 ghost use Rattle.tridexel.specs.Numbers.{ListedAs, ToldAs, ListedBy, ToldBy};
 use comparing::Told;
@@ -54,18 +55,18 @@ pub extern "C" fn tridexel_normalize(spans: &[f64], out: &mut [f64], pairs: &mut
     hand_listed(l, pairs)
 }
 
-// `spans::subtract`; `pairs` becomes the number of pairs.
+// `combining::subtract`; `pairs` becomes the number of pairs.
 #[no_mangle]
 pub extern "C" fn tridexel_subtract(a: &[f64], b: &[f64], out: &mut [f64], pairs: &mut usize) -> u32
     ensures { λ r. ⌜ ListedBy (Answer (λ p. holds (now (a .entry)) p && not (holds (now (b .entry)) p))
         (combineCauses (now (a .entry)) (now (b .entry)) (length (now (out .entry)))) (now (out .entry)) (now (out .exit)))
         r (now (pairs .entry)) (now (pairs .exit)) ⌝ }
 {
-    let l = spans::subtract(a, b, out);
+    let l = combining::subtract(a, b, out);
     hand_listed(l, pairs)
 }
 
-// `spans::intersect`; `pairs` becomes the number of pairs.
+// `combining::intersect`; `pairs` becomes the number of pairs.
 #[no_mangle]
 pub extern "C" fn tridexel_intersect(
     a: &[f64],
@@ -77,7 +78,7 @@ pub extern "C" fn tridexel_intersect(
         (combineCauses (now (a .entry)) (now (b .entry)) (length (now (out .entry)))) (now (out .entry)) (now (out .exit)))
         r (now (pairs .entry)) (now (pairs .exit)) ⌝ }
 {
-    let l = spans::intersect(a, b, out);
+    let l = combining::intersect(a, b, out);
     hand_listed(l, pairs)
 }
 

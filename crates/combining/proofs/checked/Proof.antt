@@ -1,14 +1,15 @@
--- `spans::checked` meets its contract.
+-- `combining::checked` meets its contract.
 use native.Mathlib.Omega.{arith}
 use mathlib.Core.Path.{_≡_}
 use mathlib.Core.Bool.{false, _&&_}
 use Prim.Native.Nat.{_+_, _/_, _<_}
 use lib.ListN.{length}
 use Rattle.spans.specs.Spans.{sound}
-use Rattle.spans.proofs.Answers.{checked-short, checked-bad, checked-none, bad-first, bad-second, good, good-both}
+use Rattle.combining.proofs.Answers.{checked-short, checked-bad, checked-none}
+use Rattle.spans.proofs.Answers.{bad-first, bad-second, good, good-both}
 use borrow.Author.Needs.{needs}
-use Rattle.spans.proofs.checked.Statement.{statement}
-use Rattle.spans.proofs.checked.Tie as tie
+use Rattle.combining.proofs.checked.Statement.{statement}
+use Rattle.combining.proofs.checked.Tie as tie
 
 abbrev Short : tie.Start → Type 0
 Short s = s .args .room / 2 < length (s .args .a .now) / 2 + length (s .args .b .now) / 2

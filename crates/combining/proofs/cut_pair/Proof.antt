@@ -1,13 +1,13 @@
--- `spans::cut_pair` meets its contract.
+-- `combining::cut_pair` meets its contract.
 use borrow.Author.Needs.{needs}
 use native.Mathlib.Omega.{arith}
 use mathlib.Core.Logic.{⊎-elim}
 use Prim.Native.Nat.{_-_}
 use lib.ListN.{length}
 use Rattle.spans.proofs.Sets.{sound-mod}
-use Rattle.spans.proofs.Cutting.{Cutting, cut-start, cut-last, cut-end, cut-step}
-use Rattle.spans.proofs.cut_pair.Statement.{statement}
-use Rattle.spans.proofs.cut_pair.Tie as tie
+use Rattle.combining.proofs.Cutting.{Cutting, cut-start, cut-last, cut-end, cut-step}
+use Rattle.combining.proofs.cut_pair.Statement.{statement}
+use Rattle.combining.proofs.cut_pair.Tie as tie
 
 abbrev Inv-loop : tie.InvT-loop
 Inv-loop rest out₀ n from hi lo₀ end₀ j₀ out lo end j = Cutting rest from hi out₀ n lo j end out

@@ -1,14 +1,14 @@
--- `spans::subtract_into` meets its contract.
+-- `combining::subtract_into` meets its contract.
 use borrow.Author.Needs.{needs}
 use native.Mathlib.Omega.{arith}
 use mathlib.Core.Path.{_≡_}
 use Prim.Native.Nat.{_-_}
 use lib.ListN.{length, take, drop, length-drop}
 use lib.Seq.{take-all}
 use Rattle.spans.proofs.Sets.{sound-mod}
-use Rattle.spans.proofs.Cutting.{Lessening, less-start, less-ready, less-step, less-done}
-use Rattle.spans.proofs.subtract_into.Statement.{statement}
-use Rattle.spans.proofs.subtract_into.Tie as tie
+use Rattle.combining.proofs.Cutting.{Lessening, less-start, less-ready, less-step, less-done}
+use Rattle.combining.proofs.subtract_into.Statement.{statement}
+use Rattle.combining.proofs.subtract_into.Tie as tie
 
 abbrev Inv-loop : tie.InvT-loop
 Inv-loop a b out₀ i₀ j₀ n₀ out i j n = Lessening a b out₀ i j n out

@@ -1,13 +1,13 @@
--- `spans::intersect_into` meets its contract.
+-- `combining::intersect_into` meets its contract.
 use borrow.Author.Needs.{needs}
 use native.Mathlib.Omega.{arith}
 use mathlib.Core.Logic.{inl, inr}
 use Prim.Native.Nat.{_+_, _-_}
 use lib.ListN.{length}
 use Rattle.spans.proofs.Sets.{sound-mod}
-use Rattle.spans.proofs.Common.{Sharing, share-start, share-a, share-b, share-done}
-use Rattle.spans.proofs.intersect_into.Statement.{statement}
-use Rattle.spans.proofs.intersect_into.Tie as tie
+use Rattle.combining.proofs.Common.{Sharing, share-start, share-a, share-b, share-done}
+use Rattle.combining.proofs.intersect_into.Statement.{statement}
+use Rattle.combining.proofs.intersect_into.Tie as tie
 
 abbrev Inv-loop : tie.InvT-loop
 Inv-loop a b out₀ i₀ j₀ n₀ out i j n = Sharing a b out₀ i j n out

@@ -8,15 +8,16 @@ use native.Mathlib.Omega.{arith}
 use lib.ListN.{length, getD, take, drop, length-drop}
 use lib.Seq.{length-take-le, getD-take, getD-drop, take-all, take-add, ext-getD}
 use lib.Ieee.{Float, nan, lt, le}
 use Rattle.spans.specs.Spans.{within, holds, rising, sound, less, ListOf}
-use Rattle.spans.specs.Steps.{SameFrom, Put, Filled, Ready, Cut}
+use Rattle.spans.specs.Steps.{SameFrom, Put, Filled}
+use Rattle.combining.specs.Combining.{Ready, Cut}
 use Rattle.spans.specs.declared.Place.{Place}
 use Rattle.doubles.specs.Doubles.{Number}
 use Rattle.doubles.proofs.Bools.{and-left, and-right, by-cases, clash}
 use Rattle.doubles.proofs.Order.{lt-number, le-number, lt→le, lt→not-le, le→not-lt, not-lt→le, not-le→lt, le-trans, le-lt-trans, lt-trans, lt-le-trans, le-refl}
 use Rattle.spans.proofs.Ends.{All, all-append, all-map, Under, AtMost, Below, UpTo, upTo-more, below-upTo, rising-at}
 use Rattle.spans.proofs.Sets.{sound-rising, sound-mod}
 use Rattle.spans.proofs.Points.{or-assoc, or-false, holds-more, holds-upTo, in-gap, in-pair, pair-rises, number-at, upTo-last, rest-only, drop-sound, put-all, put-list}
 
 -- the larger of two ends
 abbrev pub top : Float → Float → Float

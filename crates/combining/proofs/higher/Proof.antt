@@ -1,9 +1,9 @@
--- `spans::higher` meets its contract.
+-- `combining::higher` meets its contract.
 use borrow.Author.Needs.{needs}
 use native.Mathlib.Omega.{arith}
 use mathlib.Core.Path.{refl}
-use Rattle.spans.proofs.higher.Statement.{statement}
-use Rattle.spans.proofs.higher.Tie as tie
+use Rattle.combining.proofs.higher.Statement.{statement}
+use Rattle.combining.proofs.higher.Tie as tie
 
 returns : tie.Need-returns
 returns c = rw (c .if1 .taken) refl

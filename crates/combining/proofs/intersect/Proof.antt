@@ -1,15 +1,15 @@
--- `spans::intersect` meets its contract.
+-- `combining::intersect` meets its contract.
 use native.Mathlib.Omega.{arith}
 use mathlib.Core.Path.{_≡_}
 use Prim.Native.Nat.{_/_}
 use lib.ListN.{length}
 use Rattle.spans.specs.Spans.{common}
-use Rattle.spans.specs.Results.{combineCauses}
-use Rattle.spans.proofs.Answers.{refuse-checked, accept-checked, good-lists}
+use Rattle.combining.specs.Combining.{combineCauses}
+use Rattle.combining.proofs.Answers.{refuse-checked, accept-checked, good-lists}
 use Rattle.spans.proofs.Join.{laid}
 use borrow.Author.Needs.{needs}
-use Rattle.spans.proofs.intersect.Statement.{statement}
-use Rattle.spans.proofs.intersect.Tie as tie
+use Rattle.combining.proofs.intersect.Statement.{statement}
+use Rattle.combining.proofs.intersect.Tie as tie
 
 checked-requires : tie.Need-checked-requires
 checked-requires c κs = search needs

@@ -8,15 +8,15 @@ use native.Mathlib.Omega.{arith}
 use lib.ListN.{length, getD, take, drop}
 use lib.Seq.{take-all}
 use lib.Ieee.{Float, nan, lt, le}
 use Rattle.spans.specs.Spans.{within, holds, rising, sound, common, ListOf}
 use Rattle.spans.specs.Steps.{Put, Filled}
 use Rattle.doubles.specs.Doubles.{Number}
 use Rattle.doubles.proofs.Bools.{and-left, and-right, and-false, both, by-cases, clash}
 use Rattle.doubles.proofs.Order.{lt→le, not-lt→le, not-le→lt, le-number, le-trans, lt-trans, lt-le-trans, le-lt-trans}
 use Rattle.spans.proofs.Ends.{all-map, Under, Below, rising-at}
 use Rattle.spans.proofs.Sets.{sound-rising, sound-mod}
 use Rattle.spans.proofs.Points.{or-assoc, or-false, or-true, holds-more, front-only, front-in, in-pair, number-at, put-all, put-list}
-use Rattle.spans.proofs.Cutting.{top, top-first, top-second, top-both}
+use Rattle.combining.proofs.Cutting.{top, top-first, top-second, top-both}
 
 -- ---- the loop of `intersect_into`
 -- what the first i ends of a have in common with b, and the first j ends of b with a

@@ -1,0 +1,4 @@
+-- Laws that belong to no one function.
+pub mod Cutting
+pub mod Common
+pub mod Answers
