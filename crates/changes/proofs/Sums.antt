@@ -68,7 +68,7 @@ module _ (spec : DexelStockSpec) (g : DexelGrid) (c : Cells) (changes : List ℕ
         laid = omega (arith, ap (λ (ds : List Change). pairsLaid (updatesOf g ds)) is);
       }
 
-  rest-is : (k at : ℕ) → k < length changes / 6
+  pub rest-is : (k at : ℕ) → k < length changes / 6
       → changesFrom changes pairs (length changes / 6 - k) k at ≡ changeBy (headAt changes k) pairs at ∷ changesFrom changes pairs (length changes / 6 - (k + 1)) (k + 1) (end4 (headAt changes k) at)
   unfolding changesFrom
   rest-is k at l =
@@ -114,4 +114,5 @@ module _ (spec : DexelStockSpec) (g : DexelGrid) (c : Cells) (changes : List ℕ
         p .forth (subst (AllGood spec g c pairs (cur .from)) (sym is) tt),
         omega (arith, f, p .freed),
         omega (arith, d, p .laid),
+        omega (arith, p .stands .sums, p .stands .within),
       )

@@ -46,8 +46,8 @@ abbrev pub Checks : DexelStockSpec → DexelGrid → Cells → List Float → Ch
 Checks spec g c pairs h cur Bad = Good spec g c pairs (cur .from) (changeBy h pairs (cur .at)) → ⊥
 Checks spec g c pairs h cur (Next n) = Good spec g c pairs (cur .from) (changeBy h pairs (cur .at)) × (n ≡ onward g h cur)
 
--- the answer on all changes: where they are good, the sums are those of the pairs that the updates free and lay
+-- the answer on all changes: where they are good, the sums are those of the pairs that the updates free and lay, which the lent pairs hold
 abbrev pub ChecksAll : DexelStockSpec → DexelGrid → Cells → List Float → List Change → Checked → Type 0
 ChecksAll spec g c pairs ds Bad = AllGood spec g c pairs 0 ds → ⊥
 ChecksAll spec g c pairs ds (Next n) =
-    AllGood spec g c pairs 0 ds × (n .before ≡ pairsFreed (spec .«max_intervals») c (updatesOf g ds)) × (n .after ≡ pairsLaid (updatesOf g ds))
+    AllGood spec g c pairs 0 ds × (n .before ≡ pairsFreed (spec .«max_intervals») c (updatesOf g ds)) × (n .after ≡ pairsLaid (updatesOf g ds)) × (2 * n .after ≤ length pairs)

@@ -1,4 +1,4 @@
-// The commit of a change list.
+// A change list, and its check against a stock.
 ghost use mathlib.Core.Path.{_≡_};
 ghost use mathlib.Core.Bool.{true, _&&_};
 ghost use Prim.Native.Nat.{_+_, _*_, _%_, _^_, _≤_, _<_};
@@ -38,7 +38,7 @@ pub enum Checked {
 }
 
 // Reads the six numbers of change k.
-fn head(changes: &[u64], k: usize) -> ChangeHead
+pub fn head(changes: &[u64], k: usize) -> ChangeHead
     requires { ⌜ 6 * k + 5 < length (now changes) ⌝ }
     ensures { λ r. ⌜ r ≡ headAt (now (changes .entry)) k ⌝ }
 {
@@ -78,7 +78,7 @@ fn fits(h: ChangeHead, left: usize) -> bool
 }
 
 // The number of the ray that a change names.
-fn ray_named(g: DexelGrid, h: ChangeHead) -> u64
+pub fn ray_named(g: DexelGrid, h: ChangeHead) -> u64
     requires { ⌜ (rayCount g < 2 ^ 64) × (h .axis ≤ 2) × (h .index < raysAlong g (worldAxis (h .axis))) ⌝ }
     ensures { λ r. ⌜ r ≡ rayOf g (h .axis) (h .index) ⌝ }
 {
@@ -294,7 +294,7 @@ fn check_change(
 }
 
 // Checks all changes, in order.
-fn check_changes(
+pub fn check_changes(
     spec: DexelStockSpec,
     g: DexelGrid,
     spans: &[f64],

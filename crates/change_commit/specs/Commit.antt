@@ -3,27 +3,39 @@ use mathlib.Core.Path.{_≡_}
 use mathlib.Core.Bool.{true}
 use mathlib.Core.List.{List, [], _∷_, _++_}
 use mathlib.Core.Logic.{_⊎_}
-use Prim.Native.Nat.{ℕ, _+_, _-_, _/_, _%_, _^_, _<_}
+use Prim.Native.Nat.{ℕ, _+_, _-_, _*_, _/_, _%_, _^_, _<_}
 use lib.Ieee.{Float}
 use lib.ListN.{length}
 use Rattle.refusal.specs.Refusal.{Cause, cause, Due, NoneDue}
 use Rattle.grid.specs.Causes.{gridCauses, gridIn}
+use Rattle.grid.specs.Rays.{rayCount}
 use Rattle.grid.specs.declared.DexelStockSpec.{DexelStockSpec}
 use Rattle.grid.specs.declared.DexelGrid.{DexelGrid}
-use Rattle.store.specs.Updates.{Cells, pairsFreed, pairsLaid, applied}
+use Rattle.store.specs.Updates.{Cells, Update, pairsFreed, pairsLaid, listAfter, applied, held, Kept}
 use Rattle.stock.specs.Stock.{Stock, SoundStock, short}
-use Rattle.changes.specs.Changes.{changesOf, AllGood, updatesOf}
 use Rattle.stock.specs.declared.Committed.{Committed}
 use Rattle.stock.specs.declared.Committed.the-variants.{Changed, Refused}
+use Rattle.changes.specs.Changes.{changesOf, AllGood, updatesOf}
+
+-- what a lent change list does to the store
+abbrev pub updatesIn : DexelGrid → List ℕ → List Float → List Update
+updatesIn g changes pairs = updatesOf g (changesOf changes pairs)
 
 -- the intervals after the changes
 abbrev pub intervalsAfter : DexelStockSpec → DexelGrid → Stock → List ℕ → List Float → ℕ
-intervalsAfter spec g s changes pairs =
-    s .intervals - pairsFreed (spec .«max_intervals») (s .cells) (updatesOf g (changesOf changes pairs)) + pairsLaid (updatesOf g (changesOf changes pairs))
+intervalsAfter spec g s changes pairs = s .intervals - pairsFreed (spec .«max_intervals») (s .cells) (updatesIn g changes pairs) + pairsLaid (updatesIn g changes pairs)
 
 -- 11: the store is not sound, or part of a change or of a pair is over
 abbrev pub Unsound : DexelStockSpec → DexelGrid → Stock → List ℕ → List Float → Type 0
 Unsound spec g s changes pairs = (SoundStock spec g s → ⊥) ⊎ ((length changes % 6 ≡ 0 → ⊥) ⊎ (length pairs % 2 ≡ 0 → ⊥))
+
+-- of a sound store: 13, 10, 15
+abbrev pub listCauses : DexelStockSpec → DexelGrid → Stock → List ℕ → List Float → List Cause
+listCauses spec g s changes pairs =
+    cause 13 (AllGood spec g (s .cells) pairs 0 (changesOf changes pairs) → ⊥)
+    ∷ cause 10 (spec .«max_intervals» < intervalsAfter spec g s changes pairs)
+    ∷ cause 15 (s .generation ≡ 2 ^ 64 - 1)
+    ∷ []
 
 -- once `grid` accepts: 12, 11, 14, 13, 10, 15
 abbrev pub changeCauses : DexelStockSpec → DexelGrid → (base : ℕ) → Stock → List ℕ → List Float → List Cause
@@ -31,25 +43,29 @@ changeCauses spec g base s changes pairs =
     cause 12 (short spec g (s .cells) ≡ true)
     ∷ cause 11 (Unsound spec g s changes pairs)
     ∷ cause 14 (base ≡ s .generation → ⊥)
-    ∷ cause 13 (AllGood spec g (s .cells) pairs 0 (changesOf changes pairs) → ⊥)
-    ∷ cause 10 (spec .«max_intervals» < intervalsAfter spec g s changes pairs)
-    ∷ cause 15 (s .generation ≡ 2 ^ 64 - 1)
-    ∷ []
+    ∷ listCauses spec g s changes pairs
 
 -- and 1, 2, 3, 4 first
 abbrev pub commitCauses : DexelStockSpec → (units : List ℕ) → (base : ℕ) → Stock → List ℕ → List Float → List Cause
 commitCauses spec units base s changes pairs = gridCauses spec units ++ changeCauses spec (gridIn spec) base s changes pairs
 
--- the stock past the changes
+-- the stock past the changes: the lists of all changed rays are freed, then laid in ray order; the generation steps even with no change
 abbrev pub changed : DexelStockSpec → DexelGrid → Stock → List ℕ → List Float → Stock
 changed spec g s changes pairs =
     record {
-      cells = applied (spec .«max_intervals») (s .cells) (updatesOf g (changesOf changes pairs));
+      cells = applied (spec .«max_intervals») (s .cells) (updatesIn g changes pairs);
       generation = s .generation + 1;
       intervals = intervalsAfter spec g s changes pairs;
     }
 
+-- what an accepted commit leaves: that stock, which is sound, has the changed lists and the others as they were, and keeps every cell past its records and heads
+pub record Leaves (spec : DexelStockSpec) (g : DexelGrid) (changes : List ℕ) (pairs : List Float) (before after : Stock) : Type 0 where
+  pub is : after ≡ changed spec g before changes pairs
+  pub isSound : SoundStock spec g after
+  pub lists : (j : ℕ) → j < 2 * rayCount g → held (spec .«max_intervals») (after .cells) j ≡ listAfter (updatesIn g changes pairs) j (held (spec .«max_intervals») (before .cells) j)
+  pub kept : Kept (spec .«max_intervals») (2 * rayCount g) (before .cells) (after .cells)
+
 -- a refused call gives the number that is due and leaves the stock as it was; an accepted one, with no cause, answers how many rays changed
 abbrev pub Commits : List Cause → DexelStockSpec → DexelGrid → List ℕ → List Float → (before after : Stock) → Committed → Type 0
 Commits causes spec g changes pairs before after (Refused k) = Due causes k × (after ≡ before)
-Commits causes spec g changes pairs before after (Changed n) = NoneDue causes × (n ≡ length changes / 6) × (after ≡ changed spec g before changes pairs)
+Commits causes spec g changes pairs before after (Changed n) = NoneDue causes × (n ≡ length changes / 6) × Leaves spec g changes pairs before after
