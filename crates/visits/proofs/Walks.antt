@@ -2,15 +2,17 @@
 use mathlib.Core.Path.{_≡_, refl, sym, ap, subst, _∙_}
 use mathlib.Core.Bool.{Bool, true, false, cond}
 use mathlib.Core.List.{List, [], _∷_, _++_, append-assoc, append-nil}
+use mathlib.Core.Logic.{_⊎_, inl, inr}
 use Prim.Native.Nat.{ℕ, zero, suc, _+_, _-_, _*_, _^_, _≤_, _<_}
-use native.Mathlib.Nat.{add-zero, mul-le-mul-right}
+use native.Mathlib.Nat.{add-zero, mul-one, suc-mul, add-comm, mul-le-mul-right}
 use native.Mathlib.Numerals.{add-one}
 use native.Mathlib.Omega.{arith}
 use borrow.Author.Tests.{le-leb, lt-leb}
 use lib.Dec.{leb}
 use lib.Ieee.{Float}
-use lib.ListN.{length, take, drop}
+use lib.ListN.{length, take, drop, length-append}
 use lib.Seq.{length-take-le}
+use Rattle.doubles.proofs.Bools.{clash}
 use Rattle.visits.specs.declared.Cursor.{Cursor}
 use Rattle.visits.specs.declared.Progress.{Progress}
 use Rattle.visits.specs.declared.Progress.the-variants.{At, Stopped}
@@ -20,8 +22,11 @@ use Rattle.across.specs.Lane.{sectionOf}
 use Rattle.across.specs.declared.Profile.{Profile}
 use Rattle.across.specs.declared.Lane.{Lane}
 use Rattle.across.specs.declared.Hits.{Hits}
+use Rattle.across.specs.declared.Rect.{Rect}
+use Rattle.across.specs.declared.Rectangle.{Rectangle}
+use Rattle.across.specs.declared.Rectangle.the-variants.{Rays, NoRays}
 use Rattle.across.specs.declared.RayHit.the-variants.{On, Off}
-use Rattle.visits.specs.Entries.{entryOf, entryFor, indexOf, possibleAt, rayEntry, each}
+use Rattle.visits.specs.Entries.{entryOf, entryFor, indexOf, possibleAt, rayEntry, each, sum, rowEntries, rectEntries, rectangleEntries, raysIn, joined}
 use Rattle.visits.specs.Walk.{Walked, Done, Stop, walk, Went, Halted, Walks, RayReady, Ready}
 use Rattle.visits.proofs.Cells.{put-take, put-length}
 
@@ -205,3 +210,81 @@ module _ {budget : ℕ} {rays : List (List Float)} {c : Cursor} {log after : Lis
 
   pub went-of : (r : Progress) (d : Cursor) → r ≡ At d → Walks budget rays c log r after → Went budget rays c log d after
   went-of r d e w = subst (λ (x : Progress). Walks budget rays c log x after) e w
+
+-- ---- what a walk comes to
+abbrev stops : Walked → Bool
+stops (Done k l) = false
+stops (Stop n) = true
+
+abbrev visitsIn : Walked → ℕ
+visitsIn (Done k l) = k
+visitsIn (Stop n) = n
+
+abbrev entriesIn : Walked → List Float
+entriesIn (Done k l) = l
+entriesIn (Stop n) = []
+
+module _ (budget len : ℕ) where
+  -- to the end: each ray is a visit, and the log has all entries
+  pub walk-done : (rays : List (List Float)) (k : ℕ) (l : List Float) (n : ℕ) (m : List Float) → walk budget len rays k l ≡ Done n m → (n ≡ k + length rays) × (m ≡ l ++ joined rays)
+  unfolding walk joined
+  walk-done [] k l n m h = (sym (ap visitsIn h) ∙ sym (add-zero k), sym (ap entriesIn h) ∙ sym (append-nil l))
+  walk-done (e ∷ rays) k l n m h = go (leb budget k) (leb (length l + length e) len) h (walk-done rays (k + 1) (l ++ e) n m)
+    where
+      go : (a b : Bool) → cond a (Stop 8) (cond b (walk budget len rays (k + 1) (l ++ e)) (Stop 16)) ≡ Done n m
+          → (walk budget len rays (k + 1) (l ++ e) ≡ Done n m → (n ≡ k + 1 + length rays) × (m ≡ (l ++ e) ++ joined rays)) → (n ≡ k + suc (length rays)) × (m ≡ l ++ (e ++ joined rays))
+      go true b q f = absurd (clash true refl (ap stops q))
+      go false false q f = absurd (clash true refl (ap stops q))
+      go false true q f = let r = f q in (omega (arith, r .0), r .1 ∙ append-assoc l e (joined rays))
+
+  -- not to the end: 8 or 16
+  pub walk-stop : (rays : List (List Float)) (k : ℕ) (l : List Float) (n : ℕ) → walk budget len rays k l ≡ Stop n → (n ≡ 8) ⊎ (n ≡ 16)
+  unfolding walk
+  walk-stop [] k l n h = absurd (clash false (ap stops h) refl)
+  walk-stop (e ∷ rays) k l n h = go (leb budget k) (leb (length l + length e) len) h (walk-stop rays (k + 1) (l ++ e) n)
+    where
+      go : (a b : Bool) → cond a (Stop 8) (cond b (walk budget len rays (k + 1) (l ++ e)) (Stop 16)) ≡ Stop n → (walk budget len rays (k + 1) (l ++ e) ≡ Stop n → (n ≡ 8) ⊎ (n ≡ 16)) → (n ≡ 8) ⊎ (n ≡ 16)
+      go true b q f = inl (sym (ap visitsIn q))
+      go false false q f = inr (sym (ap visitsIn q))
+      go false true q f = f q
+
+-- one number at the most
+pub stop-is : (w : Walked) (m n : ℕ) → w ≡ Stop m → w ≡ Stop n → m ≡ n
+stop-is w m n p q = ap visitsIn (sym p ∙ q)
+
+-- no number where the walk came to its end
+pub done-no-stop : (w : Walked) (k n : ℕ) (l : List Float) → w ≡ Done k l → w ≡ Stop n → ⊥
+done-no-stop w k n l p q = clash false (ap stops (sym p ∙ q)) refl
+
+-- ---- how many rays there are
+module _ (f : ℕ → List (List Float)) where
+  pub each-length : (from n : ℕ) → length (each f from n) ≡ sum (λ i. length (f i)) from n
+  unfolding each sum
+  each-length from zero = refl
+  each-length from (suc n) = length-append (f from) (each f (suc from) n) ∙ ap (λ (k : ℕ). length (f from) + k) (each-length (suc from) n)
+
+pub sum-same : (n : ℕ) (f g : ℕ → ℕ) → ((i : ℕ) → f i ≡ g i) → (from : ℕ) → sum f from n ≡ sum g from n
+unfolding sum
+sum-same zero f g h from = refl
+sum-same (suc n) f g h from = ap (λ (k : ℕ). k + sum f (suc from) n) (h from) ∙ ap (λ (k : ℕ). g from + k) (sum-same n f g h (suc from))
+
+sum-of : (n k from : ℕ) → sum (λ i. k) from n ≡ n * k
+unfolding sum
+sum-of zero k from = omega arith
+sum-of (suc n) k from = ap (λ (m : ℕ). k + m) (sum-of n k (suc from)) ∙ add-comm k (n * k) ∙ sym (suc-mul n k)
+
+row-length : (f : (u v : ℕ) → List Float) (r : Rect) (v : ℕ) → length (rowEntries f r v) ≡ r .u1 + 1 - r .u0
+unfolding rowEntries
+row-length f r v = each-length (λ u. f u v ∷ []) (r .u0) (r .u1 + 1 - r .u0) ∙ sum-of (r .u1 + 1 - r .u0) 1 (r .u0) ∙ mul-one (r .u1 + 1 - r .u0)
+
+rect-length : (f : (u v : ℕ) → List Float) (r : Rect) → length (rectEntries f r) ≡ (r .v1 + 1 - r .v0) * (r .u1 + 1 - r .u0)
+unfolding rectEntries
+rect-length f r =
+    each-length (rowEntries f r) (r .v0) (r .v1 + 1 - r .v0)
+    ∙ sum-same (r .v1 + 1 - r .v0) _ _ (row-length f r) (r .v0) ∙ sum-of (r .v1 + 1 - r .v0) (r .u1 + 1 - r .u0) (r .v0)
+
+-- as many entries, some of them empty, as the rectangle has rays
+pub rectangle-length : (f : (u v : ℕ) → List Float) (r : Rectangle) → length (rectangleEntries f r) ≡ raysIn r
+unfolding raysIn
+rectangle-length f NoRays = refl
+rectangle-length f (Rays r) = rect-length f r

@@ -52,3 +52,18 @@ rectEntries f r = each (rowEntries f r) (r .v0) (r .v1 + 1 - r .v0)
 abbrev pub rectangleEntries : ((u v : ℕ) → List Float) → Rectangle → List (List Float)
 rectangleEntries f NoRays = []
 rectangleEntries f (Rays r) = rectEntries f r
+
+-- how many rays a rectangle has; one that misses the blank counts none
+unfoldable pub raysIn : Rectangle → ℕ
+raysIn NoRays = 0
+raysIn (Rays r) = (r .v1 + 1 - r .v0) * (r .u1 + 1 - r .u0)
+
+-- f at `from` and the numbers after it, `count` of them, added up
+unfoldable pub sum : (ℕ → ℕ) → (from count : ℕ) → ℕ
+sum f from zero = 0
+sum f from (suc count) = f from + sum f (suc from) count
+
+-- the entries in a row, as they stand in the log
+unfoldable pub joined : List (List Float) → List Float
+joined [] = []
+joined (e ∷ es) = e ++ joined es

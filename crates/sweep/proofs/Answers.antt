@@ -1,0 +1,233 @@
+-- The answers of the check of a setting, of a walk to its end, and of the sweep, by their causes.
+use mathlib.Core.Path.{_≡_, refl, sym, ap, subst, _∙_}
+use mathlib.Core.Bool.{Bool, true, false, not, cond, _||_}
+use mathlib.Core.List.{List, [], _∷_, _++_}
+use mathlib.Core.Logic.{_⊎_, inl, inr}
+use Prim.Native.Nat.{ℕ, _+_, _-_, _/_, _%_, _≤_}
+use native.Mathlib.Omega.{arith}
+use lib.Dec.{eqb}
+use lib.Ieee.{Float}
+use lib.ListN.{length, take, replicate}
+use lib.Seq.{length-take-le}
+use Rattle.doubles.proofs.Bools.{clash, not-true}
+use Rattle.refusal.specs.Refusal.{Cause, cause, Due, NoneDue}
+use Rattle.refusal.proofs.Laws.{first, later}
+use Rattle.grid.specs.Grid.{gridOf}
+use Rattle.grid.specs.Causes.{gridCauses, gridIn, GridFacts}
+use Rattle.grid.specs.declared.DexelStockSpec.{DexelStockSpec}
+use Rattle.grid.specs.declared.DexelGrid.{DexelGrid}
+use Rattle.grid.specs.declared.Gridded.the-variants.{Accepted as Griddable, Refused as NoGrid}
+use Rattle.frame.specs.declared.Frame.{Frame}
+use Rattle.cutter.specs.Limits.{toolCauses, Checked}
+use Rattle.cutter.specs.declared.ToolCheck.{ToolCheck}
+use Rattle.cutter.specs.declared.ToolCheck.the-variants.{Accepted as Usable, Refused as Unusable}
+use Rattle.spans.specs.Results.{plusZero}
+use Rattle.stock.specs.Stock.{SoundCells, Tells, short}
+use Rattle.stock.proofs.Causes.{due-first, due-second, none-in-both, room-of}
+use Rattle.stock.proofs.Rays.{sound-chained}
+use Rattle.stock.proofs.Answers.{accepted, refused}
+use Rattle.across.specs.declared.Kernel.{Kernel}
+use Rattle.across.specs.declared.Profile.{Profile}
+use Rattle.store.specs.Updates.{Cells}
+use Rattle.visits.specs.Entries.{joined}
+use Rattle.visits.specs.Walk.{Walks, Went, Halted, Done, Stop, walk}
+use Rattle.visits.specs.declared.Cursor.{Cursor}
+use Rattle.visits.specs.declared.Progress.{Progress}
+use Rattle.visits.specs.declared.Progress.the-variants.{At, Stopped}
+use Rattle.visits.proofs.Walks.{walk-done, walk-stop, stop-is, done-no-stop}
+use Rattle.chords.specs.Limits.{chordsFit}
+use Rattle.sweep.specs.Entries.{Setting, setting, sweepEntries, logOf, visitTotal, Sweepable}
+use Rattle.sweep.specs.Answer.{Unsound, settingCauses, walkOf, visitCauses, causesIn, sweepCauses, refusedLog, Logs, Sweeps, Checks, endOf, loggedBy, endLog}
+use Rattle.sweep.specs.declared.Totals.{Totals}
+use Rattle.sweep.specs.declared.Swept.{Swept}
+use Rattle.sweep.specs.declared.Swept.the-variants.{Accepted, Refused}
+use Rattle.sweep.specs.declared.SweepCheck.{SweepCheck}
+use Rattle.sweep.specs.declared.SweepCheck.the-variants.{Admitted, Declined}
+use Rattle.sweep.proofs.Chords.{sweep-length}
+
+-- ---- the check of a setting
+module _ (s : Setting) (intervals : ℕ) (chords : List Float) where
+  abbrev chordCauses : List Cause
+  chordCauses = cause 7 (chordsFit (s .kernel .frame) (s .kernel .guard) chords ≡ false) ∷ []
+
+  pub check-short : (r : Bool) → r ≡ short (s .spec) (s .grid) (s .cells) → r ≡ true → Checks s intervals chords (Declined 12)
+  check-short r e t = first _ _ (sym e ∙ t)
+
+  module _ (r : Bool) (e : r ≡ short (s .spec) (s .grid) (s .cells)) (t : r ≡ false) where
+    long : short (s .spec) (s .grid) (s .cells) ≡ true → ⊥
+    long u = clash (short (s .spec) (s .grid) (s .cells)) u (sym e ∙ t)
+
+    pub check-odd : (length chords % 8 ≡ 0 → ⊥) → Checks s intervals chords (Declined 11)
+    check-odd h = later _ _ 11 long (first _ _ (odd h))
+      where
+        odd : (length chords % 8 ≡ 0 → ⊥) → Unsound s intervals chords
+        odd h = unfold Unsound in inl h
+
+    module _ (b : Bool) (w : Tells (SoundCells (s .spec) (s .grid) (s .cells) intervals) b) where
+      pub check-bad : not b ≡ true → Checks s intervals chords (Declined 11)
+      check-bad h = later _ _ 11 long (first _ _ (bad (λ (p : SoundCells (s .spec) (s .grid) (s .cells) intervals). clash b (w .1 p) (not-true b h))))
+        where
+          bad : (SoundCells (s .spec) (s .grid) (s .cells) intervals → ⊥) → Unsound s intervals chords
+          bad h = unfold Unsound in inr h
+
+      module _ (even : length chords % 8 ≡ 0) (good : b ≡ true) where
+        fine : Unsound s intervals chords → ⊥
+        unfolding Unsound
+        fine (inl h) = h even
+        fine (inr h) = h (w .0 good)
+
+        pub check-tool-bad : (tool : ToolCheck) (k : ℕ) → Checked (s .profile .shape) (s .profile .cutter) tool → tool ≡ Unusable k → Checks s intervals chords (Declined k)
+        check-tool-bad tool k c h =
+            later _ _ k long (later _ _ k fine (due-first (toolCauses (s .profile .shape) (s .profile .cutter)) chordCauses k (subst (Checked (s .profile .shape) (s .profile .cutter)) h c)))
+
+        module _ (tool : ToolCheck) (c : Checked (s .profile .shape) (s .profile .cutter) tool) (h : tool ≡ Usable) (q : Bool) (f : q ≡ chordsFit (s .kernel .frame) (s .kernel .guard) chords) where
+          pub check-chords-bad : q ≡ false → Checks s intervals chords (Declined 7)
+          check-chords-bad n =
+              later _ _ 7 long (later _ _ 7 fine
+              (due-second (toolCauses (s .profile .shape) (s .profile .cutter)) chordCauses 7 (subst (Checked (s .profile .shape) (s .profile .cutter)) h c) (first _ _ (sym f ∙ n))))
+
+          pub check-good : GridFacts (s .spec) (s .grid) → q ≡ true → Checks s intervals chords Admitted
+          unfolding NoneDue
+          check-good facts y = (
+            (
+              long,
+              (
+                fine,
+                none-in-both (toolCauses (s .profile .shape) (s .profile .cutter)) chordCauses (subst (Checked (s .profile .shape) (s .profile .cutter)) h c)
+                    ((λ (n : chordsFit (s .kernel .frame) (s .kernel .guard) chords ≡ false). clash (chordsFit (s .kernel .frame) (s .kernel .guard) chords) (sym f ∙ y) n), tt),
+              ),
+            ),
+            record {
+              facts = facts;
+              chained = sound-chained (s .spec) (s .grid) (s .cells) intervals (room-of (s .spec) (s .grid) (s .cells) (sym e ∙ t)) (w .0 good);
+              valid = w .0 good .valid;
+            },
+          )
+
+-- ---- the log after a refusal
+module _ (k : ℕ) (log : List Float) where
+  kept : (n : ℕ) → k ≡ n → (eqb n 8 || eqb n 16) ≡ false → log ≡ refusedLog k log
+  unfolding refusedLog
+  kept n e h = sym (ap (λ (b : Bool). cond b (replicate (length log) plusZero) log) (ap (λ (m : ℕ). eqb m 8 || eqb m 16) e ∙ h))
+
+  setting-kept : (s : Setting) (intervals : ℕ) (chords : List Float) → Due (settingCauses s intervals chords) k → log ≡ refusedLog k log
+  unfolding Due
+  setting-kept s intervals chords (inl d) = kept 12 (d .1) refl
+  setting-kept s intervals chords (inr (n, inl d)) = kept 11 (d .1) refl
+  setting-kept s intervals chords (inr (n, inr (m, inl d))) = kept 5 (d .1) refl
+  setting-kept s intervals chords (inr (n, inr (m, inr (o, inl d)))) = kept 6 (d .1) refl
+  setting-kept s intervals chords (inr (n, inr (m, inr (o, inr (p, inl d))))) = kept 7 (d .1) refl
+  setting-kept s intervals chords (inr (n, inr (m, inr (o, inr (p, inr (q, d)))))) = absurd d
+
+  grid-kept : (spec : DexelStockSpec) (units : List ℕ) → Due (gridCauses spec units) k → log ≡ refusedLog k log
+  unfolding Due gridCauses
+  grid-kept spec units (inl d) = kept 1 (d .1) refl
+  grid-kept spec units (inr (n, inl d)) = kept 2 (d .1) refl
+  grid-kept spec units (inr (n, inr (m, inl d))) = kept 3 (d .1) refl
+  grid-kept spec units (inr (n, inr (m, inr (o, inl d)))) = kept 4 (d .1) refl
+  grid-kept spec units (inr (n, inr (m, inr (o, inr (p, d))))) = absurd d
+
+  cleared : (k ≡ 8) ⊎ (k ≡ 16) → replicate (length log) plusZero ≡ refusedLog k log
+  unfolding refusedLog
+  cleared (inl e) = sym (ap (λ (m : ℕ). cond (eqb m 8 || eqb m 16) (replicate (length log) plusZero) log) e)
+  cleared (inr e) = sym (ap (λ (m : ℕ). cond (eqb m 8 || eqb m 16) (replicate (length log) plusZero) log) e)
+
+-- ---- the end of a walk
+pub end-is : (x y : Progress) (r : Swept) (log after : List Float) → x ≡ y → r ≡ endOf y → after ≡ endLog y log → (r ≡ endOf x) × (after ≡ endLog x log)
+end-is x y r log after e h k = subst (λ (z : Progress). (r ≡ endOf z) × (after ≡ endLog z log)) (sym e) (h, k)
+
+pub logged-room : (budget : ℕ) (rays : List (List Float)) (c : Cursor) (log after : List Float) (x : Progress) → Walks budget rays c log x after → loggedBy x ≤ length after
+logged-room budget rays c log after (At d) w = w .room
+logged-room budget rays c log after (Stopped k) w = omega arith
+
+pub logged-same : (budget : ℕ) (rays : List (List Float)) (c : Cursor) (log after : List Float) (x : Progress) → Walks budget rays c log x after → length after ≡ length log
+logged-same budget rays c log after (At d) w = w .same
+logged-same budget rays c log after (Stopped k) w = w .same
+
+pub logged-at : (x : Progress) (c : Cursor) (n : ℕ) → x ≡ At c → loggedBy x ≤ n → c .at ≤ n
+logged-at x c n e h = subst (λ (y : Progress). loggedBy y ≤ n) e h
+
+module _ (s : Setting) (chords : List Float) (budget : ℕ) (log mid : List Float) where
+  abbrev origin : Cursor
+  origin = record { visits = 0; at = 0 }
+
+  visit-due : (k : ℕ) → walkOf s chords budget (length log) ≡ Stop k → (k ≡ 8) ⊎ (k ≡ 16) → Due (visitCauses s chords budget (length log)) k
+  visit-due k h (inl e) = subst (Due (visitCauses s chords budget (length log))) (sym e) (first _ _ (h ∙ ap Stop e))
+  visit-due k h (inr e) =
+      subst (Due (visitCauses s chords budget (length log))) (sym e)
+      (later _ _ 16 (λ (q : walkOf s chords budget (length log) ≡ Stop 8). apart (stop-is _ 8 16 q (h ∙ ap Stop e))) (first _ _ (h ∙ ap Stop e)))
+    where
+      apart : _≡_ {A = ℕ} 8 16 → ⊥
+      apart z = omega arith
+
+  pub visit-answer : (x : Progress) → Walks budget (sweepEntries s chords) origin log x mid → Sweeps (visitCauses s chords budget (length log)) s chords log (endLog x mid) (endOf x)
+  unfolding NoneDue logOf
+  visit-answer (Stopped k) w =
+      let o = walk-stop budget (length log) (sweepEntries s chords) 0 [] k (w .walked) in
+      let z : length mid - 0 ≡ length mid = omega arith in
+      (visit-due k (w .walked) o, ap (λ (n : ℕ). replicate n plusZero) (z ∙ w .same) ∙ cleared k log o)
+  visit-answer (At d) w =
+      let r = walk-done budget (length log) (sweepEntries s chords) 0 [] (d .visits) (take (d .at) mid) (w .walked) in
+      let l : length (logOf s chords) ≡ d .at = sym (ap length (r .1)) ∙ length-take-le (d .at) mid (w .room) in
+      let z : 0 + length (sweepEntries s chords) ≡ length (sweepEntries s chords) = omega arith in (
+        ((λ (q : walkOf s chords budget (length log) ≡ Stop 8). done-no-stop _ (d .visits) 8 (take (d .at) mid) (w .walked) q), ((λ (q : walkOf s chords budget (length log) ≡ Stop 16). done-no-stop _ (d .visits) 16 (take (d .at) mid) (w .walked) q), tt)),
+        record {
+          entries = ap (λ (n : ℕ). n / 6) (sym l);
+          visits = r .0 ∙ z ∙ sweep-length s chords;
+          log = ap (λ (m : List Float). m ++ replicate (length mid - d .at) plusZero) (r .1) ∙ ap (λ (n : ℕ). logOf s chords ++ replicate n plusZero) (ap (λ (n : ℕ). n - d .at) (w .same) ∙ ap (λ (n : ℕ). length log - n) (sym l));
+        },
+      )
+
+-- ---- the sweep over a grid that is accepted
+module _ (s : Setting) (intervals : ℕ) (chords : List Float) (budget : ℕ) (log : List Float) where
+  pub grid-declined : (ready : SweepCheck) (k : ℕ) → Checks s intervals chords ready → ready ≡ Declined k → Sweeps (causesIn s intervals chords budget (length log)) s chords log log (Refused k)
+  grid-declined ready k c h =
+      let d : Due (settingCauses s intervals chords) k = subst (Checks s intervals chords) h c in
+      (due-first (settingCauses s intervals chords) (visitCauses s chords budget (length log)) k d, setting-kept k log s intervals chords d)
+
+  pub admitted : (ready : SweepCheck) → Checks s intervals chords ready → ready ≡ Admitted → NoneDue (settingCauses s intervals chords) × Sweepable (s .spec) (s .grid) (s .cells)
+  admitted ready c h = subst (Checks s intervals chords) h c
+
+  after-setting : (after : List Float) (r : Swept) → NoneDue (settingCauses s intervals chords) → Sweeps (visitCauses s chords budget (length log)) s chords log after r → Sweeps (causesIn s intervals chords budget (length log)) s chords log after r
+  after-setting after (Refused k) n f = (due-second (settingCauses s intervals chords) (visitCauses s chords budget (length log)) k n (f .0), f .1)
+  after-setting after (Accepted t) n f = (none-in-both (settingCauses s intervals chords) (visitCauses s chords budget (length log)) n (f .0), f .1)
+
+  pub grid-swept : (ready : SweepCheck) (x : Progress) (mid after : List Float) (r : Swept) → Checks s intervals chords ready → ready ≡ Admitted → Walks budget (sweepEntries s chords) (record { visits = 0; at = 0 }) log x mid
+      → (r ≡ endOf x) × (after ≡ endLog x mid) → Sweeps (causesIn s intervals chords budget (length log)) s chords log after r
+  grid-swept ready x mid after r c h w e =
+      after-setting after r (admitted ready c h .0)
+      (subst (λ (y : Swept). Sweeps (visitCauses s chords budget (length log)) s chords log after y) (sym (e .0))
+      (subst (λ (l : List Float). Sweeps (visitCauses s chords budget (length log)) s chords log l (endOf x)) (sym (e .1)) (visit-answer s chords budget log mid x w)))
+
+-- ---- the sweep
+module _ (spec : DexelStockSpec) (units : List ℕ) (k : Kernel) (p : Profile) (c : Cells) (intervals : ℕ) (chords : List Float) (budget : ℕ) (log : List Float) where
+  abbrev here : Setting
+  here = setting spec (gridIn spec) k p c
+
+  pub sweep-refused : (n : ℕ) → gridOf spec units ≡ NoGrid n → Sweeps (sweepCauses units here intervals chords budget (length log)) here chords log log (Refused n)
+  sweep-refused n h =
+      let d = refused spec units n h in
+      (due-first (gridCauses spec units) (causesIn here intervals chords budget (length log)) n d, grid-kept n log spec units d)
+
+  after-grid : (after : List Float) (r : Swept) → NoneDue (gridCauses spec units) → Sweeps (causesIn here intervals chords budget (length log)) here chords log after r
+      → Sweeps (sweepCauses units here intervals chords budget (length log)) here chords log after r
+  after-grid after (Refused n) a f = (due-second (gridCauses spec units) (causesIn here intervals chords budget (length log)) n a (f .0), f .1)
+  after-grid after (Accepted t) a f = (none-in-both (gridCauses spec units) (causesIn here intervals chords budget (length log)) a (f .0), f .1)
+
+  pub sweep-accepted : (g : DexelGrid) (after : List Float) (r : Swept) → gridOf spec units ≡ Griddable g
+      → Sweeps (causesIn (setting spec g k p c) intervals chords budget (length log)) (setting spec g k p c) chords log after r
+      → Sweeps (sweepCauses units here intervals chords budget (length log)) here chords log after r
+  sweep-accepted g after r h f =
+      let a = accepted spec units g h in
+      after-grid after r (a .0) (subst (λ (x : DexelGrid). Sweeps (causesIn (setting spec x k p c) intervals chords budget (length log)) (setting spec x k p c) chords log after r) (a .1) f)
+
+-- the same frame and the same profile give the same answer
+module _ (spec : DexelStockSpec) (units : List ℕ) (c : Cells) (intervals : ℕ) (guard : Float) (chords : List Float) (budget : ℕ) (log after : List Float) (r : Swept) where
+  abbrev with : Frame → Profile → Setting
+  with f p = setting spec (gridIn spec) (record { frame = f; guard = guard }) p c
+
+  abbrev SweptWith : Frame → Profile → Type 0
+  SweptWith f p = Sweeps (sweepCauses units (with f p) intervals chords budget (length log)) (with f p) chords log after r
+
+  pub same-tool : (f h : Frame) (p q : Profile) → f ≡ h → p ≡ q → SweptWith f p → SweptWith h q
+  same-tool f h p q e k t = subst (λ (x : Frame). SweptWith x q) e (subst (SweptWith f) k t)

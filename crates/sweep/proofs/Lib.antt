@@ -1,0 +1,3 @@
+pub mod Tracks
+pub mod Chords
+pub mod Answers

@@ -1,0 +1,60 @@
+use borrow.Author.Needs.{needs}
+use native.Mathlib.Omega.{arith}
+use mathlib.Core.Path.{_≡_, refl, sym, ap, _∙_}
+use Rattle.store.specs.Updates.{cells}
+use Rattle.frame.specs.Frame.{frameOf}
+use Rattle.across.specs.Lane.{profileOf}
+use Rattle.across.specs.declared.Kernel.{Kernel}
+use Rattle.grid.proofs.Facts.{grid-facts}
+use Rattle.sweep.proofs.Answers.{sweep-refused, sweep-accepted, same-tool}
+use Rattle.sweep.proofs.sweep.Statement.{statement}
+use Rattle.sweep.proofs.sweep.Tie as tie
+
+grid-requires : tie.Need-grid-requires
+grid-requires c κs = search needs
+
+enum-known-n : tie.Need-enum-known-n
+enum-known-n c = search needs
+
+returns : tie.Need-returns
+returns c = let a = c .before .before .before .before .before .before .before .before .before .before in let s = cells (a .args .spans .now) (a .args .links .now) (a .args .heads .now) in let k : Kernel = record { frame = frameOf (a .args .axis); guard = a .args .guard } in let p = profileOf (a .args .shape) (a .args .cutter) in sweep-refused (a .args .spec) (a .args .units .now) k p s (a .args .intervals) (a .args .chords .now) (a .args .budget) (a .args .log .now) _ (sym (c .before .before .before .grid .ensures) ∙ c .before .n .given .1)
+
+enum-known-g : tie.Need-enum-known-g
+enum-known-g c = search needs
+
+frame-requires : tie.Need-frame-requires
+frame-requires c κs = search needs
+
+profile-of-requires : tie.Need-profile-of-requires
+profile-of-requires c κs = search needs
+
+sweep-grid-requires : tie.Need-sweep-grid-requires
+sweep-grid-requires c κs = grid-facts _ _ _ (sym (c .before .before .before .before .before .before .grid .ensures) ∙ c .before .before .before .before .g .given .1)
+
+same-length : tie.Need-same-length
+same-length c = search needs
+
+returns-2 : tie.Need-returns-2
+returns-2 c =
+    let a = c .before .before .before .before .before .before .before .before .before .before .before .before .before .before .before .before in
+    let s = cells (a .args .spans .now) (a .args .links .now) (a .args .heads .now) in
+    let f = c .before .before .before .before .before .frame .result in
+    let p = c .before .before .before .before .profile-of .result in
+    let k : Kernel = record { frame = f; guard = a .args .guard } in
+    let h = sym (c .before .before .before .before .before .before .before .before .before .grid .ensures) ∙ c .before .before .before .before .before .before .before .g .given .1 in
+    same-tool (a .args .spec) (a .args .units .now) s (a .args .intervals) (a .args .guard) (a .args .chords .now) (a .args .budget) (a .args .log .now) _ (c .before .before .sweep-grid .result) f (frameOf (a .args .axis)) p (profileOf (a .args .shape) (a .args .cutter)) (c .before .before .before .before .before .frame .ensures) (c .before .before .before .before .profile-of .ensures)
+    (sweep-accepted (a .args .spec) (a .args .units .now) k p s (a .args .intervals) (a .args .chords .now) (a .args .budget) (a .args .log .now) _ _ (c .before .before .sweep-grid .result) h (c .before .before .sweep-grid .ensures))
+
+pub sweep-spec : {M : Type 1} → statement M
+sweep-spec =
+    tie.close
+    (tie.spec
+    grid-requires
+    enum-known-n
+    returns
+    enum-known-g
+    frame-requires
+    profile-of-requires
+    sweep-grid-requires
+    same-length
+    returns-2)

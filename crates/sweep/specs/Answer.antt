@@ -1,0 +1,93 @@
+-- What a sweep answers, and what it leaves in the log.
+use mathlib.Core.Path.{_≡_}
+use mathlib.Core.Bool.{true, false, cond, _||_}
+use mathlib.Core.List.{List, [], _∷_, _++_}
+use mathlib.Core.Logic.{_⊎_}
+use Prim.Native.Nat.{ℕ, _-_, _/_, _%_}
+use lib.Dec.{eqb}
+use lib.Ieee.{Float}
+use lib.ListN.{length, replicate, take}
+use Rattle.refusal.specs.Refusal.{Cause, cause, Due, NoneDue}
+use Rattle.grid.specs.Causes.{gridCauses, gridIn}
+use Rattle.grid.specs.declared.DexelStockSpec.{DexelStockSpec}
+use Rattle.frame.specs.Frame.{frameOf}
+use Rattle.frame.specs.declared.Axis.{Axis}
+use Rattle.cutter.specs.Limits.{toolCauses}
+use Rattle.cutter.specs.declared.CutterShape.{CutterShape}
+use Rattle.cutter.specs.declared.PreparedCutter.{PreparedCutter}
+use Rattle.spans.specs.Results.{plusZero}
+use Rattle.store.specs.Updates.{Cells}
+use Rattle.stock.specs.Stock.{SoundCells, short}
+use Rattle.across.specs.Lane.{profileOf}
+use Rattle.visits.specs.Walk.{Walked, Stop, walk}
+use Rattle.visits.specs.declared.Progress.{Progress}
+use Rattle.visits.specs.declared.Progress.the-variants.{At, Stopped}
+use Rattle.chords.specs.Limits.{chordsFit}
+use Rattle.sweep.specs.Entries.{Setting, setting, sweepEntries, logOf, visitTotal, Sweepable}
+use Rattle.sweep.specs.declared.Totals.{Totals}
+use Rattle.sweep.specs.declared.Swept.{Swept}
+use Rattle.sweep.specs.declared.Swept.the-variants.{Accepted, Refused}
+use Rattle.sweep.specs.declared.SweepCheck.{SweepCheck}
+use Rattle.sweep.specs.declared.SweepCheck.the-variants.{Admitted, Declined}
+
+-- the setting that the arguments of a sweep describe
+abbrev pub settingOf : DexelStockSpec → Axis → CutterShape → PreparedCutter → (guard : Float) → Cells → Setting
+settingOf spec axis shape cutter guard c = setting spec (gridIn spec) (record { frame = frameOf axis; guard = guard }) (profileOf shape cutter) c
+
+-- 11: chords with part of one over, or a store that is not sound
+unfoldable pub Unsound : Setting → (intervals : ℕ) → (chords : List Float) → Type 0
+Unsound s intervals chords = (length chords % 8 ≡ 0 → ⊥) ⊎ (SoundCells (s .spec) (s .grid) (s .cells) intervals → ⊥)
+
+-- document 01's order once `grid` accepts: 12, 11, 5, 6, 7
+abbrev pub settingCauses : Setting → (intervals : ℕ) → (chords : List Float) → List Cause
+settingCauses s intervals chords =
+    cause 12 (short (s .spec) (s .grid) (s .cells) ≡ true)
+    ∷ cause 11 (Unsound s intervals chords)
+    ∷ (toolCauses (s .profile .shape) (s .profile .cutter) ++ (cause 7 (chordsFit (s .kernel .frame) (s .kernel .guard) chords ≡ false) ∷ []))
+
+-- the walk over all rays, with a log of `len` cells
+abbrev pub walkOf : Setting → (chords : List Float) → (budget len : ℕ) → Walked
+walkOf s chords budget len = walk budget len (sweepEntries s chords) 0 []
+
+-- then per visit 8 before 16
+abbrev pub visitCauses : Setting → (chords : List Float) → (budget len : ℕ) → List Cause
+visitCauses s chords budget len = cause 8 (walkOf s chords budget len ≡ Stop 8) ∷ cause 16 (walkOf s chords budget len ≡ Stop 16) ∷ []
+
+abbrev pub causesIn : Setting → (intervals : ℕ) → (chords : List Float) → (budget len : ℕ) → List Cause
+causesIn s intervals chords budget len = settingCauses s intervals chords ++ visitCauses s chords budget len
+
+-- document 01's order for the sweep: 1 to 4 first
+abbrev pub sweepCauses : (units : List ℕ) → Setting → (intervals : ℕ) → (chords : List Float) → (budget len : ℕ) → List Cause
+sweepCauses units s intervals chords budget len = gridCauses (s .spec) units ++ causesIn s intervals chords budget len
+
+-- 8 and 16 leave the log all zero, every other refusal leaves it untouched
+unfoldable pub refusedLog : ℕ → List Float → List Float
+refusedLog k log = cond (eqb k 8 || eqb k 16) (replicate (length log) plusZero) log
+
+-- an accepted sweep: the number of entries, six cells each, and the visit total; the entries in order and zeros past them
+pub record Logs (s : Setting) (chords before after : List Float) (t : Totals) : Type 0 where
+  pub entries : t .entries ≡ length (logOf s chords) / 6
+  pub visits : t .visits ≡ visitTotal s chords
+  pub log : after ≡ logOf s chords ++ replicate (length before - length (logOf s chords)) plusZero
+
+-- a refused call gives the number that is due
+abbrev pub Sweeps : List Cause → Setting → (chords before after : List Float) → Swept → Type 0
+Sweeps causes s chords before after (Refused k) = Due causes k × (after ≡ refusedLog k before)
+Sweeps causes s chords before after (Accepted t) = NoneDue causes × Logs s chords before after t
+
+-- the answer of the check of a setting; one that is admitted can be swept
+abbrev pub Checks : Setting → (intervals : ℕ) → (chords : List Float) → SweepCheck → Type 0
+Checks s intervals chords Admitted = NoneDue (settingCauses s intervals chords) × Sweepable (s .spec) (s .grid) (s .cells)
+Checks s intervals chords (Declined k) = Due (settingCauses s intervals chords) k
+
+-- the end of a walk as an answer, and the log with what is not an entry zero
+abbrev pub endOf : Progress → Swept
+endOf (Stopped k) = Refused k
+endOf (At c) = Accepted (record { entries = c .at / 6; visits = c .visits })
+
+abbrev pub loggedBy : Progress → ℕ
+loggedBy (Stopped k) = 0
+loggedBy (At c) = c .at
+
+abbrev pub endLog : Progress → List Float → List Float
+endLog x log = take (loggedBy x) log ++ replicate (length log - loggedBy x) plusZero

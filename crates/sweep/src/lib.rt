@@ -1,0 +1,341 @@
+// Document 01's lateral sweep: chords in order, for each the two world axes other than the tool's, and the rays of each clamped rectangle.
+ghost use mathlib.Core.Path.{_≡_};
+ghost use Prim.Native.Nat.{_+_, _*_, _<_, _≤_, _^_};
+ghost use lib.ListN.{length};
+ghost use Rattle.grid.specs.Rays.{rayCount};
+ghost use Rattle.grid.specs.Causes.{GridFacts};
+ghost use Rattle.store.specs.Updates.{cells};
+ghost use Rattle.visits.specs.Walk.{Walks};
+ghost use Rattle.sweep.specs.Entries.{trackOf, setting, axisEntries, firstAxis, secondAxis, chordEntries, sweepEntries, Sweepable};
+ghost use Rattle.sweep.specs.Answer.{settingOf, causesIn, sweepCauses, Sweeps, Checks, endOf, loggedBy, endLog};
+use across::Chord;
+use across::Kernel;
+use across::Profile;
+use across::Rectangle;
+use cutter::CutterShape;
+use cutter::PreparedCutter;
+use cutter::ToolCheck;
+use frame::Axis;
+use frame::Frame;
+use frame::LocalAxis;
+use grid::DexelGrid;
+use grid::DexelStockSpec;
+use grid::Gridded;
+use grid::WorldAxis;
+use visits::Cursor;
+use visits::Progress;
+use visits::Track;
+
+// The number of entries in the log, and document 01's visit total.
+pub struct Totals {
+    pub entries: usize,
+    pub visits: u64,
+}
+
+// The totals of a sweep, or why the call is refused.
+pub enum Swept {
+    Accepted(Totals),
+    Refused(u32),
+}
+
+pub enum SweepCheck {
+    Admitted,
+    Declined(u32),
+}
+
+fn track_of(g: DexelGrid, axis: WorldAxis) -> Track
+    requires { ⌜ rayCount g < 2 ^ 64 ⌝ }
+    ensures { λ r. ⌜ r ≡ trackOf g axis ⌝ }
+{
+    let w = grid::cross(axis);
+    Track {
+        axis: axis.0,
+        first: grid::ray_offset(g, axis),
+        row: grid::cells_along(g, w.u),
+        rows: grid::cells_along(g, w.v),
+    }
+}
+
+// The rays along a world axis that a chord visits.
+fn sweep_axis(
+    spec: DexelStockSpec,
+    g: DexelGrid,
+    k: Kernel,
+    p: Profile,
+    chord: Chord,
+    axis: WorldAxis,
+    budget: u64,
+    start: Cursor,
+    spans: &[f64],
+    links: &[u64],
+    heads: &[u64],
+    log: &mut [f64],
+) -> Progress
+    requires { ⌜ Sweepable spec g (cells (now spans) (now links) (now heads)) × (start .at ≤ length (now log)) ⌝ }
+    ensures { λ x. ⌜ Walks budget (axisEntries (setting spec g k p (cells (now (spans .entry)) (now (links .entry)) (now (heads .entry)))) chord axis) start (now (log .entry)) x (now (log .exit)) ⌝ }
+{
+    let l = across::lane_of(spec, g, k, p, chord, axis);
+    let n = spec.max_intervals as usize;
+    let t = track_of(g, axis);
+    let rect = across::rectangle_of(spec, g, p, l, axis);
+    match rect {
+        Rectangle::NoRays => {
+            return Progress::At(start);
+        }
+        Rectangle::Rays(r) => {
+            return visits::sweep_rect(n, t, r, p, l, budget, start, spans, links, heads, log);
+        }
+    }
+}
+
+// The lower of the two world axes other than the tool's.
+fn first_axis(f: Frame) -> WorldAxis
+    ensures { λ r. ⌜ r ≡ firstAxis f ⌝ }
+{
+    let tool = frame::world_axis(f, LocalAxis(2));
+    if tool.0 == 0 {
+        return WorldAxis(1);
+    }
+    WorldAxis(0)
+}
+
+// The higher of the two.
+fn second_axis(f: Frame) -> WorldAxis
+    ensures { λ r. ⌜ r ≡ secondAxis f ⌝ }
+{
+    let tool = frame::world_axis(f, LocalAxis(2));
+    if tool.0 == 0 {
+        return WorldAxis(2);
+    }
+    if tool.0 == 1 {
+        return WorldAxis(2);
+    }
+    WorldAxis(1)
+}
+
+// The rays across the tool that a chord visits.
+fn sweep_chord(
+    spec: DexelStockSpec,
+    g: DexelGrid,
+    k: Kernel,
+    p: Profile,
+    chord: Chord,
+    budget: u64,
+    start: Cursor,
+    spans: &[f64],
+    links: &[u64],
+    heads: &[u64],
+    log: &mut [f64],
+) -> Progress
+    requires { ⌜ Sweepable spec g (cells (now spans) (now links) (now heads)) × (start .at ≤ length (now log)) ⌝ }
+    ensures { λ x. ⌜ Walks budget (chordEntries (setting spec g k p (cells (now (spans .entry)) (now (links .entry)) (now (heads .entry)))) chord) start (now (log .entry)) x (now (log .exit)) ⌝ }
+{
+    let first = first_axis(k.frame);
+    let second = second_axis(k.frame);
+    let x = sweep_axis(
+        spec,
+        g,
+        k,
+        p,
+        chord,
+        first,
+        budget,
+        start,
+        spans,
+        links,
+        heads,
+        log,
+    );
+    match x {
+        Progress::Stopped(n) => {
+            return Progress::Stopped(n);
+        }
+        Progress::At(c) => {
+            return sweep_axis(
+                spec,
+                g,
+                k,
+                p,
+                chord,
+                second,
+                budget,
+                c,
+                spans,
+                links,
+                heads,
+                log,
+            );
+        }
+    }
+}
+
+// All chords, in order.
+fn sweep_chords(
+    spec: DexelStockSpec,
+    g: DexelGrid,
+    k: Kernel,
+    p: Profile,
+    chords: &[f64],
+    budget: u64,
+    spans: &[f64],
+    links: &[u64],
+    heads: &[u64],
+    log: &mut [f64],
+) -> Progress
+    requires { ⌜ Sweepable spec g (cells (now spans) (now links) (now heads)) ⌝ }
+    ensures { λ x. ⌜ Walks budget (sweepEntries (setting spec g k p (cells (now (spans .entry)) (now (links .entry)) (now (heads .entry)))) (now (chords .entry)))
+        (record { visits = 0; at = 0 }) (now (log .entry)) x (now (log .exit)) ⌝ }
+{
+    let n = chords.len() / 8;
+    let mut c = Cursor { visits: 0, at: 0 };
+    let mut i: usize = 0;
+    while i < n {
+        let chord = chords::chord_at(k.frame, chords, i);
+        let x = sweep_chord(spec, g, k, p, chord, budget, c, spans, links, heads, log);
+        match x {
+            Progress::Stopped(m) => {
+                return Progress::Stopped(m);
+            }
+            Progress::At(d) => {
+                c = d;
+            }
+        }
+        i += 1;
+    }
+    Progress::At(c)
+}
+
+// Ends a walk: its answer, and zeros in every cell of the log that is not of an entry.
+fn end_log(x: Progress, log: &mut [f64]) -> Swept
+    requires { ⌜ loggedBy x ≤ length (now log) ⌝ }
+    ensures { λ r. ⌜ (r ≡ endOf x) × (now (log .exit) ≡ endLog x (now (log .entry))) ⌝ }
+{
+    match x {
+        Progress::Stopped(n) => {
+            spans::clear_from(log, 0);
+            return Swept::Refused(n);
+        }
+        Progress::At(c) => {
+            spans::clear_from(log, c.at);
+            return Swept::Accepted(Totals {
+                entries: c.at / 6,
+                visits: c.visits,
+            });
+        }
+    }
+}
+
+// Refusals 12, 11, 5, 6 and 7.
+fn check_sweep(
+    spec: DexelStockSpec,
+    g: DexelGrid,
+    k: Kernel,
+    p: Profile,
+    chords: &[f64],
+    spans: &[f64],
+    links: &[u64],
+    heads: &[u64],
+    intervals: u64,
+) -> SweepCheck
+    requires { ⌜ GridFacts spec g ⌝ }
+    ensures { λ r. ⌜ Checks (setting spec g k p (cells (now (spans .entry)) (now (links .entry)) (now (heads .entry)))) intervals (now (chords .entry)) r ⌝ }
+{
+    if stock::is_short(spec, g, spans, links, heads) {
+        return SweepCheck::Declined(12);
+    }
+    if chords.len() % 8 != 0 {
+        return SweepCheck::Declined(11);
+    }
+    if !stock::check_stock(spec, g, spans, links, heads, intervals) {
+        return SweepCheck::Declined(11);
+    }
+    let shape = p.shape;
+    let tool = cutter::check_tool(shape, p.cutter);
+    match tool {
+        ToolCheck::Refused(n) => {
+            return SweepCheck::Declined(n);
+        }
+        ToolCheck::Accepted => {
+            if chords::check_chords(k.frame, k.guard, chords) {
+                return SweepCheck::Admitted;
+            }
+            return SweepCheck::Declined(7);
+        }
+    }
+}
+
+// The sweep, over a grid that is accepted.
+fn sweep_grid(
+    spec: DexelStockSpec,
+    g: DexelGrid,
+    k: Kernel,
+    p: Profile,
+    chords: &[f64],
+    budget: u64,
+    spans: &[f64],
+    links: &[u64],
+    heads: &[u64],
+    intervals: u64,
+    log: &mut [f64],
+) -> Swept
+    requires { ⌜ GridFacts spec g ⌝ }
+    ensures { λ r. ⌜ Sweeps (causesIn (setting spec g k p (cells (now (spans .entry)) (now (links .entry)) (now (heads .entry)))) intervals (now (chords .entry)) budget (length (now (log .entry))))
+        (setting spec g k p (cells (now (spans .entry)) (now (links .entry)) (now (heads .entry)))) (now (chords .entry)) (now (log .entry)) (now (log .exit)) r ⌝ }
+{
+    let ready = check_sweep(spec, g, k, p, chords, spans, links, heads, intervals);
+    match ready {
+        SweepCheck::Declined(n) => {
+            return Swept::Refused(n);
+        }
+        SweepCheck::Admitted => {
+            let x = sweep_chords(spec, g, k, p, chords, budget, spans, links, heads, log);
+            return end_log(x, log);
+        }
+    }
+}
+
+// The rays across the tool that a swept cutter meets, as a log. Refusals: 1, 2, 3, 4, 12, 11, 5, 6, 7, then per visit 8 before 16.
+pub fn sweep(
+    spec: DexelStockSpec,
+    units: &[u8],
+    spans: &[f64],
+    links: &[u64],
+    heads: &[u64],
+    intervals: u64,
+    axis: Axis,
+    shape: CutterShape,
+    cutter: PreparedCutter,
+    guard: f64,
+    chords: &[f64],
+    budget: u64,
+    log: &mut [f64],
+) -> Swept
+    ensures { λ r. ⌜ Sweeps (sweepCauses (now (units .entry)) (settingOf spec axis shape cutter guard (cells (now (spans .entry)) (now (links .entry)) (now (heads .entry)))) intervals (now (chords .entry)) budget (length (now (log .entry))))
+        (settingOf spec axis shape cutter guard (cells (now (spans .entry)) (now (links .entry)) (now (heads .entry)))) (now (chords .entry)) (now (log .entry)) (now (log .exit)) r ⌝ }
+{
+    match grid::grid(spec, units) {
+        Gridded::Refused(n) => {
+            return Swept::Refused(n);
+        }
+        Gridded::Accepted(g) => {
+            let k = Kernel {
+                frame: axis.frame(),
+                guard: guard,
+            };
+            let p = across::profile_of(shape, cutter);
+            return sweep_grid(
+                spec,
+                g,
+                k,
+                p,
+                chords,
+                budget,
+                spans,
+                links,
+                heads,
+                intervals,
+                log,
+            );
+        }
+    }
+}
