@@ -30,6 +30,12 @@ pub fn covers(outer: &[f64], inner: &[f64]) -> bool
                 return false;
             }
             k += 2;
+            if inner.len() <= k {
+                return true;
+            }
+            if outer[j + 1] < inner[k + 1] {
+                j += 2;
+            }
         }
     }
     true

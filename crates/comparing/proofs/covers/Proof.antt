@@ -75,16 +75,61 @@ returns-2 c =
 add-k : tie.Need-add-k Inv-loop μ-loop
 add-k c = search needs
 
+returns-3 : tie.Need-returns-3 Inv-loop μ-loop
+returns-3 c =
+    let q = c .before in
+    let l = q .before .before .before .before .before .before .before .before in
+    cover-done _ _ _ _ (cover-pair _ _ _ _ (l .before .pre .0) (l .before .pre .1) (l .loop .inv) (q .before .before .before .before .before .before .before .loop-test .taken) (omega (arith, q .before .before .before .before .before .before .if1 .left)) (q .before .before .before .if2 .left) (q .if3 .left)) (c .if4 .taken)
+
+add-if5 : tie.Need-add-if5 Inv-loop μ-loop
+add-if5 c = search needs
+
+mul-if5 : tie.Need-mul-if5 Inv-loop μ-loop
+mul-if5 c = search needs
+
+shared-slice-read-if5 : tie.Need-shared-slice-read-if5 Inv-loop μ-loop
+shared-slice-read-if5 c =
+    let l = c .before .before .before .before .before .before .before .before .before .before in
+    omega (arith, sound-mod (l .before .args .outer .now) (l .before .pre .0), l .loop .inv .jWhole, c .before .before .before .before .before .before .before .before .if1 .left)
+
+add-if5-2 : tie.Need-add-if5-2 Inv-loop μ-loop
+add-if5-2 c = search needs
+
+mul-if5-2 : tie.Need-mul-if5-2 Inv-loop μ-loop
+mul-if5-2 c = search needs
+
+shared-slice-read-if5-2 : tie.Need-shared-slice-read-if5-2 Inv-loop μ-loop
+shared-slice-read-if5-2 c =
+    let p = c .before .before in
+    let l = p .before .before .before .before .before .before .before .before .before in
+    omega (arith, sound-mod (l .before .args .inner .now) (l .before .pre .1), l .loop .inv .kWhole, p .if4 .left)
+
+add-j-2 : tie.Need-add-j-2 Inv-loop μ-loop
+add-j-2 c = search needs
+
 loop-less-2 : tie.Need-loop-less-2 Inv-loop μ-loop
 loop-less-2 c = search needs
 
 loop-again-2 : tie.Need-loop-again-2 Inv-loop μ-loop
 loop-again-2 c =
-    let l = c .before .before .before .before .before .before .before .before in
-    cover-pair _ _ _ _ (l .before .pre .0) (l .before .pre .1) (l .loop .inv) (c .before .before .before .before .before .before .before .loop-test .taken) (omega (arith, c .before .before .before .before .before .before .if1 .left)) (c .before .before .before .if2 .left) (c .if3 .left)
+    let p = c .before .before .before in
+    let q = p .before in
+    let l = q .before .before .before .before .before .before .before .before in
+    cover-on _ _ _ _ (l .before .pre .0) (l .before .pre .1)
+    (cover-pair _ _ _ _ (l .before .pre .0) (l .before .pre .1) (l .loop .inv) (q .before .before .before .before .before .before .before .loop-test .taken) (omega (arith, q .before .before .before .before .before .before .if1 .left)) (q .before .before .before .if2 .left) (q .if3 .left))
+    (omega (arith, p .if4 .left)) (omega (arith, q .before .before .before .before .before .before .if1 .left)) (c .if5 .taken)
 
-returns-3 : tie.Need-returns-3 Inv-loop μ-loop
-returns-3 c = cover-done _ _ _ _ (c .before .loop .inv) (c .loop-test .left)
+loop-less-3 : tie.Need-loop-less-3 Inv-loop μ-loop
+loop-less-3 c = search needs
+
+loop-again-3 : tie.Need-loop-again-3 Inv-loop μ-loop
+loop-again-3 c =
+    let q = c .before .before .before .before in
+    let l = q .before .before .before .before .before .before .before .before in
+    cover-pair _ _ _ _ (l .before .pre .0) (l .before .pre .1) (l .loop .inv) (q .before .before .before .before .before .before .before .loop-test .taken) (omega (arith, q .before .before .before .before .before .before .if1 .left)) (q .before .before .before .if2 .left) (q .if3 .left)
+
+returns-4 : tie.Need-returns-4 Inv-loop μ-loop
+returns-4 c = cover-done _ _ _ _ (c .before .loop .inv) (c .loop-test .left)
 
 pub covers-spec : {M : Type 1} → statement M
 covers-spec =
@@ -109,6 +154,16 @@ covers-spec =
     shared-slice-read-if3-2
     returns-2
     add-k
+    returns-3
+    add-if5
+    mul-if5
+    shared-slice-read-if5
+    add-if5-2
+    mul-if5-2
+    shared-slice-read-if5-2
+    add-j-2
     loop-less-2
     loop-again-2
-    returns-3)
+    loop-less-3
+    loop-again-3
+    returns-4)
