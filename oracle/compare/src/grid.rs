@@ -1,6 +1,9 @@
 //! The grid of a blank against camlib's: refusals, cells and steps, and for an accepted description the functions over its grid.
-use crate::function::{Function, Outcome, Words};
-use harness::grid::{Answer, Query, UNITS, edges, query};
+use crate::{
+    function::{Function, Outcome, Words},
+    strips,
+};
+use harness::grid::{Answer, Place, Query, UNITS, bound_place, center_place, edges, places, query};
 
 #[derive(Clone, Copy)]
 #[repr(C)]
@@ -119,9 +122,49 @@ impl Words for Query {
     }
 }
 
+impl Words for Place {
+    fn words(&self) -> String {
+        let cells = self.grid.cells.map(|n| n as u64);
+        let ends = (self.min.to_vec(), self.max.to_vec());
+        format!("{} {} {} {} {}", ends.words(), cells.words(), self.grid.step_mm.words(), self.axis, self.at)
+    }
+}
+
+/// The box, which is all that the functions over a grid read of a description, and the grid.
+fn over(p: &Place) -> (DexelStockSpec, DexelGrid) {
+    let spec = DexelStockSpec {
+        version: 1,
+        min_mm: vec3(p.min),
+        max_mm: vec3(p.max),
+        cell_size_mm: 1.,
+        max_rays: 1,
+        max_intervals: 1,
+    };
+    let [c0, c1, c2] = p.grid.cells.map(|n| n as u64);
+    let [s0, s1, s2] = p.grid.step_mm;
+    (spec, DexelGrid { c0, c1, c2, s0, s1, s2 })
+}
+
+/// A place has at least one cell along each axis, which `ray_center` asks for.
+fn compare_center(p: &Place) -> Outcome {
+    let (spec, g) = over(p);
+    let port = unsafe { raw::tridexel_inner_ray_center(spec, g, p.axis as u8, p.at) };
+    strips::answers((0, p.ray_center()), (0, [port.u, port.v]))
+}
+
+fn compare_bound(p: &Place) -> Outcome {
+    let (spec, g) = over(p);
+    let port = unsafe { raw::tridexel_inner_cell_bound(spec, g, p.axis as u8, p.at) };
+    strips::answers((0, [p.cell_bound(), 0.]), (0, [port, 0.]))
+}
+
 pub fn functions() -> Vec<Function> {
-    vec![Function::new("grid", edges(), query, |q| {
-        let (rust, port) = (q.answer().words(), port(q).words());
-        if rust == port { Outcome::Same } else { Outcome::differs(None, rust, port) }
-    })]
+    vec![
+        Function::new("grid", edges(), query, |q| {
+            let (rust, port) = (q.answer().words(), port(q).words());
+            if rust == port { Outcome::Same } else { Outcome::differs(None, rust, port) }
+        }),
+        Function::new("ray_center", places(), center_place, compare_center),
+        Function::new("cell_bound", places(), bound_place, compare_bound),
+    ]
 }
