@@ -132,14 +132,8 @@ impl Words for Place {
 
 /// The box, which is all that the functions over a grid read of a description, and the grid.
 fn over(p: &Place) -> (DexelStockSpec, DexelGrid) {
-    let spec = DexelStockSpec {
-        version: 1,
-        min_mm: vec3(p.min),
-        max_mm: vec3(p.max),
-        cell_size_mm: 1.,
-        max_rays: 1,
-        max_intervals: 1,
-    };
+    let spec =
+        DexelStockSpec { version: 1, min_mm: vec3(p.min), max_mm: vec3(p.max), cell_size_mm: 1., max_rays: 1, max_intervals: 1 };
     let [c0, c1, c2] = p.grid.cells.map(|n| n as u64);
     let [s0, s1, s2] = p.grid.step_mm;
     (spec, DexelGrid { c0, c1, c2, s0, s1, s2 })
