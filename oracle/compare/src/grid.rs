@@ -66,16 +66,21 @@ fn vec3(p: [f64; 3]) -> Vec3 {
     Vec3 { x: p[0], y: p[1], z: p[2] }
 }
 
-/// The port's answer. What the exports ask of a grid holds of each that `tridexel_inner_grid` accepts; a query's index is one of its rays.
-pub fn port(q: &Query) -> Answer {
-    let spec = DexelStockSpec {
+/// The description as the port takes it.
+pub fn described(q: &Query) -> DexelStockSpec {
+    DexelStockSpec {
         version: q.version,
         min_mm: vec3(q.min),
         max_mm: vec3(q.max),
         cell_size_mm: q.cell,
         max_rays: q.max_rays,
         max_intervals: q.max_intervals,
-    };
+    }
+}
+
+/// The port's answer. What the exports ask of a grid holds of each that `tridexel_inner_grid` accepts; a query's index is one of its rays.
+pub fn port(q: &Query) -> Answer {
+    let spec = described(q);
     let units = UNITS[q.units].as_bytes();
     let r = unsafe { raw::tridexel_inner_grid(spec, units.as_ptr(), units.len()) };
     let g = r.grid;

@@ -5,7 +5,9 @@ pub mod doubles;
 pub mod explained;
 pub mod function;
 pub mod grid;
+pub mod merge;
 pub mod spans;
+pub mod stock;
 pub mod strips;
 
 use function::Function;
@@ -17,5 +19,7 @@ pub fn modules() -> Vec<(&'static str, Vec<Function>)> {
         ("cutter", cutter::functions()),
         ("strips", strips::functions()),
         ("grid", grid::functions()),
+        ("merge", merge::functions()),
+        ("stock", stock::functions()),
     ]
 }
