@@ -37,22 +37,21 @@ pub struct DexelGrid {
 
 #[derive(Clone, Copy)]
 #[repr(C)]
-pub struct GridNumbers {
-    pub refused: u32,
-    pub grid: DexelGrid,
-}
-
-#[derive(Clone, Copy)]
-#[repr(C)]
 pub struct RayCenter {
     pub u: f64,
     pub v: f64,
 }
 
 mod raw {
-    use super::{DexelGrid, DexelStockSpec, GridNumbers, RayCenter};
+    use super::{DexelGrid, DexelStockSpec, RayCenter};
     unsafe extern "C" {
-        pub fn tridexel_inner_grid(spec: DexelStockSpec, units: *const u8, units_len: usize) -> GridNumbers;
+        pub fn tridexel_grid(
+            spec: DexelStockSpec,
+            units: *const u8,
+            units_len: usize,
+            counts: *mut [u64; 3],
+            steps: *mut [f64; 3],
+        ) -> u32;
         pub fn tridexel_inner_rays(g: DexelGrid, axis: u8) -> u64;
         pub fn tridexel_inner_total_rays(g: DexelGrid) -> u64;
         pub fn tridexel_inner_ray_number(g: DexelGrid, axis: u8, index: u64) -> u64;
@@ -78,17 +77,24 @@ pub fn described(q: &Query) -> DexelStockSpec {
     }
 }
 
-/// The port's answer. What the exports ask of a grid holds of each that `tridexel_inner_grid` accepts; a query's index is one of its rays.
+pub fn grid(spec: DexelStockSpec, units: &[u8], counts: &mut [u64; 3], steps: &mut [f64; 3]) -> u32 {
+    unsafe { raw::tridexel_grid(spec, units.as_ptr(), units.len(), counts, steps) }
+}
+
+/// What the numbers are before a call: a refused one leaves them.
+const BEFORE: ([u64; 3], [f64; 3]) = ([0xdead_beef; 3], [0.5; 3]);
+
+/// The port's answer. What the exports ask of a grid holds of each that `tridexel_grid` accepts; a query's index is one of its rays.
 pub fn port(q: &Query) -> Answer {
     let spec = described(q);
-    let units = UNITS[q.units].as_bytes();
-    let r = unsafe { raw::tridexel_inner_grid(spec, units.as_ptr(), units.len()) };
-    let g = r.grid;
-    let cells = [g.c0, g.c1, g.c2];
-    let steps = [g.s0, g.s1, g.s2];
-    if r.refused != 0 {
-        return Answer { refused: r.refused as u64, cells, steps, ..Answer::default() };
+    let (mut cells, mut steps) = BEFORE;
+    let refused = grid(spec, UNITS[q.units].as_bytes(), &mut cells, &mut steps);
+    if refused != 0 {
+        let kept = (cells, steps) == BEFORE;
+        let (cells, steps) = if kept { ([0; 3], [0.; 3]) } else { (cells, steps) };
+        return Answer { refused: refused as u64, cells, steps, ..Answer::default() };
     }
+    let g = DexelGrid { c0: cells[0], c1: cells[1], c2: cells[2], s0: steps[0], s1: steps[1], s2: steps[2] };
     let w = q.axis as u8;
     unsafe {
         let rays = raw::tridexel_inner_rays(g, w);

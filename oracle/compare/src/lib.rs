@@ -6,6 +6,7 @@ pub mod explained;
 pub mod function;
 pub mod grid;
 pub mod merge;
+pub mod program;
 pub mod spans;
 pub mod stock;
 pub mod strips;
@@ -21,5 +22,6 @@ pub fn modules() -> Vec<(&'static str, Vec<Function>)> {
         ("grid", grid::functions()),
         ("merge", merge::functions()),
         ("stock", stock::functions()),
+        ("program", program::functions()),
     ]
 }
