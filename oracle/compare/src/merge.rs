@@ -269,7 +269,7 @@ fn rays() -> Vec<Ray> {
     ]
 }
 
-fn edges() -> Vec<(Ray, usize)> {
+pub fn edges() -> Vec<(Ray, usize)> {
     rays().into_iter().flat_map(|r| (0..=r.work() + 3).map(move |room| (r.clone(), room))).collect()
 }
 

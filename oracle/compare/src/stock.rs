@@ -88,6 +88,9 @@ pub fn volume(
     }
 }
 
+type Fill = fn(DexelStockSpec, &[u8], &mut LentStore, &mut u64, &mut u64) -> u32;
+type Volume = fn(DexelStockSpec, &[u8], (&[f64], &[u64], &[u64]), u64, &mut [f64; 10]) -> u32;
+
 const POISON: u64 = 0xdead_beef;
 
 /// Document 01's 1 to 4, then 12: too few whole records or heads.
@@ -114,12 +117,17 @@ impl Words for Blank {
     }
 }
 
-pub fn compare_fill(b: &Blank) -> Outcome {
+/// The refusal that document 01 asks for, 0 for none.
+pub fn fill_refusal(b: &Blank) -> u32 {
+    short(&b.query, b.lens)
+}
+
+pub fn compare_fill(b: &Blank, port: Fill) -> Outcome {
     let mut lent = LentStore { spans: Lent::new(b.lens[0]), links: Lent::new(b.lens[1]), heads: Lent::new(b.lens[2]) };
     let (mut generation, mut intervals) = (POISON, POISON);
     let q = &b.query;
-    let code = fill(described(q), UNITS[q.units].as_bytes(), &mut lent, &mut generation, &mut intervals);
-    let rust = match short(q, b.lens) {
+    let code = port(described(q), UNITS[q.units].as_bytes(), &mut lent, &mut generation, &mut intervals);
+    let rust = match fill_refusal(b) {
         0 => {
             let want = Store::fill(&q.spec());
             let laid = (code, generation, intervals) == (0, 0, want.intervals);
@@ -173,20 +181,35 @@ pub fn rust_volume(spec: &oracle::dexel::DexelStockSpec, s: &Store) -> [f64; 10]
     ten(rust::stock(spec.clone(), s.generation, s.rays_by_axis(spec)).volume())
 }
 
-pub fn compare_volume(s: &Stock) -> Outcome {
+impl Stock {
+    /// How many cells of the spans, the links and the heads are lent.
+    fn lens(&self) -> [usize; 3] {
+        let (spans, links, heads) = self.store.cells();
+        let full = [spans.len(), links.len(), heads.len()];
+        std::array::from_fn(|k| (full[k] + self.over[k]).saturating_sub(self.less[k]))
+    }
+}
+
+/// The refusal that document 01 asks for, 0 for none.
+pub fn volume_refusal(s: &Stock) -> u32 {
+    let spec = s.query.spec();
+    match short(&s.query, s.lens()) {
+        0 if !s.store.counted(&spec).sound(&spec) => 11,
+        number => number,
+    }
+}
+
+pub fn compare_volume(s: &Stock, port: Volume) -> Outcome {
     let lent = s.store.lend(s.over);
-    let full = [lent.spans.read().len(), lent.links.read().len(), lent.heads.read().len()];
-    let lens: [usize; 3] = std::array::from_fn(|k| full[k].saturating_sub(s.less[k]));
+    let lens = s.lens();
     let q = &s.query;
     let mut got = [f64::from_bits(POISON); 10];
     let cells = (&lent.spans.read()[..lens[0]], &lent.links.read()[..lens[1]], &lent.heads.read()[..lens[2]]);
-    let code = volume(described(q), UNITS[q.units].as_bytes(), cells, s.store.intervals, &mut got);
-    let (number, want) = match short(q, lens) {
-        0 => {
-            let counted = s.store.counted(&q.spec());
-            if counted.sound(&q.spec()) { (0, rust_volume(&q.spec(), &counted)) } else { (11, [f64::from_bits(POISON); 10]) }
-        }
-        number => (number, [f64::from_bits(POISON); 10]),
+    let code = port(described(q), UNITS[q.units].as_bytes(), cells, s.store.intervals, &mut got);
+    let number = volume_refusal(s);
+    let want = match number {
+        0 => rust_volume(&q.spec(), &s.store.counted(&q.spec())),
+        _ => [f64::from_bits(POISON); 10],
     };
     let kept = lent.compare(&s.store) == Match::Same;
     let each = || want.iter().zip(&got);
@@ -260,7 +283,7 @@ pub fn stock(g: &mut Gen) -> Stock {
 }
 
 /// Document 01's grids with every length from one short to one over.
-fn blanks() -> Vec<Blank> {
+pub fn blanks() -> Vec<Blank> {
     let need = |q: &Query| {
         q.spec().grid().map_or([4, 4, 4], |g| [2 * q.max_intervals as usize, 2 * q.max_intervals as usize, 2 * g.total_rays()])
     };
@@ -272,11 +295,14 @@ fn blanks() -> Vec<Blank> {
 }
 
 /// The uncut stores of document 01's grids.
-fn stocks() -> Vec<Stock> {
+pub fn stocks() -> Vec<Stock> {
     let accepted = edges().into_iter().filter(|q| q.spec().grid().is_ok());
     accepted.map(|query| Stock { store: Store::fill(&query.spec()), query, over: [1, 2, 3], less: [0; 3] }).collect()
 }
 
 pub fn functions() -> Vec<Function> {
-    vec![Function::new("fill", blanks(), blank, compare_fill), Function::new("volume", stocks(), stock, compare_volume)]
+    vec![
+        Function::new("fill", blanks(), blank, |b| compare_fill(b, fill)),
+        Function::new("volume", stocks(), stock, |s| compare_volume(s, volume)),
+    ]
 }
