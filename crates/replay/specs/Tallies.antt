@@ -1,11 +1,9 @@
 -- What is counted of the rows of a replay.
-use mathlib.Core.Bool.{Bool, true, false, cond}
+use mathlib.Core.Bool.{true, false, cond}
 use mathlib.Core.List.{List}
 use Prim.Native.Nat.{ℕ, _+_}
 use lib.Dec.{eqb, ltb}
 use lib.ListN.{getD, set, replicate}
-use Rattle.rows.specs.declared.Word.{Word}
-use Rattle.rows.specs.declared.Word.the-variants.{Value, Missing}
 use Rattle.replay.specs.declared.Tally.{Tally}
 use Rattle.replay.specs.declared.Outcome.{Outcome}
 use Rattle.replay.specs.declared.Outcome.the-variants.{Agrees, Differs, Unread}
@@ -58,12 +56,3 @@ counted t Unread = missed t
 -- no row is left
 unfoldable pub ended : Tally → Tally
 ended t = record { agree = t .agree; differ = t .differ; unread = t .unread; rows = t .rows; first = t .first; done = true }
-
--- a word's number, 0 for none, and whether there is none
-unfoldable pub valueOf : Word → ℕ
-valueOf (Value v) = v
-valueOf Missing = 0
-
-unfoldable pub isMissing : Word → Bool
-isMissing (Value v) = false
-isMissing Missing = true

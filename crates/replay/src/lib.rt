@@ -1,7 +1,9 @@
 // What programs that replay recorded answers share: the counts of their rows, and how they are printed.
 ghost use mathlib.Core.Path.{_≡_};
-ghost use Prim.Native.Nat.{_<_};
-ghost use Rattle.replay.specs.Tallies.{none, up, firstOf, agreed, differed, missed, counted, ended, valueOf, isMissing};
+ghost use Prim.Native.Nat.{_+_, _*_, _^_, _<_};
+ghost use lib.ListN.{length};
+ghost use Rattle.replay.specs.Tallies.{none, up, firstOf, agreed, differed, missed, counted, ended};
+ghost use Rattle.replay.specs.Words.{valueOf, isMissing, Reads};
 use rows::Word;
 
 // What a row showed of the function of this number, or that it can't be read.
@@ -131,6 +133,23 @@ pub fn is_missing(w: Word) -> bool
         Word::Value(_) => false,
         Word::Missing => true,
     }
+}
+
+// Reads a number of 16 digits for each cell of `out`, from place `at` on, with one byte behind each, and answers whether all were there.
+pub fn read_words(text: &[u8], at: usize, out: &mut [u64]) -> bool
+    requires { ⌜ at + 17 * length (now out) < 2 ^ 64 ⌝ }
+    ensures { λ r. ⌜ Reads (now (text .entry)) at (now (out .exit)) r ⌝ }
+{
+    let mut i = 0;
+    while i < out.len() {
+        let w = rows::word_at(text, at + 17 * i);
+        if is_missing(w) {
+            return false;
+        }
+        out[i] = value_of(w);
+        i += 1;
+    }
+    true
 }
 
 fn print_number(name: &[u8], n: u64) {

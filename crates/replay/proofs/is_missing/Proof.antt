@@ -1,5 +1,5 @@
 -- `replay::is_missing` meets its contract.
-use Rattle.replay.specs.Tallies.{isMissing}
+use Rattle.replay.specs.Words.{isMissing}
 use borrow.Author.Needs.{needs}
 use Rattle.replay.proofs.is_missing.Statement.{statement}
 use Rattle.replay.proofs.is_missing.Tie as tie

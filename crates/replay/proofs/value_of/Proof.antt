@@ -1,5 +1,5 @@
 -- `replay::value_of` meets its contract.
-use Rattle.replay.specs.Tallies.{valueOf}
+use Rattle.replay.specs.Words.{valueOf}
 use borrow.Author.Needs.{needs}
 use Rattle.replay.proofs.value_of.Statement.{statement}
 use Rattle.replay.proofs.value_of.Tie as tie
