@@ -6,14 +6,15 @@ use mathlib.Core.Logic.{inl, inr}
 use native.Mathlib.Omega.{arith}
 use Prim.Native.Nat.{ℕ, zero, suc, _<_}
 use lib.Ieee.{Float}
+use Rattle.comparing.specs.Verdicts.{compareCauses}
+use Rattle.grid.specs.Causes.{gridCauses}
+use Rattle.grid.specs.declared.DexelStockSpec.{DexelStockSpec}
 use Rattle.refusal.specs.Refusal.{Cause, Due}
-use Rattle.spans.specs.Results.{Answer, listCauses}
-use Rattle.comparing.specs.Verdicts.{Verdict, compareCauses}
-use Rattle.comparing.specs.declared.Told.{Told}
-use Rattle.comparing.specs.declared.Told.the-variants.{Yes, No, Refused as Invalid}
-use Rattle.spans.specs.declared.Listed.{Listed}
-use Rattle.spans.specs.declared.Listed.the-variants.{Pairs, Refused}
-use Rattle.tridexel.specs.Numbers.{ListedAs, ToldAs, ListedBy, ToldBy}
+use Rattle.spans.specs.Results.{listCauses}
+use Rattle.stock.specs.Uncut.{fillCauses}
+use Rattle.stock.specs.Volume.{volumeCauses}
+use Rattle.store.specs.Updates.{Cells}
+use Rattle.tridexel.specs.Numbers.{AnsweredBy, HandedAs}
 
 -- each cause's number is above 0
 abbrev pub Numbered : List Cause → Type 0
@@ -30,29 +31,31 @@ due-above (c ∷ cs) k n (inr d) = due-above cs k (n .1) (d .1)
 not-below : 0 < 0 → ⊥
 not-below h = omega (arith, h)
 
-module _ (want : Float → Bool) (short bad : Type 0) (cells cells' : List Float) where
-  abbrev Promise : Listed → Type 0
-  Promise = Answer want (listCauses short bad) cells cells'
+module _ {A S : Type 0} (numbers : A → S → Type 0) (refused : ℕ → A) (promise : A → Type 0) where
+  pub answered : (a : A) (r : ℕ) (before after : S) → ((k : ℕ) → promise (refused k) → 0 < k) → promise a → HandedAs numbers refused a r before after
+      → AnsweredBy numbers refused promise r before after
+  answered a r before after above p (inl h) = subst (λ (x : ℕ). AnsweredBy numbers refused promise x before after) (sym (h .1)) (a, (h .0, p))
+  answered a zero before after above p (inr h) = absurd (not-below (above 0 (subst promise (h .0) p)))
+  answered a (suc k) before after above p (inr h) = (subst promise (h .0) p, h .1)
 
-  pub listed-by : (l : Listed) (r b a : ℕ) → Promise l → ListedAs l r b a → ListedBy Promise r b a
-  listed-by (Pairs n) r b a p e =
-      subst (λ (x : ℕ). ListedBy Promise x b a) (sym (e .0))
-      (subst (λ (x : ℕ). ListedBy Promise 0 b x) (sym (e .1)) record { answer = p; kept = λ h. omega (arith, h) })
-  listed-by (Refused zero) r b a p e = absurd (not-below (due-above (listCauses short bad) 0 (omega arith, (omega arith, tt)) (p .0)))
-  listed-by (Refused (suc k)) r b a p e =
-      subst (λ (x : ℕ). ListedBy Promise x b a) (sym (e .0)) record { answer = p; kept = λ h. e .1 }
+-- ---- the causes of each entry are numbered from 1 up
 
-module _ (a b : List Float) (found : Bool → Type 0) where
-  abbrev Promise' : Told → Type 0
-  Promise' = Verdict (compareCauses a b) found
+-- those of the list functions and of merge, 12 and 11
+pub list-above : (short bad : Type 0) (k : ℕ) → Due (listCauses short bad) k → 0 < k
+list-above short bad k = due-above (listCauses short bad) k (omega arith, (omega arith, tt))
 
-  pub told-by : (t : Told) (r y y' : ℕ) → Promise' t → ToldAs t r y y' → ToldBy Promise' r y y'
-  told-by Yes r y y' p e =
-      subst (λ (x : ℕ). ToldBy Promise' x y y') (sym (e .0))
-      (subst (λ (x : ℕ). ToldBy Promise' 0 y x) (sym (e .1)) record { answer = p; kept = λ h. omega (arith, h); digit = λ h. omega arith })
-  told-by No r y y' p e =
-      subst (λ (x : ℕ). ToldBy Promise' x y y') (sym (e .0))
-      (subst (λ (x : ℕ). ToldBy Promise' 0 y x) (sym (e .1)) record { answer = p; kept = λ h. omega (arith, h); digit = λ h. omega arith })
-  told-by (Invalid zero) r y y' p e = absurd (not-below (due-above (compareCauses a b) 0 (omega arith, tt) p))
-  told-by (Invalid (suc k)) r y y' p e =
-      subst (λ (x : ℕ). ToldBy Promise' x y y') (sym (e .0)) record { answer = p; kept = λ h. e .1; digit = λ h. omega (arith, h) }
+pub compare-above : (a b : List Float) (k : ℕ) → Due (compareCauses a b) k → 0 < k
+compare-above a b k = due-above (compareCauses a b) k (omega arith, tt)
+
+pub grid-above : (s : DexelStockSpec) (units : List ℕ) (k : ℕ) → Due (gridCauses s units) k → 0 < k
+unfolding gridCauses
+grid-above s units k = due-above (gridCauses s units) k (omega arith, (omega arith, (omega arith, (omega arith, tt))))
+
+pub fill-above : (s : DexelStockSpec) (units : List ℕ) (c : Cells) (k : ℕ) → Due (fillCauses s units c) k → 0 < k
+unfolding gridCauses
+fill-above s units c k = due-above (fillCauses s units c) k (omega arith, (omega arith, (omega arith, (omega arith, (omega arith, tt)))))
+
+pub volume-above : (s : DexelStockSpec) (units : List ℕ) (c : Cells) (intervals k : ℕ) → Due (volumeCauses s units c intervals) k → 0 < k
+unfolding gridCauses
+volume-above s units c intervals k =
+    due-above (volumeCauses s units c intervals) k (omega arith, (omega arith, (omega arith, (omega arith, (omega arith, (omega arith, tt))))))

@@ -1,5 +1,7 @@
-// The C interface: every entry under a C name. A slice is a pointer and a length, a number handed back is a pointer.
+// The C interface: every entry under a C name. A slice is a pointer and a length, a number or an array handed back is a pointer.
 // The result is document 01's refusal number, 0 where the call is accepted. A refused call leaves every number and cell as it was.
+mod stocks;
+
 ghost use mathlib.Core.Path.{_≡_};
 ghost use mathlib.Core.Bool.{not, _&&_};
 ghost use Rattle.spans.specs.Spans.{holds};
@@ -7,13 +9,18 @@ ghost use lib.ListN.{length};
 ghost use Rattle.spans.specs.Results.{Answer, normalizeCauses};
 ghost use Rattle.combining.specs.Combining.{combineCauses};
 ghost use Rattle.comparing.specs.Verdicts.{Verdict, compareCauses, Covers, Meets};
-ghost use Rattle.tridexel.specs.Numbers.{ListedAs, ToldAs, ListedBy, ToldBy};
+ghost use Rattle.comparing.specs.declared.Told.{Told};
+ghost use Rattle.merge.specs.Merge.{MergeAnswer};
+ghost use Rattle.merge.specs.declared.Merged.{Merged};
+ghost use Rattle.spans.specs.declared.Listed.{Listed};
+ghost use Rattle.tridexel.specs.Numbers.{AnsweredBy, HandedAs, listedNumbers, toldNumbers, mergedNumbers, partCells, digit};
 use comparing::Told;
+use merge::Merged;
 use spans::Listed;
 
 // Hands the answer of a list function back as numbers.
 fn hand_listed(l: Listed, pairs: &mut usize) -> u32
-    ensures { λ r. ⌜ ListedAs l r (now (pairs .entry)) (now (pairs .exit)) ⌝ }
+    ensures { λ r. ⌜ HandedAs listedNumbers Listed.Refused l r (now (pairs .entry)) (now (pairs .exit)) ⌝ }
 {
     match l {
         Listed::Pairs(n) => {
@@ -28,7 +35,7 @@ fn hand_listed(l: Listed, pairs: &mut usize) -> u32
 
 // Hands a yes or a no back as numbers.
 fn hand_told(t: Told, yes: &mut u32) -> u32
-    ensures { λ r. ⌜ ToldAs t r (now (yes .entry)) (now (yes .exit)) ⌝ }
+    ensures { λ r. ⌜ HandedAs toldNumbers Told.Refused t r (now (yes .entry)) (now (yes .exit)) ⌝ }
 {
     match t {
         Told::Yes => {
@@ -48,7 +55,7 @@ fn hand_told(t: Told, yes: &mut u32) -> u32
 // `spans::normalize`; `pairs` becomes the number of pairs.
 #[no_mangle]
 pub extern "C" fn tridexel_normalize(spans: &[f64], out: &mut [f64], pairs: &mut usize) -> u32
-    ensures { λ r. ⌜ ListedBy (Answer (holds (now (spans .entry))) (normalizeCauses (now (spans .entry)) (length (now (out .entry)))) (now (out .entry)) (now (out .exit)))
+    ensures { λ r. ⌜ AnsweredBy listedNumbers Listed.Refused (Answer (holds (now (spans .entry))) (normalizeCauses (now (spans .entry)) (length (now (out .entry)))) (now (out .entry)) (now (out .exit)))
         r (now (pairs .entry)) (now (pairs .exit)) ⌝ }
 {
     let l = spans::normalize(spans, out);
@@ -58,7 +65,7 @@ pub extern "C" fn tridexel_normalize(spans: &[f64], out: &mut [f64], pairs: &mut
 // `combining::subtract`; `pairs` becomes the number of pairs.
 #[no_mangle]
 pub extern "C" fn tridexel_subtract(a: &[f64], b: &[f64], out: &mut [f64], pairs: &mut usize) -> u32
-    ensures { λ r. ⌜ ListedBy (Answer (λ p. holds (now (a .entry)) p && not (holds (now (b .entry)) p))
+    ensures { λ r. ⌜ AnsweredBy listedNumbers Listed.Refused (Answer (λ p. holds (now (a .entry)) p && not (holds (now (b .entry)) p))
         (combineCauses (now (a .entry)) (now (b .entry)) (length (now (out .entry)))) (now (out .entry)) (now (out .exit)))
         r (now (pairs .entry)) (now (pairs .exit)) ⌝ }
 {
@@ -74,7 +81,7 @@ pub extern "C" fn tridexel_intersect(
     out: &mut [f64],
     pairs: &mut usize,
 ) -> u32
-    ensures { λ r. ⌜ ListedBy (Answer (λ p. holds (now (a .entry)) p && holds (now (b .entry)) p)
+    ensures { λ r. ⌜ AnsweredBy listedNumbers Listed.Refused (Answer (λ p. holds (now (a .entry)) p && holds (now (b .entry)) p)
         (combineCauses (now (a .entry)) (now (b .entry)) (length (now (out .entry)))) (now (out .entry)) (now (out .exit)))
         r (now (pairs .entry)) (now (pairs .exit)) ⌝ }
 {
@@ -85,7 +92,7 @@ pub extern "C" fn tridexel_intersect(
 // `comparing::contains`; `yes` becomes 1 or 0.
 #[no_mangle]
 pub extern "C" fn tridexel_contains(outer: &[f64], inner: &[f64], yes: &mut u32) -> u32
-    ensures { λ r. ⌜ ToldBy (Verdict (compareCauses (now (outer .entry)) (now (inner .entry)))
+    ensures { λ r. ⌜ AnsweredBy toldNumbers Told.Refused (Verdict (compareCauses (now (outer .entry)) (now (inner .entry)))
         (Covers (now (outer .entry)) (now (inner .entry))))
         r (now (yes .entry)) (now (yes .exit)) ⌝ }
 {
@@ -96,10 +103,56 @@ pub extern "C" fn tridexel_contains(outer: &[f64], inner: &[f64], yes: &mut u32)
 // `comparing::overlaps`; `yes` becomes 1 or 0.
 #[no_mangle]
 pub extern "C" fn tridexel_overlaps(a: &[f64], b: &[f64], yes: &mut u32) -> u32
-    ensures { λ r. ⌜ ToldBy (Verdict (compareCauses (now (a .entry)) (now (b .entry)))
+    ensures { λ r. ⌜ AnsweredBy toldNumbers Told.Refused (Verdict (compareCauses (now (a .entry)) (now (b .entry)))
         (Meets (now (a .entry)) (now (b .entry))))
         r (now (yes .entry)) (now (yes .exit)) ⌝ }
 {
     let t = comparing::overlaps(a, b);
     hand_told(t, yes)
+}
+
+// A flag as a number.
+fn digit_of(b: bool) -> u32
+    ensures { λ r. ⌜ r ≡ digit b ⌝ }
+{
+    if b { 1 } else { 0 }
+}
+
+// Hands what became of both lists back as numbers.
+fn hand_merged(m: Merged, moved: &mut [u32; 2], pairs: &mut [usize; 2]) -> u32
+    ensures { λ r. ⌜ HandedAs mergedNumbers Merged.Refused m r
+        (partCells (now (moved .entry)) (now (pairs .entry))) (partCells (now (moved .exit)) (now (pairs .exit))) ⌝ }
+{
+    match m {
+        Merged::Lists(p, c) => {
+            *moved = [digit_of(p.moved), digit_of(c.moved)];
+            *pairs = [p.pairs, c.pairs];
+            return 0;
+        }
+        Merged::Refused(k) => {
+            return k;
+        }
+    }
+}
+
+// `merge::merge`; for possible and certain, in this order, `moved` becomes 1 where the list is a new one in the work buffer and 0 where it is the
+// caller's own, and `pairs` the number of its pairs.
+#[no_mangle]
+pub extern "C" fn tridexel_merge(
+    possible: &[f64],
+    certain: &[f64],
+    lo: f64,
+    hi: f64,
+    outer: &[f64],
+    inner: &[f64],
+    work: &mut [f64],
+    moved: &mut [u32; 2],
+    pairs: &mut [usize; 2],
+) -> u32
+    ensures { λ r. ⌜ AnsweredBy mergedNumbers Merged.Refused (MergeAnswer lo hi (now (possible .entry)) (now (certain .entry))
+        (now (outer .entry)) (now (inner .entry)) (now (work .entry)) (now (work .exit))) r
+        (partCells (now (moved .entry)) (now (pairs .entry))) (partCells (now (moved .exit)) (now (pairs .exit))) ⌝ }
+{
+    let m = merge::merge(possible, certain, lo, hi, outer, inner, work);
+    hand_merged(m, moved, pairs)
 }

@@ -2,16 +2,18 @@
 
 #[derive(Clone, Copy, Debug, PartialEq, Eq, PartialOrd, Ord)]
 pub enum Explained {
+    InfiniteEnds,
     OneNan,
     Zeros,
 }
 
 impl Explained {
-    pub const ALL: [Explained; 2] = [Explained::OneNan, Explained::Zeros];
+    pub const ALL: [Explained; 3] = [Explained::InfiniteEnds, Explained::OneNan, Explained::Zeros];
 
     /// The row's number in docs/DIFFERENCES.md.
     pub fn number(self) -> usize {
         match self {
+            Explained::InfiniteEnds => 1,
             Explained::OneNan => 4,
             Explained::Zeros => 5,
         }
@@ -20,6 +22,7 @@ impl Explained {
     /// A word of that row.
     pub fn word(self) -> &'static str {
         match self {
+            Explained::InfiniteEnds => "infinite ends",
             Explained::OneNan => "NaN",
             Explained::Zeros => "zeros",
         }
@@ -27,6 +30,9 @@ impl Explained {
 
     pub fn text(self) -> &'static str {
         match self {
+            Explained::InfiniteEnds => {
+                "a ray with infinite ends is valid within infinite bounds, where the Rust demands finite ends"
+            }
             Explained::OneNan => "the port has one NaN, where the Rust tells NaNs apart by their bits",
             Explained::Zeros => {
                 "zeros of opposite sign: `max` and `min` leave open which one is kept, and ends of lists are equal as numbers"

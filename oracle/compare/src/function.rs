@@ -30,6 +30,12 @@ impl Words for f64 {
     }
 }
 
+impl Words for u32 {
+    fn words(&self) -> String {
+        self.to_string()
+    }
+}
+
 impl Words for u64 {
     fn words(&self) -> String {
         format!("{self:016x}")

@@ -1,6 +1,9 @@
 //! The grid of a blank against camlib's: refusals, cells and steps, and for an accepted description the functions over its grid.
-use crate::function::{Function, Outcome, Words};
-use harness::grid::{Answer, Query, UNITS, edges, query};
+use crate::{
+    function::{Function, Outcome, Words},
+    strips,
+};
+use harness::grid::{Answer, Place, Query, UNITS, bound_place, center_place, edges, places, query};
 
 #[derive(Clone, Copy)]
 #[repr(C)]
@@ -34,22 +37,21 @@ pub struct DexelGrid {
 
 #[derive(Clone, Copy)]
 #[repr(C)]
-pub struct GridNumbers {
-    pub refused: u32,
-    pub grid: DexelGrid,
-}
-
-#[derive(Clone, Copy)]
-#[repr(C)]
 pub struct RayCenter {
     pub u: f64,
     pub v: f64,
 }
 
 mod raw {
-    use super::{DexelGrid, DexelStockSpec, GridNumbers, RayCenter};
+    use super::{DexelGrid, DexelStockSpec, RayCenter};
     unsafe extern "C" {
-        pub fn tridexel_inner_grid(spec: DexelStockSpec, units: *const u8, units_len: usize) -> GridNumbers;
+        pub fn tridexel_grid(
+            spec: DexelStockSpec,
+            units: *const u8,
+            units_len: usize,
+            counts: *mut [u64; 3],
+            steps: *mut [f64; 3],
+        ) -> u32;
         pub fn tridexel_inner_rays(g: DexelGrid, axis: u8) -> u64;
         pub fn tridexel_inner_total_rays(g: DexelGrid) -> u64;
         pub fn tridexel_inner_ray_number(g: DexelGrid, axis: u8, index: u64) -> u64;
@@ -63,24 +65,36 @@ fn vec3(p: [f64; 3]) -> Vec3 {
     Vec3 { x: p[0], y: p[1], z: p[2] }
 }
 
-/// The port's answer. What the exports ask of a grid holds of each that `tridexel_inner_grid` accepts; a query's index is one of its rays.
-pub fn port(q: &Query) -> Answer {
-    let spec = DexelStockSpec {
+/// The description as the port takes it.
+pub fn described(q: &Query) -> DexelStockSpec {
+    DexelStockSpec {
         version: q.version,
         min_mm: vec3(q.min),
         max_mm: vec3(q.max),
         cell_size_mm: q.cell,
         max_rays: q.max_rays,
         max_intervals: q.max_intervals,
-    };
-    let units = UNITS[q.units].as_bytes();
-    let r = unsafe { raw::tridexel_inner_grid(spec, units.as_ptr(), units.len()) };
-    let g = r.grid;
-    let cells = [g.c0, g.c1, g.c2];
-    let steps = [g.s0, g.s1, g.s2];
-    if r.refused != 0 {
-        return Answer { refused: r.refused as u64, cells, steps, ..Answer::default() };
     }
+}
+
+pub fn grid(spec: DexelStockSpec, units: &[u8], counts: &mut [u64; 3], steps: &mut [f64; 3]) -> u32 {
+    unsafe { raw::tridexel_grid(spec, units.as_ptr(), units.len(), counts, steps) }
+}
+
+/// What the numbers are before a call: a refused one leaves them.
+const BEFORE: ([u64; 3], [f64; 3]) = ([0xdead_beef; 3], [0.5; 3]);
+
+/// The port's answer. What the exports ask of a grid holds of each that `tridexel_grid` accepts; a query's index is one of its rays.
+pub fn port(q: &Query) -> Answer {
+    let spec = described(q);
+    let (mut cells, mut steps) = BEFORE;
+    let refused = grid(spec, UNITS[q.units].as_bytes(), &mut cells, &mut steps);
+    if refused != 0 {
+        let kept = (cells, steps) == BEFORE;
+        let (cells, steps) = if kept { ([0; 3], [0.; 3]) } else { (cells, steps) };
+        return Answer { refused: refused as u64, cells, steps, ..Answer::default() };
+    }
+    let g = DexelGrid { c0: cells[0], c1: cells[1], c2: cells[2], s0: steps[0], s1: steps[1], s2: steps[2] };
     let w = q.axis as u8;
     unsafe {
         let rays = raw::tridexel_inner_rays(g, w);
@@ -119,9 +133,43 @@ impl Words for Query {
     }
 }
 
+impl Words for Place {
+    fn words(&self) -> String {
+        let cells = self.grid.cells.map(|n| n as u64);
+        let ends = (self.min.to_vec(), self.max.to_vec());
+        format!("{} {} {} {} {}", ends.words(), cells.words(), self.grid.step_mm.words(), self.axis, self.at)
+    }
+}
+
+/// The box, which is all that the functions over a grid read of a description, and the grid.
+fn over(p: &Place) -> (DexelStockSpec, DexelGrid) {
+    let spec =
+        DexelStockSpec { version: 1, min_mm: vec3(p.min), max_mm: vec3(p.max), cell_size_mm: 1., max_rays: 1, max_intervals: 1 };
+    let [c0, c1, c2] = p.grid.cells.map(|n| n as u64);
+    let [s0, s1, s2] = p.grid.step_mm;
+    (spec, DexelGrid { c0, c1, c2, s0, s1, s2 })
+}
+
+/// A place has at least one cell along each axis, which `ray_center` asks for.
+fn compare_center(p: &Place) -> Outcome {
+    let (spec, g) = over(p);
+    let port = unsafe { raw::tridexel_inner_ray_center(spec, g, p.axis as u8, p.at) };
+    strips::answers((0, p.ray_center()), (0, [port.u, port.v]))
+}
+
+fn compare_bound(p: &Place) -> Outcome {
+    let (spec, g) = over(p);
+    let port = unsafe { raw::tridexel_inner_cell_bound(spec, g, p.axis as u8, p.at) };
+    strips::answers((0, [p.cell_bound(), 0.]), (0, [port, 0.]))
+}
+
 pub fn functions() -> Vec<Function> {
-    vec![Function::new("grid", edges(), query, |q| {
-        let (rust, port) = (q.answer().words(), port(q).words());
-        if rust == port { Outcome::Same } else { Outcome::differs(None, rust, port) }
-    })]
+    vec![
+        Function::new("grid", edges(), query, |q| {
+            let (rust, port) = (q.answer().words(), port(q).words());
+            if rust == port { Outcome::Same } else { Outcome::differs(None, rust, port) }
+        }),
+        Function::new("ray_center", places(), center_place, compare_center),
+        Function::new("cell_bound", places(), bound_place, compare_bound),
+    ]
 }

@@ -5,7 +5,10 @@ pub mod doubles;
 pub mod explained;
 pub mod function;
 pub mod grid;
+pub mod merge;
+pub mod program;
 pub mod spans;
+pub mod stock;
 pub mod strips;
 
 use function::Function;
@@ -17,5 +20,8 @@ pub fn modules() -> Vec<(&'static str, Vec<Function>)> {
         ("cutter", cutter::functions()),
         ("strips", strips::functions()),
         ("grid", grid::functions()),
+        ("merge", merge::functions()),
+        ("stock", stock::functions()),
+        ("program", program::functions()),
     ]
 }

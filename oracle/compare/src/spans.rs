@@ -60,7 +60,7 @@ pub fn overlaps(a: &[f64], b: &[f64], yes: &mut u32) -> u32 {
 const POISON: u32 = 0xdead_beef;
 
 /// Whole pairs, in a sound list.
-fn is_sound(list: &[f64]) -> bool {
+pub fn is_sound(list: &[f64]) -> bool {
     list.len().is_multiple_of(2) && sound(&pairs(list))
 }
 
@@ -165,7 +165,7 @@ pub fn compare_two(
 }
 
 /// Mostly short lists, now and then a long one.
-fn choose_size(g: &mut Gen) {
+pub fn choose_size(g: &mut Gen) {
     g.size = match g.below(1024) {
         0 => 400,
         1..=30 => 40,
@@ -184,7 +184,7 @@ fn room(g: &mut Gen, need: usize) -> usize {
     }
 }
 
-fn with_odd_end(g: &mut Gen, mut list: Vec<f64>) -> Vec<f64> {
+pub fn with_odd_end(g: &mut Gen, mut list: Vec<f64>) -> Vec<f64> {
     if g.once_in(16) {
         list.push(g.double());
     }
@@ -192,7 +192,7 @@ fn with_odd_end(g: &mut Gen, mut list: Vec<f64>) -> Vec<f64> {
 }
 
 /// Arbitrary pairs: mixed, of small whole ends, or of any bits.
-fn any_list(g: &mut Gen) -> Vec<f64> {
+pub fn any_list(g: &mut Gen) -> Vec<f64> {
     match g.below(4) {
         0 => flat(&g.list()),
         1 => (0..2 * g.count()).map(|_| f64::from_bits(g.u64())).collect(),
@@ -201,7 +201,7 @@ fn any_list(g: &mut Gen) -> Vec<f64> {
 }
 
 /// A sound list: mixed, of small whole ends, or of any bits.
-fn sound_list(g: &mut Gen) -> Vec<f64> {
+pub fn sound_list(g: &mut Gen) -> Vec<f64> {
     let mut ends: Vec<f64> = match g.below(4) {
         0 => return flat(&g.sound()),
         1 => (0..2 * g.count()).map(|_| f64::from_bits(g.u64())).filter(|x| !x.is_nan()).collect(),

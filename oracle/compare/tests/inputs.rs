@@ -1,5 +1,9 @@
-//! The generated lists reach every refusal and every kind of result.
-use compare::spans::{list_and_room, normalize_refusal, two_list_refusal, two_lists_and_room};
+//! The generated inputs reach every refusal and every kind of result.
+use compare::{
+    merge::ray_and_room,
+    spans::{list_and_room, normalize_refusal, two_list_refusal, two_lists_and_room},
+    stock::{blank, fill_refusal, stock, volume_refusal},
+};
 use harness::{generate::Gen, pairs};
 use oracle::dexel::opened as rust;
 
@@ -42,4 +46,41 @@ fn two_lists() {
     }
     assert!(share(refused[0]) >= 40 && share(refused[11]) >= 10 && share(refused[12]) >= 10, "{refused:?}");
     assert!(share(shared) >= 20 && share(empty) >= 5, "ends in common {shared}, empty {empty}");
+}
+
+#[test]
+fn rays() {
+    let (mut refused, mut moved) = ([0; 13], [[0; 2]; 2]);
+    for k in 0..CASES {
+        let (ray, room) = ray_and_room(&mut Gen::new(1, "inputs", k));
+        let number = ray.refusal(room);
+        refused[number as usize] += 1;
+        if number == 0 {
+            let [p, c] = ray.merged();
+            moved[(p != pairs(&ray.possible)) as usize][(c != pairs(&ray.certain)) as usize] += 1;
+        }
+    }
+    assert!(share(refused[0]) >= 40 && share(refused[11]) >= 10 && share(refused[12]) >= 10, "{refused:?}");
+    assert!(moved.as_flattened().iter().all(|n| share(*n) >= 2), "possible and certain moved {moved:?}");
+}
+
+#[test]
+fn blanks() {
+    let mut refused = [0; 13];
+    for k in 0..CASES {
+        refused[fill_refusal(&blank(&mut Gen::new(1, "inputs", k))) as usize] += 1;
+    }
+    assert!(share(refused[0]) >= 40 && share(refused[12]) >= 10, "{refused:?}");
+    // 4 is never due: an extent of 1e-6 or more has no step below 1e-6, and 128 epsilon of the largest size is less
+    assert!((1..=3).all(|number| refused[number] >= 20), "{refused:?}");
+}
+
+#[test]
+fn stocks() {
+    let mut refused = [0; 13];
+    for k in 0..CASES {
+        refused[volume_refusal(&stock(&mut Gen::new(1, "inputs", k))) as usize] += 1;
+    }
+    assert!(share(refused[0]) >= 30 && share(refused[11]) >= 10 && share(refused[12]) >= 5, "{refused:?}");
+    assert!([1, 2, 3].iter().all(|number| refused[*number] >= 20), "{refused:?}");
 }

@@ -1,6 +1,6 @@
 //! Descriptions of blanks with a question about their grid, and camlib's answers.
 use crate::generate::Gen;
-use oracle::dexel::{DexelGrid, DexelStockSpec, opened as rust};
+use oracle::dexel::{DexelGrid, DexelStock, DexelStockSpec, opened as rust};
 
 /// "mm", and units that are refused.
 pub const UNITS: [&str; 5] = ["mm", "m", "mmm", "cm", "mn"];
@@ -180,4 +180,77 @@ pub fn edges() -> Vec<Query> {
         Query { units: 3, ..ten.clone() },
         Query { version: 2, ..ten },
     ]
+}
+
+/// A box and a grid over it, and a place along an axis: the index of a ray, or a boundary of cells.
+#[derive(Clone, Debug)]
+pub struct Place {
+    pub min: [f64; 3],
+    pub max: [f64; 3],
+    pub grid: DexelGrid,
+    pub axis: usize,
+    pub at: u64,
+}
+
+impl Place {
+    fn stock(&self) -> DexelStock {
+        rust::stock_over(rust::spec(self.min, self.max, 1., 1, 1), self.grid)
+    }
+
+    pub fn ray_center(&self) -> [f64; 2] {
+        self.stock().ray_center(self.axis, self.at as usize)
+    }
+
+    pub fn cell_bound(&self) -> f64 {
+        self.stock().cell_bound(self.axis, self.at as usize)
+    }
+}
+
+/// A grid that `grid` accepts, or one with any numbers but at least one cell along each axis.
+fn place(g: &mut Gen, at: impl Fn(&mut Gen, &DexelGrid, usize) -> u64) -> Place {
+    let axis = g.below(3) as usize;
+    let q = query(g);
+    let (min, max, grid) = match q.spec().grid() {
+        Ok(grid) => (q.min, q.max, grid),
+        Err(_) => {
+            let mut three = || -> [f64; 3] { [g.double(), g.double(), g.double()] };
+            let (min, max, step_mm) = (three(), three(), three());
+            let mut cells = || 1 + (g.u64() >> (1 + g.below(63))) as usize;
+            (min, max, DexelGrid { cells: [cells(), cells(), cells()], step_mm })
+        }
+    };
+    let at = at(g, &grid, axis);
+    Place { min, max, grid, axis, at }
+}
+
+/// A ray along the axis, the last one among them, or any number.
+pub fn center_place(g: &mut Gen) -> Place {
+    place(g, |g, grid, axis| {
+        let [u, v] = DexelGrid::cross(axis);
+        let rays = (grid.cells[u] as u64).saturating_mul(grid.cells[v] as u64);
+        match g.below(8) {
+            0 => rays - 1,
+            1 => g.u64() >> g.below(64),
+            _ => g.below(rays),
+        }
+    })
+}
+
+/// A boundary along the axis, the box's faces among them, or any number.
+pub fn bound_place(g: &mut Gen) -> Place {
+    place(g, |g, grid, axis| {
+        let cells = grid.cells[axis] as u64;
+        match g.below(8) {
+            0 => g.pick(&[0, 1, cells - 1, cells, cells + 1]),
+            1 => g.u64() >> g.below(64),
+            _ => g.below(cells),
+        }
+    })
+}
+
+/// Every ray and boundary of document 01's box 0 to 10 with cell 3, and one past the last.
+pub fn places() -> Vec<Place> {
+    let grid = Query::new([0.; 3], [10.; 3], 3.).spec().grid().unwrap();
+    let at = |axis: usize, at: u64| Place { min: [0.; 3], max: [10.; 3], grid, axis, at };
+    (0..3).flat_map(|axis| (0..=16).map(move |k| at(axis, k))).collect()
 }

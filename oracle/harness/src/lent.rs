@@ -59,13 +59,19 @@ impl<T: Cell> Lent<T> {
         (0..GUARD).chain(n - GUARD..n).all(|i| self.cells[i].bits() == T::poison(i).bits())
     }
 
+    /// The first cells have these values; all others, guard cells too, have their poison.
+    pub fn begins(&self, values: &[T]) -> bool {
+        let read = self.read();
+        self.guarded()
+            && values.len() <= read.len()
+            && read.iter().zip(values).all(|(x, v)| x.bits() == v.bits())
+            && (values.len()..read.len()).all(|i| read[i].bits() == T::poison(i + GUARD).bits())
+    }
+
     /// The cells that were given a value still have it; all others, guard cells too, have their poison.
     pub fn untouched(&self, values: &[T]) -> bool {
         assert_eq!(values.len(), self.given);
-        let read = self.read();
-        self.guarded()
-            && read.iter().zip(values).all(|(x, v)| x.bits() == v.bits())
-            && (self.given..read.len()).all(|i| read[i].bits() == T::poison(i + GUARD).bits())
+        self.begins(values)
     }
 
     /// Every cell from `from` on is zero (the double plus zero), and no guard cell was written.

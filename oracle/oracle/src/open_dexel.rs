@@ -66,6 +66,19 @@ pub fn stock(spec: DexelStockSpec, generation: u64, rays: [Vec<Ray>; 3]) -> Dexe
     DexelStock { spec, grid, rays, intervals, generation, view }
 }
 
+/// A stock with no rays over any grid, to ask where its rays and cells are.
+pub fn stock_over(spec: DexelStockSpec, grid: DexelGrid) -> DexelStock {
+    let view = StockSpec {
+        version: 1,
+        units: spec.units.clone(),
+        min_mm: spec.min_mm,
+        max_mm: spec.max_mm,
+        cell_size_mm: spec.cell_size_mm,
+        max_cells: 0,
+    };
+    DexelStock { spec, grid, rays: [vec![], vec![], vec![]], intervals: 0, generation: 0, view: Stock::new(view).unwrap() }
+}
+
 /// The interval total after the changes, or the refusal: 13 a change turned away, 10 the budget.
 pub fn validate(stock: &DexelStock, changes: &[RayChange]) -> Result<usize, u32> {
     stock.validate(changes).map(|(_, n)| n).map_err(|e| if e.contains("max_intervals") { 10 } else { 13 })

@@ -1,8 +1,7 @@
 -- `tridexel::hand_told` meets its contract: each arm hands back the numbers of the case that it matched.
+use mathlib.Core.Path.{refl}
+use mathlib.Core.Logic.{inl, inr}
 use borrow.Author.Needs.{needs}
-use mathlib.Core.Path.{refl, sym, subst}
-use Rattle.comparing.specs.declared.Told.{Told}
-use Rattle.tridexel.specs.Numbers.{ToldAs}
 use Rattle.tridexel.proofs.hand_told.Statement.{statement}
 use Rattle.tridexel.proofs.hand_told.Tie as tie
 
@@ -10,25 +9,19 @@ enum-told : tie.Need-enum-told
 enum-told c = search needs
 
 returns : tie.Need-returns
-returns c =
-    let s = c .before .before in
-    subst (λ (t : Told). ToldAs t 0 (s .args .yes .now) 1) (sym (c .enum-told .given .1)) (refl, refl)
+returns c = inl (rw (c .enum-told .given .1) refl, refl)
 
 enum-told-2 : tie.Need-enum-told-2
 enum-told-2 c = search needs
 
 returns-2 : tie.Need-returns-2
-returns-2 c =
-    let s = c .before .before in
-    subst (λ (t : Told). ToldAs t 0 (s .args .yes .now) 0) (sym (c .enum-told2 .given .1)) (refl, refl)
+returns-2 c = inl (rw (c .enum-told2 .given .1) refl, refl)
 
 enum-known-t : tie.Need-enum-known-t
 enum-known-t c = search needs
 
 returns-3 : tie.Need-returns-3
-returns-3 c =
-    let s = c .before .before .before in
-    subst (λ (t : Told). ToldAs t (c .before .t .given .0 .0) (s .args .yes .now) (s .args .yes .now)) (sym (c .before .t .given .1)) (refl, refl)
+returns-3 c = inr (c .before .t .given .1, refl)
 
 pub hand-told-spec : {M : Type 1} → statement M
 hand-told-spec =

@@ -1,6 +1,6 @@
 -- `tridexel::tridexel_contains` meets its contract.
+use Rattle.tridexel.proofs.Handing.{answered, compare-above}
 use borrow.Author.Needs.{needs}
-use Rattle.tridexel.proofs.Handing.{told-by}
 use Rattle.tridexel.proofs.tridexel_contains.Statement.{statement}
 use Rattle.tridexel.proofs.tridexel_contains.Tie as tie
 
@@ -12,8 +12,7 @@ hand-told-requires c κs = search needs
 
 returns : tie.Need-returns
 returns c =
-    let n = c .before .before in
-    told-by _ _ _ (n .contains .result) _ _ _ (n .contains .ensures) (c .hand-told .ensures)
+    answered _ _ _ (c .before .before .contains .result) _ _ _ (λ k p. compare-above _ _ k p) (c .before .before .contains .ensures) (c .hand-told .ensures)
 
 pub tridexel-contains-spec : {M : Type 1} → statement M
 tridexel-contains-spec = tie.close (tie.spec contains-requires hand-told-requires returns)

@@ -1,6 +1,6 @@
 -- `tridexel::tridexel_intersect` meets its contract.
+use Rattle.tridexel.proofs.Handing.{answered, list-above}
 use borrow.Author.Needs.{needs}
-use Rattle.tridexel.proofs.Handing.{listed-by}
 use Rattle.tridexel.proofs.tridexel_intersect.Statement.{statement}
 use Rattle.tridexel.proofs.tridexel_intersect.Tie as tie
 
@@ -15,8 +15,7 @@ same-length c = search needs
 
 returns : tie.Need-returns
 returns c =
-    let n = c .before .before .before .before in
-    listed-by _ _ _ _ _ (n .intersect .result) _ _ _ (n .intersect .ensures) (c .hand-listed .ensures)
+    answered _ _ _ (c .before .before .before .before .intersect .result) _ _ _ (λ k p. list-above _ _ k (p .0)) (c .before .before .before .before .intersect .ensures) (c .hand-listed .ensures)
 
 pub tridexel-intersect-spec : {M : Type 1} → statement M
 tridexel-intersect-spec =

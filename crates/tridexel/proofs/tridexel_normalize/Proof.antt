@@ -1,6 +1,6 @@
 -- `tridexel::tridexel_normalize` meets its contract.
+use Rattle.tridexel.proofs.Handing.{answered, list-above}
 use borrow.Author.Needs.{needs}
-use Rattle.tridexel.proofs.Handing.{listed-by}
 use Rattle.tridexel.proofs.tridexel_normalize.Statement.{statement}
 use Rattle.tridexel.proofs.tridexel_normalize.Tie as tie
 
@@ -15,8 +15,7 @@ same-length c = search needs
 
 returns : tie.Need-returns
 returns c =
-    let n = c .before .before .before .before in
-    listed-by _ _ _ _ _ (n .normalize .result) _ _ _ (n .normalize .ensures) (c .hand-listed .ensures)
+    answered _ _ _ (c .before .before .before .before .normalize .result) _ _ _ (λ k p. list-above _ _ k (p .0)) (c .before .before .before .before .normalize .ensures) (c .hand-listed .ensures)
 
 pub tridexel-normalize-spec : {M : Type 1} → statement M
 tridexel-normalize-spec =

@@ -1,6 +1,6 @@
 -- `tridexel::tridexel_overlaps` meets its contract.
+use Rattle.tridexel.proofs.Handing.{answered, compare-above}
 use borrow.Author.Needs.{needs}
-use Rattle.tridexel.proofs.Handing.{told-by}
 use Rattle.tridexel.proofs.tridexel_overlaps.Statement.{statement}
 use Rattle.tridexel.proofs.tridexel_overlaps.Tie as tie
 
@@ -12,8 +12,7 @@ hand-told-requires c κs = search needs
 
 returns : tie.Need-returns
 returns c =
-    let n = c .before .before in
-    told-by _ _ _ (n .overlaps .result) _ _ _ (n .overlaps .ensures) (c .hand-told .ensures)
+    answered _ _ _ (c .before .before .overlaps .result) _ _ _ (λ k p. compare-above _ _ k p) (c .before .before .overlaps .ensures) (c .hand-told .ensures)
 
 pub tridexel-overlaps-spec : {M : Type 1} → statement M
 tridexel-overlaps-spec = tie.close (tie.spec overlaps-requires hand-told-requires returns)

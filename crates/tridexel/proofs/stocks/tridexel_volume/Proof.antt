@@ -1,0 +1,18 @@
+-- `tridexel::stocks::tridexel_volume` meets its contract.
+use Rattle.tridexel.proofs.Handing.{answered, volume-above}
+use borrow.Author.Needs.{needs}
+use Rattle.tridexel.proofs.stocks.tridexel_volume.Statement.{statement}
+use Rattle.tridexel.proofs.stocks.tridexel_volume.Tie as tie
+
+volume-requires : tie.Need-volume-requires
+volume-requires c κs = search needs
+
+hand-measured-requires : tie.Need-hand-measured-requires
+hand-measured-requires c κs = search needs
+
+returns : tie.Need-returns
+returns c =
+    answered _ _ _ (c .before .before .volume .result) _ _ _ (λ k p. volume-above _ _ _ _ k p) (c .before .before .volume .ensures) (c .hand-measured .ensures)
+
+pub tridexel-volume-spec : {M : Type 1} → statement M
+tridexel-volume-spec = tie.close (tie.spec volume-requires hand-measured-requires returns)

@@ -1,0 +1,130 @@
+// The grid of a blank and its stock. A store is three slices: the ends of the records, their links, and the heads.
+ghost use mathlib.Core.Path.{_≡_};
+ghost use Rattle.grid.specs.Grid.{gridOf};
+ghost use Rattle.grid.specs.Causes.{gridIn};
+ghost use Rattle.grid.specs.declared.Gridded.{Gridded};
+ghost use Rattle.store.specs.Updates.{cells};
+ghost use Rattle.stock.specs.Uncut.{Fills, fillCauses};
+ghost use Rattle.stock.specs.Volume.{volumeOf, Measures, volumeCauses};
+ghost use Rattle.stock.specs.declared.Filled.{Filled};
+ghost use Rattle.stock.specs.declared.Measured.{Measured};
+ghost use Rattle.tridexel.specs.Numbers.{AnsweredBy, HandedAs, gridNumbers, gridCells, filledNumbers, tally, volumeNumbers};
+use grid::DexelStockSpec;
+use grid::Gridded;
+use stock::Filled;
+use stock::Measured;
+
+// Hands the grid back as numbers.
+fn hand_grid(g: Gridded, counts: &mut [u64; 3], steps: &mut [f64; 3]) -> u32
+    ensures { λ r. ⌜ HandedAs gridNumbers Gridded.Refused g r
+        (gridCells (now (counts .entry)) (now (steps .entry))) (gridCells (now (counts .exit)) (now (steps .exit))) ⌝ }
+{
+    match g {
+        Gridded::Accepted(a) => {
+            *counts = [a.c0, a.c1, a.c2];
+            *steps = [a.s0, a.s1, a.s2];
+            return 0;
+        }
+        Gridded::Refused(k) => {
+            return k;
+        }
+    }
+}
+
+// `grid::grid`; `counts` and `steps` become the cells along x, y and z and their widths.
+#[no_mangle]
+pub extern "C" fn tridexel_grid(
+    spec: DexelStockSpec,
+    units: &[u8],
+    counts: &mut [u64; 3],
+    steps: &mut [f64; 3],
+) -> u32
+    ensures { λ r. ⌜ AnsweredBy gridNumbers Gridded.Refused (λ g. g ≡ gridOf spec (now (units .entry))) r
+        (gridCells (now (counts .entry)) (now (steps .entry))) (gridCells (now (counts .exit)) (now (steps .exit))) ⌝ }
+{
+    let g = grid::grid(spec, units);
+    hand_grid(g, counts, steps)
+}
+
+// Hands the small record of a stock back as numbers.
+fn hand_filled(f: Filled, generation: &mut u64, intervals: &mut u64) -> u32
+    ensures { λ r. ⌜ HandedAs filledNumbers Filled.Refused f r
+        (tally (now (generation .entry)) (now (intervals .entry))) (tally (now (generation .exit)) (now (intervals .exit))) ⌝ }
+{
+    match f {
+        Filled::Accepted(t) => {
+            *generation = t.generation;
+            *intervals = t.intervals;
+            return 0;
+        }
+        Filled::Refused(k) => {
+            return k;
+        }
+    }
+}
+
+// `stock::fill`; `generation` and `intervals` become the small record of the stock.
+#[no_mangle]
+pub extern "C" fn tridexel_fill(
+    spec: DexelStockSpec,
+    units: &[u8],
+    spans: &mut [f64],
+    links: &mut [u64],
+    heads: &mut [u64],
+    generation: &mut u64,
+    intervals: &mut u64,
+) -> u32
+    ensures { λ r. ⌜ AnsweredBy filledNumbers Filled.Refused
+        (Fills (fillCauses spec (now (units .entry)) (cells (now (spans .entry)) (now (links .entry)) (now (heads .entry)))) spec (gridIn spec)
+        (cells (now (spans .entry)) (now (links .entry)) (now (heads .entry))) (cells (now (spans .exit)) (now (links .exit)) (now (heads .exit)))) r
+        (tally (now (generation .entry)) (now (intervals .entry))) (tally (now (generation .exit)) (now (intervals .exit))) ⌝ }
+{
+    let f = stock::fill(spec, units, spans, links, heads);
+    hand_filled(f, generation, intervals)
+}
+
+// Hands a volume back as its ten numbers.
+fn hand_measured(m: Measured, volume: &mut [f64; 10]) -> u32
+    ensures { λ r. ⌜ HandedAs volumeNumbers Measured.Refused m r (now (volume .entry)) (now (volume .exit)) ⌝ }
+{
+    match m {
+        Measured::Accepted(v) => {
+            *volume = [
+                v.x_certain_mm3,
+                v.x_possible_mm3,
+                v.y_certain_mm3,
+                v.y_possible_mm3,
+                v.z_certain_mm3,
+                v.z_possible_mm3,
+                v.remaining_lower_mm3,
+                v.remaining_upper_mm3,
+                v.removed_lower_mm3,
+                v.removed_upper_mm3,
+            ];
+            return 0;
+        }
+        Measured::Refused(k) => {
+            return k;
+        }
+    }
+}
+
+// `stock::volume`; `volume` becomes the ten numbers of the Rust's `DexelVolume`, in its order.
+#[no_mangle]
+pub extern "C" fn tridexel_volume(
+    spec: DexelStockSpec,
+    units: &[u8],
+    spans: &[f64],
+    links: &[u64],
+    heads: &[u64],
+    intervals: u64,
+    volume: &mut [f64; 10],
+) -> u32
+    ensures { λ r. ⌜ AnsweredBy volumeNumbers Measured.Refused
+        (Measures (volumeCauses spec (now (units .entry)) (cells (now (spans .entry)) (now (links .entry)) (now (heads .entry))) intervals)
+        (volumeOf spec (gridIn spec) (cells (now (spans .entry)) (now (links .entry)) (now (heads .entry))))) r
+        (now (volume .entry)) (now (volume .exit)) ⌝ }
+{
+    let m = stock::volume(spec, units, spans, links, heads, intervals);
+    hand_measured(m, volume)
+}

@@ -1,0 +1,308 @@
+//! The fill and the volume: the lists and the ten numbers are camlib's, the records document 01's; the store is read back from the lent cells.
+use crate::{
+    explained::Explained,
+    function::{Function, Outcome, Words},
+    grid::{DexelStockSpec, described},
+};
+use harness::{
+    generate::Gen,
+    grid::{Query, UNITS, edges, query},
+    lent::Lent,
+    same,
+    store::{LentStore, Match, Record, Store, small_spec, sound_store, spoil},
+};
+use oracle::dexel::{DexelVolume, opened as rust};
+
+mod raw {
+    use super::DexelStockSpec;
+    unsafe extern "C" {
+        pub fn tridexel_fill(
+            spec: DexelStockSpec,
+            units: *const u8,
+            units_len: usize,
+            spans: *mut f64,
+            spans_len: usize,
+            links: *mut u64,
+            links_len: usize,
+            heads: *mut u64,
+            heads_len: usize,
+            generation: *mut u64,
+            intervals: *mut u64,
+        ) -> u32;
+        pub fn tridexel_volume(
+            spec: DexelStockSpec,
+            units: *const u8,
+            units_len: usize,
+            spans: *const f64,
+            spans_len: usize,
+            links: *const u64,
+            links_len: usize,
+            heads: *const u64,
+            heads_len: usize,
+            intervals: u64,
+            volume: *mut [f64; 10],
+        ) -> u32;
+    }
+}
+
+pub fn fill(spec: DexelStockSpec, units: &[u8], s: &mut LentStore, generation: &mut u64, intervals: &mut u64) -> u32 {
+    let (spans, links, heads) = (s.spans.cells(), s.links.cells(), s.heads.cells());
+    unsafe {
+        raw::tridexel_fill(
+            spec,
+            units.as_ptr(),
+            units.len(),
+            spans.as_mut_ptr(),
+            spans.len(),
+            links.as_mut_ptr(),
+            links.len(),
+            heads.as_mut_ptr(),
+            heads.len(),
+            generation,
+            intervals,
+        )
+    }
+}
+
+pub fn volume(
+    spec: DexelStockSpec,
+    units: &[u8],
+    (spans, links, heads): (&[f64], &[u64], &[u64]),
+    intervals: u64,
+    volume: &mut [f64; 10],
+) -> u32 {
+    unsafe {
+        raw::tridexel_volume(
+            spec,
+            units.as_ptr(),
+            units.len(),
+            spans.as_ptr(),
+            spans.len(),
+            links.as_ptr(),
+            links.len(),
+            heads.as_ptr(),
+            heads.len(),
+            intervals,
+            volume,
+        )
+    }
+}
+
+type Fill = fn(DexelStockSpec, &[u8], &mut LentStore, &mut u64, &mut u64) -> u32;
+type Volume = fn(DexelStockSpec, &[u8], (&[f64], &[u64], &[u64]), u64, &mut [f64; 10]) -> u32;
+
+const POISON: u64 = 0xdead_beef;
+
+/// Document 01's 1 to 4, then 12: too few whole records or heads.
+fn short(q: &Query, [spans, links, heads]: [usize; 3]) -> u32 {
+    match q.spec().grid() {
+        Err(e) => rust::grid_code(&e),
+        Ok(grid) => {
+            let records = spans.min(links) as u64 / 2;
+            if records < q.max_intervals || heads < 2 * grid.total_rays() { 12 } else { 0 }
+        }
+    }
+}
+
+/// A description, and the cells of the buffers for spans, links and heads.
+#[derive(Clone, Debug)]
+pub struct Blank {
+    pub query: Query,
+    pub lens: [usize; 3],
+}
+
+impl Words for Blank {
+    fn words(&self) -> String {
+        format!("{} {}", self.query.words(), self.lens.words())
+    }
+}
+
+/// The refusal that document 01 asks for, 0 for none.
+pub fn fill_refusal(b: &Blank) -> u32 {
+    short(&b.query, b.lens)
+}
+
+pub fn compare_fill(b: &Blank, port: Fill) -> Outcome {
+    let mut lent = LentStore { spans: Lent::new(b.lens[0]), links: Lent::new(b.lens[1]), heads: Lent::new(b.lens[2]) };
+    let (mut generation, mut intervals) = (POISON, POISON);
+    let q = &b.query;
+    let code = port(described(q), UNITS[q.units].as_bytes(), &mut lent, &mut generation, &mut intervals);
+    let rust = match fill_refusal(b) {
+        0 => {
+            let want = Store::fill(&q.spec());
+            let laid = (code, generation, intervals) == (0, 0, want.intervals);
+            if laid && lent.compare(&want) == Match::Same {
+                return Outcome::Same;
+            }
+            format!("0, generation 0, intervals {}, the uncut store", want.intervals)
+        }
+        number => {
+            let untouched = lent.spans.untouched(&[]) && lent.links.untouched(&[]) && lent.heads.untouched(&[]);
+            if (code, generation, intervals) == (number, POISON, POISON) && untouched {
+                return Outcome::Same;
+            }
+            format!("{number}, nothing written")
+        }
+    };
+    let cells = format!("{} {} {}", lent.spans.read().words(), lent.links.read().words(), lent.heads.read().words());
+    Outcome::differs(None, rust, format!("{code}, generation {generation}, intervals {intervals}, cells {cells}"))
+}
+
+/// A description and a store, sound or not, with so many poisoned cells past the spans, the links and the heads.
+#[derive(Clone, Debug)]
+pub struct Stock {
+    pub query: Query,
+    pub store: Store,
+    pub over: [usize; 3],
+    /// how many cells of the spans, the links and the heads are held back
+    pub less: [usize; 3],
+}
+
+impl Words for Record {
+    fn words(&self) -> String {
+        format!("{} {} {} {}", self.lo.words(), self.hi.words(), self.next, self.owner)
+    }
+}
+
+impl Words for Stock {
+    fn words(&self) -> String {
+        let s = &self.store;
+        let rooms = format!("{} {}", self.over.words(), self.less.words());
+        format!("{} {} {} {} {rooms}", self.query.words(), s.heads.words(), s.records.words(), s.intervals)
+    }
+}
+
+pub fn ten(v: DexelVolume) -> [f64; 10] {
+    let [[a, b], [c, d], [e, f]] = v.grids_mm3;
+    [a, b, c, d, e, f, v.remaining_lower_mm3, v.remaining_upper_mm3, v.removed_lower_mm3, v.removed_upper_mm3]
+}
+
+pub fn rust_volume(spec: &oracle::dexel::DexelStockSpec, s: &Store) -> [f64; 10] {
+    ten(rust::stock(spec.clone(), s.generation, s.rays_by_axis(spec)).volume())
+}
+
+impl Stock {
+    /// How many cells of the spans, the links and the heads are lent.
+    fn lens(&self) -> [usize; 3] {
+        let (spans, links, heads) = self.store.cells();
+        let full = [spans.len(), links.len(), heads.len()];
+        std::array::from_fn(|k| (full[k] + self.over[k]).saturating_sub(self.less[k]))
+    }
+}
+
+/// The refusal that document 01 asks for, 0 for none.
+pub fn volume_refusal(s: &Stock) -> u32 {
+    let spec = s.query.spec();
+    match short(&s.query, s.lens()) {
+        0 if !s.store.counted(&spec).sound(&spec) => 11,
+        number => number,
+    }
+}
+
+pub fn compare_volume(s: &Stock, port: Volume) -> Outcome {
+    let lent = s.store.lend(s.over);
+    let lens = s.lens();
+    let q = &s.query;
+    let mut got = [f64::from_bits(POISON); 10];
+    let cells = (&lent.spans.read()[..lens[0]], &lent.links.read()[..lens[1]], &lent.heads.read()[..lens[2]]);
+    let code = port(described(q), UNITS[q.units].as_bytes(), cells, s.store.intervals, &mut got);
+    let number = volume_refusal(s);
+    let want = match number {
+        0 => rust_volume(&q.spec(), &s.store.counted(&q.spec())),
+        _ => [f64::from_bits(POISON); 10],
+    };
+    let kept = lent.compare(&s.store) == Match::Same;
+    let each = || want.iter().zip(&got);
+    if code == number && kept && each().all(|(w, g)| w.to_bits() == g.to_bits()) {
+        return Outcome::Same;
+    }
+    let alike = code == 0 && number == 0 && kept && each().all(|(w, g)| same(*w, *g));
+    let written = if kept { "" } else { ", the store was written" };
+    let (rust, port) = (format!("{number} {}", want.words()), format!("{code} {}{written}", got.words()));
+    Outcome::differs(alike.then_some(Explained::Zeros), rust, port)
+}
+
+/// The query with the numbers of this description.
+fn query_of(spec: &oracle::dexel::DexelStockSpec) -> Query {
+    Query {
+        max_rays: spec.max_rays as u64,
+        max_intervals: spec.max_intervals as u64,
+        ..Query::new(spec.min_mm, spec.max_mm, spec.cell_size_mm)
+    }
+}
+
+/// Now and then one fault in the description.
+fn misdescribe(g: &mut Gen, q: &mut Query) {
+    if g.once_in(24) {
+        match g.below(7) {
+            0 => q.version = g.pick(&[0, 2]),
+            1 => q.units = 1 + g.below(4) as usize,
+            2 => q.min[g.below(3) as usize] = g.double(),
+            3 => q.max[g.below(3) as usize] = g.double(),
+            4 => q.cell = g.double(),
+            5 => q.max_rays = q.max_rays.saturating_sub(2),
+            _ => q.max_intervals = g.pick(&[0, 1, u64::MAX]),
+        }
+    }
+}
+
+/// One cell short, exact, or longer.
+fn length(g: &mut Gen, need: usize) -> usize {
+    match g.below(16) {
+        0 => need.saturating_sub(1),
+        1 => g.below(need as u64 + 1) as usize,
+        2 => need + 1,
+        3 => need + 2 + g.below(6) as usize,
+        _ => need,
+    }
+}
+
+pub fn blank(g: &mut Gen) -> Blank {
+    let mut query = if g.once_in(8) { query(g) } else { query_of(&small_spec(g)) };
+    misdescribe(g, &mut query);
+    // larger stores are lent too little
+    let records = query.max_intervals.min(400) as usize;
+    let rays = query.spec().grid().map_or(1, |grid| grid.total_rays()).min(200);
+    Blank { lens: [length(g, 2 * records), length(g, 2 * records), length(g, 2 * rays)], query }
+}
+
+pub fn stock(g: &mut Gen) -> Stock {
+    let spec = small_spec(g);
+    let mut store = sound_store(g, &spec);
+    if g.once_in(3) {
+        spoil(g, &mut store);
+        if g.once_in(4) {
+            spoil(g, &mut store);
+        }
+    }
+    let mut query = query_of(&spec);
+    misdescribe(g, &mut query);
+    let mut some =
+        |one_in: u64| -> [usize; 3] { std::array::from_fn(|_| if g.once_in(one_in) { 1 + g.below(5) as usize } else { 0 }) };
+    Stock { query, store, over: some(3), less: some(24) }
+}
+
+/// Document 01's grids with every length from one short to one over.
+pub fn blanks() -> Vec<Blank> {
+    let need = |q: &Query| {
+        q.spec().grid().map_or([4, 4, 4], |g| [2 * q.max_intervals as usize, 2 * q.max_intervals as usize, 2 * g.total_rays()])
+    };
+    let lens = |q: &Query| {
+        let [a, b, c] = need(q);
+        (0..27).map(move |k| [a + k % 3 - 1, b + k / 3 % 3 - 1, c + k / 9 - 1]).collect::<Vec<_>>()
+    };
+    edges().into_iter().flat_map(|q| lens(&q).into_iter().map(move |lens| Blank { query: q.clone(), lens })).collect()
+}
+
+/// The uncut stores of document 01's grids.
+pub fn stocks() -> Vec<Stock> {
+    let accepted = edges().into_iter().filter(|q| q.spec().grid().is_ok());
+    accepted.map(|query| Stock { store: Store::fill(&query.spec()), query, over: [1, 2, 3], less: [0; 3] }).collect()
+}
+
+pub fn functions() -> Vec<Function> {
+    vec![
+        Function::new("fill", blanks(), blank, |b| compare_fill(b, fill)),
+        Function::new("volume", stocks(), stock, |s| compare_volume(s, volume)),
+    ]
+}

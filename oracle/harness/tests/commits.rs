@@ -1,0 +1,128 @@
+//! Runs of commits against a stand-in for the port, which works on the lent cells, and the same with a fault put in: each fault is found.
+use harness::{
+    commits::{Commit, Entries, State, Tally, run},
+    generate::Gen,
+    store::{LentStore, Match},
+};
+use oracle::dexel::DexelStockSpec;
+
+#[derive(Clone, Copy, Debug, PartialEq)]
+enum Fault {
+    None,
+    /// a changed list's first record is left as it was when the commit frees it
+    DirtyRecord,
+    Owner,
+    Total,
+    Generation,
+    Changed,
+    RefusedWrites,
+    WorkLeft,
+    Order,
+}
+
+struct StandIn(Fault);
+
+impl StandIn {
+    fn commit(&self, spec: &DexelStockSpec, lent: &mut LentStore, tally: &mut Tally, commit: Commit, changed: &mut u64) -> u32 {
+        let heads = 2 * spec.grid().unwrap().total_rays();
+        let store = lent.read(spec.max_intervals, heads, tally.generation, tally.intervals);
+        let due = State::of(spec, store).due(&commit);
+        if due.refused != 0 {
+            if self.0 == Fault::RefusedWrites {
+                tally.generation = tally.generation.wrapping_add(1);
+            }
+            return if self.0 == Fault::Order && due.refused == 14 { 13 } else { due.refused };
+        }
+        let (spans, mut links, heads) = due.next.store.cells();
+        match self.0 {
+            Fault::Owner if links[1] != 0 => links[1] += 1,
+            Fault::DirtyRecord => {
+                if let Some(k) = (0..links.len() / 2).find(|k| links[2 * k + 1] == 0) {
+                    links[2 * k] = lent.links.read()[2 * k];
+                }
+            }
+            _ => {}
+        }
+        lent.spans.cells()[..spans.len()].copy_from_slice(&spans);
+        lent.links.cells()[..links.len()].copy_from_slice(&links);
+        lent.heads.cells()[..heads.len()].copy_from_slice(&heads);
+        *tally = due.next.tally();
+        *changed = due.changed;
+        match self.0 {
+            Fault::Total => tally.intervals += 1,
+            Fault::Generation if due.changed == 0 => tally.generation -= 1,
+            Fault::Changed => *changed = 1,
+            _ => {}
+        }
+        0
+    }
+}
+
+impl Entries for StandIn {
+    fn commit_changes(
+        &self,
+        spec: &DexelStockSpec,
+        store: &mut LentStore,
+        tally: &mut Tally,
+        base: u64,
+        changes: &[u64],
+        pairs: &[f64],
+        changed: &mut u64,
+    ) -> u32 {
+        self.commit(spec, store, tally, Commit::Changes { base, changes: changes.to_vec(), pairs: pairs.to_vec() }, changed)
+    }
+
+    fn commit_log(
+        &self,
+        spec: &DexelStockSpec,
+        store: &mut LentStore,
+        tally: &mut Tally,
+        log: &[f64],
+        allowance: u64,
+        work: &mut [f64],
+        changed: &mut u64,
+    ) -> u32 {
+        let code = self.commit(spec, store, tally, Commit::Log { log: log.to_vec(), allowance, work: work.len() }, changed);
+        if code == 0 {
+            work.fill(0.);
+            if self.0 == Fault::WorkLeft && !work.is_empty() {
+                work[0] = -0.;
+            }
+        }
+        code
+    }
+}
+
+const RUNS: u64 = 2000;
+
+#[test]
+fn every_refusal_comes() {
+    let (mut refused, mut changed, mut full) = ([0; 18], 0, 0);
+    for case in 0..RUNS {
+        let r = run(&mut Gen::new(1, "commits", case));
+        assert_eq!(r.play(&StandIn(Fault::None)), Ok(Match::Same), "case {case}");
+        let mut state = State::of(&r.spec, r.start.clone());
+        for c in &r.commits {
+            let due = state.due(c);
+            refused[due.refused as usize] += 1;
+            changed += due.changed;
+            state = due.next;
+            assert!(state.store.sound(&r.spec));
+            full += (state.store.intervals == r.spec.max_intervals as u64) as u64;
+        }
+    }
+    println!("by number {refused:?}, changed rays {changed}, full stores {full}");
+    for number in [0, 9, 10, 11, 12, 13, 14, 15, 17] {
+        assert!(refused[number] > 20, "{number}: {}", refused[number]);
+    }
+    assert!(refused[0] > 5000 && changed > 5000 && full > 50);
+}
+
+#[test]
+fn faults() {
+    use Fault::*;
+    for fault in [DirtyRecord, Owner, Total, Generation, Changed, RefusedWrites, WorkLeft, Order] {
+        let found = (0..RUNS).filter(|case| run(&mut Gen::new(1, "commits", *case)).play(&StandIn(fault)).is_err()).count();
+        assert!(found > 0, "not found: {fault:?}");
+    }
+}
