@@ -11,7 +11,7 @@ use Rattle.grid.specs.Causes.{gridCauses, gridIn}
 use Rattle.grid.specs.Rays.{rayCount}
 use Rattle.grid.specs.declared.DexelStockSpec.{DexelStockSpec}
 use Rattle.grid.specs.declared.DexelGrid.{DexelGrid}
-use Rattle.store.specs.Updates.{Cells, Update, pairsFreed, pairsLaid, listAfter, applied, held, Kept}
+use Rattle.store.specs.Updates.{Update, pairsFreed, pairsLaid, listAfter, applied, held, Kept}
 use Rattle.stock.specs.Stock.{Stock, SoundStock, short}
 use Rattle.stock.specs.declared.Committed.{Committed}
 use Rattle.stock.specs.declared.Committed.the-variants.{Changed, Refused}
