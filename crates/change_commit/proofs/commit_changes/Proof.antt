@@ -43,9 +43,8 @@ use denote.Triple.Table.{entered, cited}
 use denote.Triple.Clauses.{ensured, lasts}
 use denote.Triple.Walked.{says, Stays, stay-ref, gave-slice, stay-dropped, walkOf, AllGo, goes-ref, goes-gave-slice, goes-dropped, Walks, ends-at, walked, walk-meets}
 use denote.Exit.{yes}
-use Rattle.change_commit.specs.Commit.{Commits, commitCauses}
 use Rattle.stock.specs.Outcomes.{stock}
-use Rattle.grid.specs.Causes.{gridIn}
+use Rattle.change_commit.specs.Commit.{ChangeCommits}
 use Rattle.stock.specs.declared.Tally.{Tally}
 use Rattle.stock.specs.declared.Outcome.{Outcome}
 use Rattle.stock.proofs.Tally as T
@@ -121,7 +120,7 @@ module _ {M : Type 1} (𝓤 : URA M) (H : Heap 𝓤) (A : Atoms 𝓤) (W : Given
 
   -- what the callee ensures
   abbrev Fact : Outcome → List Float → List ℕ → List ℕ → Type 0
-  Fact r s0 s1 s2 = Commits (commitCauses spec (units .now) base (stock (spans .now) (links .now) (heads .now) (h .generation) (h .intervals)) (changes .now) (pairs .now)) spec (gridIn spec) (changes .now) (pairs .now) (stock (spans .now) (links .now) (heads .now) (h .generation) (h .intervals)) (stock s0 s1 s2 (r .generation) (r .intervals)) (r .answer)
+  Fact r s0 s1 s2 = ChangeCommits spec (units .now) base (changes .now) (pairs .now) (stock (spans .now) (links .now) (heads .now) (h .generation) (h .intervals)) (stock s0 s1 s2 (r .generation) (r .intervals)) (r .answer)
 
   abbrev Post : Val → SProp 𝓤
   Post = walkOf 𝓤 H A caller.ended stayed (caller.clauses 𝓤 H A at-mem run) .post (((κ, (κ₁, (κ₂, (κ₃, (κ₄, (κ₅, (κ₆, tt))))))), (q, (q₁, (q₂, (q₃, (q₄, (q₅, (q₆, tt))))))), tt, a, vals), tt)
@@ -185,7 +184,7 @@ module _ {M : Type 1} (𝓤 : URA M) (H : Heap 𝓤) (A : Atoms 𝓤) (W : Given
         split ! $ move ! (1 ∷ []) $ use1 W (some (λ (zs : (Unit {0} × (Unit {0} × (Unit {0} × (Unit {0} × (List Float × (List ℕ × (List ℕ × (Unit {0} × (Unit {0} × (Unit {0} × Unit {0}))))))))))). ‵ (lasts callee.ended (κ₁, (κ₂, (κ₃, (κ₄, (κ₅, (κ₆, tt)))))) (h .generation, (h .intervals, (spec, (units, (spans, (links, (heads, (base, (changes, (pairs, tt)))))))))) zs) ⊛ raw (fact 𝓤 (Fact r (zs .1 .1 .1 .1 .0) (zs .1 .1 .1 .1 .1 .0) (zs .1 .1 .1 .1 .1 .1 .0))))) (id⊢ 𝓤 _) $ pick ! (λ zs.
         split ! $ move ! (1 ∷ []) $ heard ! (Fact r (zs .1 .1 .1 .1 .0) (zs .1 .1 .1 .1 .1 .0) (zs .1 .1 .1 .1 .1 .1 .0)) (λ e.
         -- the last lists, and that each is as long as the list passed
-        fsplit ! $ drop ! $ fsplit ! $ drop ! $ fsplit ! $ drop ! $ fsplit ! $ drop ! $ fsplit ! $ fsplit ! $ move ! (1 ∷ []) $ feqL ! (λ l0a. move ! (1 ∷ []) $ fsplit ! $ fsplit ! $ move ! (1 ∷ []) $ feqL ! (λ l1a. move ! (1 ∷ []) $ fsplit ! $ fsplit ! $ move ! (1 ∷ []) $ feqL ! (λ l2a. move ! (1 ∷ []) $ fsplit ! $ drop ! $ fsplit ! $ drop ! $ fsplit ! $ drop ! $ 
+        fsplit ! $ drop ! $ fsplit ! $ drop ! $ fsplit ! $ drop ! $ fsplit ! $ drop ! $ fsplit ! $ fsplit ! $ move ! (1 ∷ []) $ feqL ! (λ l0a. move ! (1 ∷ []) $ fsplit ! $ fsplit ! $ move ! (1 ∷ []) $ feqL ! (λ l1a. move ! (1 ∷ []) $ fsplit ! $ fsplit ! $ move ! (1 ∷ []) $ feqL ! (λ l2a. move ! (1 ∷ []) $ fsplit ! $ drop ! $ fsplit ! $ drop ! $ fsplit ! $ drop ! $
         move ! (4 ∷ []) $ split ! $ move ! (1 ∷ []) $ peeks ! O.the-row (Is O.the-row) (shows 𝓤 H A O.the-row) r (v ∷ []) (λ is.
         land ! (from ! (stop !)) (init ! 27 refl (LL.lawful O.the-type O′.the-laws 𝓤 H A W .typed r _ is .0)) $ rewrite ! 27 (λ (u : Val). ‵ (fat fullShare O′.mir l10 0 u)) (ap only (LL.tells O.the-type O′.the-laws r _ is)) refl $
         -- both fields are stored, and the answer is copied out
