@@ -1,26 +1,25 @@
 -- What the commit answers and leaves, by its causes.
 use mathlib.Core.Path.{_≡_, refl, sym, ap, _∙_, subst}
-use mathlib.Core.List.{List, _++_}
-use Prim.Native.Nat.{ℕ, _+_, _-_, _*_, _/_, _^_, _≤_, _<_}
+use mathlib.Core.List.{List}
+use Prim.Native.Nat.{ℕ, _+_, _-_, _/_, _^_, _<_}
 use native.Mathlib.Omega.{arith}
 use lib.Ieee.{Float}
 use lib.ListN.{length}
-use Rattle.refusal.specs.Refusal.{Due, NoneDue}
+use Rattle.refusal.specs.Refusal.{NoneDue}
 use Rattle.grid.specs.Grid.{gridOf}
-use Rattle.grid.specs.Rays.{rayCount}
 use Rattle.grid.specs.Causes.{gridCauses, gridIn}
 use Rattle.grid.specs.declared.DexelStockSpec.{DexelStockSpec}
 use Rattle.grid.specs.declared.DexelGrid.{DexelGrid}
 use Rattle.grid.specs.declared.Gridded.the-variants.{Accepted as Griddable, Refused as NoGrid}
-use Rattle.store.specs.Updates.{Cells, listAfter, applied, held, Kept, Updated}
-use Rattle.stock.specs.Stock.{Stock, SoundStock}
+use Rattle.store.specs.Updates.{Cells, applied}
+use Rattle.stock.specs.Stock.{Stock}
 use Rattle.stock.specs.declared.Committed.{Committed}
 use Rattle.stock.specs.declared.Committed.the-variants.{Changed, Refused}
 use Rattle.stock.proofs.Causes.{due-first, due-second, none-in-both}
 use Rattle.stock.proofs.Answers.{accepted, refused}
 use Rattle.changes.specs.Changes.{changesOf}
 use Rattle.changes.proofs.Applying.{changes-update, changes-sound}
-use Rattle.change_commit.specs.Commit.{updatesIn, intervalsAfter, changed, changeCauses, commitCauses, Leaves, Commits}
+use Rattle.change_commit.specs.Commit.{updatesIn, changed, changeCauses, commitCauses, Leaves, Commits}
 use Rattle.change_commit.specs.Passes.{Fitting, Judges}
 use Rattle.change_commit.specs.declared.Judged.{Judged}
 use Rattle.change_commit.specs.declared.Judged.the-variants.{Fits, Refused as No}

@@ -1,21 +1,21 @@
 -- What the tests of a change list tell, by its causes.
-use mathlib.Core.Path.{_≡_, refl, sym, ap, _∙_, subst}
+use mathlib.Core.Path.{_≡_, refl, ap, _∙_, subst}
 use mathlib.Core.Bool.{Bool, true, false, not}
-use mathlib.Core.List.{List, [], _∷_, _++_}
-use mathlib.Core.Logic.{_⊎_, inl, inr}
-use Prim.Native.Nat.{ℕ, _+_, _-_, _*_, _/_, _%_, _^_, _≤_, _<_}
+use mathlib.Core.List.{List}
+use mathlib.Core.Logic.{inl, inr}
+use Prim.Native.Nat.{ℕ, _+_, _-_, _*_, _%_, _^_, _≤_, _<_}
 use native.Mathlib.Omega.{arith}
 use lib.Ieee.{Float}
 use lib.ListN.{length}
-use Rattle.doubles.proofs.Bools.{not-true, not-false, clash}
-use Rattle.refusal.specs.Refusal.{Cause, Due, NoneDue}
+use Rattle.doubles.proofs.Bools.{not-true, clash}
+use Rattle.refusal.specs.Refusal.{Due, NoneDue}
 use Rattle.grid.specs.Rays.{rayCount}
 use Rattle.grid.specs.declared.DexelStockSpec.{DexelStockSpec}
 use Rattle.grid.specs.declared.DexelGrid.{DexelGrid}
-use Rattle.store.specs.Updates.{Cells, Room, pairsFreed, pairsLaid}
+use Rattle.store.specs.Updates.{Room, pairsFreed}
 use Rattle.store.proofs.FreePlaces.{free-records}
 use Rattle.store.proofs.Updating.{freed-all}
-use Rattle.stock.specs.Stock.{Stock, SoundStock, SoundCells, Tells, short}
+use Rattle.stock.specs.Stock.{Stock, SoundStock, Tells, short}
 use Rattle.changes.specs.Changes.{changesOf, AllGood}
 use Rattle.changes.specs.Steps.{ChecksAll}
 use Rattle.changes.specs.declared.Cursor.{Cursor}
@@ -23,7 +23,7 @@ use Rattle.changes.specs.declared.Checked.{Checked}
 use Rattle.changes.specs.declared.Checked.the-variants.{Next, Bad}
 use Rattle.changes.proofs.Applying.{good-ascend}
 use Rattle.change_commit.specs.Commit.{updatesIn, intervalsAfter, Unsound, listCauses, changeCauses}
-use Rattle.change_commit.specs.Passes.{Fitting, Judges}
+use Rattle.change_commit.specs.Passes.{Judges}
 use Rattle.change_commit.specs.declared.Judged.{Judged}
 use Rattle.change_commit.specs.declared.Judged.the-variants.{Fits, Refused}
 

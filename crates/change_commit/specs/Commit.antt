@@ -11,7 +11,7 @@ use Rattle.grid.specs.Causes.{gridCauses, gridIn}
 use Rattle.grid.specs.Rays.{rayCount}
 use Rattle.grid.specs.declared.DexelStockSpec.{DexelStockSpec}
 use Rattle.grid.specs.declared.DexelGrid.{DexelGrid}
-use Rattle.store.specs.Updates.{Cells, Update, pairsFreed, pairsLaid, listAfter, applied, held, Kept}
+use Rattle.store.specs.Updates.{Update, pairsFreed, pairsLaid, listAfter, applied, held, Kept}
 use Rattle.stock.specs.Stock.{Stock, SoundStock, short}
 use Rattle.stock.specs.declared.Committed.{Committed}
 use Rattle.stock.specs.declared.Committed.the-variants.{Changed, Refused}
@@ -29,7 +29,7 @@ intervalsAfter spec g s changes pairs = s .intervals - pairsFreed (spec .«max_i
 abbrev pub Unsound : DexelStockSpec → DexelGrid → Stock → List ℕ → List Float → Type 0
 Unsound spec g s changes pairs = (SoundStock spec g s → ⊥) ⊎ ((length changes % 6 ≡ 0 → ⊥) ⊎ (length pairs % 2 ≡ 0 → ⊥))
 
--- of a sound store: 13, 10, 15
+-- of a sound store: 13 a change that `validate` turns away, or whose lists reach past the lent pairs; 10 intervals after the commit above `max_intervals`; 15 generation at its maximum
 abbrev pub listCauses : DexelStockSpec → DexelGrid → Stock → List ℕ → List Float → List Cause
 listCauses spec g s changes pairs =
     cause 13 (AllGood spec g (s .cells) pairs 0 (changesOf changes pairs) → ⊥)
@@ -37,7 +37,7 @@ listCauses spec g s changes pairs =
     ∷ cause 15 (s .generation ≡ 2 ^ 64 - 1)
     ∷ []
 
--- once `grid` accepts: 12, 11, 14, 13, 10, 15
+-- once `grid` accepts: 12 too few records or heads, 11, 14 base generation differs, then 13, 10, 15
 abbrev pub changeCauses : DexelStockSpec → DexelGrid → (base : ℕ) → Stock → List ℕ → List Float → List Cause
 changeCauses spec g base s changes pairs =
     cause 12 (short spec g (s .cells) ≡ true)
@@ -69,3 +69,11 @@ pub record Leaves (spec : DexelStockSpec) (g : DexelGrid) (changes : List ℕ) (
 abbrev pub Commits : List Cause → DexelStockSpec → DexelGrid → List ℕ → List Float → (before after : Stock) → Committed → Type 0
 Commits causes spec g changes pairs before after (Refused k) = Due causes k × (after ≡ before)
 Commits causes spec g changes pairs before after (Changed n) = NoneDue causes × (n ≡ length changes / 6) × Leaves spec g changes pairs before after
+
+-- the commit over a grid that is accepted
+abbrev pub GridCommits : DexelStockSpec → DexelGrid → (base : ℕ) → List ℕ → List Float → (before after : Stock) → Committed → Type 0
+GridCommits spec g base changes pairs before after answer = Commits (changeCauses spec g base before changes pairs) spec g changes pairs before after answer
+
+-- the change commit of document 01
+abbrev pub ChangeCommits : DexelStockSpec → (units : List ℕ) → (base : ℕ) → List ℕ → List Float → (before after : Stock) → Committed → Type 0
+ChangeCommits spec units base changes pairs before after answer = Commits (commitCauses spec units base before changes pairs) spec (gridIn spec) changes pairs before after answer

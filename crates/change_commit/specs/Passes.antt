@@ -1,9 +1,8 @@
 -- What the inner functions of the change commit ask and leave.
 use mathlib.Core.Path.{_≡_}
 use mathlib.Core.List.{List}
-use Prim.Native.Nat.{ℕ, _+_, _-_, _*_, _%_, _≤_}
+use Prim.Native.Nat.{ℕ, _+_, _-_, _*_, _≤_}
 use lib.Ieee.{Float}
-use lib.ListN.{length}
 use Rattle.refusal.specs.Refusal.{Cause, Due, NoneDue}
 use Rattle.grid.specs.Rays.{rayCount}
 use Rattle.grid.specs.declared.DexelStockSpec.{DexelStockSpec}
@@ -12,7 +11,7 @@ use Rattle.store.specs.Fills.{Cursor}
 use Rattle.store.specs.Updates.{Cells, update, Room, Freeable, Layable, freedList, laidList, freedAll, pairsFreed, pairsLaid}
 use Rattle.stock.specs.Stock.{Stock, SoundCells}
 use Rattle.changes.specs.Changes.{changesOf, AllGood}
-use Rattle.change_commit.specs.Commit.{updatesIn, intervalsAfter}
+use Rattle.change_commit.specs.Commit.{updatesIn, intervalsAfter, listCauses, changeCauses}
 use Rattle.change_commit.specs.declared.Judged.{Judged}
 use Rattle.change_commit.specs.declared.Judged.the-variants.{Fits, Refused}
 
@@ -53,3 +52,10 @@ pub record Emptied (spec : DexelStockSpec) (g : DexelGrid) (changes : List ℕ) 
 abbrev pub Judges : List Cause → DexelStockSpec → DexelGrid → Stock → List ℕ → List Float → Judged → Type 0
 Judges causes spec g s changes pairs (Refused k) = Due causes k
 Judges causes spec g s changes pairs (Fits t) = NoneDue causes × (t ≡ intervalsAfter spec g s changes pairs) × Fitting spec g (s .cells) (s .intervals) changes pairs
+
+-- a verdict on the changes of a sound store, and one on the whole call over a grid that is accepted
+abbrev pub ListJudges : DexelStockSpec → DexelGrid → Stock → List ℕ → List Float → Judged → Type 0
+ListJudges spec g s changes pairs r = Judges (listCauses spec g s changes pairs) spec g s changes pairs r
+
+abbrev pub GridJudges : DexelStockSpec → DexelGrid → (base : ℕ) → Stock → List ℕ → List Float → Judged → Type 0
+GridJudges spec g base s changes pairs r = Judges (changeCauses spec g base s changes pairs) spec g s changes pairs r

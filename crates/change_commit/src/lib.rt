@@ -5,14 +5,14 @@ ghost use Prim.Native.Nat.{ℕ, _+_, _*_, _%_, _^_, _≤_, _<_};
 ghost use lib.Ieee.{Float};
 ghost use lib.ListN.{length};
 ghost use Rattle.grid.specs.Rays.{rayCount};
-ghost use Rattle.grid.specs.Causes.{GridFacts, gridIn};
+ghost use Rattle.grid.specs.Causes.{GridFacts};
 ghost use Rattle.store.specs.Fills.{Cursor};
 ghost use Rattle.store.specs.Updates.{cells, Room, freedList, laidAll, applied};
 ghost use Rattle.stock.specs.Stock.{SoundCells};
-ghost use Rattle.stock.specs.Outcomes.{stock, outcome};
+ghost use Rattle.stock.specs.Outcomes.{stock};
 ghost use Rattle.changes.specs.Changes.{part};
-ghost use Rattle.change_commit.specs.Commit.{updatesIn, listCauses, changeCauses, commitCauses, Commits};
-ghost use Rattle.change_commit.specs.Passes.{FreeableRay, LayableRay, LaidRay, Fitting, Frees, Emptied, Judges};
+ghost use Rattle.change_commit.specs.Commit.{updatesIn, GridCommits, ChangeCommits};
+ghost use Rattle.change_commit.specs.Passes.{FreeableRay, LayableRay, LaidRay, Fitting, Frees, Emptied, ListJudges, GridJudges};
 use changes::Checked;
 use grid::DexelGrid;
 use grid::DexelStockSpec;
@@ -163,8 +163,7 @@ fn judge_list(
     pairs: &[f64],
 ) -> Judged
     requires { ⌜ Room (spec .«max_intervals») (2 * rayCount g) (cells (now spans) (now links) (now heads)) × SoundCells spec g (cells (now spans) (now links) (now heads)) intervals × (length (now pairs) % 2 ≡ 0) ⌝ }
-    ensures { λ r. ⌜ Judges (listCauses spec g (stock (now (spans .entry)) (now (links .entry)) (now (heads .entry)) generation intervals) (now (changes .entry)) (now (pairs .entry))) spec g
-        (stock (now (spans .entry)) (now (links .entry)) (now (heads .entry)) generation intervals) (now (changes .entry)) (now (pairs .entry)) r ⌝ }
+    ensures { λ r. ⌜ ListJudges spec g (stock (now (spans .entry)) (now (links .entry)) (now (heads .entry)) generation intervals) (now (changes .entry)) (now (pairs .entry)) r ⌝ }
 {
     let Checked::Next(cur) = changes::check_changes(spec, g, spans, links, heads, changes, pairs)
     else {
@@ -194,8 +193,7 @@ fn judge(
     pairs: &[f64],
 ) -> Judged
     requires { ⌜ GridFacts spec g ⌝ }
-    ensures { λ r. ⌜ Judges (changeCauses spec g base (stock (now (spans .entry)) (now (links .entry)) (now (heads .entry)) generation intervals) (now (changes .entry)) (now (pairs .entry))) spec g
-        (stock (now (spans .entry)) (now (links .entry)) (now (heads .entry)) generation intervals) (now (changes .entry)) (now (pairs .entry)) r ⌝ }
+    ensures { λ r. ⌜ GridJudges spec g base (stock (now (spans .entry)) (now (links .entry)) (now (heads .entry)) generation intervals) (now (changes .entry)) (now (pairs .entry)) r ⌝ }
 {
     if stock::is_short(spec, g, spans, links, heads) {
         return Judged::Refused(12);
@@ -239,8 +237,8 @@ fn commit_grid(
     pairs: &[f64],
 ) -> Outcome
     requires { ⌜ GridFacts spec g ⌝ }
-    ensures { λ r. ⌜ Commits (changeCauses spec g base (stock (now (spans .entry)) (now (links .entry)) (now (heads .entry)) generation intervals) (now (changes .entry)) (now (pairs .entry))) spec g
-        (now (changes .entry)) (now (pairs .entry)) (stock (now (spans .entry)) (now (links .entry)) (now (heads .entry)) generation intervals)
+    ensures { λ r. ⌜ GridCommits spec g base (now (changes .entry)) (now (pairs .entry))
+        (stock (now (spans .entry)) (now (links .entry)) (now (heads .entry)) generation intervals)
         (stock (now (spans .exit)) (now (links .exit)) (now (heads .exit)) (r .generation) (r .intervals)) (r .answer) ⌝ }
 {
     match judge(
@@ -284,8 +282,8 @@ pub fn commit_changes_on(
     changes: &[u64],
     pairs: &[f64],
 ) -> Outcome
-    ensures { λ r. ⌜ Commits (commitCauses spec (now (units .entry)) base (stock (now (spans .entry)) (now (links .entry)) (now (heads .entry)) generation intervals) (now (changes .entry)) (now (pairs .entry))) spec (gridIn spec)
-        (now (changes .entry)) (now (pairs .entry)) (stock (now (spans .entry)) (now (links .entry)) (now (heads .entry)) generation intervals)
+    ensures { λ r. ⌜ ChangeCommits spec (now (units .entry)) base (now (changes .entry)) (now (pairs .entry))
+        (stock (now (spans .entry)) (now (links .entry)) (now (heads .entry)) generation intervals)
         (stock (now (spans .exit)) (now (links .exit)) (now (heads .exit)) (r .generation) (r .intervals)) (r .answer) ⌝ }
 {
     match grid::grid(spec, units) {
@@ -321,8 +319,8 @@ pub fn commit_changes(
     changes: &[u64],
     pairs: &[f64],
 ) -> Committed
-    ensures { λ r. ⌜ Commits (commitCauses spec (now (units .entry)) base (stock (now (spans .entry)) (now (links .entry)) (now (heads .entry)) (now (tally .entry) .generation) (now (tally .entry) .intervals)) (now (changes .entry)) (now (pairs .entry))) spec (gridIn spec)
-        (now (changes .entry)) (now (pairs .entry)) (stock (now (spans .entry)) (now (links .entry)) (now (heads .entry)) (now (tally .entry) .generation) (now (tally .entry) .intervals))
+    ensures { λ r. ⌜ ChangeCommits spec (now (units .entry)) base (now (changes .entry)) (now (pairs .entry))
+        (stock (now (spans .entry)) (now (links .entry)) (now (heads .entry)) (now (tally .entry) .generation) (now (tally .entry) .intervals))
         (stock (now (spans .exit)) (now (links .exit)) (now (heads .exit)) (now (tally .exit) .generation) (now (tally .exit) .intervals)) r ⌝ }
 {
     let done = commit_changes_on(

@@ -1,18 +1,17 @@
 -- The law of a change list: what its updates leave of a sound stock.
-use mathlib.Core.Path.{_≡_, refl, sym, ap, _∙_, subst}
+use mathlib.Core.Path.{_≡_, sym, ap, _∙_, subst}
 use mathlib.Core.List.{List, [], _∷_}
-use Prim.Native.Nat.{ℕ, suc, _+_, _-_, _*_, _%_, _≤_, _<_}
+use Prim.Native.Nat.{ℕ, suc, _+_, _-_, _*_, _≤_, _<_}
 use native.Mathlib.Decide.{ℕ-discrete}
 use native.Mathlib.Omega.{arith}
 use lib.Ieee.{Float}
-use lib.ListN.{length}
 use Rattle.spans.proofs.Sets.{sound-mod}
 use Rattle.grid.specs.Axes.{worldAxis}
 use Rattle.grid.specs.Rays.{rayCount, boundsOf}
 use Rattle.grid.specs.declared.DexelStockSpec.{DexelStockSpec}
 use Rattle.grid.specs.declared.DexelGrid.{DexelGrid}
 use Rattle.grid.proofs.Numbering.{number-lt}
-use Rattle.store.specs.Updates.{Cells, Update, update, Room, Ascending, none, next, pairsFreed, pairsLaid, listAfter, applied, held, Updated}
+use Rattle.store.specs.Updates.{Cells, Update, update, Room, Ascending, none, next, pairsFreed, pairsLaid, listAfter, applied, Updated}
 use Rattle.store.proofs.Updating.{after-here, after-other, updated}
 use Rattle.validity.specs.Ray.{ValidRay}
 use Rattle.stock.specs.Stock.{possibleIn, certainIn, SoundCells}

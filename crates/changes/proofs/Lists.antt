@@ -1,17 +1,16 @@
 -- Lists with equal ends.
-use mathlib.Core.Path.{_≡_, refl, sym, ap, _∙_, subst}
+use mathlib.Core.Path.{_≡_, refl, sym, ap, _∙_}
 use mathlib.Core.Bool.{Bool, true, false, not, _&&_}
-use mathlib.Core.List.{List, [], _∷_, _++_}
-use Prim.Native.Nat.{ℕ, zero, suc, _+_, _*_, _%_, _≤_, _<_}
+use mathlib.Core.List.{List, [], _∷_}
+use Prim.Native.Nat.{ℕ, suc, _+_, _%_, _≤_, _<_}
 use native.Mathlib.Numerals.{add-one}
 use native.Mathlib.Omega.{arith}
 use lib.Dec.{eqb}
-use lib.Ieee.{Float, nan, lt, le, eq}
-use lib.ListN.{length, getD, take, drop}
+use lib.Ieee.{Float, nan, eq}
+use lib.ListN.{length, getD, drop, drop-of-length-le}
 use lib.Seq.{drop-cons}
-use borrow.Author.Tests.{eqb-true, eq-eqb}
-use Rattle.doubles.proofs.Bools.{and-left, and-right, both, and-false, not-true, not-false, clash, by-cases}
-use Rattle.doubles.proofs.Order.{lt-eq-left, lt-eq-right, eq-sym}
+use Rattle.doubles.proofs.Bools.{and-left, and-right, both, not-true, not-false, clash}
+use Rattle.doubles.proofs.Order.{lt-eq-left, lt-eq-right}
 use Rattle.spans.specs.Spans.{leads, rising, sound, equal}
 
 -- ---- equal lists
@@ -58,15 +57,9 @@ module _ (a b : List Float) (k : ℕ) where
   pub ends-agree : k < length a → length a ≡ length b → not (eq (getD a k nan) (getD b k nan)) ≡ false → equal a b ≡ equal (drop k a) (drop k b) → equal a b ≡ equal (drop (k + 1) a) (drop (k + 1) b)
   ends-agree h e n s = s ∙ equal-at h (omega arith) ∙ ap (λ (t : Bool). t && equal (drop (k + 1) a) (drop (k + 1) b)) (not-false (eq (getD a k nan) (getD b k nan)) n)
 
-drop-past : (l : List Float) (k : ℕ) → length l ≤ k → drop k l ≡ []
-drop-past [] zero h = refl
-drop-past [] (suc k) h = refl
-drop-past (x ∷ l) zero h = absurd (omega arith)
-drop-past (x ∷ l) (suc k) h = drop-past l k (omega arith)
-
 pub ends-all : (a b : List Float) (k : ℕ) → length a ≤ k → length a ≡ length b → equal a b ≡ equal (drop k a) (drop k b) → true ≡ equal a b
 unfolding equal
-ends-all a b k h e s = sym (s ∙ ap (λ (l : List Float). equal l (drop k b)) (drop-past a k h) ∙ ap (equal []) (drop-past b k (omega arith)))
+ends-all a b k h e s = sym (s ∙ ap (λ (l : List Float). equal l (drop k b)) (drop-of-length-le a h) ∙ ap (equal []) (drop-of-length-le b {i = k} (omega arith)))
 
 pub sizes-differ : (a b : List Float) → (length a ≡ length b → ⊥) → false ≡ equal a b
 sizes-differ a b ne = go (equal a b) refl

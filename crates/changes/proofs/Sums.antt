@@ -1,12 +1,11 @@
 -- What good changes free and lay, and one turn of the check of all changes.
 use mathlib.Core.Path.{_≡_, refl, sym, ap, _∙_, subst}
-use mathlib.Core.Bool.{true, _&&_}
 use mathlib.Core.List.{List, [], _∷_}
-use Prim.Native.Nat.{ℕ, zero, suc, _+_, _-_, _*_, _%_, _/_, _≤_, _<_}
+use Prim.Native.Nat.{ℕ, suc, _+_, _-_, _*_, _%_, _/_, _≤_, _<_}
 use native.Mathlib.Numerals.{add-one}
 use native.Mathlib.Omega.{arith}
 use lib.Ieee.{Float}
-use lib.ListN.{length, take, drop, length-drop}
+use lib.ListN.{length, drop, length-drop}
 use lib.Seq.{length-take-le}
 use Rattle.doubles.proofs.Bools.{and-left, and-right}
 use Rattle.spans.specs.Spans.{equal}
@@ -20,7 +19,6 @@ use Rattle.changes.specs.Changes.{headAt, part, end1, end2, end3, end4, 
 use Rattle.changes.specs.Steps.{onward, cursorOf, Stands, Checks, ChecksAll}
 use Rattle.changes.specs.declared.ChangeHead.{ChangeHead}
 use Rattle.changes.specs.declared.Cursor.{Cursor}
-use Rattle.changes.specs.declared.Checked.{Checked}
 use Rattle.changes.specs.declared.Checked.the-variants.{Next, Bad}
 use Rattle.changes.proofs.Lists.{equal-length}
 

@@ -8,8 +8,8 @@ use lib.Dec.{leb}
 use lib.Ieee.{Float}
 use lib.ListN.{length, take, drop}
 use borrow.Author.Tests.{leb-true, le-leb}
-use Rattle.doubles.proofs.Bools.{and-left, and-right, both, and-false, not-true, not-false, clash}
-use Rattle.spans.specs.Spans.{holds, sound, equal, Within}
+use Rattle.doubles.proofs.Bools.{and-left, and-right, not-true, not-false, clash}
+use Rattle.spans.specs.Spans.{sound, equal, Within}
 use Rattle.grid.specs.Axes.{worldAxis}
 use Rattle.grid.specs.Rays.{rayCount, raysAlong, boundsOf}
 use Rattle.grid.specs.declared.DexelStockSpec.{DexelStockSpec}
@@ -20,7 +20,7 @@ use Rattle.comparing.specs.Verdicts.{Covers}
 use Rattle.validity.specs.Ray.{ValidRay}
 use Rattle.rays.proofs.Tests.{passes, covers-tells}
 use Rattle.stock.specs.Stock.{Tells, possibleIn, certainIn}
-use Rattle.changes.specs.Changes.{part, end4, rayOf, Names, Loses, Cuts, Good, changeBy}
+use Rattle.changes.specs.Changes.{part, end4, rayOf, Names, Loses, Cuts, changeBy}
 use Rattle.changes.specs.Steps.{pairsIn, cursorOf, Lent, Checks}
 use Rattle.changes.specs.declared.ChangeHead.{ChangeHead}
 use Rattle.changes.specs.declared.Cursor.{Cursor}

@@ -1,21 +1,14 @@
 -- The loop of `is_bounded`: the whole list is bounded where the rest of it is.
 use mathlib.Core.Path.{_≡_, refl, sym, ap, _∙_}
 use mathlib.Core.Bool.{Bool, true, false, not, _&&_}
-use mathlib.Core.List.{List, [], _∷_}
-use Prim.Native.Nat.{ℕ, zero, suc, _+_, _≤_, _<_}
+use mathlib.Core.List.{List}
+use Prim.Native.Nat.{ℕ, _+_, _≤_, _<_}
 use native.Mathlib.Numerals.{add-one}
-use native.Mathlib.Omega.{arith}
 use lib.Ieee.{Float, nan, le}
-use lib.ListN.{length, getD, drop}
+use lib.ListN.{length, getD, drop, drop-of-length-le}
 use lib.Seq.{drop-cons}
 use Rattle.doubles.proofs.Bools.{and-false, not-true, not-false}
 use Rattle.validity.specs.Ray.{bounded}
-
-drop-past : (l : List Float) (k : ℕ) → length l ≤ k → drop k l ≡ []
-drop-past [] zero h = refl
-drop-past [] (suc k) h = refl
-drop-past (x ∷ l) zero h = absurd (omega arith)
-drop-past (x ∷ l) (suc k) h = drop-past l k (omega arith)
 
 module _ (lo hi : Float) (l : List Float) (k : ℕ) where
   bounded-at : k < length l → bounded lo hi (drop k l) ≡ (le lo (getD l k nan) && (le (getD l k nan) hi && bounded lo hi (drop (k + 1) l)))
@@ -38,4 +31,4 @@ module _ (lo hi : Float) (l : List Float) (k : ℕ) where
 
   pub all-in : length l ≤ k → bounded lo hi l ≡ bounded lo hi (drop k l) → true ≡ bounded lo hi l
   unfolding bounded
-  all-in h s = sym (s ∙ ap (bounded lo hi) (drop-past l k h))
+  all-in h s = sym (s ∙ ap (bounded lo hi) (drop-of-length-le l h))

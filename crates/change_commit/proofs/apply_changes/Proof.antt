@@ -1,6 +1,5 @@
 use borrow.Author.Needs.{needs}
-use native.Mathlib.Omega.{arith}
-use mathlib.Core.Path.{_≡_, ap, _∙_}
+use mathlib.Core.Path.{ap, _∙_}
 use Rattle.store.specs.Updates.{Cells, cells, laidAll}
 use Rattle.change_commit.specs.Commit.{updatesIn}
 use Rattle.change_commit.proofs.Turns.{applied-is}

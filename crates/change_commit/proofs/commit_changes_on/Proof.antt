@@ -1,6 +1,5 @@
 use borrow.Author.Needs.{needs}
-use native.Mathlib.Omega.{arith}
-use mathlib.Core.Path.{_≡_, sym, _∙_}
+use mathlib.Core.Path.{sym, _∙_}
 use Rattle.grid.proofs.Facts.{grid-facts}
 use Rattle.stock.specs.Outcomes.{stock}
 use Rattle.change_commit.proofs.Answers.{grid-accepted, grid-refused}

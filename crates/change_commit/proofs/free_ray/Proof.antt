@@ -1,6 +1,5 @@
 use borrow.Author.Needs.{needs}
-use native.Mathlib.Omega.{arith}
-use mathlib.Core.Path.{_≡_, sym, ap, _∙_, subst}
+use mathlib.Core.Path.{sym, ap, _∙_, subst}
 use Prim.Native.Nat.{_+_, _*_}
 use Rattle.store.specs.Updates.{Cells, Freeable, freedList}
 use Rattle.change_commit.proofs.free_ray.Statement.{statement}

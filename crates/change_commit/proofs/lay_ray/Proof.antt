@@ -1,5 +1,4 @@
 use borrow.Author.Needs.{needs}
-use native.Mathlib.Omega.{arith}
 use Rattle.store.specs.Updates.{cells}
 use Rattle.change_commit.proofs.Turns.{possible-layable, certain-layable, ray-laid}
 use Rattle.change_commit.proofs.lay_ray.Statement.{statement}

@@ -1,4 +1,3 @@
-use borrow.Author.Needs.{needs}
 use native.Mathlib.Omega.{arith}
 use Rattle.store.specs.Updates.{cells}
 use Rattle.changes.proofs.Tests.{old-sound, cuts-no, cuts-rest}

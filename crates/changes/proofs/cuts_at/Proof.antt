@@ -1,5 +1,4 @@
 use borrow.Author.Needs.{needs}
-use native.Mathlib.Omega.{arith}
 use Prim.Native.Nat.{_+_, _*_}
 use Rattle.store.specs.Updates.{cells}
 use Rattle.changes.proofs.Tests.{part-is, cuts-parts}

@@ -1,5 +1,3 @@
-use borrow.Author.Needs.{needs}
-use native.Mathlib.Omega.{arith}
 use Rattle.changes.proofs.Tests.{fits-1, fits-2, fits-3, fits-4}
 use Rattle.changes.proofs.fits.Statement.{statement}
 use Rattle.changes.proofs.fits.Tie as tie

@@ -1,7 +1,6 @@
 use borrow.Author.Needs.{needs}
-use native.Mathlib.Omega.{arith}
 use Rattle.changes.specs.Changes.{headAt}
-use mathlib.Core.Path.{_≡_, refl, sym, ap, _∙_}
+use mathlib.Core.Path.{refl}
 use Rattle.changes.proofs.head.Statement.{statement}
 use Rattle.changes.proofs.head.Tie as tie
 

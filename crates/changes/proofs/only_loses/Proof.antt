@@ -1,5 +1,4 @@
 use borrow.Author.Needs.{needs}
-use native.Mathlib.Omega.{arith}
 use Rattle.stock.proofs.Rays.{tells-good}
 use Rattle.changes.proofs.Tests.{covers-good, only-1, only-2, only-3, only-4, only-5}
 use Rattle.changes.proofs.only_loses.Statement.{statement}

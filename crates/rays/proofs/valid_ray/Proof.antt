@@ -1,5 +1,4 @@
 use borrow.Author.Needs.{needs}
-use native.Mathlib.Omega.{arith}
 use Rattle.rays.proofs.Tests.{passes, possible-unsound, certain-unsound, possible-out, certain-out, rest-tells}
 use Rattle.rays.proofs.valid_ray.Statement.{statement}
 use Rattle.rays.proofs.valid_ray.Tie as tie
