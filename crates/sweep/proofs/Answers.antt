@@ -43,7 +43,7 @@ use Rattle.sweep.specs.declared.Swept.{Swept}
 use Rattle.sweep.specs.declared.Swept.the-variants.{Accepted, Refused}
 use Rattle.sweep.specs.declared.SweepCheck.{SweepCheck}
 use Rattle.sweep.specs.declared.SweepCheck.the-variants.{Admitted, Declined}
-use Rattle.sweep.proofs.Chords.{sweep-length}
+use Rattle.sweep.proofs.Chords.{sweep-length, log-length}
 
 -- ---- the check of a setting
 module _ (s : Setting) (intervals : ℕ) (chords : List Float) where
@@ -172,7 +172,7 @@ module _ (s : Setting) (chords : List Float) (budget : ℕ) (log mid : List Floa
       let z : 0 + length (sweepEntries s chords) ≡ length (sweepEntries s chords) = omega arith in (
         ((λ (q : walkOf s chords budget (length log) ≡ Stop 8). done-no-stop _ (d .visits) 8 (take (d .at) mid) (w .walked) q), ((λ (q : walkOf s chords budget (length log) ≡ Stop 16). done-no-stop _ (d .visits) 16 (take (d .at) mid) (w .walked) q), tt)),
         record {
-          entries = ap (λ (n : ℕ). n / 6) (sym l);
+          entries = omega (arith, l, log-length s chords);
           visits = r .0 ∙ z ∙ sweep-length s chords;
           log = ap (λ (m : List Float). m ++ replicate (length mid - d .at) plusZero) (r .1) ∙ ap (λ (n : ℕ). logOf s chords ++ replicate n plusZero) (ap (λ (n : ℕ). n - d .at) (w .same) ∙ ap (λ (n : ℕ). length log - n) (sym l));
         },

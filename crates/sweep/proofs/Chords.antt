@@ -1,19 +1,19 @@
 -- The two axes of a chord, and chord after chord; and how many rays that makes.
 use mathlib.Core.Path.{_≡_, refl, sym, ap, subst, _∙_}
 use mathlib.Core.List.{List, _++_}
-use Prim.Native.Nat.{ℕ, _+_, _-_, _/_, _≤_, _<_}
+use Prim.Native.Nat.{ℕ, _+_, _-_, _*_, _/_, _≤_, _<_}
 use native.Mathlib.Omega.{arith}
 use lib.Ieee.{Float}
 use lib.ListN.{length, length-append}
 use Rattle.grid.specs.declared.WorldAxis.{WorldAxis}
 use Rattle.across.specs.declared.Chord.{Chord}
-use Rattle.visits.specs.Entries.{each, rayEntry, raysIn}
+use Rattle.visits.specs.Entries.{each, rayEntry, raysIn, entryCount}
 use Rattle.visits.specs.Walk.{Walks, Went, Halted}
 use Rattle.visits.specs.declared.Cursor.{Cursor}
 use Rattle.visits.specs.declared.Progress.{Progress}
 use Rattle.visits.specs.declared.Progress.the-variants.{At, Stopped}
-use Rattle.visits.proofs.Walks.{went-then, went-halt, halt-before, Sweeping, sweeping-next, sweeping-halt, sweeping-all, each-length, sum-same, rectangle-length}
-use Rattle.sweep.specs.Entries.{Setting, trackOf, laneIn, rectangleIn, axisEntries, firstAxis, secondAxis, chordEntries, chordIn, sweepEntries, chordVisits, visitTotal}
+use Rattle.visits.proofs.Walks.{went-then, went-halt, halt-before, Sweeping, sweeping-next, sweeping-halt, sweeping-all, each-length, sum-same, rectangle-length, Sixes, sixes-append, sixes-each, rectangle-sixes, sixes-count}
+use Rattle.sweep.specs.Entries.{Setting, trackOf, laneIn, rectangleIn, axisEntries, firstAxis, secondAxis, chordEntries, chordIn, sweepEntries, logOf, chordVisits, visitTotal}
 
 -- ---- one chord
 module _ {budget : ℕ} (s : Setting) (c : Chord) {start : Cursor} {log : List Float} where
@@ -71,3 +71,17 @@ module _ (s : Setting) where
   unfolding sweepEntries visitTotal
   sweep-length chords =
       each-length (entriesAt s chords) 0 (length chords / 8) ∙ sum-same (length chords / 8) _ _ (λ (i : ℕ). chord-length (chordIn s chords i)) 0
+
+-- ---- the number of entries
+module _ (s : Setting) where
+  axis-sixes : (c : Chord) (a : WorldAxis) → Sixes (axisEntries s c a)
+  unfolding axisEntries
+  axis-sixes c a = rectangle-sixes (s .spec .«max_intervals») (trackOf (s .grid) a) (s .profile) (laneIn s c a) (s .cells .spans) (s .cells .links) (s .cells .heads) (rectangleIn s c a)
+
+  chord-sixes : (c : Chord) → Sixes (chordEntries s c)
+  unfolding chordEntries
+  chord-sixes c = sixes-append _ _ (axis-sixes c (firstAxis (s .kernel .frame))) (axis-sixes c (secondAxis (s .kernel .frame)))
+
+  pub log-length : (chords : List Float) → length (logOf s chords) ≡ 6 * entryCount (sweepEntries s chords)
+  unfolding logOf sweepEntries
+  log-length chords = sixes-count _ (sixes-each (length chords / 8) (entriesAt s chords) (λ (i : ℕ). chord-sixes (chordIn s chords i)) 0)

@@ -1,3 +1,4 @@
 pub mod Tracks
 pub mod Chords
 pub mod Answers
+pub mod Examples

@@ -19,6 +19,7 @@ use Rattle.spans.specs.Results.{plusZero}
 use Rattle.store.specs.Updates.{Cells}
 use Rattle.stock.specs.Stock.{SoundCells, short}
 use Rattle.across.specs.Lane.{profileOf}
+use Rattle.visits.specs.Entries.{entryCount}
 use Rattle.visits.specs.Walk.{Walked, Stop, walk}
 use Rattle.visits.specs.declared.Progress.{Progress}
 use Rattle.visits.specs.declared.Progress.the-variants.{At, Stopped}
@@ -64,9 +65,9 @@ sweepCauses units s intervals chords budget len = gridCauses (s .spec) units ++ 
 unfoldable pub refusedLog : ℕ → List Float → List Float
 refusedLog k log = cond (eqb k 8 || eqb k 16) (replicate (length log) plusZero) log
 
--- an accepted sweep: the number of entries, six cells each, and the visit total; the entries in order and zeros past them
+-- an accepted sweep: the number of entries and the visit total; the entries in order and zeros past them
 pub record Logs (s : Setting) (chords before after : List Float) (t : Totals) : Type 0 where
-  pub entries : t .entries ≡ length (logOf s chords) / 6
+  pub entries : t .entries ≡ entryCount (sweepEntries s chords)
   pub visits : t .visits ≡ visitTotal s chords
   pub log : after ≡ logOf s chords ++ replicate (length before - length (logOf s chords)) plusZero
 

@@ -25,8 +25,9 @@ use Rattle.across.specs.declared.Hits.{Hits}
 use Rattle.across.specs.declared.Rect.{Rect}
 use Rattle.across.specs.declared.Rectangle.{Rectangle}
 use Rattle.across.specs.declared.Rectangle.the-variants.{Rays, NoRays}
+use Rattle.across.specs.declared.RayHit.{RayHit}
 use Rattle.across.specs.declared.RayHit.the-variants.{On, Off}
-use Rattle.visits.specs.Entries.{entryOf, entryFor, indexOf, possibleAt, rayEntry, each, sum, rowEntries, rectEntries, rectangleEntries, raysIn, joined}
+use Rattle.visits.specs.Entries.{entryOf, entryFor, indexOf, possibleAt, rayEntry, each, sum, rowEntries, rectEntries, rectangleEntries, raysIn, joined, entryCount}
 use Rattle.visits.specs.Walk.{Walked, Done, Stop, walk, Went, Halted, Walks, RayReady, Ready}
 use Rattle.visits.proofs.Cells.{put-take, put-length}
 
@@ -288,3 +289,43 @@ pub rectangle-length : (f : (u v : ℕ) → List Float) (r : Rectangle) → leng
 unfolding raysIn
 rectangle-length f NoRays = refl
 rectangle-length f (Rays r) = rect-length f r
+
+-- ---- how many entries there are: each ray has six cells in the log or none
+unfoldable pub Sixes : List (List Float) → Type 0
+Sixes [] = Unit {0}
+Sixes (e ∷ es) = ((e ≡ []) ⊎ (length e ≡ 6)) × Sixes es
+
+pub sixes-append : (r s : List (List Float)) → Sixes r → Sixes s → Sixes (r ++ s)
+unfolding Sixes
+sixes-append [] s a b = b
+sixes-append (e ∷ r) s a b = (a .0, sixes-append r s (a .1) b)
+
+pub sixes-each : (n : ℕ) (f : ℕ → List (List Float)) → ((i : ℕ) → Sixes (f i)) → (from : ℕ) → Sixes (each f from n)
+unfolding each Sixes
+sixes-each zero f h from = tt
+sixes-each (suc n) f h from = sixes-append (f from) (each f (suc from) n) (h from) (sixes-each n f h (suc from))
+
+entry-sixes : (axis index : ℕ) (x : RayHit) → (entryFor axis index x ≡ []) ⊎ (length (entryFor axis index x) ≡ 6)
+unfolding entryFor entryOf
+entry-sixes axis index Off = inl refl
+entry-sixes axis index (On h) = inr refl
+
+pub rectangle-sixes : (n : ℕ) (t : Track) (p : Profile) (l : Lane) (spans : List Float) (links heads : List ℕ) (r : Rectangle) → Sixes (rectangleEntries (rayEntry n t p l spans links heads) r)
+unfolding rectEntries rowEntries rayEntry Sixes
+rectangle-sixes n t p l spans links heads NoRays = tt
+rectangle-sixes n t p l spans links heads (Rays r) =
+    sixes-each (r .v1 + 1 - r .v0) _ (λ (v : ℕ). sixes-each (r .u1 + 1 - r .u0) _ (λ (u : ℕ). (entry-sixes (t .axis) (indexOf t u v) (hitOf p l (sectionOf l u v) (possibleAt n t spans links heads u v)), tt)) (r .u0)) (r .v0)
+
+abbrev filled : List Float → Bool
+filled [] = false
+filled (x ∷ l) = true
+
+pub sixes-count : (es : List (List Float)) → Sixes es → length (joined es) ≡ 6 * entryCount es
+unfolding Sixes joined entryCount
+sixes-count [] h = refl
+sixes-count ([] ∷ es) h = sixes-count es (h .1)
+sixes-count ((x ∷ e) ∷ es) h = length-append (x ∷ e) (joined es) ∙ more (h .0) (sixes-count es (h .1))
+  where
+    more : ((x ∷ e ≡ []) ⊎ (length (x ∷ e) ≡ 6)) → length (joined es) ≡ 6 * entryCount es → length (x ∷ e) + length (joined es) ≡ 6 * suc (entryCount es)
+    more (inl q) k = absurd (clash true refl (ap filled q))
+    more (inr q) k = omega (arith, q, k)

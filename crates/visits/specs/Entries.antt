@@ -67,3 +67,9 @@ sum f from (suc count) = f from + sum f (suc from) count
 unfoldable pub joined : List (List Float) → List Float
 joined [] = []
 joined (e ∷ es) = e ++ joined es
+
+-- the number of entries: the rays that have one
+unfoldable pub entryCount : List (List Float) → ℕ
+entryCount [] = 0
+entryCount ([] ∷ es) = entryCount es
+entryCount ((x ∷ e) ∷ es) = suc (entryCount es)

@@ -1,0 +1,97 @@
+-- The worked sweep is right, by computation.
+use mathlib.Core.Path.{_≡_, refl, subst}
+use mathlib.Core.Bool.{true, false}
+use mathlib.Core.Logic.{inl, inr}
+use Prim.Native.Nat.{ℕ, _*_, _%_}
+use lib.ListN.{length}
+use lib.Ieee.{ofBits, ofInt, toUnsigned, neg, add, sub, mul, div, lt, le, eq, isNan}
+use Rattle.doubles.specs.Doubles.{ratio, largerOf, smallerOf, absOf, clampOf, floorOf, ceilOf}
+use Rattle.doubles.specs.Root.{squareRoot}
+use Rattle.grid.specs.Axes.{byDigit}
+use Rattle.grid.specs.Grid.{within, allWithin, anyBelow, anyAbove, isMm, misdescribed, cellsOf, magnitudeOf, leastStep, tooFine, gridOver, gridOf}
+use Rattle.grid.specs.Causes.{mm, gridIn, gridCauses}
+use Rattle.grid.specs.declared.Gridded.the-variants.{Accepted as Griddable}
+use Rattle.grid.proofs.Facts.{grid-facts}
+use Rattle.refusal.specs.Refusal.{NoneDue}
+use Rattle.doubles.proofs.Bools.{clash}
+use Rattle.grid.specs.Rays.{rayCount, raysAlong, offset, rayAxis, boundsOf, cellAt}
+use Rattle.frame.specs.declared.Axis.the-variants.{PosZ}
+use Rattle.frame.specs.Frame.{frameOf, digitOf, worldAxisOf, localAxisOf, signAlong, localAt, localOf, turned, worldOf}
+use Rattle.cutter.specs.Cutter.{isFinite, cuttingRadius, offTool, radiusAt, cutRadius, cutMax, cutMin}
+use Rattle.cutter.specs.Limits.{aboveZero, fromZero, number, sizesFit, heightsFit, lengthsFit, diametersFit, shapeFits, withinLimits, isBeam}
+use Rattle.cutter.specs.declared.CutterShape.the-variants.{Flat}
+use Rattle.strips.specs.Strip.{bandDistance, halfChord, chordStrip, diskStrip, stadiumStrip, hull, sideStrip}
+use Rattle.store.specs.Store.{places, endsAt}
+use Rattle.stock.specs.Stock.{SoundCells, short}
+use Rattle.stock.specs.Uncut.{recordAt, uncutSpans, uncutLinks, uncutHeads, uncut}
+use Rattle.stock.proofs.Causes.{none-in-both, room-of}
+use Rattle.stock.proofs.Answers.{accepted}
+use Rattle.stock.proofs.UncutSound.{uncut-sound}
+use Rattle.across.specs.Meets.{lastOf, spansMeet, overlapsOf}
+use Rattle.across.specs.Lane.{planPoint, reachOf, sideOf, laneOf, spanOver, cellsMet, cellsAcross, rectangleOf, centerOf, sectionWith, sectionOf}
+use Rattle.across.specs.Across.{outerFrom, outerOf, innerFrom, innerOf, hitOf}
+use Rattle.visits.specs.Entries.{entryOf, entryFor, rayEntry, each, rowEntries, rectEntries, raysIn, sum}
+use Rattle.visits.specs.Walk.{walk}
+use Rattle.visits.proofs.Walks.{done-no-stop}
+use Rattle.chords.specs.Chords.{chordOf}
+use Rattle.chords.specs.Limits.{guardFits, endsFit, planSize, lengthFits, numbersFit, chordFits, every, chordsFit}
+use Rattle.sweep.specs.Entries.{trackOf, axisEntries, firstAxis, secondAxis, chordEntries, sweepEntries, visitTotal}
+use Rattle.sweep.specs.Answer.{Unsound, causesIn, sweepCauses}
+use Rattle.sweep.specs.Examples.{AllRight, halves, lent, blank, flat, sweeping, threeChords, fourEntries, examples}
+
+pub examples-right : AllRight examples
+unfolding examples blank flat sweeping threeChords fourEntries trackOf axisEntries firstAxis secondAxis chordEntries sweepEntries chordOf walk entryOf entryFor rayEntry each rowEntries rectEntries outerFrom outerOf innerFrom innerOf hitOf planPoint reachOf sideOf laneOf spanOver cellsMet cellsAcross rectangleOf centerOf sectionWith sectionOf lastOf spansMeet overlapsOf recordAt uncutSpans uncutLinks uncutHeads places endsAt bandDistance halfChord chordStrip diskStrip stadiumStrip hull sideStrip isFinite cuttingRadius offTool radiusAt cutRadius cutMax cutMin digitOf worldAxisOf localAxisOf signAlong localAt localOf turned worldOf rayCount raysAlong offset rayAxis boundsOf cellAt cellsOf byDigit squareRoot ratio largerOf smallerOf absOf clampOf floorOf ceilOf ofBits ofInt toUnsigned neg add sub mul div lt le eq isNan
+examples-right = (refl, (refl, (refl, (refl, (refl, tt)))))
+
+pub total-right : visitTotal sweeping threeChords ≡ 5
+unfolding visitTotal sum raysIn blank flat sweeping threeChords firstAxis secondAxis chordOf planPoint reachOf sideOf laneOf spanOver cellsMet cellsAcross rectangleOf recordAt uncutSpans uncutLinks uncutHeads digitOf worldAxisOf localAxisOf signAlong localAt localOf turned worldOf rayCount raysAlong offset rayAxis boundsOf cellAt cellsOf byDigit ratio largerOf smallerOf absOf clampOf floorOf ceilOf ofBits ofInt toUnsigned neg add sub mul div lt le eq isNan
+total-right = refl
+
+-- ---- the first example has no cause, so a sweep with these arguments is accepted
+grid-made : gridOf blank mm ≡ Griddable (gridIn blank)
+unfolding blank gridOf gridOver misdescribed isMm within allWithin anyBelow anyAbove cellsOf magnitudeOf leastStep tooFine byDigit largerOf absOf ceilOf ofBits ofInt toUnsigned add sub mul div neg lt le eq isNan
+grid-made = refl
+
+three-rays : rayCount (gridIn blank) ≡ 3
+unfolding blank rayCount cellsOf largerOf ceilOf ofBits ofInt toUnsigned sub div lt le eq isNan
+three-rays = refl
+
+lent-room : short blank (gridIn blank) lent ≡ false
+unfolding blank short rayCount cellsOf largerOf ceilOf ofBits ofInt toUnsigned sub div lt le eq isNan
+lent-room = refl
+
+laid-room : short blank (gridIn blank) (uncut blank (gridIn blank) lent) ≡ false
+unfolding blank short recordAt uncutSpans uncutLinks uncutHeads rayCount raysAlong offset rayAxis boundsOf byDigit cellsOf largerOf ceilOf ofBits ofInt toUnsigned sub div lt le eq isNan
+laid-room = refl
+
+tool-fits : withinLimits Flat flat ≡ true
+unfolding flat ratio withinLimits sizesFit heightsFit lengthsFit diametersFit shapeFits aboveZero fromZero number ofBits lt le eq isNan
+tool-fits = refl
+
+chords-fit : chordsFit (frameOf PosZ) (halves 1) threeChords ≡ true
+unfolding threeChords ratio chordsFit guardFits every chordFits endsFit numbersFit lengthFits planSize chordOf within allWithin digitOf worldAxisOf signAlong localAt localOf byDigit largerOf absOf ofBits neg sub mul lt le eq isNan
+chords-fit = refl
+
+whole-chords : length threeChords % 8 ≡ 0
+unfolding threeChords ratio
+whole-chords = refl
+
+laid-sound : SoundCells blank (gridIn blank) (uncut blank (gridIn blank) lent) 6
+laid-sound =
+    subst (λ (n : ℕ). SoundCells blank (gridIn blank) (uncut blank (gridIn blank) lent) (2 * n)) three-rays
+    (uncut-sound blank (gridIn blank) lent (grid-facts blank mm (gridIn blank) grid-made) (room-of blank (gridIn blank) lent lent-room))
+
+pub example-accepted : NoneDue (sweepCauses mm sweeping 6 threeChords 5 24)
+unfolding examples sweeping NoneDue Unsound isBeam
+example-accepted =
+    none-in-both (gridCauses blank mm) (causesIn sweeping 6 threeChords 5 24) (accepted blank mm (gridIn blank) grid-made .0) (
+      (λ e. clash _ e laid-room),
+      (
+        sound,
+        ((λ e. clash false e refl), ((λ e. clash _ tool-fits e), ((λ e. clash _ chords-fit e), ((λ e. done-no-stop _ 5 8 fourEntries (examples-right .0) e), ((λ e. done-no-stop _ 5 16 fourEntries (examples-right .0) e), tt))))),
+      ),
+    )
+  where
+    sound : Unsound sweeping 6 threeChords → ⊥
+    sound (inl h) = h whole-chords
+    sound (inr h) = h laid-sound
