@@ -3,80 +3,21 @@
 // A row has 292 bytes: the function's number in two hexadecimal digits, then 14 arguments and the answer's three words, 16 digits each
 // with a space before, and a newline. The answer is the number of its case and two doubles. What a function does not take or give is 0.
 // Doubles are compared as numbers, since Rust leaves the sign of a zero open. For each function it writes how many rows agree and how
-// many differ, then how many can't be read, and the first that differs.
+// many differ, then how many can't be read, and the number of the first row that differs.
 use cutter::CutterShape;
 use cutter::PreparedCutter;
 use cutter::ProfileSlice;
 use cutter::Radius;
 use cutter::ToolCheck;
-use rows::Word;
+use replay::Outcome;
+use replay::Tally;
 use strips::Point;
 use strips::Strip;
-
-const STDIN: i32 = 0;
-
-const STDOUT: i32 = 1;
-
-// A row's words, and whether all could be read.
-struct Row {
-    read: bool,
-    op: u64,
-    word: [u64; 17],
-}
 
 struct Answer {
     kind: u64,
     a: f64,
     b: f64,
-}
-
-// What the rows so far have shown, and the first row that differs.
-struct Tally {
-    agree: [u64; 8],
-    differ: [u64; 8],
-    unread: u64,
-    first: [u8; 292],
-    has_first: bool,
-    done: bool,
-}
-
-enum Outcome {
-    Agrees(u64),
-    Differs(u64),
-    Unread,
-}
-
-fn value_of(w: Word) -> u64 {
-    match w {
-        Word::Value(v) => v,
-        Word::Missing => 0,
-    }
-}
-
-fn is_missing(w: Word) -> bool {
-    match w {
-        Word::Value(_) => false,
-        Word::Missing => true,
-    }
-}
-
-fn row_of(text: &[u8]) -> Row {
-    let op = rows::hex_at(text, 0, 2);
-    let mut row = Row {
-        read: !is_missing(op),
-        op: value_of(op),
-        word: [0; 17],
-    };
-    let mut i = 0;
-    while i < 17 {
-        let w = rows::word_at(text, 17 * i + 3);
-        if is_missing(w) {
-            row.read = false;
-        }
-        row.word[i] = value_of(w);
-        i += 1;
-    }
-    row
 }
 
 fn strip_answer(s: Strip) -> Answer {
@@ -253,87 +194,44 @@ fn agrees(x: Answer, w: [u64; 17]) -> bool {
     false
 }
 
-fn compared(text: &[u8]) -> Outcome {
-    let row = row_of(text);
-    let op = row.op;
-    if op >= 8 {
-        return Outcome::Unread;
-    }
-    if !row.read {
-        return Outcome::Unread;
-    }
-    let w = row.word;
+fn answer_of(op: u64, w: [u64; 17]) -> Answer {
     if op < 3 {
-        if agrees(answer_strips(op, w), w) {
-            return Outcome::Agrees(op);
-        }
-        return Outcome::Differs(op);
+        return answer_strips(op, w);
     }
-    if agrees(answer_cutter(op, w), w) {
-        return Outcome::Agrees(op);
-    }
-    Outcome::Differs(op)
+    answer_cutter(op, w)
 }
 
-// One more, up to the largest count.
-fn up(n: u64) -> u64 {
-    if n == u64::MAX { n } else { n + 1 }
-}
-
-fn with_agreed(t: Tally, k: u64) -> Tally {
-    let mut next = t;
-    if k < 8 {
-        let n = up(next.agree[k as usize]);
-        next.agree[k as usize] = n;
+fn compared(text: &[u8]) -> Outcome {
+    let op = rows::hex_at(text, 0, 2);
+    if replay::is_missing(op) {
+        return Outcome::Unread;
     }
-    next
-}
-
-fn with_differed(t: Tally, k: u64, text: [u8; 292]) -> Tally {
-    let mut next = t;
-    if k < 8 {
-        let n = up(next.differ[k as usize]);
-        next.differ[k as usize] = n;
+    let k = replay::value_of(op);
+    if k >= 8 {
+        return Outcome::Unread;
     }
-    if !next.has_first {
-        next.first = text;
-        next.has_first = true;
+    let mut w = [0; 17];
+    if !replay::read_words(text, 3, &mut w) {
+        return Outcome::Unread;
     }
-    next
-}
-
-fn with_unread(t: Tally) -> Tally {
-    let mut next = t;
-    next.unread = up(next.unread);
-    next
+    if agrees(answer_of(k, w), w) {
+        return Outcome::Agrees(k);
+    }
+    Outcome::Differs(k)
 }
 
 // Reads one row and counts it.
 fn step(t: Tally) -> Tally {
     let mut text = [0u8; 292];
-    let n = io::read_full(STDIN, &mut text);
-    if n == 0 {
-        let mut last = t;
-        last.done = true;
-        return last;
+    if io::read_full(libc::STDIN_FILENO, &mut text) == 0 {
+        return replay::end(t);
     }
-    match compared(&text) {
-        Outcome::Agrees(k) => with_agreed(t, k),
-        Outcome::Differs(k) => with_differed(t, k, text),
-        Outcome::Unread => with_unread(t),
-    }
+    replay::count(t, compared(&text))
 }
 
-// A proved loop has to end, and nothing says that the input does: the turns are counted down from a number that no run uses up.
+// The turns are counted down, since a proved loop has to end and nothing says that the input does.
 fn counted() -> Tally {
-    let mut t = Tally {
-        agree: [0; 8],
-        differ: [0; 8],
-        unread: 0,
-        first: [0; 292],
-        has_first: false,
-        done: false,
-    };
+    let mut t = replay::start();
     let mut turns = u64::MAX;
     while turns > 0 {
         if t.done {
@@ -345,37 +243,15 @@ fn counted() -> Tally {
     t
 }
 
-fn print_line(name: &[u8], agree: u64, differ: u64) {
-    io::write_all(STDOUT, name);
-    io::print_decimal(STDOUT, agree);
-    io::write_all(STDOUT, &[b' ']);
-    io::print_decimal(STDOUT, differ);
-    io::write_all(STDOUT, &[b'\n']);
-}
-
-fn print_strips(t: Tally) {
-    print_line(b"disk_strip ", t.agree[0], t.differ[0]);
-    print_line(b"polygon_strip ", t.agree[1], t.differ[1]);
-    print_line(b"stadium_strip ", t.agree[2], t.differ[2]);
-}
-
-fn print_cutter(t: Tally) {
-    print_line(b"radius_at ", t.agree[3], t.differ[3]);
-    print_line(b"cut_radius ", t.agree[4], t.differ[4]);
-    print_line(b"cut_max ", t.agree[5], t.differ[5]);
-    print_line(b"cut_min ", t.agree[6], t.differ[6]);
-    print_line(b"check_tool ", t.agree[7], t.differ[7]);
-}
-
 fn main() {
     let t = counted();
-    print_strips(t);
-    print_cutter(t);
-    io::write_all(STDOUT, b"unread ");
-    io::print_decimal(STDOUT, t.unread);
-    io::write_all(STDOUT, &[b'\n']);
-    if t.has_first {
-        let row = t.first;
-        io::write_all(STDOUT, &row);
-    }
+    replay::print(b"disk_strip", t, 0);
+    replay::print(b"polygon_strip", t, 1);
+    replay::print(b"stadium_strip", t, 2);
+    replay::print(b"radius_at", t, 3);
+    replay::print(b"cut_radius", t, 4);
+    replay::print(b"cut_max", t, 5);
+    replay::print(b"cut_min", t, 6);
+    replay::print(b"check_tool", t, 7);
+    replay::print_end(t);
 }

@@ -3,7 +3,7 @@
 // A row has 493 bytes: 29 words of 16 hexadecimal digits, a space or the newline after each. The first 15 are the question, the others
 // the answer; oracle/harness/src/bin/record_grid.rs, which records them, says which is which. The one NaN is 7ff8000000000000.
 // For accepted descriptions and for each refusal it writes how many rows agree and how many differ, then how many can't be read, and
-// the first that differs.
+// the number of the first row that differs.
 ghost use mathlib.Core.Path.{_≡_};
 ghost use Rattle.grid.specs.Causes.{GridFacts};
 ghost use Rattle.grid_vectors.specs.Facts.{FactsOf};
@@ -12,43 +12,8 @@ use grid::DexelStockSpec;
 use grid::Gridded;
 use grid::Vec3;
 use grid::WorldAxis;
-use rows::Word;
-
-const STDIN: i32 = 0;
-
-const STDOUT: i32 = 1;
-
-// A row's words, where each could be read.
-struct Row {
-    words: [u64; 29],
-    read: bool,
-}
-
-// What the rows so far have shown, by the number of the refusal or 0, and the first row that differs.
-struct Tally {
-    agree: [u64; 5],
-    differ: [u64; 5],
-    unread: u64,
-    first: [u8; 493],
-    has_first: bool,
-    done: bool,
-}
-
-fn row_of(text: &[u8]) -> Row {
-    let mut row = Row {
-        words: [0; 29],
-        read: true,
-    };
-    let mut k: usize = 0;
-    while k < 29 {
-        match rows::word_at(text, 17 * k) {
-            Word::Value(v) => row.words[k] = v,
-            Word::Missing => row.read = false,
-        }
-        k += 1;
-    }
-    row
-}
+use replay::Outcome;
+use replay::Tally;
 
 // The answer of `grid` for the units of this number.
 fn gridded(spec: DexelStockSpec, units: u64) -> Gridded
@@ -155,70 +120,30 @@ fn agrees(w: [u64; 29], got: [u64; 14]) -> bool {
     true
 }
 
-// One more, up to the largest count.
-fn up(n: u64) -> u64 {
-    if n == u64::MAX { n } else { n + 1 }
-}
-
-fn with_agreed(t: Tally, k: u64) -> Tally {
-    let mut next = t;
-    if k < 5 {
-        let n = up(next.agree[k as usize]);
-        next.agree[k as usize] = n;
+// Rows are counted by the number of the refusal that they ask for, or 0.
+fn compared(text: &[u8]) -> Outcome {
+    let mut w = [0; 29];
+    if !replay::read_words(text, 0, &mut w) {
+        return Outcome::Unread;
     }
-    next
-}
-
-fn with_differed(t: Tally, k: u64, text: [u8; 493]) -> Tally {
-    let mut next = t;
-    if k < 5 {
-        let n = up(next.differ[k as usize]);
-        next.differ[k as usize] = n;
+    if agrees(w, answer_to(w)) {
+        return Outcome::Agrees(w[15]);
     }
-    if !next.has_first {
-        next.first = text;
-        next.has_first = true;
-    }
-    next
-}
-
-fn with_unread(t: Tally) -> Tally {
-    let mut next = t;
-    next.unread = up(next.unread);
-    next
+    Outcome::Differs(w[15])
 }
 
 // Reads one row and counts it.
 fn step(t: Tally) -> Tally {
     let mut text = [0u8; 493];
-    let n = io::read_full(STDIN, &mut text);
-    if n == 0 {
-        let mut last = t;
-        last.done = true;
-        return last;
+    if io::read_full(libc::STDIN_FILENO, &mut text) == 0 {
+        return replay::end(t);
     }
-    let row = row_of(&text);
-    if !row.read {
-        return with_unread(t);
-    }
-    let w = row.words;
-    let k = w[15];
-    if agrees(w, answer_to(w)) {
-        return with_agreed(t, k);
-    }
-    with_differed(t, k, text)
+    replay::count(t, compared(&text))
 }
 
-// A proved loop has to end, and nothing says that the input does: the turns are counted down from a number that no run uses up.
+// The turns are counted down, since a proved loop has to end and nothing says that the input does.
 fn counted() -> Tally {
-    let mut t = Tally {
-        agree: [0; 5],
-        differ: [0; 5],
-        unread: 0,
-        first: [0; 493],
-        has_first: false,
-        done: false,
-    };
+    let mut t = replay::start();
     let mut turns = u64::MAX;
     while turns > 0 {
         if t.done {
@@ -230,35 +155,12 @@ fn counted() -> Tally {
     t
 }
 
-fn print_line(name: &[u8], agree: u64, differ: u64) {
-    io::write_all(STDOUT, name);
-    io::write_all(STDOUT, &[b' ']);
-    io::print_decimal(STDOUT, agree);
-    io::write_all(STDOUT, &[b' ']);
-    io::print_decimal(STDOUT, differ);
-    io::write_all(STDOUT, &[b'\n']);
-}
-
-fn print_counts(t: Tally) {
-    print_line(
-        &[b'a', b'c', b'c', b'e', b'p', b't', b'e', b'd'],
-        t.agree[0],
-        t.differ[0],
-    );
-    print_line(&[b'1'], t.agree[1], t.differ[1]);
-    print_line(&[b'2'], t.agree[2], t.differ[2]);
-    print_line(&[b'3'], t.agree[3], t.differ[3]);
-    print_line(&[b'4'], t.agree[4], t.differ[4]);
-}
-
 fn main() {
     let t = counted();
-    print_counts(t);
-    io::write_all(STDOUT, &[b'u', b'n', b'r', b'e', b'a', b'd', b' ']);
-    io::print_decimal(STDOUT, t.unread);
-    io::write_all(STDOUT, &[b'\n']);
-    if t.has_first {
-        let row = t.first;
-        io::write_all(STDOUT, &row);
-    }
+    replay::print(b"accepted", t, 0);
+    replay::print(b"1", t, 1);
+    replay::print(b"2", t, 2);
+    replay::print(b"3", t, 3);
+    replay::print(b"4", t, 4);
+    replay::print_end(t);
 }

@@ -1,31 +1,14 @@
 // Holds the program on slices to stored answers, read from standard input.
 //
 // A case is a head of ten bytes, the input and the output that it must give. The head has the two lengths in four hexadecimal digits each, with a
-// space between them and a newline behind. It writes how many cases agree, differ and can't be read, and the number of the first that differs.
+// space between them and a newline behind. It writes how many cases agree and differ, how many can't be read, and the
+// number of the first that differs.
+use replay::Outcome;
+use replay::Tally;
 use rows::Word;
 
 // The most bytes of an input or an output.
 const MOST: usize = 16384;
-
-// What the cases so far have shown.
-struct Tally {
-    agree: u64,
-    differ: u64,
-    unread: u64,
-    first: u64,
-    done: bool,
-}
-
-enum Outcome {
-    Agrees,
-    Differs,
-    Unread,
-}
-
-// One more, up to the largest count.
-fn up(n: u64) -> u64 {
-    if n == u64::MAX { n } else { n + 1 }
-}
 
 fn length_of(w: Word) -> usize {
     match w {
@@ -66,47 +49,29 @@ fn compared(n: usize, m: usize) -> Outcome {
         return Outcome::Unread;
     }
     if gives(&input[..n], &wanted[..m]) {
-        return Outcome::Agrees;
+        return Outcome::Agrees(0);
     }
-    Outcome::Differs
+    Outcome::Differs(0)
 }
 
-// Reads one case and counts it.
+// Reads one case and counts it. What follows one that can't be read is not looked at.
 fn step(t: Tally) -> Tally {
-    let mut next = t;
     let mut head = [0u8; 10];
-    let n = io::read_full(libc::STDIN_FILENO, &mut head);
-    if n == 0 {
-        next.done = true;
-        return next;
+    if io::read_full(libc::STDIN_FILENO, &mut head) == 0 {
+        return replay::end(t);
     }
     let a = length_of(rows::hex_at(&head, 0, 4));
     let b = length_of(rows::hex_at(&head, 5, 4));
-    match compared(a, b) {
-        Outcome::Agrees => next.agree = up(next.agree),
-        Outcome::Differs => {
-            if next.differ == 0 {
-                next.first = up(next.agree);
-            }
-            next.differ = up(next.differ);
-        }
-        Outcome::Unread => {
-            next.unread = up(next.unread);
-            next.done = true;
-        }
+    let o = compared(a, b);
+    match o {
+        Outcome::Unread => replay::end(replay::count(t, o)),
+        _ => replay::count(t, o),
     }
-    next
 }
 
-// A proved loop has to end, and nothing says that the input does: the turns are counted down from a number that no run uses up.
+// The turns are counted down, since a proved loop has to end and nothing says that the input does.
 fn counted() -> Tally {
-    let mut t = Tally {
-        agree: 0,
-        differ: 0,
-        unread: 0,
-        first: 0,
-        done: false,
-    };
+    let mut t = replay::start();
     let mut turns = u64::MAX;
     while turns > 0 {
         if t.done {
@@ -118,16 +83,8 @@ fn counted() -> Tally {
     t
 }
 
-fn print(name: &[u8], n: u64) {
-    io::write_all(libc::STDOUT_FILENO, name);
-    io::print_decimal(libc::STDOUT_FILENO, n);
-    io::write_all(libc::STDOUT_FILENO, b"\n");
-}
-
 fn main() {
     let t = counted();
-    print(b"agree ", t.agree);
-    print(b"differ ", t.differ);
-    print(b"unread ", t.unread);
-    print(b"first that differs ", t.first);
+    replay::print(b"cases", t, 0);
+    replay::print_end(t);
 }

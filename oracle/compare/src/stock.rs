@@ -183,7 +183,7 @@ pub fn rust_volume(spec: &oracle::dexel::DexelStockSpec, s: &Store) -> [f64; 10]
 
 impl Stock {
     /// How many cells of the spans, the links and the heads are lent.
-    fn lens(&self) -> [usize; 3] {
+    pub fn lens(&self) -> [usize; 3] {
         let (spans, links, heads) = self.store.cells();
         let full = [spans.len(), links.len(), heads.len()];
         std::array::from_fn(|k| (full[k] + self.over[k]).saturating_sub(self.less[k]))

@@ -10,6 +10,9 @@ Inv-loop t₀ turns₀ t turns = Unit
 abbrev μ-loop : tie.MeasureT-loop
 μ-loop t₀ turns₀ t turns = turns
 
+start-requires : tie.Need-start-requires Inv-loop μ-loop
+start-requires c κs = search needs
+
 loop-holds : tie.Need-loop-holds Inv-loop μ-loop
 loop-holds c = tt
 
@@ -37,6 +40,7 @@ counted-spec =
     (tie.spec
     Inv-loop
     μ-loop
+    start-requires
     loop-holds
     step-requires
     sub-turns
