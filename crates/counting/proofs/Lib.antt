@@ -1,0 +1,6 @@
+pub mod Sums
+pub mod Alike
+pub mod Bounds
+pub mod Steps
+pub mod Runs
+pub mod Answers

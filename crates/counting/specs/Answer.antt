@@ -1,0 +1,37 @@
+-- Which budget a log commit would pass.
+use mathlib.Core.Bool.{cond}
+use mathlib.Core.List.{List}
+use Prim.Native.Nat.{ℕ, _*_}
+use lib.Dec.{ltb}
+use lib.Ieee.{Float}
+use Rattle.grid.specs.Rays.{rayCount}
+use Rattle.grid.specs.Causes.{GridFacts}
+use Rattle.grid.specs.declared.DexelStockSpec.{DexelStockSpec}
+use Rattle.grid.specs.declared.DexelGrid.{DexelGrid}
+use Rattle.store.specs.Updates.{Cells, Room, held}
+use Rattle.stock.specs.Stock.{SoundCells}
+use Rattle.runs.specs.Logs.{Ray, Kind}
+use Rattle.runs.specs.Lent.{listNumber}
+use Rattle.logs.specs.Named.{EachNamed}
+use Rattle.counting.specs.declared.Budgets.{Budgets}
+use Rattle.counting.specs.declared.Budgets.the-variants.{Kept, Rays, Intervals}
+
+-- the lists of the rays, as they stand in the cells
+abbrev pub listsIn : DexelStockSpec → (g : DexelGrid) → Cells → Ray g → Kind → List Float
+listsIn spec g c r k = held (spec .«max_intervals») c (listNumber (r .0) k)
+
+-- `Rays` is document 01's 9, one more changed ray than allowed; `Intervals` its 10, intervals after the commit above `max_intervals`; 9 comes first
+unfoldable pub budgetOf : (allowance intervals changed left : ℕ) → Budgets
+budgetOf allowance intervals changed left = cond (ltb allowance changed) Rays (cond (ltb intervals left) Intervals Kept)
+
+-- a log whose entries each name a ray, on a sound store with room
+pub record Countable (spec : DexelStockSpec) (g : DexelGrid) (c : Cells) (intervals : ℕ) (log : List Float) : Type 0 where
+  pub facts : GridFacts spec g
+  pub room : Room (spec .«max_intervals») (2 * rayCount g) c
+  pub isSound : SoundCells spec g c intervals
+  pub named : EachNamed g log
+
+-- the same, whatever the interval total
+pub record Counting (spec : DexelStockSpec) (g : DexelGrid) (c : Cells) (log : List Float) : Type 0 where
+  pub intervals : ℕ
+  pub countable : Countable spec g c intervals log

@@ -1,0 +1,316 @@
+// Whether a log commit keeps its two budgets, found out before anything is written: the rays that would change, and the pairs that all lists would have.
+ghost use mathlib.Core.Path.{_≡_};
+ghost use mathlib.Core.Bool.{true};
+ghost use Prim.Native.Nat.{_+_, _-_, _*_, _^_, _≤_, _<_};
+ghost use lib.ListN.{length};
+ghost use Rattle.grid.specs.Rays.{rayCount};
+ghost use Rattle.grid.specs.Causes.{GridFacts};
+ghost use Rattle.store.specs.Updates.{cells};
+ghost use Rattle.stock.specs.Stock.{Chained, Tells};
+ghost use Rattle.runs.specs.Logs.{entries, entryAt, entryCount, rayOf};
+ghost use Rattle.runs.specs.Counts.{raysChanged, pairsLeft};
+ghost use Rattle.logs.specs.Named.{EachNamed};
+ghost use Rattle.counting.specs.Answer.{listsIn, budgetOf, Countable, Counting};
+ghost use Rattle.counting.specs.Totals.{pairsOf, leftOf, changesOf, RunOf, Counts, Ascending, FirstOf, EndOf, Totalled};
+use grid::DexelGrid;
+use grid::DexelStockSpec;
+
+// Which of the two budgets a commit would not keep, if any.
+pub enum Budgets {
+    Kept,
+    Rays,
+    Intervals,
+}
+
+// One ray: whether it would change, its pairs, and the pairs it would then have.
+pub struct RayCount {
+    pub changes: bool,
+    pub before: usize,
+    pub after: usize,
+}
+
+// The rays that would change, and the pairs of all lists, as far as counted.
+pub struct Totals {
+    pub changed: u64,
+    pub pairs: u64,
+}
+
+// Whether the rays of the entries never fall.
+fn ascends(g: DexelGrid, log: &[f64]) -> bool
+    requires { ⌜ (rayCount g < 2 ^ 64) × EachNamed g (now log) ⌝ }
+    ensures { λ r. ⌜ Tells (Ascending g (now (log .entry))) r ⌝ }
+{
+    let n = log.len() / 6;
+    let mut last: usize = 0;
+    let mut i: usize = 0;
+    while i < n {
+        let ray = logs::ray_at(g, log, i);
+        if ray < last {
+            return false;
+        }
+        last = ray;
+        i += 1;
+    }
+    true
+}
+
+// Whether no entry before place i is like the one there, of a log that ascends: the one before it decides.
+fn first_in_run(g: DexelGrid, log: &[f64], i: usize) -> bool
+    requires { ⌜ (rayCount g ≤ 2 ^ 53) × EachNamed g (now log) × Ascending g (now log) × (i < entryCount (now log)) ⌝ }
+    ensures { λ r. ⌜ FirstOf (now (log .entry)) i r ⌝ }
+{
+    if i == 0 {
+        return true;
+    }
+    !starts::alike(log, i, i - 1)
+}
+
+// The same of any log.
+fn first_so_far(log: &[f64], i: usize) -> bool
+    requires { ⌜ i < entryCount (now log) ⌝ }
+    ensures { λ r. ⌜ FirstOf (now (log .entry)) i r ⌝ }
+{
+    let mut j: usize = 0;
+    while j < i {
+        if starts::alike(log, i, j) {
+            return false;
+        }
+        j += 1;
+    }
+    true
+}
+
+// The place past the entries like the one at place i, of a log that ascends.
+fn end_of_run(g: DexelGrid, log: &[f64], i: usize) -> usize
+    requires { ⌜ (rayCount g ≤ 2 ^ 53) × EachNamed g (now log) × Ascending g (now log) × (i < entryCount (now log)) ⌝ }
+    ensures { λ r. ⌜ EndOf (now (log .entry)) i r ⌝ }
+{
+    let n = log.len() / 6;
+    let mut j = i + 1;
+    while j < n {
+        if !starts::alike(log, i, j) {
+            return j;
+        }
+        j += 1;
+    }
+    n
+}
+
+// The same of any log.
+fn end_of_like(log: &[f64], i: usize) -> usize
+    requires { ⌜ i < entryCount (now log) ⌝ }
+    ensures { λ r. ⌜ EndOf (now (log .entry)) i r ⌝ }
+{
+    let n = log.len() / 6;
+    let mut end = i + 1;
+    let mut j = i + 1;
+    while j < n {
+        if starts::alike(log, i, j) {
+            end = j + 1;
+        }
+        j += 1;
+    }
+    end
+}
+
+// Whether a ray would change.
+fn ray_changes(
+    spec: DexelStockSpec,
+    g: DexelGrid,
+    spans: &[f64],
+    links: &[u64],
+    heads: &[u64],
+    log: &[f64],
+    ray: usize,
+    first: usize,
+    end: usize,
+) -> bool
+    requires { ⌜ Counting spec g (cells (now spans) (now links) (now heads)) (now log) × (ray < rayCount g) × RunOf g (now log) ray first end ⌝ }
+    ensures { λ r. ⌜ r ≡ changesOf spec g (cells (now (spans .entry)) (now (links .entry)) (now (heads .entry))) (now (log .entry)) ray ⌝ }
+{
+    let n = spec.max_intervals as usize;
+    if starts::list_changes(spans, links, n, heads[2 * ray], log, first, end, false) {
+        return true;
+    }
+    starts::list_changes(spans, links, n, heads[2 * ray + 1], log, first, end, true)
+}
+
+// How many pairs a ray's lists have.
+fn ray_pairs(
+    spec: DexelStockSpec,
+    g: DexelGrid,
+    spans: &[f64],
+    links: &[u64],
+    heads: &[u64],
+    log: &[f64],
+    ray: usize,
+) -> usize
+    requires { ⌜ Counting spec g (cells (now spans) (now links) (now heads)) (now log) × (ray < rayCount g) ⌝ }
+    ensures { λ r. ⌜ r ≡ pairsOf spec (cells (now (spans .entry)) (now (links .entry)) (now (heads .entry))) ray ⌝ }
+{
+    let n = spec.max_intervals as usize;
+    let possible = lists::list_pairs(links, n, heads[2 * ray]);
+    let certain = lists::list_pairs(links, n, heads[2 * ray + 1]);
+    possible + certain
+}
+
+// How many pairs a ray's lists would have.
+fn ray_left(
+    spec: DexelStockSpec,
+    g: DexelGrid,
+    spans: &[f64],
+    links: &[u64],
+    heads: &[u64],
+    log: &[f64],
+    ray: usize,
+    first: usize,
+    end: usize,
+) -> usize
+    requires { ⌜ Counting spec g (cells (now spans) (now links) (now heads)) (now log) × (ray < rayCount g) × RunOf g (now log) ray first end ⌝ }
+    ensures { λ r. ⌜ r ≡ leftOf spec g (cells (now (spans .entry)) (now (links .entry)) (now (heads .entry))) (now (log .entry)) ray ⌝ }
+{
+    let n = spec.max_intervals as usize;
+    let possible = starts::starts_left(spans, links, n, heads[2 * ray], log, first, end, false);
+    let certain = starts::starts_left(spans, links, n, heads[2 * ray + 1], log, first, end, true);
+    possible + certain
+}
+
+// The count of one ray.
+fn count_ray(
+    spec: DexelStockSpec,
+    g: DexelGrid,
+    spans: &[f64],
+    links: &[u64],
+    heads: &[u64],
+    log: &[f64],
+    ray: usize,
+    first: usize,
+    end: usize,
+) -> RayCount
+    requires { ⌜ Counting spec g (cells (now spans) (now links) (now heads)) (now log) × (ray < rayCount g) × RunOf g (now log) ray first end ⌝ }
+    ensures { λ r. ⌜ Counts spec g (cells (now (spans .entry)) (now (links .entry)) (now (heads .entry))) (now (log .entry)) ray r ⌝ }
+{
+    RayCount {
+        changes: ray_changes(spec, g, spans, links, heads, log, ray, first, end),
+        before: ray_pairs(spec, g, spans, links, heads, log, ray),
+        after: ray_left(spec, g, spans, links, heads, log, ray, first, end),
+    }
+}
+
+// Whether no entry before place i is like the one there.
+fn first_of_ray(g: DexelGrid, log: &[f64], ascending: bool, i: usize) -> bool
+    requires { ⌜ (rayCount g ≤ 2 ^ 53) × EachNamed g (now log) × (ascending ≡ true → Ascending g (now log)) × (i < entryCount (now log)) ⌝ }
+    ensures { λ r. ⌜ FirstOf (now (log .entry)) i r ⌝ }
+{
+    if ascending {
+        return first_in_run(g, log, i);
+    }
+    first_so_far(log, i)
+}
+
+// The place past the entries like the one at place i.
+fn end_of_ray(g: DexelGrid, log: &[f64], ascending: bool, i: usize) -> usize
+    requires { ⌜ (rayCount g ≤ 2 ^ 53) × EachNamed g (now log) × (ascending ≡ true → Ascending g (now log)) × (i < entryCount (now log)) ⌝ }
+    ensures { λ r. ⌜ EndOf (now (log .entry)) i r ⌝ }
+{
+    if ascending {
+        return end_of_run(g, log, i);
+    }
+    end_of_like(log, i)
+}
+
+// Counts the ray of the entry at place i, unless an entry before it is on that ray.
+fn count_entry(
+    spec: DexelStockSpec,
+    g: DexelGrid,
+    spans: &[f64],
+    links: &[u64],
+    heads: &[u64],
+    log: &[f64],
+    ascending: bool,
+    i: usize,
+    t: Totals,
+) -> Totals
+    requires { ⌜ Counting spec g (cells (now spans) (now links) (now heads)) (now log) × (ascending ≡ true → Ascending g (now log)) × (i < entryCount (now log))
+        × Totalled spec g (cells (now spans) (now links) (now heads)) (now log) i t ⌝ }
+    ensures { λ r. ⌜ Totalled spec g (cells (now (spans .entry)) (now (links .entry)) (now (heads .entry))) (now (log .entry)) (i + 1) r ⌝ }
+{
+    if !first_of_ray(g, log, ascending, i) {
+        return t;
+    }
+    let end = end_of_ray(g, log, ascending, i);
+    let ray = logs::ray_at(g, log, i);
+    let r = count_ray(spec, g, spans, links, heads, log, ray, i, end);
+    let pairs = t.pairs - (r.before as u64) + (r.after as u64);
+    if r.changes {
+        return Totals {
+            changed: t.changed + 1,
+            pairs,
+        };
+    }
+    Totals {
+        changed: t.changed,
+        pairs,
+    }
+}
+
+// The exact count, ray by ray. It stops at one more changed ray than allowed.
+fn count_all(
+    spec: DexelStockSpec,
+    g: DexelGrid,
+    spans: &[f64],
+    links: &[u64],
+    heads: &[u64],
+    intervals: u64,
+    log: &[f64],
+    allowance: u64,
+) -> Budgets
+    requires { ⌜ Countable spec g (cells (now spans) (now links) (now heads)) intervals (now log) ⌝ }
+    ensures { λ r. ⌜ r ≡ budgetOf allowance (spec .«max_intervals»)
+        (raysChanged g (listsIn spec g (cells (now (spans .entry)) (now (links .entry)) (now (heads .entry)))) (entries (now (log .entry))))
+        (pairsLeft g (listsIn spec g (cells (now (spans .entry)) (now (links .entry)) (now (heads .entry)))) (entries (now (log .entry)))) ⌝ }
+{
+    let n = log.len() / 6;
+    let ascending = ascends(g, log);
+    let mut t = Totals {
+        changed: 0,
+        pairs: intervals,
+    };
+    let mut i: usize = 0;
+    while i < n {
+        t = count_entry(spec, g, spans, links, heads, log, ascending, i, t);
+        if t.changed > allowance {
+            return Budgets::Rays;
+        }
+        i += 1;
+    }
+    if t.pairs > spec.max_intervals {
+        return Budgets::Intervals;
+    }
+    Budgets::Kept
+}
+
+// Whether a log commit keeps the allowance of changed rays and the interval budget. Where neither is within reach of the log, no ray is looked at.
+pub fn budget(
+    spec: DexelStockSpec,
+    g: DexelGrid,
+    spans: &[f64],
+    links: &[u64],
+    heads: &[u64],
+    intervals: u64,
+    log: &[f64],
+    allowance: u64,
+) -> Budgets
+    requires { ⌜ Countable spec g (cells (now spans) (now links) (now heads)) intervals (now log) ⌝ }
+    ensures { λ r. ⌜ r ≡ budgetOf allowance (spec .«max_intervals»)
+        (raysChanged g (listsIn spec g (cells (now (spans .entry)) (now (links .entry)) (now (heads .entry)))) (entries (now (log .entry))))
+        (pairsLeft g (listsIn spec g (cells (now (spans .entry)) (now (links .entry)) (now (heads .entry)))) (entries (now (log .entry)))) ⌝ }
+{
+    let entries = (log.len() / 6) as u64;
+    if entries <= allowance {
+        if intervals + 3 * entries <= spec.max_intervals {
+            return Budgets::Kept;
+        }
+    }
+    count_all(spec, g, spans, links, heads, intervals, log, allowance)
+}

@@ -1,0 +1,91 @@
+use mathlib.Core.Path.{_≡_, refl, sym, _∙_}
+use lib.ListN.{length}
+use borrow.Author.Needs.{needs}
+use Rattle.store.specs.Store.{places}
+use Rattle.lists.specs.Reading.{listFrom, Readable}
+use Rattle.lists.proofs.Steps.{step}
+use Rattle.spans.specs.Spans.{within}
+use Rattle.starts.proofs.Any.{anyPair, holds-any, chain-here, chain-later, chain-none}
+use Rattle.starts.proofs.list_holds.Statement.{statement}
+use Rattle.starts.proofs.list_holds.Tie as tie
+
+abbrev Inv-loop : tie.InvT-loop
+Inv-loop spans links n head x k₀ k = Readable n spans links k × (anyPair (λ a b. within a b x) (listFrom n spans links head) ≡ anyPair (λ a b. within a b x) (listFrom n spans links k))
+
+abbrev μ-loop : tie.MeasureT-loop
+μ-loop spans links n head x k₀ k = length (places links n k)
+
+loop-holds : tie.Need-loop-holds Inv-loop μ-loop
+loop-holds c = (c .before .before .pre, refl)
+
+sub-i : tie.Need-sub-i Inv-loop μ-loop
+sub-i c = let h = step (c .before .loop .inv .0) (c .loop-test .taken) .counted in search needs
+
+mul-holds-point : tie.Need-mul-holds-point Inv-loop μ-loop
+mul-holds-point c = let h = step (c .before .loop .inv .0) (c .loop-test .taken) .counted in search needs
+
+mul-holds-point-2 : tie.Need-mul-holds-point-2 Inv-loop μ-loop
+mul-holds-point-2 c = let h = step (c .before .loop .inv .0) (c .loop-test .taken) .counted in search needs
+
+shared-slice-read-holds-point : tie.Need-shared-slice-read-holds-point Inv-loop μ-loop
+shared-slice-read-holds-point c = let h = step (c .before .before .loop .inv .0) (c .before .loop-test .taken) .counted in search needs
+
+mul-holds-point-3 : tie.Need-mul-holds-point-3 Inv-loop μ-loop
+mul-holds-point-3 c = let h = step (c .before .before .loop .inv .0) (c .before .loop-test .taken) .counted in search needs
+
+add-holds-point : tie.Need-add-holds-point Inv-loop μ-loop
+add-holds-point c = let h = step (c .before .before .loop .inv .0) (c .before .loop-test .taken) .counted in search needs
+
+mul-holds-point-4 : tie.Need-mul-holds-point-4 Inv-loop μ-loop
+mul-holds-point-4 c = let h = step (c .before .before .loop .inv .0) (c .before .loop-test .taken) .counted in search needs
+
+shared-slice-read-holds-point-2 : tie.Need-shared-slice-read-holds-point-2 Inv-loop μ-loop
+shared-slice-read-holds-point-2 c = let h = step (c .before .before .before .loop .inv .0) (c .before .before .loop-test .taken) .counted in search needs
+
+holds-point-requires : tie.Need-holds-point-requires Inv-loop μ-loop
+holds-point-requires c κs = search needs
+
+returns : tie.Need-returns Inv-loop μ-loop
+returns c = sym (sym (holds-any _ _) ∙ c .before .before .before .before .before .loop .inv .1 ∙ chain-here _ (step (c .before .before .before .before .before .loop .inv .0) (c .before .before .before .before .loop-test .taken)) (sym (c .before .holds-point .ensures) ∙ c .if1 .taken))
+
+mul-k : tie.Need-mul-k Inv-loop μ-loop
+mul-k c = let h = step (c .before .before .before .before .before .loop .inv .0) (c .before .before .before .before .loop-test .taken) .counted in search needs
+
+mul-k-2 : tie.Need-mul-k-2 Inv-loop μ-loop
+mul-k-2 c = let h = step (c .before .before .before .before .before .loop .inv .0) (c .before .before .before .before .loop-test .taken) .counted in search needs
+
+shared-slice-read-k : tie.Need-shared-slice-read-k Inv-loop μ-loop
+shared-slice-read-k c = let h = step (c .before .before .before .before .before .before .loop .inv .0) (c .before .before .before .before .before .loop-test .taken) .counted in search needs
+
+loop-less : tie.Need-loop-less Inv-loop μ-loop
+loop-less c = step (c .before .before .before .before .before .before .loop .inv .0) (c .before .before .before .before .before .loop-test .taken) .less
+
+loop-again : tie.Need-loop-again Inv-loop μ-loop
+loop-again c = let s = step (c .before .before .before .before .before .before .loop .inv .0) (c .before .before .before .before .before .loop-test .taken) in (s .next, c .before .before .before .before .before .before .loop .inv .1 ∙ chain-later _ s (sym (c .before .before .holds-point .ensures) ∙ c .before .if1 .left))
+
+returns-2 : tie.Need-returns-2 Inv-loop μ-loop
+returns-2 c = sym (sym (holds-any _ _) ∙ c .before .loop .inv .1 ∙ chain-none _ _ _ _ _ (c .loop-test .left))
+
+pub list-holds-spec : {M : Type 1} → statement M
+list-holds-spec =
+    tie.close
+    (tie.spec
+    Inv-loop
+    μ-loop
+    loop-holds
+    sub-i
+    mul-holds-point
+    mul-holds-point-2
+    shared-slice-read-holds-point
+    mul-holds-point-3
+    add-holds-point
+    mul-holds-point-4
+    shared-slice-read-holds-point-2
+    holds-point-requires
+    returns
+    mul-k
+    mul-k-2
+    shared-slice-read-k
+    loop-less
+    loop-again
+    returns-2)
