@@ -1,19 +1,18 @@
 -- Both lists of a ray less their hits, one after the other at the start of a buffer.
-use mathlib.Core.Path.{_≡_, refl, sym, ap, ap₂, _∙_, subst, fun-ext}
-use mathlib.Core.Bool.{Bool, true, false, not, _&&_, _||_, true≢false, false≢true}
+use mathlib.Core.Path.{_≡_, refl, sym, subst, fun-ext}
+use mathlib.Core.Bool.{Bool, true, false, true≢false, false≢true}
 use mathlib.Core.List.{List}
 use mathlib.Core.Logic.{inl, inr}
-use Prim.Native.Nat.{ℕ, _+_, _-_, _*_, _/_, _%_, _≤_, _<_}
+use Prim.Native.Nat.{ℕ, _+_, _*_, _/_, _%_, _≤_}
 use native.Mathlib.Omega.{arith}
 use lib.ListN.{length}
 use lib.Ieee.{Float}
 use Rattle.spans.specs.Spans.{holds, sound, ListOf}
 use Rattle.spans.proofs.Sets.{sound-mod}
 use Rattle.merge.specs.Merge.{Moves, eitherHit, spared}
-use Rattle.merge.specs.Steps.{part, Lies, Between, Subtracted, Shortened, Ready}
+use Rattle.merge.specs.Steps.{part, Lies, Subtracted, Shortened, Ready}
 use Rattle.merge.proofs.Places.{part-length, part-front, part-past, between-both, between-same, lies-past}
-use Rattle.merging.specs.Rays.{Touches, NewLists, RayCut}
-use Rattle.merging.specs.declared.Change.{Change}
+use Rattle.merging.specs.Rays.{Touches, RayCut}
 
 -- ---- whether the ray changes
 module _ (possible certain : List Float) (inner either : Float → Bool) where

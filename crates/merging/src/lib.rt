@@ -3,15 +3,31 @@ ghost use mathlib.Core.Path.{_≡_};
 ghost use Prim.Native.Nat.{_+_, _*_, _<_, _≤_};
 ghost use lib.ListN.{length};
 ghost use Rattle.spans.specs.Spans.{holds};
+ghost use Rattle.grid.specs.Rays.{rayCount};
+ghost use Rattle.runs.specs.Logs.{entries, entryCount, outer, inner};
+ghost use Rattle.store.specs.Updates.{cells};
+ghost use Rattle.stock.specs.Stock.{possibleIn, certainIn};
+ghost use Rattle.logs.specs.Named.{pairsNamed};
+ghost use Rattle.grouping.specs.Groups.{Grouped, kindOf};
 ghost use Rattle.merge.specs.Merge.{eitherHit};
-ghost use Rattle.merge.specs.Steps.{part, Ready};
-ghost use Rattle.merging.specs.Rays.{Touches, RayCut};
+ghost use Rattle.merge.specs.Steps.{part, Ready, Normal};
+ghost use Rattle.merging.specs.Rays.{Touches, RayCut, Bringable, Brought};
+use grid::DexelGrid;
+use grid::DexelStockSpec;
 
 // Whether a ray changes, and if so how many pairs its new lists have.
 pub struct Change {
     pub changed: bool,
     pub possible: usize,
     pub certain: usize,
+}
+
+// The cells that a ray's lists and the sound lists of its hits have.
+pub struct Sizes {
+    pub possible: usize,
+    pub certain: usize,
+    pub outer: usize,
+    pub inner: usize,
 }
 
 // Whether some point of a list of the ray lies in a hit that takes it.
@@ -47,5 +63,53 @@ fn cut_ray(w: &mut [f64], at: usize, np: usize, nc: usize, no: usize, ni: usize)
         changed: true,
         possible: p / 2,
         certain: r / 2,
+    }
+}
+
+// Brings the sound list of the outer or the inner hits on a ray to cell `at`, and says how many cells it has.
+fn bring_hits(
+    g: DexelGrid,
+    log: &[f64],
+    work: &mut [f64],
+    ray: usize,
+    inner: bool,
+    at: usize,
+) -> usize
+    requires { ⌜ Grouped g (now log) (now work) × (ray < rayCount g) × (rayCount g + entryCount (now log) ≤ at)
+        × (at + length (pairsNamed g (entries (now log)) ray (kindOf inner)) ≤ length (now work)) ⌝ }
+    ensures { λ r. ⌜ Normal (pairsNamed g (entries (now (log .entry))) ray (kindOf inner)) at (now (work .entry)) (now (work .exit)) r ⌝ }
+{
+    let e = grouping::gather_hits(g, log, work, ray, inner, at);
+    spans::normalize_front(&mut work[at..], e - at)
+}
+
+// Brings both lists of a ray and the sound lists of its hits, one after the other, to cell s.
+fn bring(
+    spec: DexelStockSpec,
+    g: DexelGrid,
+    spans: &[f64],
+    links: &[u64],
+    heads: &[u64],
+    log: &[f64],
+    work: &mut [f64],
+    ray: usize,
+    s: usize,
+) -> Sizes
+    requires { ⌜ Bringable spec g (cells (now spans) (now links) (now heads)) (now log) (now work) ray s ⌝ }
+    ensures { λ r. ⌜ Brought (possibleIn spec (cells (now (spans .entry)) (now (links .entry)) (now (heads .entry))) ray)
+        (certainIn spec (cells (now (spans .entry)) (now (links .entry)) (now (heads .entry))) ray)
+        (pairsNamed g (entries (now (log .entry))) ray outer) (pairsNamed g (entries (now (log .entry))) ray inner) s (now (work .entry)) (now (work .exit)) r ⌝ }
+{
+    let n = spec.max_intervals as usize;
+    let j = 2 * ray;
+    let c = lists::read_list(spans, links, n, heads[j], work, s);
+    let o = lists::read_list(spans, links, n, heads[j + 1], work, c);
+    let no = bring_hits(g, log, work, ray, false, o);
+    let ni = bring_hits(g, log, work, ray, true, o + no);
+    Sizes {
+        possible: c - s,
+        certain: o - c,
+        outer: no,
+        inner: ni,
     }
 }

@@ -1,6 +1,5 @@
 -- `merging::cut_ray` meets its contract.
 use borrow.Author.Needs.{needs}
-use native.Mathlib.Omega.{arith}
 use borrow.Author.Needs.{needs}
 use Prim.Native.Nat.{_+_, _*_}
 use Rattle.doubles.proofs.Bools.{not-true, not-false}
