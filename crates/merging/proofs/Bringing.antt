@@ -100,11 +100,11 @@ module _ (spec : DexelStockSpec) (g : DexelGrid) (c : Cells) (log w : List Float
   abbrev hits : HitKind → List Float
   hits k = pairsNamed g (entries log) ray k
 
-  list-most : (j : ℕ) → length (held (spec .«max_intervals») c j) ≤ 2 * spec .«max_intervals»
+  pub list-most : (j : ℕ) → length (held (spec .«max_intervals») c j) ≤ 2 * spec .«max_intervals»
   list-most j =
       omega (arith, ends-length (c .spans) (places (c .links) (spec .«max_intervals») (getD (c .heads) j 0)), places-within (c .links) (spec .«max_intervals») (getD (c .heads) j 0))
 
-  hits-most : (k : HitKind) → length (hits k) ≤ 2 * entryCount log
+  pub hits-most : (k : HitKind) → length (hits k) ≤ 2 * entryCount log
   hits-most k = omega (arith, named-most g ray k (entries log), entries-length log)
 
   pub possible-ready : Readable (spec .«max_intervals») (c .spans) (c .links) (getD (c .heads) (2 * ray) 0) × (s + length (possibleIn spec c ray) ≤ length w)

@@ -1,3 +1,4 @@
 -- Laws that belong to no one function.
 pub mod Cutting
 pub mod Bringing
+pub mod Rays

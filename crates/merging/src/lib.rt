@@ -11,7 +11,7 @@ ghost use Rattle.logs.specs.Named.{pairsNamed};
 ghost use Rattle.grouping.specs.Groups.{Grouped, kindOf};
 ghost use Rattle.merge.specs.Merge.{eitherHit};
 ghost use Rattle.merge.specs.Steps.{part, Ready, Normal};
-ghost use Rattle.merging.specs.Rays.{Touches, RayCut, Bringable, Brought};
+ghost use Rattle.merging.specs.Rays.{Touches, RayCut, Bringable, Brought, limitOf, RayMerged};
 use grid::DexelGrid;
 use grid::DexelStockSpec;
 
@@ -47,7 +47,7 @@ fn is_changed(w: &[f64], at: usize, np: usize, nc: usize, no: usize, ni: usize) 
 fn cut_ray(w: &mut [f64], at: usize, np: usize, nc: usize, no: usize, ni: usize) -> Change
     requires { ⌜ Ready at np nc no ni (now w) ⌝ }
     ensures { λ r. ⌜ RayCut (part at np (now (w .entry))) (part (at + np) nc (now (w .entry))) (holds (part (at + np + nc + no) ni (now (w .entry))))
-        (eitherHit (part (at + np + nc) no (now (w .entry))) (part (at + np + nc + no) ni (now (w .entry)))) 0 at (np + nc + no + 2 * ni) (now (w .entry)) (now (w .exit)) r ⌝ }
+        (eitherHit (part (at + np + nc) no (now (w .entry))) (part (at + np + nc + no) ni (now (w .entry)))) 0 (np + nc + no + 2 * ni) (now (w .entry)) (now (w .exit)) r ⌝ }
 {
     if !is_changed(w, at, np, nc, no, ni) {
         return Change {
@@ -112,4 +112,37 @@ fn bring(
         outer: no,
         inner: ni,
     }
+}
+
+// Merges the hits on a ray: where it changes, both its new lists stand from cell q on. Its lists and hits are brought to cell s on the way.
+pub fn merge_ray(
+    spec: DexelStockSpec,
+    g: DexelGrid,
+    spans: &[f64],
+    links: &[u64],
+    heads: &[u64],
+    log: &[f64],
+    work: &mut [f64],
+    ray: usize,
+    q: usize,
+    s: usize,
+) -> Change
+    requires { ⌜ Bringable spec g (cells (now spans) (now links) (now heads)) (now log) (now work) ray s
+        × (q + limitOf spec (now log) ≤ s) ⌝ }
+    ensures { λ r. ⌜ RayMerged spec g (cells (now (spans .entry)) (now (links .entry)) (now (heads .entry))) (now (log .entry)) ray q
+        (now (work .entry)) (now (work .exit)) r ⌝ }
+{
+    if numbers::number_at(work, ray) == 0 {
+        return Change {
+            changed: false,
+            possible: 0,
+            certain: 0,
+        };
+    }
+    let b = bring(spec, g, spans, links, heads, log, work, ray, s);
+    let np = b.possible;
+    let nc = b.certain;
+    let no = b.outer;
+    let ni = b.inner;
+    cut_ray(&mut work[q..], s - q, np, nc, no, ni)
 }
