@@ -2,15 +2,18 @@
 use mathlib.Core.Path.{_≡_}
 use mathlib.Core.Bool.{true, false}
 use mathlib.Core.List.{List, [], _∷_}
-use Prim.Native.Nat.{ℕ, suc, _+_, _*_, _<_}
+use Prim.Native.Nat.{ℕ, suc, _+_, _-_, _*_, _<_}
 use lib.Ieee.{Float}
 use Rattle.spans.specs.Spans.{holds, ListOf}
 use Rattle.grid.specs.Rays.{rayCount}
+use Rattle.grid.specs.declared.DexelStockSpec.{DexelStockSpec}
 use Rattle.grid.specs.declared.DexelGrid.{DexelGrid}
-use Rattle.store.specs.Updates.{Update, update}
+use Rattle.store.specs.Updates.{Update, update, applied, pairsFreed, pairsLaid}
+use Rattle.stock.specs.Stock.{Stock}
 use Rattle.runs.specs.Logs.{Ray, Kind, possible, certain, Entry}
 use Rattle.runs.specs.Model.{without}
 use Rattle.runs.specs.Counts.{changesRay}
+use Rattle.runs.specs.Lent.{listIn}
 
 -- l is the sound list of what the log leaves of a list of the ray
 abbrev pub LeftOf : (g : DexelGrid) → (Ray g → Kind → List Float) → List Entry → Ray g → Kind → List Float → Type 0
@@ -23,3 +26,15 @@ pub data Merges (g : DexelGrid) (lists : Ray g → Kind → List Float) (es : Li
   new : {ray m : ℕ} {p c : List Float} {us : List Update} (h : ray < rayCount g) → changesRay g lists es (ray, h) ≡ true
       → LeftOf g lists es (ray, h) possible p → LeftOf g lists es (ray, h) certain c → Merges g lists es (suc ray) us m
       → Merges g lists es ray (update (2 * ray) p ∷ update (2 * ray + 1) c ∷ us) (suc m)
+
+-- the stock after an accepted log with these updates: freed first, all of them, then laid in order
+abbrev pub cutStock : DexelStockSpec → Stock → List Update → Stock
+cutStock spec s us = record {
+  cells = applied (spec .«max_intervals») (s .cells) us;
+  generation = suc (s .generation);
+  intervals = s .intervals - pairsFreed (spec .«max_intervals») (s .cells) us + pairsLaid us;
+}
+
+-- the lists of a stock, as a log finds them
+abbrev pub listsOf : DexelStockSpec → (g : DexelGrid) → Stock → Ray g → Kind → List Float
+listsOf spec g s r k = listIn spec s (r .0) k

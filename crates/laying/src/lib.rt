@@ -1,1 +1,138 @@
-// Frees and lays the lists of the changed rays of a log commit.
+// Frees and lays the lists of the changed rays of a log commit. All are freed before the first is laid.
+ghost use mathlib.Core.Path.{_≡_};
+ghost use Prim.Native.Nat.{ℕ};
+ghost use Rattle.store.specs.Updates.{cells, update, Laid, freedAll, laidAll};
+ghost use Rattle.laying.specs.Updates.{between, updatesFrom};
+ghost use Rattle.laying.specs.Steps.{RayFreeable, AllFreeable, PartLayable, RaysLayable, RaysLaid};
+
+// Frees both lists of a ray if it changes.
+fn free_ray(
+    spans: &mut [f64],
+    links: &mut [u64],
+    heads: &mut [u64],
+    n: usize,
+    work: &[f64],
+    sizes: usize,
+    ray: usize,
+)
+    requires { ⌜ RayFreeable n (cells (now spans) (now links) (now heads)) (now work) sizes ray ⌝ }
+    ensures { λ _. ⌜ ((q : ℕ) → cells (now (spans .exit)) (now (links .exit)) (now (heads .exit))
+        ≡ freedAll n (cells (now (spans .entry)) (now (links .entry)) (now (heads .entry))) (updatesFrom (now (work .entry)) sizes q ray 1)) ⌝ }
+{
+    if numbers::number_at(work, sizes + 2 * ray) == 0 {
+        return;
+    }
+    store::free_list(spans, links, heads, n, 2 * ray);
+    store::free_list(spans, links, heads, n, 2 * ray + 1);
+}
+
+// Frees the lists of all rays that change, wherever their new lists stand.
+pub fn free_all(
+    spans: &mut [f64],
+    links: &mut [u64],
+    heads: &mut [u64],
+    n: usize,
+    work: &[f64],
+    sizes: usize,
+    rays: usize,
+)
+    requires { ⌜ AllFreeable n (cells (now spans) (now links) (now heads)) (now work) sizes rays ⌝ }
+    ensures { λ _. ⌜ ((q : ℕ) → cells (now (spans .exit)) (now (links .exit)) (now (heads .exit))
+        ≡ freedAll n (cells (now (spans .entry)) (now (links .entry)) (now (heads .entry))) (updatesFrom (now (work .entry)) sizes q 0 rays)) ⌝ }
+{
+    let mut ray: usize = 0;
+    while ray < rays {
+        free_ray(spans, links, heads, n, work, sizes, ray);
+        ray += 1;
+    }
+}
+
+// Where laying stands: no record before place `from` is free, and the next new list stands at cell `at` of the work buffer.
+pub struct Place {
+    pub from: usize,
+    pub at: usize,
+}
+
+// Lays list j, which is to hold the cells from `at` to `end` of the work buffer.
+fn lay_part(
+    spans: &mut [f64],
+    links: &mut [u64],
+    heads: &mut [u64],
+    n: usize,
+    from: usize,
+    j: usize,
+    work: &[f64],
+    at: usize,
+    end: usize,
+) -> usize
+    requires { ⌜ PartLayable n (cells (now spans) (now links) (now heads)) from j (now work) at end ⌝ }
+    ensures { λ r. ⌜ Laid n (cells (now (spans .entry)) (now (links .entry)) (now (heads .entry))) (update j (between at end (now (work .entry)))) r
+        (cells (now (spans .exit)) (now (links .exit)) (now (heads .exit))) ⌝ }
+{
+    store::lay_list(spans, links, heads, n, from, j, &work[at..end])
+}
+
+// Lays both lists of a ray if it changes, possible first.
+fn lay_ray(
+    spans: &mut [f64],
+    links: &mut [u64],
+    heads: &mut [u64],
+    n: usize,
+    work: &[f64],
+    sizes: usize,
+    ray: usize,
+    place: Place,
+) -> Place
+    requires { ⌜ RaysLayable n (cells (now spans) (now links) (now heads)) (now work) sizes ray 1 place ⌝ }
+    ensures { λ r. ⌜ RaysLaid n (cells (now (spans .entry)) (now (links .entry)) (now (heads .entry))) (now (work .entry)) sizes ray 1 place
+        (cells (now (spans .exit)) (now (links .exit)) (now (heads .exit))) r ⌝ }
+{
+    let first = numbers::number_at(work, sizes + 2 * ray);
+    if first == 0 {
+        return place;
+    }
+    let second = numbers::number_at(work, sizes + 2 * ray + 1);
+    let at = place.at;
+    let middle = at + 2 * ((first - 1) as usize);
+    let end = middle + 2 * (second as usize);
+    let from = lay_part(
+        spans,
+        links,
+        heads,
+        n,
+        place.from,
+        2 * ray,
+        work,
+        at,
+        middle,
+    );
+    let last = lay_part(spans, links, heads, n, from, 2 * ray + 1, work, middle, end);
+    Place {
+        from: last,
+        at: end,
+    }
+}
+
+// Lays the new lists of all rays that change, which stand from cell `at` of the work buffer on. One place before which no record is free goes
+// from list to list, so each record is looked at once.
+pub fn lay_all(
+    spans: &mut [f64],
+    links: &mut [u64],
+    heads: &mut [u64],
+    n: usize,
+    work: &[f64],
+    sizes: usize,
+    at: usize,
+    rays: usize,
+)
+    requires { ⌜ RaysLayable n (cells (now spans) (now links) (now heads)) (now work) sizes 0 rays (record { from = 0; at = at }) ⌝ }
+    ensures { λ _. ⌜ cells (now (spans .exit)) (now (links .exit)) (now (heads .exit))
+        ≡ laidAll n (cells (now (spans .entry)) (now (links .entry)) (now (heads .entry))) (updatesFrom (now (work .entry)) sizes at 0 rays) ⌝ }
+{
+    let mut place = Place { from: 0, at };
+    let mut ray: usize = 0;
+    while ray < rays {
+        place = lay_ray(spans, links, heads, n, work, sizes, ray, place);
+        ray += 1;
+    }
+}

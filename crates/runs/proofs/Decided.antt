@@ -49,7 +49,7 @@ module _ (g : DexelGrid) (r : Ray g) where
   taken-hits es possible p = refl
   taken-hits es certain p = sym (pairs-append es outer (pairsOn g es r inner) p)
 
-  without-hits : (s : Sets g) (es : List Entry) (k : Kind) (p : Float) → without g s es r k p ≡ (s r k p && not (holds (hitsOn g es r k) p))
+  pub without-hits : (s : Sets g) (es : List Entry) (k : Kind) (p : Float) → without g s es r k p ≡ (s r k p && not (holds (hitsOn g es r k) p))
   unfolding without
   without-hits s es k p = ap (λ (b : Bool). s r k p && not b) (taken-hits es k p)
 
@@ -58,11 +58,11 @@ module _ (g : DexelGrid) (r : Ray g) where
 abbrev pub Decides : Type 0 → Bool → Type 0
 Decides P b = (b ≡ true → P) × (b ≡ false → ¬ P)
 
-not-left : (a b : Bool) → (a || b) ≡ false → a ≡ false
+pub not-left : (a b : Bool) → (a || b) ≡ false → a ≡ false
 not-left true b h = h
 not-left false b h = refl
 
-not-right : (a b : Bool) → (a || b) ≡ false → b ≡ false
+pub not-right : (a b : Bool) → (a || b) ≡ false → b ≡ false
 not-right true b h = absurd (true≢false h)
 not-right false b h = h
 
@@ -118,7 +118,7 @@ count-by g P test d (suc i) h = go (test (i, h)) refl (sumTo g (λ r. cond (test
 
 module _ (g : DexelGrid) (s : Sets g) (lists : Ray g → Kind → List Float) (each : (r : Ray g) (k : Kind) → ListOf (s r k) (lists r k)) (es : List Entry) where
   -- a set stays exactly when no hit has a point of its list
-  stays : (r : Ray g) (k : Kind) → ((p : Float) → without g s es r k p ≡ s r k p) ↔ (hitBy (lists r k) (hitsOn g es r k) ≡ false)
+  pub stays : (r : Ray g) (k : Kind) → ((p : Float) → without g s es r k p ≡ s r k p) ↔ (hitBy (lists r k) (hitsOn g es r k) ≡ false)
   stays r k =
       let law = kept-unhit (lists r k) (hitsOn g es r k) (each r k .isSound) in (
         (λ f. law .0 (λ p. ap (λ (b : Bool). b && not (holds (hitsOn g es r k) p)) (each r k .points p) ∙ sym (without-hits g r s es k p) ∙ f p ∙ sym (each r k .points p))),

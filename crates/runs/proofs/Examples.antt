@@ -27,7 +27,8 @@ use Rattle.runs.specs.Logs.{Ray, Kind, possible, certain, entries, names
 use Rattle.runs.specs.Model.{Answer, changed, refused, causes, Judged}
 use Rattle.runs.specs.Counts.{hitsOn, raysChanged}
 use Rattle.runs.specs.Runs.{points, Left, Committed, Run, done, next, Settled}
-use Rattle.runs.specs.Lent.{Stock, listIn, SoundStock, lentStore}
+use Rattle.stock.specs.Stock.{Stock, ValidAt, SoundStock}
+use Rattle.runs.specs.Lent.{listIn, lentStore}
 use Rattle.runs.proofs.Unique.{judged-unsound}
 use Rattle.runs.proofs.Less.{less}
 use Rattle.runs.proofs.Decided.{tests, answerBy, judged, left-list}
@@ -227,8 +228,7 @@ filled-sound = record {
     others = used-in (chained 8 (filled .cells .links) (filled .cells .heads) 0 6) (usedAt (filled .cells .spans) (filled .cells .links)) 8 refl;
     counts = refl;
   };
-  valid = three (λ r. ValidRay (boundsOf (box 8) grid (r .0) .lo) (boundsOf (box 8) grid (r .0) .hi) (listIn (box 8) filled (r .0) possible) (listIn (box 8) filled (r .0) certain))
-      (λ h. whole-ray) (λ h. whole-ray) (λ h. whole-ray);
+  valid = λ ray h. three (λ r. ValidAt (box 8) grid (filled .cells) (r .0)) (λ h. whole-ray) (λ h. whole-ray) (λ h. whole-ray) (ray, h);
 }
 
 cut-sound : SoundStock (box 8) grid cut
@@ -240,8 +240,7 @@ cut-sound = record {
     others = used-in (chained 8 (cut .cells .links) (cut .cells .heads) 0 6) (usedAt (cut .cells .spans) (cut .cells .links)) 8 refl;
     counts = refl;
   };
-  valid = three (λ r. ValidRay (boundsOf (box 8) grid (r .0) .lo) (boundsOf (box 8) grid (r .0) .hi) (listIn (box 8) cut (r .0) possible) (listIn (box 8) cut (r .0) certain))
-      (λ h. whole-ray) (λ h. cut-whole) (λ h. whole-ray);
+  valid = λ ray h. three (λ r. ValidAt (box 8) grid (cut .cells) (r .0)) (λ h. whole-ray) (λ h. cut-whole) (λ h. whole-ray) (ray, h);
 }
 
 -- the lists of the uncut store are those of its sets

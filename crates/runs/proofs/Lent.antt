@@ -9,11 +9,12 @@ use lib.Ieee.{Float}
 use Rattle.grid.specs.Rays.{rayCount}
 use Rattle.grid.specs.declared.DexelStockSpec.{DexelStockSpec}
 use Rattle.grid.specs.declared.DexelGrid.{DexelGrid}
+use Rattle.stock.specs.Stock.{Stock}
 use Rattle.store.specs.Store.{placesOf, chained, endsAt}
 use Rattle.runs.specs.Logs.{Kind, possible, certain}
 use Rattle.runs.specs.Model.{sumTo, pairs}
 use Rattle.runs.specs.Runs.{Lawful, Demand3}
-use Rattle.runs.specs.Lent.{Stock, listNumber, listIn, lentStore}
+use Rattle.runs.specs.Lent.{listNumber, listIn, lentStore}
 use Rattle.runs.proofs.Demand3.{demand3}
 
 -- a list has one pair for each of its places
@@ -60,6 +61,11 @@ module _ (spec : DexelStockSpec) (g : DexelGrid) (s : Stock) where
   unfolding listIn places
   list-pairs r k = ends-pairs (s .cells .spans) (placesOf (spec .«max_intervals») (s .cells .links) (s .cells .heads) (listNumber r k))
 
+  -- a list has one pair for each place of its chain
+  pub list-places : (r : ℕ) (k : Kind) → length (listIn spec s r k) / 2 ≡ length (placesOf (spec .«max_intervals») (s .cells .links) (s .cells .heads) (listNumber r k))
+  unfolding places
+  list-places r k = list-pairs r k
+
   -- two lists more
   two-more : (i : ℕ) → total (2 * suc i) ≡ total (2 * i) + (places (2 * i) + places (2 * i + 1))
   unfolding total places
@@ -89,9 +95,10 @@ module _ (spec : DexelStockSpec) (g : DexelGrid) (s : Stock) where
   counted (suc i) h = two-more i ∙ ap₂ _+_ (counted i (le-of-lt h)) (ap₂ _+_ (sym (list-pairs i possible)) (sym (list-pairs i certain)))
 
 pub lent-laws : (spec : DexelStockSpec) (g : DexelGrid) → Lawful g (lentStore spec g)
+unfolding listIn listNumber
 lent-laws spec g = record {
-  sound-list = λ s S r k. elim k [ possible ↦ S .valid r .possible-sound | certain ↦ S .valid r .certain-sound ];
-  within = λ s S r. S .valid r .inside;
+  sound-list = λ s S r k. elim k [ possible ↦ S .valid (r .0) (r .1) .possible-sound | certain ↦ S .valid (r .0) (r .1) .certain-sound ];
+  within = λ s S r. S .valid (r .0) (r .1) .inside;
   all-pairs = λ s S. S .store .counts ∙ unfold total pairs in counted spec g s (rayCount g) (le-refl (rayCount g));
 }
 

@@ -1,26 +1,18 @@
--- How a run reads the lent store: the cells that crate `store` defines, and the small record beside them.
+-- How a run reads a stock: the lent store and its small record, as crate `stock` defines them.
 use mathlib.Core.Path.{_≡_}
 use mathlib.Core.List.{List}
 use Prim.Native.Nat.{ℕ, _+_, _*_, _/_, min}
 use lib.ListN.{length}
 use lib.Ieee.{Float}
-use Rattle.grid.specs.Rays.{rayCount, boundsOf}
 use Rattle.grid.specs.declared.DexelStockSpec.{DexelStockSpec}
 use Rattle.grid.specs.declared.DexelGrid.{DexelGrid}
 use Rattle.grid.specs.declared.Gridded.{Gridded}
 use Rattle.grid.specs.declared.Gridded.the-variants.{Accepted, Refused}
-use Rattle.store.specs.Store.{listOf, Sound}
-use Rattle.store.specs.Updates.{Cells}
-use Rattle.validity.specs.Ray.{ValidRay}
+use Rattle.store.specs.Store.{listOf}
+use Rattle.stock.specs.Stock.{Stock, SoundStock}
 use Rattle.runs.specs.Logs.{Ray, Kind, possible, certain, Commit}
 use Rattle.runs.specs.Model.{Answer, refused}
 use Rattle.runs.specs.Runs.{Reading, Committed}
-
--- Document 01's store and small record. With a description that `grid` accepts they are a stock.
-pub record Stock : Type 0 where
-  pub cells : Cells
-  pub generation : ℕ
-  pub intervals : ℕ
 
 -- the lists of the store count through the rays, possible first
 unfoldable pub listNumber : ℕ → Kind → ℕ
@@ -31,11 +23,6 @@ listNumber r certain = 2 * r + 1
 unfoldable pub listIn : DexelStockSpec → Stock → ℕ → Kind → List Float
 unfolding listNumber
 listIn spec s r k = listOf (spec .«max_intervals») (s .cells .spans) (s .cells .links) (s .cells .heads) (listNumber r k)
-
--- document 01's sound store: chains and free records, the interval total, and each ray valid within the box's bounds along it
-pub record SoundStock (spec : DexelStockSpec) (g : DexelGrid) (s : Stock) : Type 0 where
-  pub store : Sound (spec .«max_intervals») (2 * rayCount g) (s .intervals) (s .cells .spans) (s .cells .links) (s .cells .heads)
-  pub valid : (r : Ray g) → ValidRay (boundsOf spec g (r .0) .lo) (boundsOf spec g (r .0) .hi) (listIn spec s (r .0) possible) (listIn spec s (r .0) certain)
 
 -- the reading that the log commit's contract cites
 abbrev pub lentStore : DexelStockSpec → (g : DexelGrid) → Reading g

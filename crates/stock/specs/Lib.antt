@@ -1,3 +1,4 @@
 pub mod Stock
 pub mod Uncut
 pub mod Volume
+pub mod Outcomes

@@ -20,6 +20,19 @@ pub struct Tally {
     pub intervals: u64,
 }
 
+// The answer of both commits: how many rays changed, or why the call is refused.
+pub enum Committed {
+    Changed(u64),
+    Refused(u32),
+}
+
+// A commit's answer, and what the small record is to hold after it: its old values where the commit is refused.
+pub struct Outcome {
+    pub answer: Committed,
+    pub generation: u64,
+    pub intervals: u64,
+}
+
 // Whether a ray of a sound store is valid.
 fn check_ray(
     spec: DexelStockSpec,

@@ -35,7 +35,7 @@ fn used(spans: &[f64], links: &[u64], i: usize) -> bool
 }
 
 // How many of the first n records are in use.
-fn count_used(spans: &[f64], links: &[u64], n: usize) -> usize
+pub fn count_used(spans: &[f64], links: &[u64], n: usize) -> usize
     requires { ⌜ (2 * n ≤ length (now spans)) × (2 * n ≤ length (now links)) ⌝ }
     ensures { λ r. ⌜ r ≡ countTo (usedAt (now (spans .entry)) (now (links .entry))) n ⌝ }
 {

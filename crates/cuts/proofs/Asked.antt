@@ -1,0 +1,116 @@
+-- The updates that a log asks: in order, as many as rays change, and the lists that they leave.
+use mathlib.Core.Path.{_≡_, refl, sym, ap, _∙_, subst}
+use mathlib.Core.Bool.{Bool, true, false, _||_}
+use mathlib.Core.List.{List, [], _∷_}
+use Prim.Native.Nat.{ℕ, zero, suc, _+_, _*_, _%_, _≤_, _<_}
+use native.Mathlib.Bridge.{le-prop}
+use native.Mathlib.Decide.{ℕ-discrete}
+use native.Mathlib.Omega.{arith}
+use lib.ListN.{length}
+use lib.Ieee.{Float}
+use Rattle.spans.specs.Spans.{holds, ListOf}
+use Rattle.spans.proofs.Sets.{sound-mod}
+use Rattle.grid.specs.Rays.{rayCount}
+use Rattle.grid.specs.declared.DexelGrid.{DexelGrid}
+use Rattle.store.specs.Updates.{Update, update, Ascending, listAfter}
+use Rattle.store.specs.Updates.{none as no-more, next}
+use Rattle.store.proofs.Updating.{after-below, after-here, after-other}
+use Rattle.runs.specs.Logs.{Ray, Kind, possible, certain, Entry}
+use Rattle.runs.specs.Model.{without, Changes, Count, counted, skipped}
+use Rattle.runs.specs.Counts.{hitBy, hitsOn, changesRay}
+use Rattle.runs.specs.Lent.{listNumber}
+use Rattle.runs.proofs.Decided.{changes-by, stays, not-left, not-right}
+use Rattle.cuts.specs.Merges.{LeftOf, Merges, none, same, new}
+
+-- a ray is its number
+pub moved : (g : DexelGrid) (P : Ray g → Type 0) (i j : ℕ) (h : i < rayCount g) → i ≡ j → (k : j < rayCount g) → P (i, h) → P (j, k)
+moved g P i j h e k x = subst (λ (n : ℕ). (k : n < rayCount g) → P (n, k)) e (λ k. subst (λ (z : i < rayCount g). P (i, z)) (le-prop h k) x) k
+
+above : (i j : ℕ) → i ≤ j → (i ≡ j → ⊥) → suc i ≤ j
+above i j h ne = omega arith
+
+-- ---- the numbers of a ray's lists
+pub number-possible : (r : ℕ) → listNumber r possible ≡ 2 * r
+unfolding listNumber
+number-possible r = refl
+
+pub number-certain : (r : ℕ) → listNumber r certain ≡ 2 * r + 1
+unfolding listNumber
+number-certain r = refl
+
+two-numbers : (r : ℕ) → listNumber r certain ≡ 2 * r → ⊥
+two-numbers r e = omega (arith, number-certain r)
+
+number-below : (r : ℕ) (k : Kind) → listNumber r k < 2 * suc r
+number-below r possible = omega (arith, number-possible r)
+number-below r certain = omega (arith, number-certain r)
+
+-- another ray has other numbers
+other-possible : (i r : ℕ) (k : Kind) → suc i ≤ r → listNumber r k ≡ 2 * i → ⊥
+other-possible i r possible h e = omega (arith, number-possible r)
+other-possible i r certain h e = omega (arith, number-certain r)
+
+other-certain : (i r : ℕ) (k : Kind) → suc i ≤ r → listNumber r k ≡ 2 * i + 1 → ⊥
+other-certain i r possible h e = omega (arith, number-possible r)
+other-certain i r certain h e = omega (arith, number-certain r)
+
+module _ (g : DexelGrid) (lists : Ray g → Kind → List Float) (es : List Entry) where
+  -- the updates are of whole pairs and in the order of the lists
+  pub merges-ascend : {ray m : ℕ} {us : List Update} → Merges g lists es ray us m → Ascending (2 * rayCount g) (2 * ray) us
+  merges-ascend (none e) = no-more
+  merges-ascend (same {ray = ray} h e t) = lower (merges-ascend t)
+    where
+      lower : {us : List Update} → Ascending (2 * rayCount g) (2 * suc ray) us → Ascending (2 * rayCount g) (2 * ray) us
+      lower no-more = no-more
+      lower (next {u = u} lo hi whole a) = next {k = 2 * ray} {u = u} (omega arith) hi whole a
+  merges-ascend (new {ray = ray} {p = p} {c = c} {us = us} h e a b t) =
+      next {k = 2 * ray} {u = update (2 * ray) p} (omega arith) (omega arith) (sound-mod p (a .isSound)) (next {k = suc (2 * ray)} {u = update (2 * ray + 1) c} (omega arith) (omega arith) (sound-mod c (b .isSound)) (subst (λ (k : ℕ). Ascending (2 * rayCount g) k us) (numbers ray) (merges-ascend t)))
+    where
+      numbers : (ray : ℕ) → 2 * suc ray ≡ suc (2 * ray + 1)
+      numbers ray = omega arith
+
+  module _ (each : (r : Ray g) (k : Kind) → ListOf (holds (lists r k)) (lists r k)) where
+    -- the rays that change are counted
+    pub merges-count : {ray m a : ℕ} {us : List Update} → Merges g lists es ray us m → Count g (Changes g (λ r k. holds (lists r k)) es) ray a → Count g (Changes g (λ r k. holds (lists r k)) es) (rayCount g) (a + m)
+    merges-count {m = m} {a = a} (none {ray = ray} e) t = subst (λ (x : ℕ). Count g (Changes g (λ r k. holds (lists r k)) es) (rayCount g) x) (sum a) (subst (λ (x : ℕ). Count g (Changes g (λ r k. holds (lists r k)) es) x a) e t)
+      where
+        sum : (a : ℕ) → a ≡ a + 0
+        sum a = omega arith
+    merges-count (same {ray = ray} h e u) t = merges-count u (skipped h (changes-by g (λ r k. holds (lists r k)) lists each es (ray, h) .1 e) t)
+    merges-count {a = a} (new {ray = ray} {m = m} h e p c u) t = subst (λ (x : ℕ). Count g (Changes g (λ r k. holds (lists r k)) es) (rayCount g) x) (sum a m) (merges-count u (counted h (changes-by g (λ r k. holds (lists r k)) lists each es (ray, h) .0 e) t))
+      where
+        sum : (a m : ℕ) → suc a + m ≡ a + suc m
+        sum a m = omega arith
+
+    -- a ray that does not change keeps the sound lists of its sets
+    pub kept-left : (r : Ray g) → changesRay g lists es r ≡ false → (k : Kind) → LeftOf g lists es r k (lists r k)
+    unfolding changesRay
+    kept-left r e k = record { isSound = each r k .isSound; points = λ p. sym (stays g (λ r k. holds (lists r k)) lists each es r k .1 (unhit k) p) }
+      where
+        unhit : (k : Kind) → hitBy (lists r k) (hitsOn g es r k) ≡ false
+        unhit possible = not-left (hitBy (lists r possible) (hitsOn g es r possible)) (hitBy (lists r certain) (hitsOn g es r certain)) e
+        unhit certain = not-right (hitBy (lists r possible) (hitsOn g es r possible)) (hitBy (lists r certain) (hitsOn g es r certain)) e
+
+    -- each list after the updates is the sound list of what the log leaves
+    pub merges-leave : {ray m : ℕ} {us : List Update} → Merges g lists es ray us m → (r : ℕ) (l : r < rayCount g) → ray ≤ r → (k : Kind) → LeftOf g lists es (r, l) k (listAfter us (listNumber r k) (lists (r, l) k))
+    merges-leave (none e) r l h k = absurd (omega arith)
+    merges-leave (same {ray = ray} {us = us} i e t) r l h k = at (ℕ-discrete ray r) (λ (h : suc ray ≤ r). merges-leave t r l h k)
+      where
+        at : Dec (ray ≡ r) → (suc ray ≤ r → LeftOf g lists es (r, l) k (listAfter us (listNumber r k) (lists (r, l) k))) → LeftOf g lists es (r, l) k (listAfter us (listNumber r k) (lists (r, l) k))
+        at (yes d) rec = moved g (λ x. LeftOf g lists es x k (listAfter us (listNumber (x .0) k) (lists x k))) ray r i d l
+            (subst (LeftOf g lists es (ray, i) k) (sym (after-below (merges-ascend t) (listNumber ray k) (lists (ray, i) k) (number-below ray k))) (kept-left (ray, i) e k))
+        at (no d) rec = rec (above ray r h d)
+    merges-leave (new {ray = ray} {p = p} {c = c} {us = us} i e a b t) r l h k = at (ℕ-discrete ray r) (λ (h : suc ray ≤ r). merges-leave t r l h k)
+      where
+        here : (k : Kind) → LeftOf g lists es (ray, i) k (listAfter (update (2 * ray) p ∷ update (2 * ray + 1) c ∷ us) (listNumber ray k) (lists (ray, i) k))
+        here possible = subst (LeftOf g lists es (ray, i) possible) (sym (after-here (update (2 * ray) p) (update (2 * ray + 1) c ∷ us) (listNumber ray possible) (lists (ray, i) possible) (number-possible ray))) a
+        here certain = subst (LeftOf g lists es (ray, i) certain)
+            (sym (after-other (update (2 * ray) p) (update (2 * ray + 1) c ∷ us) (listNumber ray certain) (lists (ray, i) certain) (λ z. two-numbers ray z)
+            ∙ after-here (update (2 * ray + 1) c) us (listNumber ray certain) (lists (ray, i) certain) (number-certain ray))) b
+
+        at : Dec (ray ≡ r) → (suc ray ≤ r → LeftOf g lists es (r, l) k (listAfter us (listNumber r k) (lists (r, l) k))) → LeftOf g lists es (r, l) k (listAfter (update (2 * ray) p ∷ update (2 * ray + 1) c ∷ us) (listNumber r k) (lists (r, l) k))
+        at (yes d) rec = moved g (λ x. LeftOf g lists es x k (listAfter (update (2 * ray) p ∷ update (2 * ray + 1) c ∷ us) (listNumber (x .0) k) (lists x k))) ray r i d l (here k)
+        at (no d) rec = subst (LeftOf g lists es (r, l) k)
+            (sym (after-other (update (2 * ray) p) (update (2 * ray + 1) c ∷ us) (listNumber r k) (lists (r, l) k) (λ z. other-possible ray r k (above ray r h d) z)
+            ∙ after-other (update (2 * ray + 1) c) us (listNumber r k) (lists (r, l) k) (λ z. other-certain ray r k (above ray r h d) z)))
+            (rec (above ray r h d))

@@ -1,0 +1,4 @@
+pub mod Valid
+pub mod Asked
+pub mod Totals
+pub mod Leaves
