@@ -2,3 +2,5 @@
 pub mod Cutting
 pub mod Bringing
 pub mod Rays
+pub mod Told
+pub mod Merging

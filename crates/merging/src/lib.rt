@@ -1,7 +1,8 @@
 // Merges the hits of a log into the rays of a store: the new lists of each ray that changes, one ray after the other, in the work buffer.
 ghost use mathlib.Core.Path.{_≡_};
-ghost use Prim.Native.Nat.{_+_, _*_, _<_, _≤_};
-ghost use lib.ListN.{length};
+ghost use Prim.Native.Nat.{_+_, _*_, _^_, _<_, _≤_};
+ghost use lib.ListN.{length, set};
+ghost use Rattle.numbers.specs.Numbers.{numberCell};
 ghost use Rattle.spans.specs.Spans.{holds};
 ghost use Rattle.grid.specs.Rays.{rayCount};
 ghost use Rattle.runs.specs.Logs.{entries, entryCount, outer, inner};
@@ -12,6 +13,7 @@ ghost use Rattle.grouping.specs.Groups.{Grouped, kindOf};
 ghost use Rattle.merge.specs.Merge.{eitherHit};
 ghost use Rattle.merge.specs.Steps.{part, Ready, Normal};
 ghost use Rattle.merging.specs.Rays.{Touches, RayCut, Bringable, Brought, limitOf, RayMerged};
+ghost use Rattle.merging.specs.All.{firstOf, countOf, AllMergeable, AllMerged};
 use grid::DexelGrid;
 use grid::DexelStockSpec;
 
@@ -115,7 +117,7 @@ fn bring(
 }
 
 // Merges the hits on a ray: where it changes, both its new lists stand from cell q on. Its lists and hits are brought to cell s on the way.
-pub fn merge_ray(
+fn merge_ray(
     spec: DexelStockSpec,
     g: DexelGrid,
     spans: &[f64],
@@ -145,4 +147,69 @@ pub fn merge_ray(
     let no = b.outer;
     let ni = b.inner;
     cut_ray(&mut work[q..], s - q, np, nc, no, ni)
+}
+
+// The first size of a ray.
+fn first_size(m: Change) -> u64
+    requires { ⌜ m .possible + 1 < 2 ^ 64 ⌝ }
+    ensures { λ r. ⌜ r ≡ firstOf m ⌝ }
+{
+    if m.changed {
+        return (m.possible + 1) as u64;
+    }
+    0
+}
+
+// Writes both sizes of a ray.
+fn put_sizes(work: &mut [f64], at: usize, m: Change)
+    requires { ⌜ (at + 1 < length (now work)) × (m .possible + 1 < 2 ^ 64) ⌝ }
+    ensures { λ _. ⌜ now (work .exit) ≡ set (set (now (work .entry)) at (numberCell (firstOf m))) (at + 1) (numberCell (m .certain)) ⌝ }
+{
+    let first = first_size(m);
+    let second = m.certain;
+    numbers::put_number(work, at, first);
+    numbers::put_number(work, at + 1, second as u64);
+}
+
+// The number that a change adds to those counted.
+fn count(m: Change) -> u64
+    ensures { λ r. ⌜ r ≡ countOf m ⌝ }
+{
+    if m.changed {
+        return 1;
+    }
+    0
+}
+
+// Merges the hits of a grouped log into all rays, and says how many change. The sizes of the new lists stand behind the chains, two for each ray,
+// the lists behind the sizes.
+pub fn merge_all(
+    spec: DexelStockSpec,
+    g: DexelGrid,
+    spans: &[f64],
+    links: &[u64],
+    heads: &[u64],
+    log: &[f64],
+    work: &mut [f64],
+) -> u64
+    requires { ⌜ AllMergeable spec g (cells (now spans) (now links) (now heads)) (now log) (now work) ⌝ }
+    ensures { λ r. ⌜ AllMerged spec g (cells (now (spans .entry)) (now (links .entry)) (now (heads .entry))) (now (log .entry))
+        (now (work .entry)) (now (work .exit)) r ⌝ }
+{
+    let rays = grid::total_rays(g) as usize;
+    let e = log.len() / 6;
+    let n = spec.max_intervals as usize;
+    let sizes = rays + e;
+    let mut q = sizes + 2 * rays;
+    let s = q + 6 * n + 6 * e;
+    let mut changed: u64 = 0;
+    let mut ray = 0;
+    while ray < rays {
+        let m = merge_ray(spec, g, spans, links, heads, log, work, ray, q, s);
+        put_sizes(work, sizes + 2 * ray, m);
+        q += 2 * m.possible + 2 * m.certain;
+        changed += count(m);
+        ray += 1;
+    }
+    changed
 }
