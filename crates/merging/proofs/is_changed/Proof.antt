@@ -1,0 +1,53 @@
+-- `merging::is_changed` meets its contract.
+use borrow.Author.Needs.{needs}
+use borrow.Author.Needs.{needs}
+use Prim.Native.Nat.{_+_}
+use Rattle.spans.specs.Spans.{holds}
+use Rattle.merge.specs.Merge.{eitherHit}
+use Rattle.merge.specs.Steps.{part}
+use Rattle.merging.proofs.Cutting.{touch-first, touch-second}
+use Rattle.merging.proofs.is_changed.Statement.{statement}
+use Rattle.merging.proofs.is_changed.Tie as tie
+
+add-c : tie.Need-add-c
+add-c c = search needs
+
+add-share-point : tie.Need-add-share-point
+add-share-point c = search needs
+
+add-share-point-2 : tie.Need-add-share-point-2
+add-share-point-2 c = search needs
+
+share-point-requires : tie.Need-share-point-requires
+share-point-requires c κs = search needs
+
+returns : tie.Need-returns
+returns c =
+    let a = c .before .before .before .args in
+    let h = c .before .share-point in
+    touch-first (part (a .at) (a .np) (a .w .now)) (part (a .at + a .np) (a .nc) (a .w .now)) (holds (part (a .at + a .np + a .nc + a .no) (a .ni) (a .w .now)))
+    (eitherHit (part (a .at + a .np + a .nc) (a .no) (a .w .now)) (part (a .at + a .np + a .nc + a .no) (a .ni) (a .w .now)))
+    (h .result) (c .if1 .taken) (h .ensures)
+
+is-hit-requires : tie.Need-is-hit-requires
+is-hit-requires c κs = search needs
+
+returns-2 : tie.Need-returns-2
+returns-2 c =
+    let a = c .before .before .before .before .args in
+    let h = c .before .before .share-point in
+    touch-second (part (a .at) (a .np) (a .w .now)) (part (a .at + a .np) (a .nc) (a .w .now)) (holds (part (a .at + a .np + a .nc + a .no) (a .ni) (a .w .now)))
+    (eitherHit (part (a .at + a .np + a .nc) (a .no) (a .w .now)) (part (a .at + a .np + a .nc + a .no) (a .ni) (a .w .now)))
+    (h .result) (c .before .if1 .left) (h .ensures) (c .is-hit .result) (c .is-hit .ensures)
+
+pub is-changed-spec : {M : Type 1} → statement M
+is-changed-spec =
+    tie.close
+    (tie.spec
+    add-c
+    add-share-point
+    add-share-point-2
+    share-point-requires
+    returns
+    is-hit-requires
+    returns-2)
