@@ -16,12 +16,12 @@ use Rattle.spans.specs.Spans.{holds, sound}
 use Rattle.store.specs.Store.{placesOf}
 use Rattle.store.specs.Updates.{Cells}
 use Rattle.store.proofs.FreePlaces.{free-records}
-use Rattle.stock.specs.Stock.{possibleIn, certainIn}
+use Rattle.stock.specs.Stock.{Stock, possibleIn, certainIn, SoundStock}
 use Rattle.lists.proofs.Steps.{ends-length}
 use Rattle.runs.specs.Logs.{possible, certain, entryAt, entryCount, entries, rayOf, HitKind, outer, inner}
 use Rattle.runs.specs.Model.{pairs}
 use Rattle.runs.specs.Counts.{hitBy, startsLeft, hitsOn, changesRay, raysChanged, pairsLeft}
-use Rattle.runs.specs.Lent.{Stock, listNumber, listIn, SoundStock}
+use Rattle.runs.specs.Lent.{listNumber, listIn}
 use Rattle.runs.proofs.Lent.{lent-laws}
 use Rattle.runs.proofs.Starts.{pairs-left}
 use Rattle.logs.specs.Named.{pairsNamed, namedFrom, pairsAt}
@@ -91,7 +91,7 @@ module _ (spec : DexelStockSpec) (g : DexelGrid) (c : Cells) (intervals : ℕ) (
 
   isStock : SoundStock spec g stock
   unfolding stock
-  isStock = record { store = ok .isSound .store; valid = λ r. unfold listIn listNumber in ok .isSound .valid (r .0) (r .1) }
+  isStock = ok .isSound
 
   -- the interval total is the sum of the pairs of all rays
   pub total-is : intervals ≡ sum (pairsOf spec c) (rayCount g)

@@ -43,7 +43,7 @@ module _ (spec : DexelStockSpec) (g : DexelGrid) (s : Stock) (sound : SoundStock
       zero-first m = omega arith
 
   module _ (fits : pairsLeft g (listsOf spec g s) es ≤ spec .«max_intervals») where
-    all-updated : Updated (spec .«max_intervals») (2 * rayCount g) (s .intervals) (s .cells) us (applied (spec .«max_intervals») (s .cells) us)
+    pub all-updated : Updated (spec .«max_intervals») (2 * rayCount g) (s .intervals) (s .cells) us (applied (spec .«max_intervals») (s .cells) us)
     all-updated = updated (sound .store) room ascend (omega (arith, intervals-left))
 
     -- each list afterwards
@@ -64,6 +64,9 @@ module _ (spec : DexelStockSpec) (g : DexelGrid) (s : Stock) (sound : SoundStock
         still-valid g (listsOf spec g s) es (ray, h) (boundsOf spec g ray .lo) (boundsOf spec g ray .hi) (sound .valid ray h)
         (listIn spec (cutStock spec s us) ray possible) (listIn spec (cutStock spec s us) ray certain) (list-left (ray, h) possible) (list-left (ray, h) certain)
 
+    pub cut-sound : SoundStock spec g (cutStock spec s us)
+    cut-sound = record { store = all-updated .isSound; valid = valid-left }
+
     same-lent : lentStore spec g .lent (cutStock spec s us) ≡ lentStore spec g .lent s
     same-lent =
         let k = all-updated .kept in
@@ -77,7 +80,7 @@ module _ (spec : DexelStockSpec) (g : DexelGrid) (s : Stock) (sound : SoundStock
     pub cut : (c : Commit) → entries (c .log) ≡ es → Cut g (lentStore spec g) s c (cutStock spec s us)
     unfolding points
     cut c e = record {
-      sound = record { store = all-updated .isSound; valid = valid-left };
+      sound = cut-sound;
       exactly = λ r k p. list-left r k .points p ∙ ap (λ (x : List Entry). without g (λ r k. holds (listsOf spec g s r k)) x r k p) (sym e);
       generation = refl;
       lent = same-lent;

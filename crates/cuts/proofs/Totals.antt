@@ -27,10 +27,10 @@ use Rattle.cuts.specs.Merges.{LeftOf, Merges, none, same, new}
 use Rattle.cuts.proofs.Asked.{number-possible, number-certain, kept-left}
 
 -- a sum over rays goes by their number
-sum-at : (g : DexelGrid) (f : Ray g → ℕ) (i j : ℕ) (h : i ≤ rayCount g) → i ≡ j → (k : j ≤ rayCount g) → sumTo g f i h ≡ sumTo g f j k
+pub sum-at : (g : DexelGrid) (f : Ray g → ℕ) (i j : ℕ) (h : i ≤ rayCount g) → i ≡ j → (k : j ≤ rayCount g) → sumTo g f i h ≡ sumTo g f j k
 sum-at g f i j h e k = subst (λ (n : ℕ). (k : n ≤ rayCount g) → sumTo g f i h ≡ sumTo g f n k) e (λ k. ap (sumTo g f i) (le-prop h k)) k
 
-sum-next : (g : DexelGrid) (f : Ray g → ℕ) (i : ℕ) (h : i ≤ rayCount g) (k : i < rayCount g) → sumTo g f (suc i) k ≡ sumTo g f i h + f (i, k)
+pub sum-next : (g : DexelGrid) (f : Ray g → ℕ) (i : ℕ) (h : i ≤ rayCount g) (k : i < rayCount g) → sumTo g f (suc i) k ≡ sumTo g f i h + f (i, k)
 unfolding sumTo
 sum-next g f i h k = ap (λ (n : ℕ). n + f (i, k)) (sum-at g f i i (le-of-lt k) refl h)
 
@@ -71,7 +71,7 @@ module _ (spec : DexelStockSpec) (g : DexelGrid) (s : Stock) (sound : SoundStock
   unfolding left
   left-is r x y e f = ap₂ (λ (a b : ℕ). a + b) (sym e) (sym f)
 
-  one-pairs : (r : Ray g) (k : Kind) (l : List Float) → LeftOf g (λ r k. listIn spec s (r .0) k) es r k l → length l / 2 ≡ startsLeft (listIn spec s (r .0) k) (hitsOn g es r k)
+  pub one-pairs : (r : Ray g) (k : Kind) (l : List Float) → LeftOf g (λ r k. listIn spec s (r .0) k) es r k l → length l / 2 ≡ startsLeft (listIn spec s (r .0) k) (hitsOn g es r k)
   one-pairs r k l a = pairs-left (listIn spec s (r .0) k) (hitsOn g es r k) l (each r k .isSound)
       (same-list (without g (λ r k. holds (listIn spec s (r .0) k)) es r k) (λ p. holds (listIn spec s (r .0) k) p && not (holds (hitsOn g es r k) p)) l
       (λ p. without-hits g r (λ r k. holds (listIn spec s (r .0) k)) es k p) a)

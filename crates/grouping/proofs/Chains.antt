@@ -16,7 +16,7 @@ use Rattle.grid.specs.Rays.{rayCount}
 use Rattle.grid.specs.declared.DexelGrid.{DexelGrid}
 use Rattle.runs.specs.Logs.{entryAt, entryCount, rayOf}
 use Rattle.logs.specs.Named.{EachNamed, namedFrom}
-use Rattle.grouping.specs.Groups.{Chain, ends, more, Groups}
+use Rattle.grouping.specs.Groups.{Chain, ends, more, Grouped, Groups}
 
 -- a chain stands where the cells of its places are the same
 pub chain-kept : {w v : List Float} {rays from to low k : ℕ} {is : List ℕ} → low ≤ from
@@ -136,6 +136,16 @@ module _ (g : DexelGrid) (log before w : List Float) (room : rayCount g + entryC
 
       all : (n : ℕ) → n - 0 ≡ n
       all n = omega arith
+
+-- a grouped log stays so where only cells past the chains change
+pub grouped-kept : (g : DexelGrid) (log w v : List Float) → length v ≡ length w → ((q : ℕ) → q < rayCount g + entryCount log → getD v q nan ≡ getD w q nan) → Grouped g log w → Grouped g log v
+grouped-kept g log w v size same s = record {
+  named = s .named;
+  room = omega (arith, s .room);
+  chains = λ ray h.
+      subst (λ (k : ℕ). Chain v (rayCount g) 0 (entryCount log) k (namedFrom g log ray 0 (entryCount log))) (sym (number-same v w ray (same ray (omega arith))))
+      (chain-kept (omega arith) (λ q a b. number-same v w (rayCount g + q) (same (rayCount g + q) (omega arith))) (s .chains ray h));
+}
 
 -- ---- the first cells cleared
 module _ (rays : ℕ) (before ys : List Float) (fit : rays ≤ length before) (is : ys ≡ take 0 (take rays before) ++ replicate (length (take rays before) - 0) plusZero) where

@@ -167,3 +167,14 @@ module _ (g : DexelGrid) (log before : List Float) (grouped : Grouped g log befo
   gathered w t k none s =
       subst (λ (l : List Float). Copied l before at w t) (ap (λ (l : List ℕ). pairsAt log l kind) (chain-one (s .first) chain) ∙ hits)
       (gathering-done rays log kind ray at before w t k none s)
+
+-- a ray whose first cell is zero has no hits
+pub none-named : (g : DexelGrid) (log w : List Float) → Grouped g log w → (ray : ℕ) → ray < rayCount g → numberAt w ray ≡ 0 → (kind : HitKind) → pairsNamed g (entries log) ray kind ≡ []
+unfolding pairsAt
+none-named g log w s ray h e kind =
+    sym (pairs-at g log (s .named) (ray, h) kind ∙ pairs-named g (entries log) (ray, h) kind)
+    ∙ ap (λ (l : List ℕ). pairsAt log l kind) (last (s .chains ray h) e)
+  where
+    last : {k : ℕ} {is : List ℕ} → Chain w (rayCount g) 0 (entryCount log) k is → k ≡ 0 → is ≡ []
+    last ends n = refl
+    last (more a b c) n = absurd (omega arith)

@@ -1,19 +1,18 @@
 -- Both lists of a ray less their hits, one after the other at the start of a buffer.
-use mathlib.Core.Path.{_≡_, refl, sym, ap, ap₂, _∙_, subst, fun-ext}
-use mathlib.Core.Bool.{Bool, true, false, not, _&&_, _||_, true≢false, false≢true}
+use mathlib.Core.Path.{_≡_, refl, sym, _∙_, subst, fun-ext}
+use mathlib.Core.Bool.{Bool, true, false, true≢false, false≢true}
 use mathlib.Core.List.{List}
 use mathlib.Core.Logic.{inl, inr}
-use Prim.Native.Nat.{ℕ, _+_, _-_, _*_, _/_, _%_, _≤_, _<_}
+use Prim.Native.Nat.{ℕ, _+_, _*_, _/_, _%_, _≤_}
 use native.Mathlib.Omega.{arith}
 use lib.ListN.{length}
 use lib.Ieee.{Float}
 use Rattle.spans.specs.Spans.{holds, sound, ListOf}
 use Rattle.spans.proofs.Sets.{sound-mod}
 use Rattle.merge.specs.Merge.{Moves, eitherHit, spared}
-use Rattle.merge.specs.Steps.{part, Lies, Between, Subtracted, Shortened, Ready}
-use Rattle.merge.proofs.Places.{part-length, part-front, part-past, between-both, between-same, lies-past}
-use Rattle.merging.specs.Rays.{Touches, NewLists, RayCut}
-use Rattle.merging.specs.declared.Change.{Change}
+use Rattle.merge.specs.Steps.{part, Lies, Subtracted, Shortened, Ready}
+use Rattle.merge.proofs.Places.{part-length, part-front, part-past, lies-past}
+use Rattle.merging.specs.Rays.{Touches, RayCut}
 
 -- ---- whether the ray changes
 module _ (possible certain : List Float) (inner either : Float → Bool) where
@@ -26,11 +25,12 @@ module _ (possible certain : List Float) (inner either : Float → Bool) where
   touch-second false h m true n = inr n
   touch-second false h m false n = (m, n)
 
-  pub untouched : (from to limit : ℕ) (w : List Float) (r : Bool) → r ≡ false → Touches possible certain inner either r
-      → RayCut possible certain inner either from to limit w w (record { changed = false; possible = 0; certain = 0 })
-  untouched from to limit w true h t = absurd (true≢false h)
-  untouched from to limit w false h t = record {
-    between = between-same from to w;
+  pub untouched : (from limit : ℕ) (w : List Float) (r : Bool) → r ≡ false → Touches possible certain inner either r
+      → RayCut possible certain inner either from limit w w (record { changed = false; possible = 0; certain = 0 })
+  untouched from limit w true h t = absurd (true≢false h)
+  untouched from limit w false h t = record {
+    size = refl;
+    front = λ q e. refl;
     touches = t;
     most = omega arith;
     lists = λ e. absurd (false≢true e);
@@ -71,7 +71,7 @@ module _ (at np nc no ni : ℕ) (w w₁ w₂ : List Float) (p r : ℕ) (ready : 
 
   pub both-cut : (b : Bool) → b ≡ true → Touches (part at np w) (part (at + np) nc w) inner either b
       → Shortened (part (at + np) nc w₁) (eitherHit (part (at + np + nc) no w₁) (part (at + np + nc + no) ni w₁)) p (np + 2 * ni + nc + no) (nc + no + ni) w₁ w₂ r
-      → RayCut (part at np w) (part (at + np) nc w) inner either 0 at (np + nc + no + 2 * ni) w w₂ (record { changed = true; possible = p / 2; certain = r / 2 })
+      → RayCut (part at np w) (part (at + np) nc w) inner either 0 (np + nc + no + 2 * ni) w w₂ (record { changed = true; possible = p / 2; certain = r / 2 })
   both-cut b h t second =
       let size₁ : length w₁ ≡ length w = first .between .size in
       let size₂ : length w₂ ≡ length w₁ = second .between .size in
@@ -80,7 +80,8 @@ module _ (at np nc no ni : ℕ) (w w₁ w₂ : List Float) (p r : ℕ) (ready : 
       let two-p : 2 * (p / 2) ≡ p = whole 0 p w₁ fit₁ (first .list .isSound) in
       let two-r : 2 * (r / 2) ≡ r = whole p r w₂ fit₂ (second .list .isSound) in
       record {
-        between = between-both 0 (0 + np + ni) p (np + 2 * ni + nc + no) 0 at w w₁ w₂ (first .between) (second .between) (omega arith) (omega arith) (omega (arith, ready .room)) (omega (arith, ready .room));
+        size = size₂ ∙ size₁;
+        front = λ q e. absurd (omega arith);
         touches = touched (part at np w) (part (at + np) nc w) inner either b h t;
         most = omega (arith, first .most, second .most);
         lists = λ e. record {

@@ -1,7 +1,6 @@
 -- `merge::subtract_both` meets its contract.
 use Rattle.merge.proofs.Sparing.{second-lies, both-shortened}
 use borrow.Author.Needs.{needs}
-use native.Mathlib.Omega.{arith}
 use Rattle.merge.proofs.subtract_both.Statement.{statement}
 use Rattle.merge.proofs.subtract_both.Tie as tie
 

@@ -1,6 +1,5 @@
 -- `merging::cut_ray` meets its contract.
 use borrow.Author.Needs.{needs}
-use native.Mathlib.Omega.{arith}
 use borrow.Author.Needs.{needs}
 use Prim.Native.Nat.{_+_, _*_}
 use Rattle.doubles.proofs.Bools.{not-true, not-false}
@@ -23,7 +22,7 @@ returns c =
     let h = c .before .is-changed in
     untouched (part (a .at) (a .np) (a .w .now)) (part (a .at + a .np) (a .nc) (a .w .now)) (holds (part (a .at + a .np + a .nc + a .no) (a .ni) (a .w .now)))
     (eitherHit (part (a .at + a .np + a .nc) (a .no) (a .w .now)) (part (a .at + a .np + a .nc + a .no) (a .ni) (a .w .now)))
-    0 (a .at) (a .np + a .nc + a .no + 2 * a .ni) (a .w .now) (h .result) (not-true (h .result) (c .if1 .taken)) (h .ensures)
+    0 (a .np + a .nc + a .no + 2 * a .ni) (a .w .now) (h .result) (not-true (h .result) (c .if1 .taken)) (h .ensures)
 
 add-c : tie.Need-add-c
 add-c c = search needs

@@ -1,6 +1,5 @@
 -- `merging::is_changed` meets its contract.
 use borrow.Author.Needs.{needs}
-use native.Mathlib.Omega.{arith}
 use borrow.Author.Needs.{needs}
 use Prim.Native.Nat.{_+_}
 use Rattle.spans.specs.Spans.{holds}
