@@ -2,7 +2,7 @@
 ghost use mathlib.Core.Path.{_≡_};
 ghost use mathlib.Core.Bool.{true};
 ghost use Rattle.spans.specs.Spans.{sound};
-ghost use Rattle.grid.specs.Causes.{GridFacts};
+ghost use Rattle.gridding.specs.Causes.{GridFacts};
 ghost use Rattle.lists.specs.Reading.{listFrom, Readable};
 ghost use Rattle.across.specs.Meets.{someAbove, spansMeet, overlapsOf};
 ghost use Rattle.across.specs.Lane.{planPoint, reachOf, sideOf, centerOf, profileOf, laneOf, spanOver, cellsMet, cellsAcross, rectangleOf, sectionWith, sectionOf};

@@ -6,8 +6,8 @@ use native.Mathlib.Omega.{arith}
 use lib.Ieee.{Float}
 use lib.ListN.{length}
 use Rattle.refusal.specs.Refusal.{NoneDue}
-use Rattle.grid.specs.Grid.{gridOf}
-use Rattle.grid.specs.Causes.{gridCauses, gridIn}
+use Rattle.gridding.specs.Grid.{gridOf}
+use Rattle.gridding.specs.Causes.{gridCauses, gridIn}
 use Rattle.grid.specs.declared.DexelStockSpec.{DexelStockSpec}
 use Rattle.grid.specs.declared.DexelGrid.{DexelGrid}
 use Rattle.grid.specs.declared.Gridded.the-variants.{Accepted as Griddable, Refused as NoGrid}

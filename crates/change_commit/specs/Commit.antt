@@ -7,7 +7,7 @@ use Prim.Native.Nat.{ℕ, _+_, _-_, _*_, _/_, _%_, _^_, _<_}
 use lib.Ieee.{Float}
 use lib.ListN.{length}
 use Rattle.refusal.specs.Refusal.{Cause, cause, Due, NoneDue}
-use Rattle.grid.specs.Causes.{gridCauses, gridIn}
+use Rattle.gridding.specs.Causes.{gridCauses, gridIn}
 use Rattle.grid.specs.Rays.{rayCount}
 use Rattle.grid.specs.declared.DexelStockSpec.{DexelStockSpec}
 use Rattle.grid.specs.declared.DexelGrid.{DexelGrid}

@@ -5,7 +5,7 @@ ghost use Prim.Native.Nat.{ℕ, _+_, _*_, _%_, _^_, _≤_, _<_};
 ghost use lib.Ieee.{Float};
 ghost use lib.ListN.{length};
 ghost use Rattle.grid.specs.Rays.{rayCount};
-ghost use Rattle.grid.specs.Causes.{GridFacts};
+ghost use Rattle.gridding.specs.Causes.{GridFacts};
 ghost use Rattle.store.specs.Fills.{Cursor};
 ghost use Rattle.store.specs.Updates.{cells, Room, freedList, laidAll, applied};
 ghost use Rattle.stock.specs.Stock.{SoundCells};
@@ -286,7 +286,7 @@ pub fn commit_changes_on(
         (stock (now (spans .entry)) (now (links .entry)) (now (heads .entry)) generation intervals)
         (stock (now (spans .exit)) (now (links .exit)) (now (heads .exit)) (r .generation) (r .intervals)) (r .answer) ⌝ }
 {
-    match grid::grid(spec, units) {
+    match gridding::grid(spec, units) {
         Gridded::Accepted(g) => commit_grid(
             generation,
             intervals,

@@ -4,7 +4,7 @@ ghost use mathlib.Core.Bool.{true};
 ghost use Prim.Native.Nat.{_+_, _-_, _*_, _^_, _≤_, _<_};
 ghost use lib.ListN.{length};
 ghost use Rattle.grid.specs.Rays.{rayCount};
-ghost use Rattle.grid.specs.Causes.{GridFacts};
+ghost use Rattle.gridding.specs.Causes.{GridFacts};
 ghost use Rattle.store.specs.Updates.{cells};
 ghost use Rattle.stock.specs.Stock.{Chained, Tells};
 ghost use Rattle.runs.specs.Logs.{entries, entryAt, entryCount, rayOf};

@@ -1,5 +1,3 @@
 pub mod Axes
 pub mod Grid
 pub mod Rays
-pub mod Causes
-pub mod Examples

@@ -5,7 +5,7 @@
 // For accepted descriptions and for each refusal it writes how many rows agree and how many differ, then how many can't be read, and
 // the number of the first row that differs.
 ghost use mathlib.Core.Path.{_≡_};
-ghost use Rattle.grid.specs.Causes.{GridFacts};
+ghost use Rattle.gridding.specs.Causes.{GridFacts};
 ghost use Rattle.grid_vectors.specs.Facts.{FactsOf};
 use grid::DexelGrid;
 use grid::DexelStockSpec;
@@ -20,18 +20,18 @@ fn gridded(spec: DexelStockSpec, units: u64) -> Gridded
     ensures { λ r. ⌜ FactsOf spec r ⌝ }
 {
     if units == 0 {
-        return grid::grid(spec, &[b'm', b'm']);
+        return gridding::grid(spec, &[b'm', b'm']);
     }
     if units == 1 {
-        return grid::grid(spec, &[b'm']);
+        return gridding::grid(spec, &[b'm']);
     }
     if units == 2 {
-        return grid::grid(spec, &[b'm', b'm', b'm']);
+        return gridding::grid(spec, &[b'm', b'm', b'm']);
     }
     if units == 3 {
-        return grid::grid(spec, &[b'c', b'm']);
+        return gridding::grid(spec, &[b'c', b'm']);
     }
-    grid::grid(spec, &[b'm', b'n'])
+    gridding::grid(spec, &[b'm', b'n'])
 }
 
 // The answers about an accepted grid.

@@ -16,7 +16,8 @@ use Rattle.doubles.proofs.Bools.{or-cases, and-left, and-right, clash, not-true
 use Rattle.spans.specs.Spans.{holds, sound, ListOf}
 use Rattle.spans.proofs.Pieces.{by-ends, of-list, in-left, in-right, both-of}
 use Rattle.grid.specs.Axes.{byDigit}
-use Rattle.grid.specs.Grid.{gridOf, isMm, misdescribed, allWithin, within, anyBelow, gridOver, anyAbove, cellsOf, tooFine, leastStep, magnitudeOf}
+use Rattle.grid.specs.Grid.{allWithin, within}
+use Rattle.gridding.specs.Grid.{gridOf, isMm, misdescribed, anyBelow, gridOver, anyAbove, cellsOf, tooFine, leastStep, magnitudeOf}
 use Rattle.grid.specs.Rays.{rayCount, raysAlong, offset, rayAxis, boundsOf}
 use Rattle.grid.specs.declared.DexelStockSpec.{DexelStockSpec}
 use Rattle.grid.specs.declared.DexelGrid.{DexelGrid}

@@ -8,13 +8,13 @@ use lib.Ieee.{Float}
 use Rattle.refusal.specs.Refusal.{Cause, Due, NoneDue}
 use Rattle.doubles.proofs.Bools.{not-true, clash}
 use Rattle.grid.specs.Axes.{worldAxis}
-use Rattle.grid.specs.Grid.{gridOf}
+use Rattle.gridding.specs.Grid.{gridOf}
 use Rattle.grid.specs.Rays.{rayCount}
-use Rattle.grid.specs.Causes.{gridCauses, gridIn, ByCauses}
+use Rattle.gridding.specs.Causes.{gridCauses, gridIn, ByCauses}
 use Rattle.grid.specs.declared.DexelStockSpec.{DexelStockSpec}
 use Rattle.grid.specs.declared.DexelGrid.{DexelGrid}
 use Rattle.grid.specs.declared.Gridded.the-variants.{Accepted as Griddable, Refused as NoGrid}
-use Rattle.grid.proofs.Causes.{grid-by-causes}
+use Rattle.gridding.proofs.Causes.{grid-by-causes}
 use Rattle.store.specs.Updates.{Cells, cells}
 use Rattle.stock.specs.Stock.{SoundCells, Tells, short}
 use Rattle.stock.specs.Uncut.{uncutSpans, uncutLinks, uncutHeads, uncutTally, roomCauses, fillCauses, Fills}

@@ -21,7 +21,7 @@ use Rattle.doubles.proofs.Order.{lt-number, le-refl, lt→le}
 use Rattle.spans.specs.Spans.{rising, sound}
 use Rattle.grid.specs.Axes.{alongOf}
 use Rattle.grid.specs.Rays.{rayCount, rayAxis, boundsOf}
-use Rattle.grid.specs.Causes.{GridFacts}
+use Rattle.gridding.specs.Causes.{GridFacts}
 use Rattle.grid.specs.declared.DexelStockSpec.{DexelStockSpec}
 use Rattle.grid.specs.declared.DexelGrid.{DexelGrid}
 use Rattle.store.specs.Store.{plusZero, loAt, hiAt, nextAt, ownerAt, usedAt, Chain, ends, more, placesOf, chained, endsAt, Sound}

@@ -8,7 +8,7 @@ use lib.Ieee.{Float}
 use lib.ListN.{set}
 use Rattle.refusal.specs.Refusal.{Cause, cause, Due, NoneDue}
 use Rattle.grid.specs.Rays.{rayCount, boundsOf}
-use Rattle.grid.specs.Causes.{gridCauses, gridIn}
+use Rattle.gridding.specs.Causes.{gridCauses, gridIn}
 use Rattle.grid.specs.declared.DexelStockSpec.{DexelStockSpec}
 use Rattle.grid.specs.declared.DexelGrid.{DexelGrid}
 use Rattle.store.specs.Store.{plusZero, putSpan, putLink}

@@ -7,9 +7,10 @@ use lib.Ieee.{Float, binary64, ofBits, inf, add, sub, mul}
 use Rattle.doubles.specs.Doubles.{largerOf, smallerOf}
 use Rattle.refusal.specs.Refusal.{Cause, cause, Due, NoneDue}
 use Rattle.grid.specs.Axes.{worldAxis, stepAlong, crossOf}
-use Rattle.grid.specs.Grid.{one, extentsOf}
+use Rattle.grid.specs.Grid.{one}
+use Rattle.gridding.specs.Grid.{extentsOf}
 use Rattle.grid.specs.Rays.{raysAlong, offset}
-use Rattle.grid.specs.Causes.{gridCauses, gridIn}
+use Rattle.gridding.specs.Causes.{gridCauses, gridIn}
 use Rattle.grid.specs.declared.WorldAxis.{WorldAxis}
 use Rattle.grid.specs.declared.DexelStockSpec.{DexelStockSpec}
 use Rattle.grid.specs.declared.DexelGrid.{DexelGrid}

@@ -3,7 +3,7 @@ ghost use mathlib.Core.Path.{_≡_};
 ghost use Prim.Native.Nat.{_+_, _*_, _<_, _≤_};
 ghost use lib.ListN.{length};
 ghost use Rattle.grid.specs.Rays.{rayCount};
-ghost use Rattle.grid.specs.Causes.{GridFacts, gridIn};
+ghost use Rattle.gridding.specs.Causes.{GridFacts, gridIn};
 ghost use Rattle.store.specs.Store.{putSpan, putLink};
 ghost use Rattle.store.specs.Updates.{cells, Room};
 ghost use Rattle.stock.specs.Stock.{Tells, ValidAt, ValidTo, Chained, SoundCells, short};
@@ -234,7 +234,7 @@ pub fn fill(
     ensures { λ r. ⌜ Fills (fillCauses spec (now (units .entry)) (cells (now (spans .entry)) (now (links .entry)) (now (heads .entry)))) spec (gridIn spec)
         (cells (now (spans .entry)) (now (links .entry)) (now (heads .entry))) (cells (now (spans .exit)) (now (links .exit)) (now (heads .exit))) r ⌝ }
 {
-    match grid::grid(spec, units) {
+    match gridding::grid(spec, units) {
         Gridded::Accepted(g) => fill_grid(spec, g, spans, links, heads),
         Gridded::Refused(k) => Filled::Refused(k),
     }
@@ -390,7 +390,7 @@ pub fn volume(
     ensures { λ r. ⌜ Measures (volumeCauses spec (now (units .entry)) (cells (now (spans .entry)) (now (links .entry)) (now (heads .entry))) intervals)
         (volumeOf spec (gridIn spec) (cells (now (spans .entry)) (now (links .entry)) (now (heads .entry)))) r ⌝ }
 {
-    match grid::grid(spec, units) {
+    match gridding::grid(spec, units) {
         Gridded::Accepted(g) => measure(spec, g, spans, links, heads, intervals),
         Gridded::Refused(k) => Measured::Refused(k),
     }

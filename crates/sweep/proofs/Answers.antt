@@ -12,8 +12,8 @@ use lib.Seq.{length-take-le}
 use Rattle.doubles.proofs.Bools.{clash, not-true}
 use Rattle.refusal.specs.Refusal.{Cause, cause, Due, NoneDue}
 use Rattle.refusal.proofs.Laws.{first, later}
-use Rattle.grid.specs.Grid.{gridOf}
-use Rattle.grid.specs.Causes.{gridCauses, gridIn, GridFacts}
+use Rattle.gridding.specs.Grid.{gridOf}
+use Rattle.gridding.specs.Causes.{gridCauses, gridIn, GridFacts}
 use Rattle.grid.specs.declared.DexelStockSpec.{DexelStockSpec}
 use Rattle.grid.specs.declared.DexelGrid.{DexelGrid}
 use Rattle.grid.specs.declared.Gridded.the-variants.{Accepted as Griddable, Refused as NoGrid}

@@ -8,10 +8,11 @@ use lib.Ieee.{ofBits, ofInt, toUnsigned, neg, add, sub, mul, div, lt, le, eq, is
 use Rattle.doubles.specs.Doubles.{ratio, largerOf, smallerOf, absOf, clampOf, floorOf, ceilOf}
 use Rattle.doubles.specs.Root.{squareRoot}
 use Rattle.grid.specs.Axes.{byDigit}
-use Rattle.grid.specs.Grid.{within, allWithin, anyBelow, anyAbove, isMm, misdescribed, cellsOf, magnitudeOf, leastStep, tooFine, gridOver, gridOf}
-use Rattle.grid.specs.Causes.{mm, gridIn, gridCauses}
+use Rattle.grid.specs.Grid.{within, allWithin}
+use Rattle.gridding.specs.Grid.{anyBelow, anyAbove, isMm, misdescribed, cellsOf, magnitudeOf, leastStep, tooFine, gridOver, gridOf}
+use Rattle.gridding.specs.Causes.{mm, gridIn, gridCauses}
 use Rattle.grid.specs.declared.Gridded.the-variants.{Accepted as Griddable}
-use Rattle.grid.proofs.Facts.{grid-facts}
+use Rattle.gridding.proofs.Facts.{grid-facts}
 use Rattle.refusal.specs.Refusal.{NoneDue}
 use Rattle.doubles.proofs.Bools.{clash}
 use Rattle.grid.specs.Rays.{rayCount, raysAlong, offset, rayAxis, boundsOf, cellAt}

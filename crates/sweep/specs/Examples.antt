@@ -7,13 +7,13 @@ use Prim.Native.Nat.{ℕ}
 use lib.Ieee.{Float, neg}
 use lib.ListN.{replicate}
 use Rattle.doubles.specs.Doubles.{ratio}
-use Rattle.grid.specs.Examples.{cube, ten}
+use Rattle.gridding.specs.Examples.{cube, ten}
 use Rattle.frame.specs.declared.Axis.the-variants.{PosZ}
 use Rattle.cutter.specs.declared.CutterShape.the-variants.{Flat}
 use Rattle.cutter.specs.declared.PreparedCutter.{PreparedCutter}
 use Rattle.spans.specs.Results.{plusZero}
 use Rattle.grid.specs.declared.DexelStockSpec.{DexelStockSpec}
-use Rattle.grid.specs.Causes.{gridIn}
+use Rattle.gridding.specs.Causes.{gridIn}
 use Rattle.store.specs.Updates.{Cells, cells}
 use Rattle.stock.specs.Uncut.{uncut}
 use Rattle.visits.specs.Walk.{Walked, Done, Stop}

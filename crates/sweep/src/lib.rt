@@ -3,7 +3,7 @@ ghost use mathlib.Core.Path.{_≡_};
 ghost use Prim.Native.Nat.{_+_, _*_, _<_, _≤_, _^_};
 ghost use lib.ListN.{length};
 ghost use Rattle.grid.specs.Rays.{rayCount};
-ghost use Rattle.grid.specs.Causes.{GridFacts};
+ghost use Rattle.gridding.specs.Causes.{GridFacts};
 ghost use Rattle.store.specs.Updates.{cells};
 ghost use Rattle.visits.specs.Walk.{Walks};
 ghost use Rattle.sweep.specs.Entries.{trackOf, setting, axisEntries, firstAxis, secondAxis, chordEntries, sweepEntries, Sweepable};
@@ -313,7 +313,7 @@ pub fn sweep(
     ensures { λ r. ⌜ Sweeps (sweepCauses (now (units .entry)) (settingOf spec axis shape cutter guard (cells (now (spans .entry)) (now (links .entry)) (now (heads .entry)))) intervals (now (chords .entry)) budget (length (now (log .entry))))
         (settingOf spec axis shape cutter guard (cells (now (spans .entry)) (now (links .entry)) (now (heads .entry)))) (now (chords .entry)) (now (log .entry)) (now (log .exit)) r ⌝ }
 {
-    match grid::grid(spec, units) {
+    match gridding::grid(spec, units) {
         Gridded::Refused(n) => {
             return Swept::Refused(n);
         }

@@ -7,7 +7,7 @@ use native.Mathlib.Omega.{arith}
 use Prim.Native.Nat.{ℕ, zero, suc, _<_}
 use lib.Ieee.{Float}
 use Rattle.comparing.specs.Verdicts.{compareCauses}
-use Rattle.grid.specs.Causes.{gridCauses}
+use Rattle.gridding.specs.Causes.{gridCauses}
 use Rattle.grid.specs.declared.DexelStockSpec.{DexelStockSpec}
 use Rattle.refusal.specs.Refusal.{Cause, Due}
 use Rattle.spans.specs.Results.{listCauses}

@@ -1,7 +1,7 @@
 // The grid of a blank and its stock. A store is three slices: the ends of the records, their links, and the heads.
 ghost use mathlib.Core.Path.{_≡_};
-ghost use Rattle.grid.specs.Grid.{gridOf};
-ghost use Rattle.grid.specs.Causes.{gridIn};
+ghost use Rattle.gridding.specs.Grid.{gridOf};
+ghost use Rattle.gridding.specs.Causes.{gridIn};
 ghost use Rattle.grid.specs.declared.Gridded.{Gridded};
 ghost use Rattle.store.specs.Updates.{cells};
 ghost use Rattle.stock.specs.Uncut.{Fills, fillCauses};
@@ -31,7 +31,7 @@ fn hand_grid(g: Gridded, counts: &mut [u64; 3], steps: &mut [f64; 3]) -> u32
     }
 }
 
-// `grid::grid`; `counts` and `steps` become the cells along x, y and z and their widths.
+// `gridding::grid`; `counts` and `steps` become the cells along x, y and z and their widths.
 #[no_mangle]
 pub extern "C" fn tridexel_grid(
     spec: DexelStockSpec,
@@ -42,7 +42,7 @@ pub extern "C" fn tridexel_grid(
     ensures { λ r. ⌜ AnsweredBy gridNumbers Gridded.Refused (λ g. g ≡ gridOf spec (now (units .entry))) r
         (gridCells (now (counts .entry)) (now (steps .entry))) (gridCells (now (counts .exit)) (now (steps .exit))) ⌝ }
 {
-    let g = grid::grid(spec, units);
+    let g = gridding::grid(spec, units);
     hand_grid(g, counts, steps)
 }
 

@@ -1,6 +1,6 @@
 use Rattle.across.specs.Lane.{cellsMet}
 use borrow.Author.Needs.{needs}
-use Rattle.grid.proofs.Facts.{cells-positive}
+use Rattle.gridding.proofs.Facts.{cells-positive}
 use Rattle.across.proofs.cells_met.Statement.{statement}
 use Rattle.across.proofs.cells_met.Tie as tie
 use Rattle.across.proofs.cells_met.Reads as reads

@@ -1,6 +1,6 @@
 use borrow.Author.Needs.{needs}
 use mathlib.Core.Path.{sym, _∙_}
-use Rattle.grid.proofs.Facts.{grid-facts}
+use Rattle.gridding.proofs.Facts.{grid-facts}
 use Rattle.stock.specs.Outcomes.{stock}
 use Rattle.change_commit.proofs.Answers.{grid-accepted, grid-refused}
 use Rattle.change_commit.proofs.commit_changes_on.Statement.{statement}

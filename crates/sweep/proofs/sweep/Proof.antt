@@ -5,7 +5,7 @@ use Rattle.store.specs.Updates.{cells}
 use Rattle.frame.specs.Frame.{frameOf}
 use Rattle.across.specs.Lane.{profileOf}
 use Rattle.across.specs.declared.Kernel.{Kernel}
-use Rattle.grid.proofs.Facts.{grid-facts}
+use Rattle.gridding.proofs.Facts.{grid-facts}
 use Rattle.sweep.proofs.Answers.{sweep-refused, sweep-accepted, same-tool}
 use Rattle.sweep.proofs.sweep.Statement.{statement}
 use Rattle.sweep.proofs.sweep.Tie as tie

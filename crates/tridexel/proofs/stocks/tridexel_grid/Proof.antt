@@ -1,7 +1,7 @@
 -- `tridexel::stocks::tridexel_grid` meets its contract.
 use mathlib.Core.Path.{sym, subst}
-use Rattle.grid.specs.Causes.{ByCauses}
-use Rattle.grid.proofs.Causes.{grid-by-causes}
+use Rattle.gridding.specs.Causes.{ByCauses}
+use Rattle.gridding.proofs.Causes.{grid-by-causes}
 use Rattle.tridexel.proofs.Handing.{answered, grid-above}
 use borrow.Author.Needs.{needs}
 use Rattle.tridexel.proofs.stocks.tridexel_grid.Statement.{statement}
