@@ -1,7 +1,10 @@
 //! The port's times beside the Rust's, from one run. Each module has one file here and a line in `modules`.
 //! `bench [NAME]`: all rows, or those whose text has NAME in it.
 mod doubles;
+mod geometry;
+mod merge;
 mod spans;
+mod stock;
 mod timing;
 
 use timing::Table;
@@ -10,6 +13,9 @@ fn modules() -> Vec<fn(&mut Table)> {
     vec![
         doubles::rows, //
         spans::rows,
+        geometry::rows,
+        merge::rows,
+        stock::rows,
     ]
 }
 

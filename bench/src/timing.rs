@@ -1,5 +1,5 @@
 //! How a row is timed: both sides in turn, so that a change in the machine's speed meets both; the best of the repetitions counts.
-use std::{hint::black_box, time::Instant};
+use std::{cell::RefCell, hint::black_box, time::Instant};
 
 const REPETITIONS: usize = 25;
 /// Seconds per row after which no further repetition starts.
@@ -9,6 +9,8 @@ const STRETCH: f64 = 0.004;
 
 pub struct Table {
     only: Option<String>,
+    /// the heading of the rows to come, until one of them is printed
+    heading: RefCell<Option<String>>,
 }
 
 /// How many calls take a repetition's time, and the seconds of one call.
@@ -35,17 +37,20 @@ impl Table {
     pub fn new(only: Option<String>) -> Self {
         println!("Best of up to {REPETITIONS} repetitions, both sides in turn, one thread, both built for release.");
         println!("A ratio below 1: the port is faster.");
-        Self { only }
+        Self { only, heading: RefCell::new(None) }
     }
 
     pub fn heading(&self, text: &str) {
-        println!("\n{text}\n{:<40} {:>12} {:>12} {:>8}", "", "port ns", "Rust ns", "ratio");
+        self.heading.replace(Some(text.into()));
     }
 
     /// Times a call of the port and the same call of the Rust, each doing its work `per` times.
     pub fn row<A, B>(&self, what: &str, per: usize, mut port: impl FnMut() -> A, mut rust: impl FnMut() -> B) {
         if self.only.as_ref().is_some_and(|only| !what.contains(only.as_str())) {
             return;
+        }
+        if let Some(text) = self.heading.take() {
+            println!("\n{text}\n{:<40} {:>12} {:>12} {:>8}", "", "port ns", "Rust ns", "ratio");
         }
         let start = Instant::now();
         let (p, r) = (calls(&mut port), calls(&mut rust));

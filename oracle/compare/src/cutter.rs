@@ -42,7 +42,7 @@ unsafe extern "C" {
 }
 
 const SHAPES: u64 = 9;
-const BEAM: u64 = 5;
+pub const BEAM: u64 = 5;
 const DOVETAIL: u64 = 8;
 
 /// A shape by its number and its own numbers, the cutter's numbers, and one or two heights.
@@ -106,7 +106,7 @@ fn shape(t: &Tool) -> CutterShape {
     }
 }
 
-fn assembly(t: &Tool) -> PreparedAssembly {
+pub fn assembly(t: &Tool) -> PreparedAssembly {
     prepared(&Given {
         shape: shape(t),
         diameter: t.c.diameter_mm,

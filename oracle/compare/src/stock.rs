@@ -2,7 +2,7 @@
 use crate::{
     explained::Explained,
     function::{Function, Outcome, Words},
-    grid::{DexelStockSpec, described},
+    grid::{DexelGrid, DexelStockSpec, described},
 };
 use harness::{
     generate::Gen,
@@ -14,7 +14,7 @@ use harness::{
 use oracle::dexel::{DexelVolume, opened as rust};
 
 mod raw {
-    use super::DexelStockSpec;
+    use super::{DexelGrid, DexelStockSpec};
     unsafe extern "C" {
         pub fn tridexel_fill(
             spec: DexelStockSpec,
@@ -42,6 +42,37 @@ mod raw {
             intervals: u64,
             volume: *mut [f64; 10],
         ) -> u32;
+        pub fn tridexel_inner_check_stock(
+            spec: DexelStockSpec,
+            g: DexelGrid,
+            spans: *const f64,
+            spans_len: usize,
+            links: *const u64,
+            links_len: usize,
+            heads: *const u64,
+            heads_len: usize,
+            intervals: u64,
+        ) -> bool;
+    }
+}
+
+/// The check asks for whole records and heads, which `volume` sees to.
+pub fn check_stock(spec: DexelStockSpec, g: DexelGrid, (spans, links, heads): (&[f64], &[u64], &[u64]), intervals: u64) -> bool {
+    let records = spans.len().min(links.len()) as u64 / 2;
+    let rays = g.c0 * g.c1 + g.c1 * g.c2 + g.c2 * g.c0;
+    assert!(records >= spec.max_intervals && heads.len() as u64 >= 2 * rays);
+    unsafe {
+        raw::tridexel_inner_check_stock(
+            spec,
+            g,
+            spans.as_ptr(),
+            spans.len(),
+            links.as_ptr(),
+            links.len(),
+            heads.as_ptr(),
+            heads.len(),
+            intervals,
+        )
     }
 }
 

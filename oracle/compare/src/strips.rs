@@ -58,7 +58,7 @@ fn numbers(s: StripNumbers) -> Answer {
     (s.hit, [s.lo, s.hi])
 }
 
-fn at(x: &[f64], i: usize) -> Point {
+pub fn at(x: &[f64], i: usize) -> Point {
     Point { x: x[i], y: x[i + 1] }
 }
 

@@ -356,3 +356,52 @@ pub fn run(g: &mut Gen) -> Run {
     let over = std::array::from_fn(|_| g.below(4) as usize);
     Run { spec, start, over, commits }
 }
+
+/// On the three rays of a one-cell box 0 to 10 with these interval budgets: logs that reach the budget exactly, exceed it by one, fill the pool, free all
+/// lists, or find room only where all lists are freed before the first is laid; each also as the change list that it amounts to.
+pub fn edges() -> Vec<Run> {
+    let all = [0., 10.];
+    let entry = |axis: f64, outer: Pair, inner: Pair| vec![axis, 0., outer[0], outer[1], inner[0], inner[1]];
+    let none = [0., 0.];
+    let split = entry(0., [1., 2.], none);
+    let runs: [(usize, Vec<Vec<f64>>); 6] = [
+        (7, vec![split.clone()]),
+        (7, vec![entry(0., [1., 2.], [1., 2.])]),
+        (8, vec![entry(0., [1., 2.], [1., 2.])]),
+        (6, vec![[entry(0., all, all), entry(1., all, all), entry(2., all, all)].concat()]),
+        (7, vec![split, [entry(0., [4., 5.], [4., 5.]), entry(1., all, all)].concat()]),
+        (6, vec![vec![], entry(2., [11., 12.], none)]),
+    ];
+    runs.into_iter().flat_map(|(max_intervals, logs)| both(max_intervals, logs)).collect()
+}
+
+/// The run of these logs, and the run of the change lists that the Rust makes of them.
+fn both(max_intervals: usize, logs: Vec<Vec<f64>>) -> [Run; 2] {
+    let spec = rust::spec([0.; 3], [10.; 3], 10., 3, max_intervals);
+    let start = Store::fill(&spec);
+    let mut state = State::of(&spec, start.clone());
+    let (mut as_logs, mut as_changes) = (vec![], vec![]);
+    for log in logs {
+        let entries: Vec<_> = log.as_chunks::<6>().0.iter().map(|e| entry(&state.stock, e).unwrap()).collect();
+        let changes = sweep::merge(&state.stock, sweep::group(&entries), 3).unwrap();
+        as_changes.push(listed(state.store.generation, &changes));
+        let work = 2 * work_pairs(&spec, &log);
+        as_logs.push(Commit::Log { log, allowance: 3, work });
+        state = state.due(as_logs.last().unwrap()).next;
+    }
+    [as_logs, as_changes].map(|commits| Run { spec: spec.clone(), start: start.clone(), over: [1, 1, 1], commits })
+}
+
+/// The change list as a caller lends it.
+fn listed(base: u64, changes: &[RayChange]) -> Commit {
+    let lists = |c: &RayChange| {
+        [&c.before.possible, &c.before.certain, &c.after.possible, &c.after.certain].map(|l| l.as_slice().to_vec())
+    };
+    let numbers =
+        |c: &RayChange| [c.axis as u64, c.index as u64].into_iter().chain(lists(c).map(|l| l.len() as u64)).collect::<Vec<_>>();
+    Commit::Changes {
+        base,
+        changes: changes.iter().flat_map(numbers).collect(),
+        pairs: changes.iter().flat_map(|c| lists(c).into_iter().flatten().flatten()).collect(),
+    }
+}

@@ -1,6 +1,6 @@
 //! Runs of commits against a stand-in for the port, which works on the lent cells, and the same with a fault put in: each fault is found.
 use harness::{
-    commits::{Commit, Entries, State, Tally, run},
+    commits::{Commit, Entries, State, Tally, edges, run},
     generate::Gen,
     store::{LentStore, Match},
 };
@@ -124,5 +124,21 @@ fn faults() {
     for fault in [DirtyRecord, Owner, Total, Generation, Changed, RefusedWrites, WorkLeft, Order] {
         let found = (0..RUNS).filter(|case| run(&mut Gen::new(1, "commits", *case)).play(&StandIn(fault)).is_err()).count();
         assert!(found > 0, "not found: {fault:?}");
+    }
+}
+
+/// What document 01 says of the fixed runs: the last commit's number and the intervals after it.
+#[test]
+fn fixed() {
+    let due = [(0, 7), (10, 6), (0, 8), (0, 0), (0, 7), (0, 6)];
+    for (k, r) in edges().iter().enumerate() {
+        assert_eq!(r.play(&StandIn(Fault::None)), Ok(Match::Same));
+        let mut state = State::of(&r.spec, r.start.clone());
+        let mut last = 0;
+        for c in &r.commits {
+            let due = state.due(c);
+            (last, state) = (due.refused, due.next);
+        }
+        assert_eq!((last, state.store.intervals), due[k / 2], "run {k}");
     }
 }

@@ -42,6 +42,23 @@ pub fn cut_min(tool: &PreparedAssembly, h0: f64, h1: f64) -> Option<f64> {
     Profile::new(tool).unwrap().cut_min(h0, h1)
 }
 
+/// A cutter's profile, made once for many heights.
+pub struct Heights<'a>(Profile<'a>);
+
+impl<'a> Heights<'a> {
+    pub fn new(tool: &'a PreparedAssembly) -> Self {
+        Heights(Profile::new(tool).unwrap())
+    }
+
+    pub fn cut_max(&self, h0: f64, h1: f64) -> Option<f64> {
+        self.0.cut_max(h0, h1)
+    }
+
+    pub fn cut_min(&self, h0: f64, h1: f64) -> Option<f64> {
+        self.0.cut_min(h0, h1)
+    }
+}
+
 pub fn refuses(tool: &PreparedAssembly) -> bool {
     Profile::new(tool).is_err()
 }
