@@ -1,5 +1,5 @@
 -- The entries of a ray in a log that ascends, and the count of a ray over them.
-use mathlib.Core.Path.{_≡_, refl, sym, ap, ap₂, _∙_, subst}
+use mathlib.Core.Path.{_≡_, sym, ap, ap₂, _∙_, subst}
 use mathlib.Core.Bool.{Bool, true, false, not, _||_, true≢false, false≢true}
 use mathlib.Core.List.{List, _++_}
 use Prim.Native.Nat.{ℕ, zero, suc, _+_, _-_, _^_, _≤_, _<_}
@@ -133,13 +133,9 @@ like-more log i end j f e k a b = elim (decLt k j) [ yes m ↦ f k a m | no m �
 -- ---- a ray over its run
 
 module _ (spec : DexelStockSpec) (g : DexelGrid) (c : Cells) (log : List Float) (ray first end : ℕ) (run : RunOf g log ray first end) where
-  pub changes-first : hitBy (possibleIn spec c ray) (takenFrom log first (end - first) false) ≡ true → true ≡ changesOf spec g c log ray
+  pub changes-by : (hitBy (possibleIn spec c ray) (takenFrom log first (end - first) false) || hitBy (certainIn spec c ray) (takenFrom log first (end - first) true)) ≡ changesOf spec g c log ray
   unfolding changesOf takenFrom
-  changes-first h = sym (ap₂ _||_ (ap (hitBy (possibleIn spec c ray)) (sym (run .inners)) ∙ h) refl)
-
-  pub changes-second : hitBy (possibleIn spec c ray) (takenFrom log first (end - first) false) ≡ false → hitBy (certainIn spec c ray) (takenFrom log first (end - first) true) ≡ changesOf spec g c log ray
-  unfolding changesOf takenFrom
-  changes-second h = sym (ap₂ _||_ (ap (hitBy (possibleIn spec c ray)) (sym (run .inners)) ∙ h) (ap₂ (λ (o i : List Float). hitBy (certainIn spec c ray) (o ++ i)) (sym (run .outers)) (sym (run .inners))))
+  changes-by = ap₂ (λ (o i : List Float). hitBy (possibleIn spec c ray) i || hitBy (certainIn spec c ray) (o ++ i)) (run .outers) (run .inners)
 
   pub left-by : startsLeft (possibleIn spec c ray) (takenFrom log first (end - first) false) + startsLeft (certainIn spec c ray) (takenFrom log first (end - first) true) ≡ leftOf spec g c log ray
   unfolding leftOf takenFrom

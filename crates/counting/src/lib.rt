@@ -1,6 +1,6 @@
 // Whether a log commit keeps its two budgets, found out before anything is written: the rays that would change, and the pairs that all lists would have.
 ghost use mathlib.Core.Path.{_≡_};
-ghost use mathlib.Core.Bool.{true};
+ghost use mathlib.Core.Bool.{true, _||_};
 ghost use Prim.Native.Nat.{_+_, _-_, _*_, _^_, _≤_, _<_};
 ghost use lib.ListN.{length};
 ghost use Rattle.grid.specs.Rays.{rayCount};
@@ -11,7 +11,7 @@ ghost use Rattle.runs.specs.Logs.{entries, entryAt, entryCount, rayOf};
 ghost use Rattle.runs.specs.Counts.{raysChanged, pairsLeft};
 ghost use Rattle.logs.specs.Named.{EachNamed};
 ghost use Rattle.counting.specs.Answer.{listsIn, budgetOf, Countable, Counting};
-ghost use Rattle.counting.specs.Totals.{pairsOf, leftOf, changesOf, RunOf, Counts, Ascending, FirstOf, EndOf, Totalled};
+ghost use Rattle.counting.specs.Totals.{pairsOf, RunOf, Counts, Ascending, FirstOf, EndOf, Totalled};
 use grid::DexelGrid;
 use grid::DexelStockSpec;
 
@@ -113,28 +113,6 @@ fn end_of_like(log: &[f64], i: usize) -> usize
     end
 }
 
-// Whether a ray would change.
-fn ray_changes(
-    spec: DexelStockSpec,
-    g: DexelGrid,
-    spans: &[f64],
-    links: &[u64],
-    heads: &[u64],
-    log: &[f64],
-    ray: usize,
-    first: usize,
-    end: usize,
-) -> bool
-    requires { ⌜ Counting spec g (cells (now spans) (now links) (now heads)) (now log) × (ray < rayCount g) × RunOf g (now log) ray first end ⌝ }
-    ensures { λ r. ⌜ r ≡ changesOf spec g (cells (now (spans .entry)) (now (links .entry)) (now (heads .entry))) (now (log .entry)) ray ⌝ }
-{
-    let n = spec.max_intervals as usize;
-    if starts::list_changes(spans, links, n, heads[2 * ray], log, first, end, false) {
-        return true;
-    }
-    starts::list_changes(spans, links, n, heads[2 * ray + 1], log, first, end, true)
-}
-
 // How many pairs a ray's lists have.
 fn ray_pairs(
     spec: DexelStockSpec,
@@ -154,25 +132,14 @@ fn ray_pairs(
     possible + certain
 }
 
-// How many pairs a ray's lists would have.
-fn ray_left(
-    spec: DexelStockSpec,
-    g: DexelGrid,
-    spans: &[f64],
-    links: &[u64],
-    heads: &[u64],
-    log: &[f64],
-    ray: usize,
-    first: usize,
-    end: usize,
-) -> usize
-    requires { ⌜ Counting spec g (cells (now spans) (now links) (now heads)) (now log) × (ray < rayCount g) × RunOf g (now log) ray first end ⌝ }
-    ensures { λ r. ⌜ r ≡ leftOf spec g (cells (now (spans .entry)) (now (links .entry)) (now (heads .entry))) (now (log .entry)) ray ⌝ }
+// Whether one of two is so.
+fn either(a: bool, b: bool) -> bool
+    ensures { λ r. ⌜ r ≡ (a || b) ⌝ }
 {
-    let n = spec.max_intervals as usize;
-    let possible = starts::starts_left(spans, links, n, heads[2 * ray], log, first, end, false);
-    let certain = starts::starts_left(spans, links, n, heads[2 * ray + 1], log, first, end, true);
-    possible + certain
+    if a {
+        return true;
+    }
+    b
 }
 
 // The count of one ray.
@@ -190,10 +157,24 @@ fn count_ray(
     requires { ⌜ Counting spec g (cells (now spans) (now links) (now heads)) (now log) × (ray < rayCount g) × RunOf g (now log) ray first end ⌝ }
     ensures { λ r. ⌜ Counts spec g (cells (now (spans .entry)) (now (links .entry)) (now (heads .entry))) (now (log .entry)) ray r ⌝ }
 {
+    let n = spec.max_intervals as usize;
+    let before = ray_pairs(spec, g, spans, links, heads, log, ray);
+    let parts = trial::try_ray(
+        spans,
+        links,
+        n,
+        heads[2 * ray],
+        heads[2 * ray + 1],
+        log,
+        first,
+        end,
+    );
+    let p = parts.possible;
+    let c = parts.certain;
     RayCount {
-        changes: ray_changes(spec, g, spans, links, heads, log, ray, first, end),
-        before: ray_pairs(spec, g, spans, links, heads, log, ray),
-        after: ray_left(spec, g, spans, links, heads, log, ray, first, end),
+        changes: either(p.moved, c.moved),
+        before,
+        after: p.pairs + c.pairs,
     }
 }
 
