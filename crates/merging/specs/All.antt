@@ -22,6 +22,7 @@ use Rattle.merging.specs.declared.Change.{Change}
 abbrev pub firstOf : Change → ℕ
 firstOf m = cond (m .changed) (m .possible + 1) 0
 
+-- what the ray adds to the number of those that change
 abbrev pub countOf : Change → ℕ
 countOf m = cond (m .changed) 1 0
 

@@ -45,7 +45,8 @@ fn is_changed(w: &[f64], at: usize, np: usize, nc: usize, no: usize, ni: usize) 
     merge::is_hit(w, c, nc, no, ni)
 }
 
-// Writes both lists of a ray less the hits to the start of w, possible's before certain's. A list that no hit touches is written as well.
+// Where the ray changes, writes both its lists less the hits to the start of w, possible's before certain's: the one that no hit touches as well,
+// since both are laid again.
 fn cut_ray(w: &mut [f64], at: usize, np: usize, nc: usize, no: usize, ni: usize) -> Change
     requires { ⌜ Ready at np nc no ni (now w) ⌝ }
     ensures { λ r. ⌜ RayCut (part at np (now (w .entry))) (part (at + np) nc (now (w .entry))) (holds (part (at + np + nc + no) ni (now (w .entry))))
@@ -171,7 +172,7 @@ fn put_sizes(work: &mut [f64], at: usize, m: Change)
     numbers::put_number(work, at + 1, second as u64);
 }
 
-// The number that a change adds to those counted.
+// What a ray adds to the number of those that change.
 fn count(m: Change) -> u64
     ensures { λ r. ⌜ r ≡ countOf m ⌝ }
 {
