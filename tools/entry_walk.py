@@ -15,7 +15,7 @@ type that stands in another crate than the entry.
 
 writes the proof again, from the root of the repository, when the entry's parameters or the record change.
 """
-import sys, json
+import re, sys, json
 
 def main(cfg, out):
     cr, entry, work = cfg['crate'], cfg['entry'], cfg['work']
@@ -360,8 +360,23 @@ meets 𝓤 H A W mem run 𝓣 known =
     entered 𝓤 H (tripleOf 𝓤 H (𝓖 .A) caller.signature (caller.spec 𝓤 H (𝓖 .A) (𝓜 .mem) (𝓡 .run)))
     (tables 𝓤 H 𝓜 𝓡 code.env .C) (tables 𝓤 H 𝓜 𝓡 code.env .Λ) #entry code.function (code.unfolded 𝓤 H 𝓜 𝓡)
     (meets 𝓤 H (𝓖 .A) (givenOf 𝓤 H 𝓜 𝓖) (𝓜 .mem) (𝓡 .run) (tablesOf 𝓤 H 𝓜 (tables 𝓤 H 𝓜 𝓡 code.env))
-    (cited 𝓤 H (Work 𝓤 H (𝓖 .A) (𝓜 .mem) (𝓡 .run)) 𝓜 𝓡 code.env #work work-def.routine code.calls-{cr}·{kw} (work-thm.met 𝓤 H 𝓜 𝓖 𝓡)))''')
-    open(out, 'w').write('\n'.join(o) + '\n')
+    (cited 𝓤 H (Work 𝓤 H (𝓖 .A) (𝓜 .mem) (𝓡 .run)) 𝓜 𝓡 code.env #work work-def.routine code.calls-{cr.replace('_', '-')}·{kw} (work-thm.met 𝓤 H 𝓜 𝓖 𝓡)))''')
+    open(out, 'w').write(used('\n'.join(o) + '\n'))
+
+def used(text):
+    """The text without the imported names that it does not use."""
+    lines = text.split('\n')
+    rest = '\n'.join(l for l in lines if not l.startswith('use '))
+    def has(name):
+        name = name.split(' as ')[-1]
+        return name.strip('_') in rest if name.startswith('_') else re.search(r'(?<![\w′·-])' + re.escape(name) + r'(?![\w′·-])', rest)
+    kept = []
+    for l in lines:
+        m = re.match(r'use (\S+)\.\{(.*)\}$', l)
+        names = [n for n in m.group(2).split(', ') if has(n)] if m else None
+        if names: kept.append('use %s.{%s}' % (m.group(1), ', '.join(names)))
+        elif not m: kept.append(l)
+    return '\n'.join(kept)
 
 if __name__ == '__main__':
     main(json.load(open(sys.argv[1])), sys.argv[2])
