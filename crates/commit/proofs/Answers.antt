@@ -8,8 +8,8 @@ use lib.ListN.{length}
 use lib.Ieee.{Float}
 use Rattle.spans.specs.Spans.{holds}
 use Rattle.grid.specs.Rays.{rayCount}
-use Rattle.grid.specs.Causes.{GridFacts}
-use Rattle.grid.specs.Grid.{gridOf}
+use Rattle.gridding.specs.Causes.{GridFacts}
+use Rattle.gridding.specs.Grid.{gridOf}
 use Rattle.grid.specs.declared.Gridded.{Gridded}
 use Rattle.grid.specs.declared.Gridded.the-variants.{Accepted as Griddable, Refused as NoGrid}
 use Rattle.grid.specs.declared.DexelStockSpec.{DexelStockSpec}

@@ -6,8 +6,8 @@ use lib.ListN.{length, replicate}
 use lib.Ieee.{Float}
 use Rattle.spans.specs.Results.{plusZero}
 use Rattle.grid.specs.Rays.{rayCount}
-use Rattle.grid.specs.Causes.{GridFacts}
-use Rattle.grid.specs.Grid.{gridOf}
+use Rattle.gridding.specs.Causes.{GridFacts}
+use Rattle.gridding.specs.Grid.{gridOf}
 use Rattle.grid.specs.declared.DexelStockSpec.{DexelStockSpec}
 use Rattle.grid.specs.declared.DexelGrid.{DexelGrid}
 use Rattle.grid.specs.declared.Gridded.{Gridded}

@@ -3,7 +3,7 @@ ghost use mathlib.Core.Path.{_≡_};
 ghost use Prim.Native.Nat.{_+_, _*_, _/_, _^_, _<_};
 ghost use lib.Dec.{ltb};
 ghost use lib.ListN.{length};
-ghost use Rattle.grid.specs.Causes.{GridFacts};
+ghost use Rattle.gridding.specs.Causes.{GridFacts};
 ghost use Rattle.store.specs.Updates.{cells};
 ghost use Rattle.stock.specs.Outcomes.{stock};
 ghost use Rattle.commit.specs.Commit.{workNeeded, Tested, Ready, Done, OnGrid, LogCommits};
@@ -151,7 +151,7 @@ pub fn commit_log_on(
     ensures { λ r. ⌜ LogCommits spec (now (units .entry)) (stock (now (spans .entry)) (now (links .entry)) (now (heads .entry)) generation intervals) (now (log .entry)) allowance
         (now (work .entry)) (r .answer) (stock (now (spans .exit)) (now (links .exit)) (now (heads .exit)) (r .generation) (r .intervals)) (now (work .exit)) ⌝ }
 {
-    match grid::grid(spec, units) {
+    match gridding::grid(spec, units) {
         Gridded::Accepted(g) => commit_grid(
             spec,
             g,

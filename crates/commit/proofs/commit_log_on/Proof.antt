@@ -1,7 +1,7 @@
 use borrow.Author.Needs.{needs}
 use native.Mathlib.Omega.{arith}
 use mathlib.Core.Path.{sym, _∙_}
-use Rattle.grid.proofs.Facts.{grid-facts}
+use Rattle.gridding.proofs.Facts.{grid-facts}
 use Rattle.commit.proofs.Answers.{on-grid, no-grid}
 use Rattle.commit.proofs.commit_log_on.Statement.{statement}
 use Rattle.commit.proofs.commit_log_on.Tie as tie
