@@ -1,7 +1,7 @@
 -- What the commit answers and leaves, by its causes.
 use mathlib.Core.Path.{_≡_, refl, sym, ap, _∙_, subst}
 use mathlib.Core.List.{List}
-use Prim.Native.Nat.{ℕ, _+_, _-_, _/_, _^_, _<_}
+use Prim.Native.Nat.{ℕ, _+_, _-_, _*_, _/_, _^_, _<_}
 use native.Mathlib.Omega.{arith}
 use lib.Ieee.{Float}
 use lib.ListN.{length}
@@ -12,13 +12,13 @@ use Rattle.grid.specs.declared.DexelStockSpec.{DexelStockSpec}
 use Rattle.grid.specs.declared.DexelGrid.{DexelGrid}
 use Rattle.grid.specs.declared.Gridded.the-variants.{Accepted as Griddable, Refused as NoGrid}
 use Rattle.store.specs.Updates.{Cells, applied}
-use Rattle.stock.specs.Stock.{Stock}
+use Rattle.stock.specs.Stock.{Stock, possibleIn, certainIn}
 use Rattle.stock.specs.declared.Committed.{Committed}
 use Rattle.stock.specs.declared.Committed.the-variants.{Changed, Refused}
 use Rattle.stock.proofs.Causes.{due-first, due-second, none-in-both}
 use Rattle.stock.proofs.Answers.{accepted, refused}
-use Rattle.changes.specs.Changes.{changesOf}
-use Rattle.changes.proofs.Applying.{changes-update, changes-sound}
+use Rattle.changes.specs.Changes.{changesOf, rayOf}
+use Rattle.changes.proofs.Applying.{changed-has, other-keeps, changes-update, changes-sound}
 use Rattle.change_commit.specs.Commit.{updatesIn, changed, changeCauses, commitCauses, Leaves, Commits}
 use Rattle.change_commit.specs.Passes.{Fitting, Judges}
 use Rattle.change_commit.specs.declared.Judged.{Judged}
@@ -50,7 +50,13 @@ module _ (spec : DexelStockSpec) (g : DexelGrid) (s : Stock) (changes : List ℕ
         record {
           is = refl;
           isSound = changes-sound spec g (s .cells) pairs (s .intervals) (f .isSound) (f .room) (changesOf changes pairs) (f .good) (f .budget);
-          lists = u .lists;
+          changed-rays = λ d m.
+              let h = changed-has spec g (s .cells) pairs (changesOf changes pairs) 0 (f .good) d m (possibleIn spec (s .cells) (rayOf g (d .axis) (d .index))) (certainIn spec (s .cells) (rayOf g (d .axis) (d .index))) in
+              let b = h .below in
+              (u .lists (2 * rayOf g (d .axis) (d .index)) (omega arith) ∙ h .possible, u .lists (2 * rayOf g (d .axis) (d .index) + 1) (omega arith) ∙ h .certain);
+          other-rays = λ ray l apart.
+              let h = other-keeps spec g (s .cells) pairs (changesOf changes pairs) ray apart (possibleIn spec (s .cells) ray) (certainIn spec (s .cells) ray) in
+              (u .lists (2 * ray) (omega arith) ∙ h .0, u .lists (2 * ray + 1) (omega arith) ∙ h .1);
           kept = u .kept;
         }
 

@@ -1,7 +1,7 @@
 -- The commit of a change list: its causes in document 01's order, and what it leaves.
 use mathlib.Core.Path.{_≡_}
 use mathlib.Core.Bool.{true}
-use mathlib.Core.List.{List, [], _∷_, _++_}
+use mathlib.Core.List.{List, [], _∷_, _++_, List·Memᴰ}
 use mathlib.Core.Logic.{_⊎_}
 use Prim.Native.Nat.{ℕ, _+_, _-_, _*_, _/_, _%_, _^_, _<_}
 use lib.Ieee.{Float}
@@ -11,11 +11,11 @@ use Rattle.gridding.specs.Causes.{gridCauses, gridIn}
 use Rattle.grid.specs.Rays.{rayCount}
 use Rattle.grid.specs.declared.DexelStockSpec.{DexelStockSpec}
 use Rattle.grid.specs.declared.DexelGrid.{DexelGrid}
-use Rattle.store.specs.Updates.{Update, pairsFreed, pairsLaid, listAfter, applied, held, Kept}
-use Rattle.stock.specs.Stock.{Stock, SoundStock, short}
+use Rattle.store.specs.Updates.{Update, pairsFreed, pairsLaid, applied, Kept}
+use Rattle.stock.specs.Stock.{Stock, SoundStock, possibleIn, certainIn, short}
 use Rattle.stock.specs.declared.Committed.{Committed}
 use Rattle.stock.specs.declared.Committed.the-variants.{Changed, Refused}
-use Rattle.changes.specs.Changes.{changesOf, AllGood, updatesOf}
+use Rattle.changes.specs.Changes.{Change, changesOf, rayOf, AllGood, updatesOf}
 
 -- what a lent change list does to the store
 abbrev pub updatesIn : DexelGrid → List ℕ → List Float → List Update
@@ -58,11 +58,14 @@ changed spec g s changes pairs =
       intervals = intervalsAfter spec g s changes pairs;
     }
 
--- what an accepted commit leaves: that stock, which is sound, has the changed lists and the others as they were, and keeps every cell past its records and heads
+-- what an accepted commit leaves: that stock, which is sound; a changed ray has the change's new lists, any other its own; the cells past the records and heads are kept
 pub record Leaves (spec : DexelStockSpec) (g : DexelGrid) (changes : List ℕ) (pairs : List Float) (before after : Stock) : Type 0 where
   pub is : after ≡ changed spec g before changes pairs
   pub isSound : SoundStock spec g after
-  pub lists : (j : ℕ) → j < 2 * rayCount g → held (spec .«max_intervals») (after .cells) j ≡ listAfter (updatesIn g changes pairs) j (held (spec .«max_intervals») (before .cells) j)
+  pub changed-rays : (d : Change) → List·Memᴰ d (changesOf changes pairs)
+      → (possibleIn spec (after .cells) (rayOf g (d .axis) (d .index)) ≡ d .possible-after) × (certainIn spec (after .cells) (rayOf g (d .axis) (d .index)) ≡ d .certain-after)
+  pub other-rays : (ray : ℕ) → ray < rayCount g → ((d : Change) → List·Memᴰ d (changesOf changes pairs) → ray ≡ rayOf g (d .axis) (d .index) → ⊥)
+      → (possibleIn spec (after .cells) ray ≡ possibleIn spec (before .cells) ray) × (certainIn spec (after .cells) ray ≡ certainIn spec (before .cells) ray)
   pub kept : Kept (spec .«max_intervals») (2 * rayCount g) (before .cells) (after .cells)
 
 -- a refused call gives the number that is due and leaves the stock as it was; an accepted one, with no cause, answers how many rays changed

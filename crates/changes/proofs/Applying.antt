@@ -1,6 +1,7 @@
 -- The law of a change list: what its updates leave of a sound stock.
-use mathlib.Core.Path.{_≡_, sym, ap, _∙_, subst}
-use mathlib.Core.List.{List, [], _∷_}
+use mathlib.Core.Path.{_≡_, refl, sym, ap, _∙_, subst}
+use mathlib.Core.List.{List, [], _∷_, List·Memᴰ, List·Memᴰ·head, List·Memᴰ·tail, List·Memᴰ·cases-cons, List·Memᴰ·not-nil}
+use mathlib.Core.Logic.{⊎-elim}
 use Prim.Native.Nat.{ℕ, suc, _+_, _-_, _*_, _≤_, _<_}
 use native.Mathlib.Decide.{ℕ-discrete}
 use native.Mathlib.Omega.{arith}
@@ -71,6 +72,66 @@ module _ (spec : DexelStockSpec) (g : DexelGrid) (c : Cells) (pairs : List Float
           ∙ after-other second (updatesOf g ds) (2 * ray + 1) q (λ (z : 2 * ray + 1 ≡ 2 * rayOf g (d .axis) (d .index) + 1). ne (omega arith)) in
           subst (λ (x : List Float). ValidRay (boundsOf spec g ray .lo) (boundsOf spec g ray .hi) (listAfter (updatesOf g (d ∷ ds)) (2 * ray) p) x) (sym qe)
           (subst (λ (x : List Float). ValidRay (boundsOf spec g ray .lo) (boundsOf spec g ray .hi) x (listAfter (updatesOf g ds) (2 * ray + 1) q)) (sym pe) rest)
+
+  -- what a good change does to its ray's lists, which were p and q before
+  pub record Has (ds : List Change) (from : ℕ) (d : Change) (p q : List Float) : Type 0 where
+    pub below : rayOf g (d .axis) (d .index) < rayCount g
+    pub after : from ≤ rayOf g (d .axis) (d .index)
+    pub possible : listAfter (updatesOf g ds) (2 * rayOf g (d .axis) (d .index)) p ≡ d .possible-after
+    pub certain : listAfter (updatesOf g ds) (2 * rayOf g (d .axis) (d .index) + 1) q ≡ d .certain-after
+
+  -- a changed ray has the change's new lists
+  pub changed-has : (ds : List Change) (from : ℕ) → AllGood spec g c pairs from ds → (d : Change) → List·Memᴰ d ds → (p q : List Float) → Has ds from d p q
+  unfolding AllGood updatesOf
+  changed-has [] from all d m p q = absurd (List·Memᴰ·not-nil m)
+  changed-has (e ∷ ds) from all d m p q = ⊎-elim
+      (λ (s : d ≡ e). subst (λ (x : Change). Has (e ∷ ds) from x p q) (sym s) here)
+      (λ (t : List·Memᴰ d ds). there (changed-has ds (suc (rayOf g (e .axis) (e .index))) (all .1) d t p q))
+      (List·Memᴰ·cases-cons m)
+    where
+      first : Update
+      first = update (2 * rayOf g (e .axis) (e .index)) (e .possible-after)
+
+      second : Update
+      second = update (2 * rayOf g (e .axis) (e .index) + 1) (e .certain-after)
+
+      here : Has (e ∷ ds) from e p q
+      here = record {
+        below = ray-below from e (all .0);
+        after = all .0 .names .ascends;
+        possible = after-here first (second ∷ updatesOf g ds) (2 * rayOf g (e .axis) (e .index)) p refl;
+        certain = after-other first (second ∷ updatesOf g ds) (2 * rayOf g (e .axis) (e .index) + 1) q (λ (z : 2 * rayOf g (e .axis) (e .index) + 1 ≡ 2 * rayOf g (e .axis) (e .index)). omega arith)
+            ∙ after-here second (updatesOf g ds) (2 * rayOf g (e .axis) (e .index) + 1) q refl;
+      }
+
+      there : Has ds (suc (rayOf g (e .axis) (e .index))) d p q → Has (e ∷ ds) from d p q
+      there h =
+          let up : suc (rayOf g (e .axis) (e .index)) ≤ rayOf g (d .axis) (d .index) = h .after in
+          let lo : from ≤ rayOf g (e .axis) (e .index) = all .0 .names .ascends in
+          record {
+            below = h .below;
+            after = omega arith;
+            possible = after-other first (second ∷ updatesOf g ds) (2 * rayOf g (d .axis) (d .index)) p (λ (z : 2 * rayOf g (d .axis) (d .index) ≡ 2 * rayOf g (e .axis) (e .index)). omega arith)
+                ∙ after-other second (updatesOf g ds) (2 * rayOf g (d .axis) (d .index)) p (λ (z : 2 * rayOf g (d .axis) (d .index) ≡ 2 * rayOf g (e .axis) (e .index) + 1). omega arith) ∙ h .possible;
+            certain = after-other first (second ∷ updatesOf g ds) (2 * rayOf g (d .axis) (d .index) + 1) q (λ (z : 2 * rayOf g (d .axis) (d .index) + 1 ≡ 2 * rayOf g (e .axis) (e .index)). omega arith)
+                ∙ after-other second (updatesOf g ds) (2 * rayOf g (d .axis) (d .index) + 1) q (λ (z : 2 * rayOf g (d .axis) (d .index) + 1 ≡ 2 * rayOf g (e .axis) (e .index) + 1). omega arith) ∙ h .certain;
+          }
+
+  -- a ray that no change names keeps its lists
+  pub other-keeps : (ds : List Change) (ray : ℕ) → ((d : Change) → List·Memᴰ d ds → ray ≡ rayOf g (d .axis) (d .index) → ⊥) → (p q : List Float)
+      → (listAfter (updatesOf g ds) (2 * ray) p ≡ p) × (listAfter (updatesOf g ds) (2 * ray + 1) q ≡ q)
+  unfolding updatesOf listAfter
+  other-keeps [] ray apart p q = (refl, refl)
+  other-keeps (e ∷ ds) ray apart p q =
+      let ne : ray ≡ rayOf g (e .axis) (e .index) → ⊥ = apart e (List·Memᴰ·head refl) in
+      let rest = other-keeps ds ray (λ d m. apart d (List·Memᴰ·tail m)) p q in
+      let first : Update = update (2 * rayOf g (e .axis) (e .index)) (e .possible-after) in
+      let second : Update = update (2 * rayOf g (e .axis) (e .index) + 1) (e .certain-after) in (
+        after-other first (second ∷ updatesOf g ds) (2 * ray) p (λ (z : 2 * ray ≡ 2 * rayOf g (e .axis) (e .index)). ne (omega arith))
+            ∙ after-other second (updatesOf g ds) (2 * ray) p (λ (z : 2 * ray ≡ 2 * rayOf g (e .axis) (e .index) + 1). omega arith) ∙ rest .0,
+        after-other first (second ∷ updatesOf g ds) (2 * ray + 1) q (λ (z : 2 * ray + 1 ≡ 2 * rayOf g (e .axis) (e .index)). omega arith)
+            ∙ after-other second (updatesOf g ds) (2 * ray + 1) q (λ (z : 2 * ray + 1 ≡ 2 * rayOf g (e .axis) (e .index) + 1). ne (omega arith)) ∙ rest .1,
+      )
 
   -- the stock stays sound, with the intervals that are left and laid, and each list is the one that the changes say
   module _ (total : ℕ) (sound : SoundCells spec g c total) (room : Room (spec .«max_intervals») (2 * rayCount g) c) (ds : List Change) (all : AllGood spec g c pairs 0 ds)
