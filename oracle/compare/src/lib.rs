@@ -7,6 +7,7 @@ pub mod function;
 pub mod grid;
 pub mod spans;
 pub mod strips;
+pub mod sweep;
 
 use function::Function;
 
@@ -17,5 +18,6 @@ pub fn modules() -> Vec<(&'static str, Vec<Function>)> {
         ("cutter", cutter::functions()),
         ("strips", strips::functions()),
         ("grid", grid::functions()),
+        ("sweep", sweep::functions()),
     ]
 }
