@@ -82,7 +82,8 @@ pub struct Case {
 
 impl Words for Case {
     fn words(&self) -> String {
-        let budgets = [self.max_rays, self.max_intervals, self.intervals, self.axis, self.tool.kind, self.budget, self.log as u64];
+        let budgets =
+            [self.max_rays, self.max_intervals, self.intervals, self.axis, self.tool.kind, self.budget, self.log as u64];
         format!(
             "{} {} {} {} {} {} {} {} {} {} {}",
             self.min.words(),
@@ -140,7 +141,12 @@ impl Case {
 
     fn world_chords(&self) -> Vec<rust_sweep::WorldChord> {
         let (chunks, _) = self.chords.as_chunks::<CHORD>();
-        let chord = |c: &[f64; CHORD]| rust_sweep::WorldChord { a: [c[0], c[1], c[2]], b: [c[3], c[4], c[5]], e: c[6], length: Some(c[7]) };
+        let chord = |c: &[f64; CHORD]| rust_sweep::WorldChord {
+            a: [c[0], c[1], c[2]],
+            b: [c[3], c[4], c[5]],
+            e: c[6],
+            length: Some(c[7]),
+        };
         chunks.iter().map(chord).collect()
     }
 
@@ -183,7 +189,7 @@ impl Case {
     }
 
     /// The refusal or 0, the entries and the visit total, by camlib.
-    fn rust(&self) -> (u32, Vec<rust_sweep::Entry>, u64) {
+    pub fn rust(&self) -> (u32, Vec<rust_sweep::Entry>, u64) {
         let early = self.early();
         if early != 0 {
             return (early, vec![], 0);
@@ -262,10 +268,14 @@ fn compare(c: &Case) -> Outcome {
         )
     };
     let (want, list, total) = c.rust();
-    let store = spans.untouched(&c.spans) && links.untouched(&c.links) && heads.untouched(&c.heads) && chords.untouched(&c.chords);
+    let store =
+        spans.untouched(&c.spans) && links.untouched(&c.links) && heads.untouched(&c.heads) && chords.untouched(&c.chords);
     let expected = cells(&list, c.log);
     let (numbers, written) = match want {
-        0 => (entries == list.len() && visits == total, log.guarded() && log.read().iter().zip(&expected).all(|(x, y)| same(*x, *y))),
+        0 => (
+            entries == list.len() && visits == total,
+            log.guarded() && log.read().iter().zip(&expected).all(|(x, y)| same(*x, *y)),
+        ),
         8 | 16 => (entries == ENTRIES && visits == VISITS, log.zero(0)),
         _ => (entries == ENTRIES && visits == VISITS, log.untouched(&[])),
     };
@@ -282,7 +292,8 @@ fn compare(c: &Case) -> Outcome {
 
 /// A box of a few cells, often with small whole numbers.
 fn blank(g: &mut Gen) -> ([f64; 3], [f64; 3], f64) {
-    let number = |g: &mut Gen, most: u64| if g.once_in(2) { (g.below(2 * most) + 1) as f64 / 2. } else { g.within(0.1, most as f64) };
+    let number =
+        |g: &mut Gen, most: u64| if g.once_in(2) { (g.below(2 * most) + 1) as f64 / 2. } else { g.within(0.1, most as f64) };
     let min = [0; 3].map(|_| if g.once_in(2) { g.below(11) as f64 - 5. } else { g.within(-5., 5.) });
     let max = [0, 1, 2].map(|i| min[i] + number(g, 8));
     let cell = if g.once_in(6) { 20. } else { number(g, 4).max(1.) };
@@ -377,9 +388,10 @@ fn lay(g: &mut Gen, c: &mut Case) {
     }
 }
 
-/// One fault of the store, or a buffer that is too short.
+/// One fault of the description or the store, or a buffer that is too short.
 fn spoil(g: &mut Gen, c: &mut Case) {
-    match g.below(6) {
+    let rays = c.heads.len() as u64 / 2;
+    match g.below(9) {
         0 => c.intervals += 1,
         1 => {
             let i = g.below(c.heads.len() as u64) as usize;
@@ -392,11 +404,12 @@ fn spoil(g: &mut Gen, c: &mut Case) {
             c.heads.pop();
         }
         4 => c.chords.push(1.),
-        _ => {
-            c.links.truncate(c.links.len() - 2);
-        }
+        5 => c.links.truncate(c.links.len() - 2),
+        6 => c.max_rays = 0,
+        7 => c.max_rays = rays - 1,
+        _ => c.max_intervals = 2 * rays - 1,
     }
-    // a taken head, one interval too many: not sound; shorter buffers are told by their lengths
+    // only the first two faults are refused because of this
     c.sound = false;
 }
 
