@@ -2,6 +2,7 @@
 //! `bench [NAME]`: all rows, or those whose text has NAME in it.
 mod doubles;
 mod spans;
+mod sweep;
 mod timing;
 
 use timing::Table;
@@ -10,6 +11,7 @@ fn modules() -> Vec<fn(&mut Table)> {
     vec![
         doubles::rows, //
         spans::rows,
+        sweep::rows,
     ]
 }
 

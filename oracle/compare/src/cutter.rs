@@ -106,7 +106,7 @@ fn shape(t: &Tool) -> CutterShape {
     }
 }
 
-fn assembly(t: &Tool) -> PreparedAssembly {
+pub fn assembly(t: &Tool) -> PreparedAssembly {
     prepared(&Given {
         shape: shape(t),
         diameter: t.c.diameter_mm,

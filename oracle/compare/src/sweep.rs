@@ -206,8 +206,58 @@ impl Case {
     }
 }
 
+/// A stock's cells, a tool and chords as the port takes them.
+pub struct Lending<'a> {
+    pub spec: DexelStockSpec,
+    pub spans: &'a [f64],
+    pub links: &'a [u64],
+    pub heads: &'a [u64],
+    pub intervals: u64,
+    pub axis: u64,
+    pub tool: &'a Tool,
+    pub guard: f64,
+    pub chords: &'a [f64],
+    pub budget: u64,
+}
+
+/// The port's refusal or 0; the log and both totals are written in place.
+pub fn port(l: &Lending, log: &mut [f64], entries: &mut usize, visits: &mut u64) -> u32 {
+    unsafe {
+        raw::tridexel_sweep(
+            l.spec,
+            "mm".as_ptr(),
+            2,
+            l.spans.as_ptr(),
+            l.spans.len(),
+            l.links.as_ptr(),
+            l.links.len(),
+            l.heads.as_ptr(),
+            l.heads.len(),
+            l.intervals,
+            l.axis,
+            l.tool.kind,
+            l.tool.own[0],
+            l.tool.own[1],
+            l.tool.c,
+            l.guard,
+            l.chords.as_ptr(),
+            l.chords.len(),
+            l.budget,
+            log.as_mut_ptr(),
+            log.len(),
+            entries,
+            visits,
+        )
+    }
+}
+
 fn vec3(p: [f64; 3]) -> Vec3 {
     Vec3 { x: p[0], y: p[1], z: p[2] }
+}
+
+/// A version 1 description.
+pub fn spec(min: [f64; 3], max: [f64; 3], cell: f64, max_rays: u64, max_intervals: u64) -> DexelStockSpec {
+    DexelStockSpec { version: 1, min_mm: vec3(min), max_mm: vec3(max), cell_size_mm: cell, max_rays, max_intervals }
 }
 
 /// The log as the port must leave it, where it was written.
@@ -232,41 +282,19 @@ fn compare(c: &Case) -> Outcome {
     let chords = Lent::of(&c.chords, 0);
     let mut log: Lent<f64> = Lent::new(c.log);
     let (mut entries, mut visits) = (ENTRIES, VISITS);
-    let spec = DexelStockSpec {
-        version: 1,
-        min_mm: vec3(c.min),
-        max_mm: vec3(c.max),
-        cell_size_mm: c.cell,
-        max_rays: c.max_rays,
-        max_intervals: c.max_intervals,
+    let lending = Lending {
+        spec: spec(c.min, c.max, c.cell, c.max_rays, c.max_intervals),
+        spans: spans.read(),
+        links: links.read(),
+        heads: heads.read(),
+        intervals: c.intervals,
+        axis: c.axis,
+        tool: &c.tool,
+        guard: c.guard,
+        chords: chords.read(),
+        budget: c.budget,
     };
-    let refusal = unsafe {
-        raw::tridexel_sweep(
-            spec,
-            "mm".as_ptr(),
-            2,
-            spans.read().as_ptr(),
-            spans.read().len(),
-            links.read().as_ptr(),
-            links.read().len(),
-            heads.read().as_ptr(),
-            heads.read().len(),
-            c.intervals,
-            c.axis,
-            c.tool.kind,
-            c.tool.own[0],
-            c.tool.own[1],
-            c.tool.c,
-            c.guard,
-            chords.read().as_ptr(),
-            chords.read().len(),
-            c.budget,
-            log.cells().as_mut_ptr(),
-            c.log,
-            &mut entries,
-            &mut visits,
-        )
-    };
+    let refusal = port(&lending, log.cells(), &mut entries, &mut visits);
     let (want, list, total) = c.rust();
     let store =
         spans.untouched(&c.spans) && links.untouched(&c.links) && heads.untouched(&c.heads) && chords.untouched(&c.chords);
