@@ -5,6 +5,7 @@ mod geometry;
 mod merge;
 mod spans;
 mod stock;
+mod sweep;
 mod timing;
 
 use timing::Table;
@@ -16,6 +17,7 @@ fn modules() -> Vec<fn(&mut Table)> {
         geometry::rows,
         merge::rows,
         stock::rows,
+        sweep::rows,
     ]
 }
 

@@ -11,6 +11,7 @@ pub mod program;
 pub mod spans;
 pub mod stock;
 pub mod strips;
+pub mod sweep;
 
 use function::Function;
 
@@ -24,5 +25,6 @@ pub fn modules() -> Vec<(&'static str, Vec<Function>)> {
         ("merge", merge::functions()),
         ("stock", stock::functions()),
         ("program", program::functions()),
+        ("sweep", sweep::functions()),
     ]
 }

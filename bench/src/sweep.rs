@@ -1,0 +1,90 @@
+//! The sweep against camlib's `across`: an uncut blank of 200 x 200 x 50 cells, a ball cutter, chords across the whole blank.
+//! The port checks the whole store first, which the Rust does not; its log is lent, where the Rust's hits go into a map for each chord and axis.
+use crate::timing::Table;
+use compare::{
+    cutter::{PreparedCutter, Tool, assembly},
+    sweep::{Lending, port, spec},
+};
+use oracle::dexel::{Axis, DexelStock, opened as rust};
+use std::hint::black_box;
+
+const MIN: [f64; 3] = [0.; 3];
+const MAX: [f64; 3] = [200., 200., 50.];
+const RAYS: u64 = 200 * 50 + 50 * 200 + 200 * 200;
+const GUARD: f64 = 1e-3;
+const POS_Z: u64 = 4;
+const BALL: u64 = 1;
+
+fn ball() -> Tool {
+    let c = PreparedCutter {
+        diameter_mm: 10.,
+        cutting_length_mm: 30.,
+        overall_length_mm: 60.,
+        neck_diameter_mm: 10.,
+        shank_diameter_mm: 10.,
+        radius: 5.,
+        tip_height: 5.,
+        slope: 0.,
+        shoulder: 30.,
+    };
+    Tool { kind: BALL, own: [0.; 2], c, h: [0.; 2] }
+}
+
+/// Slanted lines from one side to the other, 20 deep.
+fn chords(n: usize) -> Vec<rust::sweep::WorldChord> {
+    let line = |i: usize| {
+        let y = 10. + 180. * i as f64 / n as f64;
+        rust::sweep::WorldChord { a: [5., y, 30.], b: [195., y + 7., 30.], e: 1e-4, length: None }
+    };
+    (0..n).map(line).collect()
+}
+
+fn flat(chords: &[rust::sweep::WorldChord]) -> Vec<f64> {
+    let one = |c: &rust::sweep::WorldChord| {
+        let length = (c.b[0] - c.a[0]).hypot(c.b[1] - c.a[1]);
+        [c.a[0], c.a[1], c.a[2], c.b[0], c.b[1], c.b[2], c.e, length]
+    };
+    chords.iter().flat_map(one).collect()
+}
+
+pub fn rows(table: &mut Table) {
+    table.heading("sweep, 200 x 200 x 50 cells, a ball cutter, per visited ray; the port's time holds its check of the whole store, for no chord too");
+    let description = rust::spec(MIN, MAX, 1., RAYS as usize, 2 * RAYS as usize);
+    let stock = DexelStock::new(description).unwrap();
+    // the uncut store: list j alone has record j + 1
+    let ends = (0..3).flat_map(|a| std::iter::repeat_n([MIN[a], MAX[a]], 2 * stock.grid().rays(a)));
+    let spans: Vec<f64> = ends.flatten().collect();
+    let heads: Vec<u64> = (1..=2 * RAYS).collect();
+    let links: Vec<u64> = heads.iter().flat_map(|k| [0, *k]).collect();
+    let tool = ball();
+    let rust_tool = assembly(&tool);
+    for n in [4, 32] {
+        let lines = chords(n);
+        let ends = flat(&lines);
+        let mut hits = vec![];
+        let visits = rust::sweep::sweep(&stock, &rust_tool, Axis::PosZ, GUARD, &lines, u64::MAX, &mut hits).unwrap();
+        let mut log = vec![0.; 6 * hits.len()];
+        let lending = Lending {
+            spec: spec(MIN, MAX, 1., RAYS, 2 * RAYS),
+            spans: &spans,
+            links: &links,
+            heads: &heads,
+            intervals: 2 * RAYS,
+            axis: POS_Z,
+            tool: &tool,
+            guard: GUARD,
+            chords: &ends,
+            budget: visits,
+        };
+        let swept = || {
+            let (mut entries, mut total) = (0, 0);
+            assert_eq!(port(black_box(&lending), &mut log, &mut entries, &mut total), 0);
+            assert_eq!((entries, total), (hits.len(), visits));
+            entries
+        };
+        table.row(&format!("sweep {n} chords, {visits} visits"), visits as usize, swept, || {
+            let mut log = vec![];
+            rust::sweep::sweep(&stock, &rust_tool, Axis::PosZ, GUARD, black_box(&lines), u64::MAX, &mut log)
+        });
+    }
+}

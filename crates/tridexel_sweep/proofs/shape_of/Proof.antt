@@ -1,0 +1,31 @@
+use Rattle.tridexel_sweep.specs.Numbers.{shapeOf}
+use borrow.Author.Tests.{eq-eqb, ne-eqb, lt-ltb, le-ltb}
+use Rattle.doubles.proofs.Order.{zero-over-zero}
+use borrow.Author.Needs.{needs}
+use Rattle.tridexel_sweep.proofs.shape_of.Statement.{statement}
+use Rattle.tridexel_sweep.proofs.shape_of.Tie as tie
+
+returns : tie.Need-returns
+unfolding shapeOf
+returns c = simp (eq-eqb _ _ (c .if1 .taken))
+
+returns-2 : tie.Need-returns-2
+unfolding shapeOf
+returns-2 c = simp (ne-eqb _ _ (c .before .if1 .left), lt-ltb _ _ (c .if2 .taken), zero-over-zero)
+
+low-shape-requires : tie.Need-low-shape-requires
+low-shape-requires c κs = search needs
+
+returns-3 : tie.Need-returns-3
+unfolding shapeOf
+returns-3 c = simp (ne-eqb _ _ (c .before .before .before .if1 .left), le-ltb _ _ (c .before .before .if2 .left), lt-ltb _ _ (c .before .if3 .taken), ← c .low-shape .ensures)
+
+high-shape-requires : tie.Need-high-shape-requires
+high-shape-requires c κs = search needs
+
+returns-4 : tie.Need-returns-4
+unfolding shapeOf
+returns-4 c = simp (ne-eqb _ _ (c .before .before .before .if1 .left), le-ltb _ _ (c .before .before .if2 .left), le-ltb _ _ (c .before .if3 .left), ← c .high-shape .ensures)
+
+pub shape-of-spec : {M : Type 1} → statement M
+shape-of-spec = tie.close (tie.spec returns returns-2 low-shape-requires returns-3 high-shape-requires returns-4)

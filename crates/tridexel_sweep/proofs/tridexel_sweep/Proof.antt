@@ -1,0 +1,26 @@
+use borrow.Author.Needs.{needs}
+use Rattle.store.specs.Updates.{cells}
+use Rattle.tridexel_sweep.proofs.Handing.{swept-by}
+use Rattle.tridexel_sweep.proofs.tridexel_sweep.Statement.{statement}
+use Rattle.tridexel_sweep.proofs.tridexel_sweep.Tie as tie
+
+axis-of-requires : tie.Need-axis-of-requires
+axis-of-requires c κs = search needs
+
+shape-of-requires : tie.Need-shape-of-requires
+shape-of-requires c κs = search needs
+
+sweep-requires : tie.Need-sweep-requires
+sweep-requires c κs = search needs
+
+hand-swept-requires : tie.Need-hand-swept-requires
+hand-swept-requires c κs = search needs
+
+same-length : tie.Need-same-length
+same-length c = search needs
+
+returns : tie.Need-returns
+returns c = let a = c .before .before .before .before .before .before .before .before .before .before .before .before .before .before .before in swept-by (a .args .spec) (a .args .units .now) (cells (a .args .spans .now) (a .args .links .now) (a .args .heads .now)) (a .args .intervals) (a .args .cutter) (a .args .guard) (a .args .chords .now) (a .args .budget) (a .args .log .now) _ (c .before .before .before .before .before .before .before .before .axis-of .result) _ (c .before .before .before .before .before .before .before .shape-of .result) _ (c .before .before .before .before .before .sweep .result) _ _ _ (c .before .before .before .before .before .before .before .before .axis-of .ensures) (c .before .before .before .before .before .before .before .shape-of .ensures) (c .before .before .before .before .before .sweep .ensures) (c .hand-swept .ensures)
+
+pub tridexel-sweep-spec : {M : Type 1} → statement M
+tridexel-sweep-spec = tie.close (tie.spec axis-of-requires shape-of-requires sweep-requires hand-swept-requires same-length returns)
