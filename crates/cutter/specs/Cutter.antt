@@ -23,12 +23,9 @@ isFinite nan = false
 isFinite (inf s) = false
 isFinite (fin s m e) = true
 
--- half the chord of a circle of radius r at the height z above its lowest point, and its square
-abbrev pub arcSquare : Float → Float → Float
-arcSquare r z = largerOf (mul binary64 z (sub binary64 (mul binary64 two r) z)) plusZero
-
+-- half the chord of a circle of radius r at the height z above its lowest point
 unfoldable pub arcAt : Float → Float → Float
-arcAt r z = squareRoot binary64 (arcSquare r z)
+arcAt r z = squareRoot binary64 (largerOf (mul binary64 z (sub binary64 (mul binary64 two r) z)) plusZero)
 
 -- the full radius from the tip height on, and x below it
 abbrev pub widening : PreparedCutter → Float → Float → Float
@@ -45,18 +42,6 @@ cuttingRadius Beam c z = c .radius
 cuttingRadius Probe c z = widening c z (arcAt (c .radius) z)
 cuttingRadius Lollipop c z = arcAt (c .radius) z
 cuttingRadius (Dovetail angle) c z = sub binary64 (c .radius) (div binary64 z (c .slope))
-
--- the shapes and heights where the section is a ball's
-unfoldable pub ballAt : CutterShape → Float → Float → Bool
-ballAt Flat tip z = false
-ballAt Ball tip z = not (le tip z)
-ballAt (Bull corner) tip z = false
-ballAt (Drill angle) tip z = false
-ballAt (Chamfer angle diameter) tip z = false
-ballAt Beam tip z = false
-ballAt Probe tip z = not (le tip z)
-ballAt Lollipop tip z = true
-ballAt (Dovetail angle) tip z = false
 
 -- no section: z is not finite, below the tip or above the tool
 unfoldable pub offTool : Float → Float → Bool

@@ -1,9 +1,7 @@
 // The cutting part of a tool as radius by height: z = 0 is the tip, +z points toward the spindle (tool.rs; `Profile` of sweep.rs).
 ghost use mathlib.Core.Path.{_≡_};
-ghost use mathlib.Core.Bool.{true, _&&_};
-ghost use lib.Ieee.{lt};
-ghost use Rattle.doubles.specs.Doubles.{smallerOf};
-ghost use Rattle.cutter.specs.Cutter.{plusZero, isFinite, arcSquare, arcAt, ballAt, cuttingRadius, offTool, shankDiameter, radiusAt, cutRadius, cutMax, cutMin};
+ghost use mathlib.Core.Bool.{_&&_};
+ghost use Rattle.cutter.specs.Cutter.{isFinite, arcAt, cuttingRadius, offTool, shankDiameter, radiusAt, cutRadius, cutMax, cutMin};
 ghost use Rattle.cutter.specs.Limits.{aboveZero, fromZero, number, sizesFit, heightsFit, lengthsFit, diametersFit, shapeFits, withinLimits, isBeam, Checked};
 
 // Document 01's `CutterShape`: Bull has the corner radius, Drill the point angle, Chamfer the included angle and the tip diameter, Dovetail the flank angle.
@@ -60,40 +58,10 @@ fn is_finite(x: f64) -> bool
     false
 }
 
-fn arc_square(r: f64, z: f64) -> f64
-    ensures { λ a. ⌜ a ≡ arcSquare r z ⌝ }
-{
-    doubles::larger(z * (2.0 * r - z), 0.0)
-}
-
 fn arc_at(r: f64, z: f64) -> f64
     ensures { λ a. ⌜ a ≡ arcAt r z ⌝ }
 {
-    doubles::sqrt(arc_square(r, z))
-}
-
-// Whether x is above zero and finite.
-fn is_positive(x: f64) -> bool
-    ensures { λ r. ⌜ r ≡ (isFinite x && lt plusZero x) ⌝ }
-{
-    if is_finite(x) {
-        return 0.0 < x;
-    }
-    false
-}
-
-// The smaller of the half chords at two heights: one root, that of the smaller square.
-fn smaller_arc(r: f64, z: f64, w: f64) -> f64
-    ensures { λ a. ⌜ a ≡ smallerOf (arcAt r z) (arcAt r w) ⌝ }
-{
-    let a = arc_square(r, z);
-    let b = arc_square(r, w);
-    if is_positive(a) {
-        if is_positive(b) {
-            return doubles::sqrt(doubles::smaller(a, b));
-        }
-    }
-    doubles::smaller(doubles::sqrt(a), doubles::sqrt(b))
+    doubles::sqrt(doubles::larger(z * (2.0 * r - z), 0.0))
 }
 
 // Within the cutting length. Shapes that widen from the tip have the full radius from the tip height on.
@@ -136,33 +104,6 @@ fn cutting_radius(shape: CutterShape, c: PreparedCutter, z: f64) -> f64
         }
         CutterShape::Lollipop => arc_at(r, z),
         CutterShape::Dovetail(_) => r - z / c.slope,
-    }
-}
-
-// Whether the section at the height z, within the cutting length, is that of a ball.
-fn is_ball_at(shape: CutterShape, tip_height: f64, z: f64) -> bool
-    ensures { λ r. ⌜ r ≡ ballAt shape «tip_height» z ⌝ }
-{
-    match shape {
-        CutterShape::Flat => false,
-        CutterShape::Ball => {
-            if z >= tip_height {
-                return false;
-            }
-            true
-        }
-        CutterShape::Bull(_) => false,
-        CutterShape::Drill(_) => false,
-        CutterShape::Chamfer(_, _) => false,
-        CutterShape::Beam => false,
-        CutterShape::Probe => {
-            if z >= tip_height {
-                return false;
-            }
-            true
-        }
-        CutterShape::Lollipop => true,
-        CutterShape::Dovetail(_) => false,
     }
 }
 
@@ -219,22 +160,6 @@ pub fn cut_radius(shape: CutterShape, c: PreparedCutter, h: f64) -> f64
     }
 }
 
-// Whether h is a height of the cutting part where it is a ball.
-fn is_on_ball(shape: CutterShape, c: PreparedCutter, h: f64) -> bool
-    ensures { λ r. ⌜ (r ≡ true → cutRadius shape c h ≡ arcAt (c .radius) h) ⌝ }
-{
-    if c.cutting_length_mm < h {
-        return false;
-    }
-    if is_off_tool(c.overall_length_mm, h) {
-        return false;
-    }
-    if h <= c.cutting_length_mm {
-        return is_ball_at(shape, c.tip_height, h);
-    }
-    false
-}
-
 // The largest cutting radius over the heights from h0 to h1: at the widest section where the window holds it, else at the nearer end.
 pub fn cut_max(shape: CutterShape, c: PreparedCutter, h0: f64, h1: f64) -> Radius
     ensures { λ r. ⌜ r ≡ cutMax shape c h0 h1 ⌝ }
@@ -253,11 +178,6 @@ pub fn cut_min(shape: CutterShape, c: PreparedCutter, h0: f64, h1: f64) -> Radiu
 {
     if h0 >= 0.0 {
         if h1 <= c.cutting_length_mm {
-            if is_on_ball(shape, c, h0) {
-                if is_on_ball(shape, c, h1) {
-                    return Radius::Is(smaller_arc(c.radius, h0, h1));
-                }
-            }
             return Radius::Is(doubles::smaller(cut_radius(shape, c, h0), cut_radius(shape, c, h1)));
         }
     }

@@ -4,22 +4,18 @@ use Prim.Native.Nat.{ℕ, zero, suc, _+_, _-_, _*_, _/_, _^_, _≤_, _<_, compar
 use native.Mathlib.Nat.{le-refl, le-trans, le-of-mul-le-mul-right, le-of-eq, le-of-lt, le-of-suc-le-suc, sub-add-cancel, lt-of-lt-of-le, lt-of-le-of-lt, lt-of-not-le, not-le-of-lt, lt-irrefl, mul-pos, mul-le-mul-right, mul-lt-mul-of-pos-right, lt-of-mul-lt-mul-right, mul-mul-mul-comm, mul-assoc, mul-one, one-mul, add-mul, mul-comm, mul-right-comm, zero-lt-suc, le-div-iff-mul-le, div-lt-iff-lt-mul, eq-of-mul-eq-mul-right, div-one, mul-div-cancel}
 use native.Mathlib.Omega.{arith}
 use native.Mathlib.Decide.{decLe}
-use mathlib.Core.Bool.{Bool, true, false}
-use mathlib.Core.Logic.{inl, inr}
+use mathlib.Core.Bool.{true, false}
 use lib.IntN.{ℤ, pos, negsuc}
 use lib.Dec.{T, lit≤}
 use lib.Pow.{pow-add, pow-pos, pow-mono, pow-lt, shl-lt}
-use lib.Ieee.{Float, nan, inf, fin, Format, binary32, binary64, prec, emax, low, up, down, size, nearest, units, fits, hid, ofBits, toBits, isNan, lt, le}
+use lib.Ieee.{Float, nan, inf, fin, Format, binary32, binary64, prec, emax, low, up, down, size, nearest, units, fits, hid, ofBits, toBits, le}
 use lib.Ieee.Order.{le-of-values}
 use lib.Ieee.Bits.{ofBits-toBits}
 use lib.Ieee.Digits.{size-lt}
 use lib.Ieee.Fits.{two, two-le-pos, odd-fits, up-pos, down-pos}
 use lib.Ieee.Exact.{HasValue, units-val}
 use lib.Ieee.Positive.{positive, positive-of-value, values-of-le}
-use Rattle.doubles.specs.Doubles.{smallerOf}
 use Rattle.doubles.specs.Root.{wholeRoot, magnitude, rootOfUnits, squareRoot, NearestRoot}
-use Rattle.doubles.proofs.Bools.{of-true, by-cases}
-use Rattle.doubles.proofs.Order.{lt→le, not-lt→le, le→not-lt}
 use Rattle.doubles.proofs.Held.{held}
 use Rattle.doubles.proofs.WholeRoot.{whole-root, square-lt, square-le}
 use Rattle.doubles.proofs.Rounded.{Compared, compared, dropped, kept, root-is, bracket, kept-ge, kept-under}
@@ -325,51 +321,6 @@ root-keeps-order f x y s p t q h =
     le-of-values (squareRoot f x) (squareRoot f y) (magnitude f (squareRoot f x)) U (magnitude f (squareRoot f y)) U (pow-pos (low f)) (pow-pos (low f))
     (in-units f (squareRoot f x) (u .holds) (u .above-zero)) (in-units f (squareRoot f y) (v .holds) (v .above-zero))
     (mul-le-mul-right U (root-mono f x y s p t q (le-of-mul-le-mul-right (values-of-le x y (magnitude f x) U (magnitude f y) U p q (in-units f x s p) (in-units f y t q) h) (pow-pos (low f)))))
-
-to-true : (b : Bool) → T b → b ≡ true
-to-true true h = refl
-to-true false h = absurd h
-
-positive-number : (x : Float) → T (positive x) → isNan x ≡ false
-unfolding isNan
-positive-number nan p = absurd p
-positive-number (inf s) p = absurd p
-positive-number (fin s m e) p = refl
-
--- The smaller of two roots is the root of the smaller argument.
-module _ (f : Format) (x y : Float) (s : T (fits f x)) (p : T (positive x)) (t : T (fits f y)) (q : T (positive y)) where
-  same-root : T (le (squareRoot f x) (squareRoot f y)) → T (le (squareRoot f y) (squareRoot f x)) → squareRoot f x ≡ squareRoot f y
-  same-root h g =
-      let U = 2 ^ low f in
-      let u = nearest-root f x s p in
-      let v = nearest-root f y t q in
-      let a = magnitude f (squareRoot f x) in
-      let b = magnitude f (squareRoot f y) in
-      let m = in-units f (squareRoot f x) (u .holds) (u .above-zero) in
-      let n = in-units f (squareRoot f y) (v .holds) (v .above-zero) in
-      let up-to : a ≤ b = le-of-mul-le-mul-right (values-of-le (squareRoot f x) (squareRoot f y) a U b U (u .above-zero) (v .above-zero) m n h) (pow-pos (low f)) in
-      let from : b ≤ a = le-of-mul-le-mul-right (values-of-le (squareRoot f y) (squareRoot f x) b U a U (v .above-zero) (u .above-zero) n m g) (pow-pos (low f)) in
-      sym (ofBits-toBits f (squareRoot f x) (u .holds))
-      ∙ ap (λ (k : ℕ). ofBits f k) (by-magnitude f (squareRoot f x) (squareRoot f y) (u .above-zero) (v .above-zero) (equal a b up-to from))
-      ∙ ofBits-toBits f (squareRoot f y) (v .holds)
-    where
-      equal : (a b : ℕ) → a ≤ b → b ≤ a → a ≡ b
-      equal a b i j = omega arith
-
-  pub smaller-root : smallerOf (squareRoot f x) (squareRoot f y) ≡ squareRoot f (smallerOf x y)
-  unfolding smallerOf
-  smaller-root =
-      let i : isNan (squareRoot f x) ≡ false = positive-number (squareRoot f x) (nearest-root f x s p .above-zero) in
-      let j : isNan (squareRoot f y) ≡ false = positive-number (squareRoot f y) (nearest-root f y t q .above-zero) in
-      let k : isNan x ≡ false = positive-number x p in
-      let l : isNan y ≡ false = positive-number y q in
-      elim (by-cases (lt y x)) [
-        | inl h ↦ rw (i, k, h) (elim (by-cases (lt (squareRoot f y) (squareRoot f x))) [
-          | inl g ↦ rw g
-          | inr g ↦ rw g (same-root (of-true (not-lt→le (squareRoot f y) (squareRoot f x) j i g)) (root-keeps-order f y x t q s p (of-true (lt→le y x h))))
-        ])
-        | inr h ↦ rw (i, k, h, le→not-lt (squareRoot f x) (squareRoot f y) (to-true (le (squareRoot f x) (squareRoot f y)) (root-keeps-order f x y s p t q (of-true (not-lt→le y x l k h)))))
-      ]
 
 -- Where x is the square of a value r of the format, its root is r.
 pub root-of-square : (f : Format) (x r : Float) → T (fits f x) → T (positive x) → T (fits f r) → T (positive r) → magnitude f x * 2 ^ low f ≡ magnitude f r * magnitude f r → squareRoot f x ≡ r

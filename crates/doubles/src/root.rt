@@ -81,7 +81,7 @@ fn wide_root(m: u64) -> u64
     root - 1
 }
 
-// The whole root of m: a first guess within 0.6%, two steps of Heron's rule, whose results
+// The whole root of m: a linear first guess within 1%, two steps of Heron's rule, whose results
 // are never below the root, and a step down in the rare case that the last is above it.
 fn whole_root(m: u64) -> u64
     requires { ⌜ 2 ^ 52 ≤ m ⌝ }
@@ -106,13 +106,15 @@ fn heron(m: u64, guess: u64) -> u64
     (guess + m / guess) / 2
 }
 
-// Near the root, within 0.6%: a parabola in the upper digits of m, which needs no branch.
+// Near the root: on either half of the range a line through the root's curve.
 fn first_guess(m: u64) -> u64
     requires { ⌜ m < 2 ^ 54 ⌝ }
     ensures { λ r. ⌜ 2 ^ 25 ≤ r ⌝ }
     ensures { λ r. ⌜ r < 2 ^ 30 ⌝ }
 {
-    let t = m / 0x400_0000;
-    let slope = 551_561 - 41_461 * t / 0x400_0000;
-    34_799_612 + slope * t / 0x10_0000
+    if m < 0x20_0000_0000_0000 {
+        m / 162_015_130 + 39_852_875
+    } else {
+        m / 229_123_994 + 56_360_477
+    }
 }

@@ -3,19 +3,6 @@ use borrow.Author.Needs.{needs}
 use Rattle.cutter.proofs.cut_min.Statement.{statement}
 use Rattle.cutter.proofs.cut_min.Tie as tie
 
-is-on-ball-requires : tie.Need-is-on-ball-requires
-is-on-ball-requires c κs = search needs
-
-is-on-ball-requires-2 : tie.Need-is-on-ball-requires-2
-is-on-ball-requires-2 c κs = search needs
-
-smaller-arc-requires : tie.Need-smaller-arc-requires
-smaller-arc-requires c κs = search needs
-
-returns : tie.Need-returns
-unfolding cutMin
-returns c = simp (← c .smaller-arc .ensures, c .before .before .is-on-ball2 .ensures (c .before .if4 .taken), c .before .before .before .before .is-on-ball .ensures (c .before .before .before .if3 .taken), c .before .before .before .before .before .if2 .taken, c .before .before .before .before .before .before .before .if1 .taken)
-
 cut-radius-requires : tie.Need-cut-radius-requires
 cut-radius-requires c κs = search needs
 
@@ -25,29 +12,25 @@ cut-radius-requires-2 c κs = search needs
 smaller-requires : tie.Need-smaller-requires
 smaller-requires c κs = search needs
 
+returns : tie.Need-returns
+unfolding cutMin
+returns c = simp (← c .smaller .ensures, ← c .before .cut-radius2 .ensures, ← c .before .before .cut-radius .ensures, c .before .before .before .if2 .taken, c .before .before .before .before .before .if1 .taken)
+
 returns-2 : tie.Need-returns-2
 unfolding cutMin
-returns-2 c = simp (← c .smaller .ensures, ← c .before .cut-radius2 .ensures, ← c .before .before .cut-radius .ensures, c .before .before .before .before .before .if2 .taken, c .before .before .before .before .before .before .before .if1 .taken)
+returns-2 c = simp (c .if2 .left, c .before .before .if1 .taken)
 
 returns-3 : tie.Need-returns-3
 unfolding cutMin
-returns-3 c = simp (c .if2 .left, c .before .before .if1 .taken)
-
-returns-4 : tie.Need-returns-4
-unfolding cutMin
-returns-4 c = simp (c .if1 .left)
+returns-3 c = simp (c .if1 .left)
 
 pub cut-min-spec : {M : Type 1} → statement M
 cut-min-spec =
     tie.close
     (tie.spec
-    is-on-ball-requires
-    is-on-ball-requires-2
-    smaller-arc-requires
-    returns
     cut-radius-requires
     cut-radius-requires-2
     smaller-requires
+    returns
     returns-2
-    returns-3
-    returns-4)
+    returns-3)
