@@ -1,12 +1,9 @@
 -- From the tests and the cut lists to the promise of a log commit.
 use mathlib.Core.Path.{_≡_, refl, sym, ap, ap₂, _∙_, subst}
 use mathlib.Core.List.{List}
-use Prim.Native.Nat.{ℕ, zero, suc, _+_, _-_, _*_, _≤_, _<_}
+use Prim.Native.Nat.{ℕ, suc, _+_, _-_, _*_}
 use native.Mathlib.Numerals.{add-one}
-use native.Mathlib.Omega.{arith}
-use lib.ListN.{length}
 use lib.Ieee.{Float}
-use Rattle.spans.specs.Spans.{holds}
 use Rattle.grid.specs.Rays.{rayCount}
 use Rattle.gridding.specs.Causes.{GridFacts}
 use Rattle.gridding.specs.Grid.{gridOf}
@@ -16,14 +13,13 @@ use Rattle.grid.specs.declared.DexelStockSpec.{DexelStockSpec}
 use Rattle.grid.specs.declared.DexelGrid.{DexelGrid}
 use Rattle.store.specs.Store.{usedAt}
 use Rattle.store.specs.Walks.{countTo}
-use Rattle.store.specs.Updates.{Cells, Update, Kept, pairsFreed, pairsLaid, applied}
+use Rattle.store.specs.Updates.{Cells, Kept, pairsFreed, pairsLaid, applied}
 use Rattle.store.proofs.Checked.{count-of}
 use Rattle.stock.specs.Stock.{Stock}
 use Rattle.stock.specs.declared.Committed.{Committed}
 use Rattle.stock.specs.declared.Committed.the-variants.{Changed, Refused}
 use Rattle.runs.specs.Logs.{entries}
-use Rattle.runs.specs.Model.{Changes, Count, Judged, refused}
-use Rattle.runs.specs.Counts.{pairsLeft}
+use Rattle.runs.specs.Model.{Judged, refused}
 use Rattle.runs.specs.Runs.{points, Left, Cut}
 use Rattle.runs.specs.Lent.{listIn, lentStore, LogCommit}
 use Rattle.cuts.specs.Merges.{Merges, cutStock, listsOf}

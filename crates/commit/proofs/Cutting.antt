@@ -1,7 +1,7 @@
 -- From a sound store and the merged lists in the work buffer to the store with the log's updates done.
 use mathlib.Core.Path.{_≡_, refl, sym, ap, ap₂, _∙_, subst}
-use mathlib.Core.List.{List, [], _++_}
-use Prim.Native.Nat.{ℕ, zero, suc, _+_, _-_, _*_, _/_, _≤_, _<_}
+use mathlib.Core.List.{List, _++_}
+use Prim.Native.Nat.{ℕ, _+_, _-_, _*_, _/_, _≤_}
 use native.Mathlib.Omega.{arith}
 use lib.ListN.{length, take, replicate, length-replicate}
 use lib.Ieee.{Float}
@@ -11,7 +11,7 @@ use Rattle.grid.specs.declared.DexelStockSpec.{DexelStockSpec}
 use Rattle.grid.specs.declared.DexelGrid.{DexelGrid}
 use Rattle.store.specs.Updates.{Cells, Update, Room, SoundStore, Ascending, pairsFreed, pairsLaid, freedAll, laidAll, applied}
 use Rattle.store.proofs.Updating.{FreedAll, freed-all, all-empty, kept-room}
-use Rattle.stock.specs.Stock.{Stock, SoundCells, SoundStock}
+use Rattle.stock.specs.Stock.{Stock}
 use Rattle.runs.specs.Logs.{entries, entryCount}
 use Rattle.runs.specs.Counts.{pairsLeft}
 use Rattle.runs.specs.Lent.{listIn}
@@ -20,10 +20,10 @@ use Rattle.laying.specs.Updates.{updatesFrom, listsEnd}
 use Rattle.laying.specs.Steps.{AllFreeable, EachLayable, RaysLayable}
 use Rattle.laying.proofs.Room.{each-layable, no-cursor}
 use Rattle.cuts.specs.Merges.{Merges, listsOf}
-use Rattle.cuts.proofs.Leaves.{ascend, freed-less, intervals-left}
+use Rattle.cuts.proofs.Leaves.{ascend, intervals-left}
 use Rattle.merging.specs.All.{AllMergeable, AllMerged}
 use Rattle.counting.specs.Answer.{listsIn}
-use Rattle.commit.specs.Commit.{workNeeded, Ready, Done}
+use Rattle.commit.specs.Commit.{Ready, Done}
 
 module _ (spec : DexelStockSpec) (g : DexelGrid) (c : Cells) (log w : List Float) (ready : Ready spec g c log w) where
   -- a stock with these cells: the laws of a cut speak of no generation

@@ -1,25 +1,25 @@
 -- Which number is due after each test of a log commit.
-use mathlib.Core.Path.{_≡_, refl, sym, ap, _∙_, subst}
+use mathlib.Core.Path.{_≡_, refl, sym, ap, _∙_}
 use mathlib.Core.Bool.{Bool, true, false, not, cond, _||_}
 use mathlib.Core.List.{List}
-use mathlib.Core.Logic.{_⊎_, inl, inr}
-use Prim.Native.Nat.{ℕ, zero, suc, _+_, _-_, _*_, _/_, _%_, _^_, _≤_, _<_, min}
+use mathlib.Core.Logic.{inl, inr}
+use Prim.Native.Nat.{ℕ, suc, _-_, _*_, _/_, _%_, _^_, _≤_, _<_, min}
 use native.Mathlib.Omega.{arith}
-use borrow.Author.Tests.{ltb-true, ltb-false, lt-ltb, le-ltb}
+use borrow.Author.Tests.{ltb-true, ltb-false, le-ltb}
 use lib.Dec.{ltb}
 use lib.ListN.{length}
 use lib.Ieee.{Float}
-use Rattle.doubles.proofs.Bools.{or-cases, by-cases, not-true, not-false, clash}
-use Rattle.refusal.specs.Refusal.{Cause, Due, NoneDue}
-use Rattle.spans.specs.Spans.{holds, ListOf}
+use Rattle.doubles.proofs.Bools.{or-cases, not-true, not-false, clash}
+use Rattle.refusal.specs.Refusal.{Due, NoneDue}
+use Rattle.spans.specs.Spans.{ListOf}
 use Rattle.grid.specs.Rays.{rayCount}
 use Rattle.grid.specs.declared.DexelStockSpec.{DexelStockSpec}
 use Rattle.grid.specs.declared.DexelGrid.{DexelGrid}
-use Rattle.store.specs.Updates.{Cells, Room}
-use Rattle.stock.specs.Stock.{Stock, SoundStock, SoundCells, Tells, short}
+use Rattle.store.specs.Updates.{Room}
+use Rattle.stock.specs.Stock.{Stock, SoundStock, Tells, short}
 use Rattle.stock.proofs.Causes.{room-of}
-use Rattle.runs.specs.Logs.{Ray, Kind, entries, entryCount, Commit}
-use Rattle.runs.specs.Model.{Short, Bad, NoRay, TooManyRays, TooManyIntervals, causes}
+use Rattle.runs.specs.Logs.{Ray, Kind, entries}
+use Rattle.runs.specs.Model.{Short, Bad, causes}
 use Rattle.runs.specs.Counts.{raysChanged, pairsLeft}
 use Rattle.runs.specs.Runs.{points}
 use Rattle.runs.specs.Lent.{listIn, lentStore}

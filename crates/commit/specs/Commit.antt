@@ -1,7 +1,7 @@
 -- What a log commit answers, and what it leaves in each cell of each buffer.
 use mathlib.Core.Path.{_≡_}
 use mathlib.Core.List.{List}
-use Prim.Native.Nat.{ℕ, suc, _+_, _-_, _*_, _/_, _%_, _^_, _≤_, _<_}
+use Prim.Native.Nat.{ℕ, _+_, _-_, _*_, _/_, _%_, _^_, _≤_, _<_}
 use lib.ListN.{length, replicate}
 use lib.Ieee.{Float}
 use Rattle.spans.specs.Results.{plusZero}
@@ -36,7 +36,7 @@ answerOf (Refused k) = refused k
 abbrev pub commitOf : (log : List Float) (allowance : ℕ) (work : List Float) → Commit
 commitOf log allowance work = record { log = log; allowance = allowance; work = length work / 2 }
 
--- 12 for the work buffer: fewer pairs than six for each interval of the budget and 18 for each entry
+-- the work pairs that document 01 asks for: six for each interval of the budget, and 18 for each entry
 abbrev pub workNeeded : ℕ → List Float → ℕ
 workNeeded n log = 6 * n + 18 * entryCount log
 
@@ -86,7 +86,7 @@ pub record Accepted (spec : DexelStockSpec) (g : DexelGrid) (s : Stock) (log wor
   pub past : Kept (spec .«max_intervals») (2 * rayCount g) (s .cells) (t .cells)
   pub cleared : work′ ≡ replicate (length work) plusZero
 
--- beside the stock, which the promise settles for a refused commit: the work buffer stays untouched then
+-- a refused commit leaves the work buffer untouched; that it leaves the stock is in the promise
 abbrev pub CellsLeft : (spec : DexelStockSpec) (g : DexelGrid) (s : Stock) (log work : List Float) → Committed → (t : Stock) (work′ : List Float) → Type 0
 CellsLeft spec g s log work (Changed m) t work′ = Accepted spec g s log work m t work′
 CellsLeft spec g s log work (Refused k) t work′ = work′ ≡ work

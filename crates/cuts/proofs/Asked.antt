@@ -1,12 +1,11 @@
 -- The updates that a log asks: in order, as many as rays change, and the lists that they leave.
-use mathlib.Core.Path.{_≡_, refl, sym, ap, _∙_, subst}
-use mathlib.Core.Bool.{Bool, true, false, _||_}
-use mathlib.Core.List.{List, [], _∷_}
-use Prim.Native.Nat.{ℕ, zero, suc, _+_, _*_, _%_, _≤_, _<_}
+use mathlib.Core.Path.{_≡_, refl, sym, _∙_, subst}
+use mathlib.Core.Bool.{false}
+use mathlib.Core.List.{List, _∷_}
+use Prim.Native.Nat.{ℕ, suc, _+_, _*_, _≤_, _<_}
 use native.Mathlib.Bridge.{le-prop}
 use native.Mathlib.Decide.{ℕ-discrete}
 use native.Mathlib.Omega.{arith}
-use lib.ListN.{length}
 use lib.Ieee.{Float}
 use Rattle.spans.specs.Spans.{holds, ListOf}
 use Rattle.spans.proofs.Sets.{sound-mod}
@@ -16,7 +15,7 @@ use Rattle.store.specs.Updates.{Update, update, Ascending, listAfter}
 use Rattle.store.specs.Updates.{none as no-more, next}
 use Rattle.store.proofs.Updating.{after-below, after-here, after-other}
 use Rattle.runs.specs.Logs.{Ray, Kind, possible, certain, Entry}
-use Rattle.runs.specs.Model.{without, Changes, Count, counted, skipped}
+use Rattle.runs.specs.Model.{Changes, Count, counted, skipped}
 use Rattle.runs.specs.Counts.{hitBy, hitsOn, changesRay}
 use Rattle.runs.specs.Lent.{listNumber}
 use Rattle.runs.proofs.Decided.{changes-by, stays, not-left, not-right}

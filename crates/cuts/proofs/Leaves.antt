@@ -1,18 +1,16 @@
 -- THE LAW OF A CUT: the updates that a log asks, done to a sound stock, leave what document 01 says of an accepted log.
 use mathlib.Core.Path.{_≡_, refl, sym, ap, ap₂, _∙_, subst}
 use mathlib.Core.List.{List}
-use Prim.Native.Nat.{ℕ, zero, suc, _+_, _-_, _*_, _/_, _≤_, _<_, min}
+use Prim.Native.Nat.{ℕ, _+_, _-_, _*_, _/_, _≤_, _<_, min}
 use native.Mathlib.Omega.{arith}
 use lib.ListN.{length}
-use lib.Ieee.{Float}
-use Rattle.spans.specs.Spans.{holds, ListOf}
+use Rattle.spans.specs.Spans.{holds}
 use Rattle.grid.specs.Rays.{rayCount, boundsOf}
 use Rattle.grid.specs.declared.DexelStockSpec.{DexelStockSpec}
 use Rattle.grid.specs.declared.DexelGrid.{DexelGrid}
-use Rattle.store.specs.Updates.{Cells, Update, Room, SoundStore, held, Ascending, Updated, pairsFreed, pairsLaid, listAfter, applied}
+use Rattle.store.specs.Updates.{Update, Room, Ascending, Updated, pairsFreed, pairsLaid, listAfter, applied}
 use Rattle.store.proofs.Updating.{freed-all, updated}
 use Rattle.stock.specs.Stock.{Stock, SoundStock, ValidAt}
-use Rattle.validity.specs.Ray.{ValidRay}
 use Rattle.runs.specs.Logs.{Ray, Kind, possible, certain, Entry, entries, Commit}
 use Rattle.runs.specs.Model.{without, Changes, Count, Lent}
 use Rattle.runs.specs.Model.{none as none-counted}

@@ -1,8 +1,8 @@
 -- The interval total after the updates is the number of pairs that the log leaves.
 use mathlib.Core.Path.{_≡_, refl, sym, ap, ap₂, _∙_, subst}
-use mathlib.Core.Bool.{Bool, true, false, not, _&&_}
+use mathlib.Core.Bool.{not, _&&_}
 use mathlib.Core.List.{List, [], _∷_}
-use Prim.Native.Nat.{ℕ, zero, suc, _+_, _-_, _*_, _/_, _≤_, _<_}
+use Prim.Native.Nat.{ℕ, suc, _+_, _-_, _*_, _/_, _≤_, _<_}
 use native.Mathlib.Bridge.{le-prop}
 use native.Mathlib.Nat.{le-refl, le-of-lt}
 use native.Mathlib.Omega.{arith}
@@ -17,8 +17,8 @@ use Rattle.store.specs.Updates.{Update, update, pairsFreed, pairsLaid}
 use Rattle.stock.specs.Stock.{Stock, SoundStock}
 use Rattle.runs.specs.Logs.{Ray, Kind, possible, certain, Entry}
 use Rattle.runs.specs.Model.{without, sumTo, sumOver, pairs}
-use Rattle.runs.specs.Counts.{startsLeft, hitsOn, changesRay, pairsLeft}
-use Rattle.runs.specs.Lent.{listNumber, listIn, lentStore}
+use Rattle.runs.specs.Counts.{startsLeft, hitsOn, pairsLeft}
+use Rattle.runs.specs.Lent.{listIn}
 use Rattle.runs.proofs.Decided.{without-hits}
 use Rattle.runs.proofs.Less.{same-list}
 use Rattle.runs.proofs.Starts.{pairs-left}

@@ -1,18 +1,14 @@
 -- The loops over all rays: what holds before each turn.
 use mathlib.Core.Path.{_≡_, refl, sym, ap, ap₂, _∙_, subst}
-use mathlib.Core.Bool.{Bool, true, false}
 use mathlib.Core.List.{List, [], _∷_, _++_}
-use mathlib.Core.Logic.{⊎-elim}
-use Prim.Native.Nat.{ℕ, zero, suc, _+_, _-_, _*_, _≤_, _<_}
+use Prim.Native.Nat.{ℕ, _+_, _-_, _*_, _≤_, _<_}
 use native.Mathlib.Nat.{zero-add}
 use native.Mathlib.Decide.{ℕ-discrete}
 use native.Mathlib.Omega.{arith}
-use lib.Dec.{eqb}
 use lib.ListN.{length}
 use lib.Ieee.{Float}
 use Rattle.store.specs.Store.{placesOf}
-use Rattle.store.specs.Fills.{Cursor}
-use Rattle.store.specs.Updates.{Cells, Update, Room, SoundStore, Kept, Freeable, Layable, freedList, freedAll, laidList, laidAll}
+use Rattle.store.specs.Updates.{Cells, Update, Room, SoundStore, Kept, Freeable, freedList, freedAll, laidList, laidAll}
 use Rattle.store.proofs.Replacing.{Replaced}
 use Rattle.store.proofs.Freeing.{freed-list, freed-kept}
 use Rattle.store.proofs.Updating.{kept-none, kept-then, kept-room, freed-append, laid-append}

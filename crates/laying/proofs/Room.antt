@@ -1,12 +1,12 @@
 -- A sound store with free records enough has room for each update in its turn.
-use mathlib.Core.Path.{_≡_, refl, sym, _∙_}
-use mathlib.Core.List.{List, [], _∷_, List·Memᴰ·head, List·Memᴰ·tail}
-use Prim.Native.Nat.{ℕ, suc, _+_, _/_, _≤_, _<_}
+use mathlib.Core.Path.{_≡_, refl, _∙_}
+use mathlib.Core.List.{List, [], List·Memᴰ·head, List·Memᴰ·tail}
+use Prim.Native.Nat.{ℕ, _+_, _/_, _≤_}
 use native.Mathlib.Omega.{arith}
 use lib.ListN.{length}
 use Rattle.store.specs.Store.{placesOf, freeFrom}
 use Rattle.store.specs.Fills.{Cursor}
-use Rattle.store.specs.Updates.{Cells, Update, SoundStore, Room, Kept, Layable, Ascending, none, next, pairsLaid, taken, laidList}
+use Rattle.store.specs.Updates.{Cells, Update, SoundStore, Room, Kept, Ascending, none, next, pairsLaid, taken, laidList}
 use Rattle.store.proofs.Replacing.{Replaced}
 use Rattle.store.proofs.FreePlaces.{free-records}
 use Rattle.store.proofs.Laying.{laid-list, laid-sound, laid-kept}

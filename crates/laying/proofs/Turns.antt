@@ -1,15 +1,12 @@
 -- One turn of freeing and of laying.
 use mathlib.Core.Path.{_≡_, refl, sym, ap, ap₂, _∙_, subst}
-use mathlib.Core.Bool.{Bool, true, false}
-use mathlib.Core.List.{List, [], _∷_, _++_}
-use Prim.Native.Nat.{ℕ, zero, suc, _+_, _-_, _*_, _≤_, _<_}
+use mathlib.Core.List.{List, [], _∷_}
+use Prim.Native.Nat.{ℕ, suc, _+_, _-_, _*_, _≤_}
 use native.Mathlib.Omega.{arith}
-use lib.Dec.{eqb}
 use lib.ListN.{length, take, drop}
 use lib.Ieee.{Float}
 use borrow.Author.Tests.{eq-eqb, ne-eqb}
 use Rattle.numbers.specs.Numbers.{numberAt}
-use Rattle.store.specs.Fills.{Cursor}
 use Rattle.store.specs.Updates.{Cells, Update, update, Layable, Laid, freedList, freedAll, laidList, laidAll}
 use Rattle.laying.specs.Updates.{between, firstSize, possibleCells, certainCells, updatesFrom, listsEnd}
 use Rattle.laying.specs.Steps.{PartLayable, EachLayable, RaysLayable, RaysLaid}

@@ -1,13 +1,12 @@
 -- What stands in a cell after a number is written.
-use mathlib.Core.Path.{_≡_, refl, sym, ap, _∙_}
-use mathlib.Core.Bool.{Bool, false, not}
+use mathlib.Core.Path.{_≡_, sym, ap, _∙_}
 use mathlib.Core.List.{List}
-use Prim.Native.Nat.{ℕ, _*_, _%_, _≤_, _<_}
+use Prim.Native.Nat.{ℕ, _*_, _≤_, _<_}
 use native.Mathlib.Nat.{mod-eq-of-lt}
 use native.Mathlib.Omega.{arith}
-use lib.Dec.{T, ltb}
+use lib.Dec.{ltb}
 use lib.ListN.{length, getD, set}
-use lib.Ieee.{Float, nan, binary64, ofBits, toBits, isNan}
+use lib.Ieee.{Float, nan, binary64, ofBits, toBits}
 use lib.Seq.{getD-set-same, getD-set-other}
 use lib.Ieee.Bits.{toBits-ofBits, nanBits-is, nanBits-above}
 use borrow.Author.Tests.{le-ltb}

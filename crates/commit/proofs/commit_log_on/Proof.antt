@@ -1,5 +1,4 @@
 use borrow.Author.Needs.{needs}
-use native.Mathlib.Omega.{arith}
 use mathlib.Core.Path.{sym, _∙_}
 use Rattle.gridding.proofs.Facts.{grid-facts}
 use Rattle.commit.proofs.Answers.{on-grid, no-grid}
