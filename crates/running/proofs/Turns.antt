@@ -1,0 +1,128 @@
+-- The loop over a list of log commits.
+use mathlib.Core.Path.{_≡_, refl, sym, ap, ap₂, _∙_, subst}
+use mathlib.Core.List.{List, [], _∷_, _++_}
+use native.Mathlib.Omega.{arith}
+use Prim.Native.Nat.{ℕ, zero, suc, _+_, _*_, _/_, _≤_, _<_}
+use lib.ListN.{length, getD, set, length-set}
+use lib.Seq.{getD-set-other, getD-set-same}
+use lib.Ieee.{Float}
+use Rattle.grid.specs.Grid.{gridOf}
+use Rattle.grid.specs.declared.DexelStockSpec.{DexelStockSpec}
+use Rattle.grid.specs.declared.DexelGrid.{DexelGrid}
+use Rattle.grid.specs.declared.Gridded.{Gridded}
+use Rattle.grid.specs.declared.Gridded.the-variants.{Accepted}
+use Rattle.stock.specs.Stock.{Stock, SoundStock}
+use Rattle.stock.specs.declared.Committed.{Committed}
+use Rattle.stock.specs.declared.Committed.the-variants.{Changed, Refused}
+use Rattle.runs.specs.Logs.{Commit}
+use Rattle.runs.specs.Model.{Answer}
+use Rattle.runs.specs.Runs.{Run, done}
+use Rattle.runs.specs.Runs.{Committed as CommitPromise}
+use Rattle.runs.specs.Lent.{lentStore, LogCommit}
+use Rattle.runs.proofs.Demand3.{extend}
+use Rattle.runs.proofs.Lent.{demand3-lent}
+use Rattle.commit.specs.Commit.{LogCommits, answerOf, commitOf}
+use Rattle.running.specs.Running.{beginOf, logFrom, commitAt, commitsTo, answerBy, answersTo, kindOf, numberOf, answered, Turned, Ran, RanOn}
+
+-- the two numbers of an answer tell it
+by-numbers : (a : Committed) → answerBy (kindOf a) (numberOf a) ≡ answerOf a
+by-numbers (Changed n) = refl
+by-numbers (Refused k) = refl
+
+-- answer i stands in its own two cells
+told-at : (answers : List ℕ) (i : ℕ) (a : Committed) → 2 * i + 1 < length answers
+    → answerBy (getD (answered answers i a) (2 * i) 0) (getD (answered answers i a) (2 * i + 1) 0) ≡ answerOf a
+told-at answers i a fits =
+    let first : getD (answered answers i a) (2 * i) 0 ≡ kindOf a =
+    getD-set-other (set answers (2 * i) (kindOf a)) (2 * i + 1) (2 * i) (numberOf a) 0 (λ (e : 2 * i ≡ 2 * i + 1). omega arith) ∙ getD-set-same answers (2 * i) (kindOf a) 0 (omega arith) in
+    let second : getD (answered answers i a) (2 * i + 1) 0 ≡ numberOf a =
+    getD-set-same (set answers (2 * i) (kindOf a)) (2 * i + 1) (numberOf a) 0 (omega (arith, length-set answers (2 * i) (kindOf a))) in
+    ap₂ answerBy first second ∙ by-numbers a
+
+-- and the answers before it stay
+told-before : (answers : List ℕ) (i : ℕ) (a : Committed) (k : ℕ) → k ≤ i → answersTo (answered answers i a) k ≡ answersTo answers k
+unfolding answersTo
+told-before answers i a zero h = refl
+told-before answers i a (suc k) h =
+    let same : (q : ℕ) → q < 2 * i → getD (answered answers i a) q 0 ≡ getD answers q 0 = λ q l.
+    getD-set-other (set answers (2 * i) (kindOf a)) (2 * i + 1) q (numberOf a) 0 (λ (e : q ≡ 2 * i + 1). omega arith) ∙ getD-set-other answers (2 * i) q (kindOf a) 0 (λ (e : q ≡ 2 * i). omega arith) in
+    ap₂ (λ (l : List Answer) (x : Answer). l ++ (x ∷ [])) (told-before answers i a k (omega arith)) (ap₂ answerBy (same (2 * k) (omega arith)) (same (2 * k + 1) (omega arith)))
+
+-- the first i commits are run, the next log begins at cell `at`, and each buffer has its size
+pub record RunTo (spec : DexelStockSpec) (units : List ℕ) (s : Stock) (logs : List Float) (ends allowances : List ℕ) (work₀ : List Float) (answers₀ : List ℕ) (i : ℕ) (t : Stock) (at : ℕ) (work : List Float) (answers : List ℕ) : Type 0 where
+  pub most : i ≤ length ends
+  pub begins : at ≡ beginOf ends i
+  pub run : (g : DexelGrid) → gridOf spec units ≡ Accepted g → Run spec g (lentStore spec g) s (commitsTo logs ends allowances (length work₀ / 2) i) (answersTo answers i) t
+  pub spans-size : length (t .cells .spans) ≡ length (s .cells .spans)
+  pub links-size : length (t .cells .links) ≡ length (s .cells .links)
+  pub heads-size : length (t .cells .heads) ≡ length (s .cells .heads)
+  pub work-size : length work ≡ length work₀
+  pub answers-size : length answers ≡ length answers₀
+
+pub run-start : (spec : DexelStockSpec) (units : List ℕ) (s : Stock) (logs : List Float) (ends allowances : List ℕ) (work : List Float) (answers : List ℕ) → RunTo spec units s logs ends allowances work answers 0 s 0 work answers
+unfolding commitsTo answersTo
+run-start spec units s logs ends allowances work answers = record {
+  most = omega arith;
+  begins = refl;
+  run = λ g e. done;
+  spans-size = refl;
+  links-size = refl;
+  heads-size = refl;
+  work-size = refl;
+  answers-size = refl;
+}
+
+-- a commit on a description that `grid` accepts is a step of a run
+on-grid : (spec : DexelStockSpec) (units : List ℕ) (g : DexelGrid) (s t : Stock) (c : Commit) (a : Answer) → gridOf spec units ≡ Accepted g → LogCommit (gridOf spec units) spec s c a t → CommitPromise spec g (lentStore spec g) s c a t
+unfolding LogCommit
+on-grid spec units g s t c a e x = subst (λ (r : Gridded). LogCommit r spec s c a t) e x
+
+pub run-next : (spec : DexelStockSpec) (units : List ℕ) (s : Stock) (logs : List Float) (ends allowances : List ℕ) (work₀ : List Float) (answers₀ : List ℕ) (i : ℕ) (t : Stock) (at : ℕ) (work : List Float) (answers : List ℕ)
+    (u : Stock) (work′ : List Float) (answers′ : List ℕ)
+    → RunTo spec units s logs ends allowances work₀ answers₀ i t at work answers → i < length ends → 2 * length ends ≤ length answers₀
+    → Turned spec units t (logFrom logs at (getD ends i 0)) (getD allowances i 0) work answers i u work′ answers′
+    → length (u .cells .spans) ≡ length (t .cells .spans) → length (u .cells .links) ≡ length (t .cells .links) → length (u .cells .heads) ≡ length (t .cells .heads)
+    → length work′ ≡ length work → length answers′ ≡ length answers
+    → RunTo spec units s logs ends allowances work₀ answers₀ (i + 1) u (getD ends i 0) work′ answers′
+unfolding commitsTo answersTo
+run-next spec units s logs ends allowances work₀ answers₀ i t at work answers u work′ answers′ r below room x za zb zc zw zn = record {
+  most = omega arith;
+  begins = begins;
+  run = λ g e.
+      subst (λ (vs : List Answer). Run spec g (lentStore spec g) s (commitsTo logs ends allowances (length work₀ / 2) (i + 1)) vs u) (sym answers-are)
+      (subst (λ (k : ℕ). Run spec g (lentStore spec g) s (commitsTo logs ends allowances (length work₀ / 2) k) (answersTo answers i ++ (answerOf (x .answer) ∷ [])) u) one-more
+      (extend spec g (lentStore spec g) (r .run g e) (on-grid spec units g t u (commitAt logs ends allowances (length work₀ / 2) i) (answerOf (x .answer)) e
+      (subst (λ (c : Commit). LogCommit (gridOf spec units) spec t c (answerOf (x .answer)) u) same-commit (x .commits .promise)))));
+  spans-size = za ∙ r .spans-size;
+  links-size = zb ∙ r .links-size;
+  heads-size = zc ∙ r .heads-size;
+  work-size = zw ∙ r .work-size;
+  answers-size = zn ∙ r .answers-size;
+}
+  where
+    one-more : suc i ≡ i + 1
+    one-more = omega arith
+
+    begins : getD ends i 0 ≡ beginOf ends (i + 1)
+    begins = ap (beginOf ends) one-more
+
+    same-commit : commitOf (logFrom logs at (getD ends i 0)) (getD allowances i 0) work ≡ commitAt logs ends allowances (length work₀ / 2) i
+    same-commit = ap₂ (λ (b : ℕ) (w : ℕ). record { log = logFrom logs b (getD ends i 0); allowance = getD allowances i 0; work = w }) (r .begins) (ap (λ (n : ℕ). n / 2) (r .work-size))
+
+    fits : 2 * i + 1 < length answers
+    fits = omega (arith, r .answers-size)
+
+    answers-are : answersTo answers′ (i + 1) ≡ answersTo answers i ++ (answerOf (x .answer) ∷ [])
+    answers-are =
+        ap (answersTo answers′) (sym one-more) ∙ ap (λ (l : List ℕ). answersTo l (suc i)) (x .told)
+        ∙ ap₂ (λ (l : List Answer) (v : Answer). l ++ (v ∷ [])) (told-before answers i (x .answer) i (omega arith)) (told-at answers i (x .answer) fits)
+
+pub run-end : (spec : DexelStockSpec) (units : List ℕ) (s : Stock) (logs : List Float) (ends allowances : List ℕ) (work₀ : List Float) (answers₀ : List ℕ) (i : ℕ) (t : Stock) (at : ℕ) (work : List Float) (answers : List ℕ)
+    → RunTo spec units s logs ends allowances work₀ answers₀ i t at work answers → length ends ≤ i
+    → RanOn spec units s (commitsTo logs ends allowances (length work₀ / 2) (length ends)) (answersTo answers (length ends)) t
+unfolding RanOn
+run-end spec units s logs ends allowances work₀ answers₀ i t at work answers r past g e =
+    let all : i ≡ length ends = omega (arith, r .most) in
+    let run : Run spec g (lentStore spec g) s (commitsTo logs ends allowances (length work₀ / 2) (length ends)) (answersTo answers (length ends)) t =
+    subst (λ (k : ℕ). Run spec g (lentStore spec g) s (commitsTo logs ends allowances (length work₀ / 2) k) (answersTo answers k) t) all (r .run g e) in
+    record { run = run; settled = λ sound. demand3-lent spec g .settles s t (commitsTo logs ends allowances (length work₀ / 2) (length ends)) (answersTo answers (length ends)) sound run }
