@@ -1,31 +1,16 @@
 -- A ray stays valid when a log takes points from it.
 use mathlib.Core.Path.{_≡_, refl, sym, ap, _∙_}
-use mathlib.Core.Bool.{Bool, true, false, not, _&&_, _||_}
-use mathlib.Core.List.{List, [], _∷_}
-use lib.Ieee.{Float, le}
+use mathlib.Core.Bool.{Bool, true, false, not, _||_}
+use mathlib.Core.List.{List}
+use lib.Ieee.{Float}
 use Rattle.doubles.proofs.Bools.{and-left, and-right, both, not-true, clash}
-use Rattle.spans.specs.Spans.{holds, sound, Within}
-use Rattle.validity.specs.Ray.{bounded, ValidRay}
-use Rattle.merge.specs.Ray.{bounded as boundedPairs}
+use Rattle.spans.specs.Spans.{holds, Within}
+use Rattle.validity.specs.Ray.{ValidRay}
 use Rattle.merge.proofs.Rays.{bounded-within}
 use Rattle.grid.specs.declared.DexelGrid.{DexelGrid}
 use Rattle.runs.specs.Logs.{Ray, Kind, possible, certain, Entry, outer, inner, pairsOn, taken}
 use Rattle.runs.specs.Model.{without}
 use Rattle.cuts.specs.Merges.{LeftOf}
-
--- the two definitions of "within the bounds" are one
-and-assoc : (a b c : Bool) → (a && (b && c)) ≡ ((a && b) && c)
-and-assoc true b c = refl
-and-assoc false b c = refl
-
-same-bounds : (lo hi : Float) (l : List Float) → bounded lo hi l ≡ boundedPairs lo hi l
-unfolding bounded boundedPairs
-same-bounds lo hi [] = refl
-same-bounds lo hi (x ∷ l) = and-assoc (le lo x) (le x hi) (bounded lo hi l) ∙ ap (λ (b : Bool). (le lo x && le x hi) && b) (same-bounds lo hi l)
-
--- a sound list whose points lie in a bounded list is bounded
-pub bounded-by : (lo hi : Float) (m l : List Float) → bounded lo hi m ≡ true → sound l ≡ true → Within m l → bounded lo hi l ≡ true
-bounded-by lo hi m l b s w = same-bounds lo hi l ∙ bounded-within lo hi m l (sym (same-bounds lo hi m) ∙ b) s w
 
 module _ (g : DexelGrid) (lists : Ray g → Kind → List Float) (es : List Entry) (r : Ray g) where
   -- what is left of a list lies in it
@@ -52,7 +37,7 @@ module _ (g : DexelGrid) (lists : Ray g → Kind → List Float) (es : List Entr
   still-valid lo hi v p c a b = record {
     possible-sound = a .isSound;
     certain-sound = b .isSound;
-    possible-bounded = bounded-by lo hi (lists r possible) p (v .possible-bounded) (a .isSound) (left-within possible p a);
-    certain-bounded = bounded-by lo hi (lists r certain) c (v .certain-bounded) (b .isSound) (left-within certain c b);
+    possible-bounded = bounded-within lo hi (lists r possible) p (v .possible-bounded) (a .isSound) (left-within possible p a);
+    certain-bounded = bounded-within lo hi (lists r certain) c (v .certain-bounded) (b .isSound) (left-within certain c b);
     inside = λ x h. a .points x ∙ both (holds (lists r possible) x) (not (taken g es r possible x)) (v .inside x (left-within certain c b x h)) (ap not (spared x (left-out certain c b x h)));
   }
