@@ -121,4 +121,3 @@ gridOf s units =
     cond (not (isMm units)) (Refused 1)
     (cond (misdescribed s (sizesOf s) (extentsOf s)) (Refused 1)
     (gridOver s (extentsOf s) (dimsOf (extentsOf s) (sizesOf s))))
-
