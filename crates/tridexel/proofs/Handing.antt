@@ -1,5 +1,5 @@
 -- The numbers that C gets stand for the entry's answer: no refusal has the number 0.
-use mathlib.Core.Path.{_≡_, refl, sym, subst}
+use mathlib.Core.Path.{_≡_, refl, sym, ap, subst}
 use mathlib.Core.Bool.{Bool}
 use mathlib.Core.List.{List, [], _∷_}
 use mathlib.Core.Logic.{inl, inr}
@@ -7,13 +7,25 @@ use native.Mathlib.Omega.{arith}
 use Prim.Native.Nat.{ℕ, zero, suc, _<_}
 use lib.Ieee.{Float}
 use Rattle.comparing.specs.Verdicts.{compareCauses}
-use Rattle.gridding.specs.Causes.{gridCauses}
+use Rattle.gridding.specs.Causes.{gridCauses, ByCauses}
+use Rattle.gridding.specs.Grid.{gridOf}
+use Rattle.gridding.proofs.Causes.{grid-by-causes}
+use Rattle.grid.specs.declared.Gridded.{Gridded}
+use Rattle.grid.specs.declared.Gridded.the-variants.{Accepted, Refused}
 use Rattle.grid.specs.declared.DexelStockSpec.{DexelStockSpec}
 use Rattle.refusal.specs.Refusal.{Cause, Due}
 use Rattle.spans.specs.Results.{listCauses}
 use Rattle.stock.specs.Uncut.{fillCauses}
 use Rattle.stock.specs.Volume.{volumeCauses}
+use Rattle.stock.specs.Stock.{Stock, SoundStock}
+use Rattle.stock.specs.declared.Committed.{Committed}
 use Rattle.store.specs.Updates.{Cells}
+use Rattle.change_commit.specs.Commit.{commitCauses}
+use Rattle.commit.specs.Commit.{LogCommits, answerOf, commitOf}
+use Rattle.runs.specs.Logs.{Commit}
+use Rattle.runs.specs.Model.{Answer, changed, refused, causes, Judged}
+use Rattle.runs.specs.Lent.{LogCommit, lentStore}
+use Rattle.runs.specs.Runs.{points}
 use Rattle.tridexel.specs.Numbers.{AnsweredBy, HandedAs}
 
 -- each cause's number is above 0
@@ -59,3 +71,27 @@ pub volume-above : (s : DexelStockSpec) (units : List ℕ) (c : Cells) (interval
 unfolding gridCauses
 volume-above s units c intervals k =
     due-above (volumeCauses s units c intervals) k (omega arith, (omega arith, (omega arith, (omega arith, (omega arith, (omega arith, tt))))))
+
+pub changes-above : (spec : DexelStockSpec) (units : List ℕ) (base : ℕ) (s : Stock) (changes : List ℕ) (pairs : List Float) (k : ℕ) → Due (commitCauses spec units base s changes pairs) k → 0 < k
+unfolding gridCauses
+changes-above spec units base s changes pairs k =
+    due-above (commitCauses spec units base s changes pairs) k
+    (omega arith, (omega arith, (omega arith, (omega arith, (omega arith, (omega arith, (omega arith, (omega arith, (omega arith, (omega arith, tt))))))))))
+
+-- the number of an answer
+number : Answer → ℕ
+number (changed n) = n
+number (refused k) = k
+
+log-above : (spec : DexelStockSpec) (units : List ℕ) (s t : Stock) (c : Commit) (k : ℕ) (r : Gridded) → ByCauses spec units r → LogCommit r spec s c (refused k) t → 0 < k
+unfolding LogCommit Judged causes number
+log-above spec units s t c k (Accepted g) b p =
+    due-above (causes spec g (lentStore spec g .lent s) (¬ SoundStock spec g s) (points g (lentStore spec g) s) (s .generation) c) k
+    (omega arith, (omega arith, (omega arith, (omega arith, (omega arith, (omega arith, tt)))))) (p .answers)
+log-above spec units s t c k (Refused j) b p = subst (λ (x : ℕ). 0 < x) (same k j (p .0)) (grid-above spec units j b)
+  where
+    same : (k j : ℕ) → refused k ≡ refused j → j ≡ k
+    same k j e = ap number (sym e)
+
+pub commit-above : (spec : DexelStockSpec) (units : List ℕ) (s t : Stock) (log : List Float) (allowance : ℕ) (work work′ : List Float) (k : ℕ) → LogCommits spec units s log allowance work (Committed.Refused k) t work′ → 0 < k
+commit-above spec units s t log allowance work work′ k p = log-above spec units s t (commitOf log allowance work) k (gridOf spec units) (grid-by-causes spec units) (p .promise)

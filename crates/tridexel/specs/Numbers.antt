@@ -15,6 +15,7 @@ use Rattle.spans.specs.declared.Listed.the-variants.{Pairs}
 use Rattle.stock.specs.declared.Tally.{Tally}
 use Rattle.stock.specs.declared.Filled.{Filled}
 use Rattle.stock.specs.declared.Measured.{Measured}
+use Rattle.stock.specs.declared.Committed.{Committed}
 
 -- What a C function leaves, where `numbers` says which numbers an accepted answer is handed back as. Accepted: the caller's numbers are those of an
 -- answer of which the entry's own promise holds. Refused: the promise holds of the refusal with this number, and the caller's numbers are as before.
@@ -88,3 +89,8 @@ volumeNumbers (Measured.Accepted v) n =
     ∷ v .«removed_upper_mm3»
     ∷ [])
 volumeNumbers (Measured.Refused k) n = ⊥
+
+-- how many rays a commit changed
+abbrev pub committedNumbers : Committed → ℕ → Type 0
+committedNumbers (Committed.Changed n) changed = changed ≡ n
+committedNumbers (Committed.Refused k) changed = ⊥

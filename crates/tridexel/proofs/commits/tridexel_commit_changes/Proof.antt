@@ -1,0 +1,29 @@
+-- `tridexel::commits::tridexel_commit_changes` meets its contract.
+use Rattle.tridexel.proofs.Handing.{answered, changes-above}
+use Rattle.stock.specs.Outcomes.{stock}
+use borrow.Author.Needs.{needs}
+use Rattle.tridexel.proofs.commits.tridexel_commit_changes.Statement.{statement}
+use Rattle.tridexel.proofs.commits.tridexel_commit_changes.Tie as tie
+
+commit-changes-on-requires : tie.Need-commit-changes-on-requires
+commit-changes-on-requires c κs = search needs
+
+hand-committed-requires : tie.Need-hand-committed-requires
+hand-committed-requires c κs = search needs
+
+same-length : tie.Need-same-length
+same-length c = search needs
+
+same-length-2 : tie.Need-same-length-2
+same-length-2 c = search needs
+
+same-length-3 : tie.Need-same-length-3
+same-length-3 c = search needs
+
+returns : tie.Need-returns
+returns c =
+    let a = c .before .before .before .before .before .before .before .before .before .before .before .before .before .before .before .before .before .before .before .before .args in
+    answered _ _ _ (c .before .before .before .before .before .before .before .before .commit-changes-on .result .answer) _ _ _ (λ k p. changes-above (a .spec) (a .units .now) (a .base) (stock (a .spans .now) (a .links .now) (a .heads .now) (a .generation .now) (a .intervals .now)) (a .changes .now) (a .pairs .now) k (p .0)) (c .before .before .before .before .before .before .before .before .commit-changes-on .ensures) (c .hand-committed .ensures)
+
+pub tridexel-commit-changes-spec : {M : Type 1} → statement M
+tridexel-commit-changes-spec = tie.close (tie.spec commit-changes-on-requires hand-committed-requires same-length same-length-2 same-length-3 returns)

@@ -1,0 +1,100 @@
+// The two commits. The small record is two numbers that the caller keeps; a refused commit leaves both as they were.
+ghost use mathlib.Core.Path.{_≡_};
+ghost use Rattle.change_commit.specs.Commit.{ChangeCommits};
+ghost use Rattle.commit.specs.Commit.{LogCommits};
+ghost use Rattle.stock.specs.Outcomes.{stock};
+ghost use Rattle.stock.specs.declared.Committed.{Committed};
+ghost use Rattle.tridexel.specs.Numbers.{AnsweredBy, HandedAs, committedNumbers};
+use grid::DexelStockSpec;
+use stock::Committed;
+
+// Hands the number of changed rays back.
+fn hand_committed(a: Committed, changed: &mut u64) -> u32
+    ensures { λ r. ⌜ HandedAs committedNumbers Committed.Refused a r (now (changed .entry)) (now (changed .exit)) ⌝ }
+{
+    match a {
+        Committed::Changed(n) => {
+            *changed = n;
+            return 0;
+        }
+        Committed::Refused(k) => {
+            return k;
+        }
+    }
+}
+
+// `change_commit::commit_changes`; `changed` becomes the number of changed rays.
+#[no_mangle]
+pub extern "C" fn tridexel_commit_changes(
+    spec: DexelStockSpec,
+    units: &[u8],
+    spans: &mut [f64],
+    links: &mut [u64],
+    heads: &mut [u64],
+    generation: &mut u64,
+    intervals: &mut u64,
+    base: u64,
+    changes: &[u64],
+    pairs: &[f64],
+    changed: &mut u64,
+) -> u32
+    ensures { λ r. ⌜ AnsweredBy committedNumbers Committed.Refused (ChangeCommits spec (now (units .entry)) base (now (changes .entry)) (now (pairs .entry))
+        (stock (now (spans .entry)) (now (links .entry)) (now (heads .entry)) (now (generation .entry)) (now (intervals .entry)))
+        (stock (now (spans .exit)) (now (links .exit)) (now (heads .exit)) (now (generation .exit)) (now (intervals .exit)))) r
+        (now (changed .entry)) (now (changed .exit)) ⌝ }
+{
+    let done = change_commit::commit_changes_on(
+        *generation,
+        *intervals,
+        spec,
+        units,
+        spans,
+        links,
+        heads,
+        base,
+        changes,
+        pairs,
+    );
+    *generation = done.generation;
+    *intervals = done.intervals;
+    let a = done.answer;
+    hand_committed(a, changed)
+}
+
+// `commit::commit_log`; `changed` becomes the number of changed rays.
+#[no_mangle]
+pub extern "C" fn tridexel_commit_log(
+    spec: DexelStockSpec,
+    units: &[u8],
+    spans: &mut [f64],
+    links: &mut [u64],
+    heads: &mut [u64],
+    generation: &mut u64,
+    intervals: &mut u64,
+    log: &[f64],
+    allowance: u64,
+    work: &mut [f64],
+    changed: &mut u64,
+) -> u32
+    ensures { λ r. ⌜ AnsweredBy committedNumbers Committed.Refused (λ a. LogCommits spec (now (units .entry))
+        (stock (now (spans .entry)) (now (links .entry)) (now (heads .entry)) (now (generation .entry)) (now (intervals .entry))) (now (log .entry)) allowance (now (work .entry)) a
+        (stock (now (spans .exit)) (now (links .exit)) (now (heads .exit)) (now (generation .exit)) (now (intervals .exit))) (now (work .exit))) r
+        (now (changed .entry)) (now (changed .exit)) ⌝ }
+{
+    let done = commit::commit_log_on(
+        *generation,
+        *intervals,
+        spec,
+        units,
+        spans,
+        links,
+        heads,
+        log,
+        allowance,
+        work,
+    );
+    *generation = done.generation;
+    *intervals = done.intervals;
+    let a = done.answer;
+    hand_committed(a, changed)
+}
