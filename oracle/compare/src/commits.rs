@@ -1,13 +1,144 @@
-//! Runs of commits on one store. A port's entries come in as `Entries`: the C exports of the two commits implement it, and a line in `modules` then lists
-//! these functions.
+//! Runs of commits on one store, change lists and logs, through the C exports of the two commits.
 use crate::{
     explained::Explained,
     function::{Function, Outcome, Words},
+    grid::vec3,
 };
 use harness::{
-    commits::{Commit, Entries, Run, edges, run},
-    store::Match,
+    commits::{Commit, Entries, Run, Tally, edges, run},
+    store::{LentStore, Match},
 };
+use oracle::dexel::DexelStockSpec;
+
+mod raw {
+    use crate::grid::DexelStockSpec;
+    unsafe extern "C" {
+        pub fn tridexel_commit_changes(
+            spec: DexelStockSpec,
+            units: *const u8,
+            units_len: usize,
+            spans: *mut f64,
+            spans_len: usize,
+            links: *mut u64,
+            links_len: usize,
+            heads: *mut u64,
+            heads_len: usize,
+            generation: *mut u64,
+            intervals: *mut u64,
+            base: u64,
+            changes: *const u64,
+            changes_len: usize,
+            pairs: *const f64,
+            pairs_len: usize,
+            changed: *mut u64,
+        ) -> u32;
+        pub fn tridexel_commit_log(
+            spec: DexelStockSpec,
+            units: *const u8,
+            units_len: usize,
+            spans: *mut f64,
+            spans_len: usize,
+            links: *mut u64,
+            links_len: usize,
+            heads: *mut u64,
+            heads_len: usize,
+            generation: *mut u64,
+            intervals: *mut u64,
+            log: *const f64,
+            log_len: usize,
+            allowance: u64,
+            work: *mut f64,
+            work_len: usize,
+            changed: *mut u64,
+        ) -> u32;
+    }
+}
+
+const UNITS: &[u8] = b"mm";
+
+fn described(s: &DexelStockSpec) -> crate::grid::DexelStockSpec {
+    crate::grid::DexelStockSpec {
+        version: s.version,
+        min_mm: vec3(s.min_mm),
+        max_mm: vec3(s.max_mm),
+        cell_size_mm: s.cell_size_mm,
+        max_rays: s.max_rays as u64,
+        max_intervals: s.max_intervals as u64,
+    }
+}
+
+/// The port's entries.
+pub struct Port;
+
+impl Entries for Port {
+    fn commit_changes(
+        &self,
+        spec: &DexelStockSpec,
+        store: &mut LentStore,
+        tally: &mut Tally,
+        base: u64,
+        changes: &[u64],
+        pairs: &[f64],
+        changed: &mut u64,
+    ) -> u32 {
+        let (spans, links, heads) = (store.spans.cells(), store.links.cells(), store.heads.cells());
+        unsafe {
+            raw::tridexel_commit_changes(
+                described(spec),
+                UNITS.as_ptr(),
+                UNITS.len(),
+                spans.as_mut_ptr(),
+                spans.len(),
+                links.as_mut_ptr(),
+                links.len(),
+                heads.as_mut_ptr(),
+                heads.len(),
+                &mut tally.generation,
+                &mut tally.intervals,
+                base,
+                changes.as_ptr(),
+                changes.len(),
+                pairs.as_ptr(),
+                pairs.len(),
+                changed,
+            )
+        }
+    }
+
+    fn commit_log(
+        &self,
+        spec: &DexelStockSpec,
+        store: &mut LentStore,
+        tally: &mut Tally,
+        log: &[f64],
+        allowance: u64,
+        work: &mut [f64],
+        changed: &mut u64,
+    ) -> u32 {
+        let (spans, links, heads) = (store.spans.cells(), store.links.cells(), store.heads.cells());
+        unsafe {
+            raw::tridexel_commit_log(
+                described(spec),
+                UNITS.as_ptr(),
+                UNITS.len(),
+                spans.as_mut_ptr(),
+                spans.len(),
+                links.as_mut_ptr(),
+                links.len(),
+                heads.as_mut_ptr(),
+                heads.len(),
+                &mut tally.generation,
+                &mut tally.intervals,
+                log.as_ptr(),
+                log.len(),
+                allowance,
+                work.as_mut_ptr(),
+                work.len(),
+                changed,
+            )
+        }
+    }
+}
 
 impl Words for Commit {
     fn words(&self) -> String {
@@ -36,6 +167,6 @@ pub fn compare_run(r: &Run, port: &impl Entries) -> Outcome {
     }
 }
 
-pub fn functions(port: impl Entries + 'static) -> Vec<Function> {
-    vec![Function::new("runs", edges(), run, move |r| compare_run(r, &port))]
+pub fn functions() -> Vec<Function> {
+    vec![Function::new("runs", edges(), run, |r| compare_run(r, &Port))]
 }

@@ -61,7 +61,7 @@ mod raw {
     }
 }
 
-fn vec3(p: [f64; 3]) -> Vec3 {
+pub fn vec3(p: [f64; 3]) -> Vec3 {
     Vec3 { x: p[0], y: p[1], z: p[2] }
 }
 

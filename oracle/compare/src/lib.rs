@@ -26,5 +26,6 @@ pub fn modules() -> Vec<(&'static str, Vec<Function>)> {
         ("stock", stock::functions()),
         ("program", program::functions()),
         ("sweep", sweep::functions()),
+        ("commits", commits::functions()),
     ]
 }
