@@ -1,0 +1,137 @@
+/* Tri-dexel stock rays: the C interface of libtridexel.a (tridexel_sweep: libtridexel_sweep.a).
+ *
+ * Every function takes arbitrary numbers and bytes, always returns, allocates nothing and keeps nothing between calls. The result is document 01's
+ * refusal number, 0 where the call is accepted. A refused call leaves every buffer and every number as it was; the one exception is named at
+ * tridexel_sweep. A number is given exactly when its cause holds and none before it, in the order named at the function, does.
+ *
+ *   1 description        2 more cells or rays than max_rays   3 twice the rays exceed max_intervals   4 a step below the resolution
+ *   5 beam               6 tool                               7 chord or guard                        8 a visit beyond the budget
+ *   9 more changed rays than allowed   10 more intervals than max_intervals   11 a list or store not sound, part of an item over
+ *  12 a buffer shorter than needed     13 a bad change        14 base generation differs              15 generation at its maximum
+ *  16 log full at a hit                17 a log entry that names no ray
+ *
+ * A slice is a pointer and the number of its items; the pointer of an empty slice is that of any object, not NULL. Slices and numbers that are written
+ * overlap no other of the call. Numbers are IEEE 754 binary64; lengths are millimetres, volumes cubic millimetres.
+ */
+#ifndef TRIDEXEL_H
+#define TRIDEXEL_H
+
+#include <stddef.h>
+#include <stdint.h>
+
+#ifdef __cplusplus
+extern "C" {
+#endif
+
+/* ---- span lists: doubles lo, hi per pair, where a pair holds each p with lo <= p < hi. A list is sound when in each pair lo < hi, and each hi
+ * is below the next lo. */
+
+/* The sound list of arbitrary pairs: those without lo < hi (NaN too) are dropped, touching ones joined. `out` needs as many pairs as `spans` has.
+ * Accepted: `*pairs` pairs stand at the start of `out`, every cell past them is plus zero. Refusals: 12, 11 (part of a pair over). */
+uint32_t tridexel_normalize(const double *spans, size_t spans_len, double *out, size_t out_len, size_t *pairs);
+
+/* The sound list of the points of a that are not in b; of the points in both. `out` needs as many pairs as both lists together; it is left as by
+ * tridexel_normalize. Refusals: 12, 11 (a list not sound). */
+uint32_t tridexel_subtract(const double *a, size_t a_len, const double *b, size_t b_len, double *out, size_t out_len, size_t *pairs);
+uint32_t tridexel_intersect(const double *a, size_t a_len, const double *b, size_t b_len, double *out, size_t out_len, size_t *pairs);
+
+/* Whether each point of inner is in outer; whether some point is in both. `*yes` becomes 1 or 0. Refusal: 11 (a list not sound). */
+uint32_t tridexel_contains(const double *outer, size_t outer_len, const double *inner, size_t inner_len, uint32_t *yes);
+uint32_t tridexel_overlaps(const double *a, size_t a_len, const double *b, size_t b_len, uint32_t *yes);
+
+/* The cells that tridexel_merge needs of `work`, for so many pairs of the ray and of its hits. */
+#define TRIDEXEL_MERGE_WORK(ray_pairs, hit_pairs) (2 * (4 * (size_t)(ray_pairs) + 8 * (size_t)(hit_pairs)))
+
+/* One ray: possible loses the inner hits, certain the outer and the inner ones. lo and hi are the ray's bounds. For possible [0] and certain [1],
+ * `moved` becomes 1 where the list changed, else 0, and `pairs` its number of pairs. A list that did not move is the caller's own; the new ones stand
+ * at the start of `work`, possible's before certain's, and every cell past them is plus zero. Refusals: 12, 11 (part of a pair over; a ray not valid
+ * within its bounds). */
+uint32_t tridexel_merge(const double *possible, size_t possible_len, const double *certain, size_t certain_len, double lo, double hi,
+                        const double *outer, size_t outer_len, const double *inner, size_t inner_len, double *work, size_t work_len,
+                        uint32_t moved[2], size_t pairs[2]);
+
+/* ---- stocks */
+
+typedef struct {
+  double x, y, z;
+} tridexel_vec3;
+
+/* A blank's description. `units` beside it are the two bytes "mm". */
+typedef struct {
+  uint32_t version; /* 1 */
+  tridexel_vec3 min_mm, max_mm;
+  double cell_size_mm;
+  uint64_t max_rays;
+  uint64_t max_intervals;
+} tridexel_spec;
+
+/* Cells and steps along x, y, z. Rays along x are cells[1] * cells[2], and so on round; in all c0 c1 + c1 c2 + c2 c0. Refusals: 1, 2, 3, 4. */
+uint32_t tridexel_grid(tridexel_spec spec, const uint8_t *units, size_t units_len, uint64_t cells[3], double steps[3]);
+
+/* The lent store of a stock: `spans` lo, hi per record; `links` next, owner per record; `heads` the first record of possible's list and of certain's per
+ * ray, zero for an empty list. Records are numbered from 1. max_intervals records (2 * max_intervals cells of spans and of links) and 2 heads per ray count;
+ * cells past these are neither read nor written. The generation and the interval total are two numbers that the caller keeps. */
+
+/* Lays the uncut stock: one full pair in each list. Refusals: 1 to 4, 12. */
+uint32_t tridexel_fill(tridexel_spec spec, const uint8_t *units, size_t units_len, double *spans, size_t spans_len, uint64_t *links, size_t links_len,
+                       uint64_t *heads, size_t heads_len, uint64_t *generation, uint64_t *intervals);
+
+/* Ten numbers: certain and possible by the rays along x, then y, then z; remaining lower, upper; removed lower, upper. Refusals: 1 to 4, 12, 11. */
+uint32_t tridexel_volume(tridexel_spec spec, const uint8_t *units, size_t units_len, const double *spans, size_t spans_len, const uint64_t *links,
+                         size_t links_len, const uint64_t *heads, size_t heads_len, uint64_t intervals, double volume[10]);
+
+/* Commits a change list made on the stock at generation `base`. `changes`: six numbers per change, axis (0 to 2), index, and the pairs of its four lists
+ * (possible and certain before, possible and certain after); `pairs`: those lists end to end. Rays ascend by axis, then index. Accepted: the lists of all
+ * changed rays are freed, then laid in ray order, the generation steps, `*changed` becomes the number of changes. Refusals: 1 to 4, 12, 11, 14, 13, 10, 15. */
+uint32_t tridexel_commit_changes(tridexel_spec spec, const uint8_t *units, size_t units_len, double *spans, size_t spans_len, uint64_t *links,
+                                 size_t links_len, uint64_t *heads, size_t heads_len, uint64_t *generation, uint64_t *intervals, uint64_t base,
+                                 const uint64_t *changes, size_t changes_len, const double *pairs, size_t pairs_len, uint64_t *changed);
+
+/* The cells that tridexel_commit_log needs of `work`. */
+#define TRIDEXEL_LOG_WORK(max_intervals, entries) (12 * (size_t)(max_intervals) + 36 * (size_t)(entries))
+
+/* Commits a log: six doubles per entry, axis, index, outer lo, hi, inner lo, hi. possible loses the inner hits of each ray, certain the outer and the
+ * inner ones; at most `allowance` rays may change. Accepted: the store and both numbers are as after a change list, `*changed` becomes the number of rays whose
+ * sets changed, `work` is all plus zero. Refusals: 1 to 4, 12, 11, 15, 17, 9, 10. */
+uint32_t tridexel_commit_log(tridexel_spec spec, const uint8_t *units, size_t units_len, double *spans, size_t spans_len, uint64_t *links,
+                             size_t links_len, uint64_t *heads, size_t heads_len, uint64_t *generation, uint64_t *intervals, const double *log,
+                             size_t log_len, uint64_t allowance, double *work, size_t work_len, uint64_t *changed);
+
+/* ---- the lateral sweep */
+
+/* The direction from the tool's tip toward the spindle. */
+enum { TRIDEXEL_POS_X, TRIDEXEL_NEG_X, TRIDEXEL_POS_Y, TRIDEXEL_NEG_Y, TRIDEXEL_POS_Z, TRIDEXEL_NEG_Z };
+
+/* Shapes, and their own numbers m, n: corner radius; point angle; included angle, tip diameter; flank angle (angles in radians). */
+enum {
+  TRIDEXEL_FLAT,
+  TRIDEXEL_BALL,
+  TRIDEXEL_BULL,    /* m: corner radius */
+  TRIDEXEL_DRILL,   /* m: point angle */
+  TRIDEXEL_CHAMFER, /* m: included angle, n: tip diameter */
+  TRIDEXEL_BEAM,    /* refused with 5 */
+  TRIDEXEL_PROBE,
+  TRIDEXEL_LOLLIPOP,
+  TRIDEXEL_DOVETAIL /* m: flank angle */
+};
+
+/* A cutter's numbers beside its shape. Where there is no neck its diameter is the shank's. */
+typedef struct {
+  double diameter_mm, cutting_length_mm, overall_length_mm, neck_diameter_mm, shank_diameter_mm;
+  double radius, tip_height, slope, shoulder;
+} tridexel_cutter;
+
+/* The rays across the tool for a list of chords: eight doubles each, world ends a and b, the error e, the plan length (hypot of the two differences across the
+ * tool axis). Accepted: `*entries` entries of six doubles stand in `log` in visiting order, every cell past them is plus zero, `*visits` is the number of rays
+ * visited. A number that names no axis or no shape is 6. Refusals: 1 to 4, 12, 11, 5, 6, 7, then per visit 8 before 16; 8 and 16 leave the whole log
+ * plus zero, every other refusal leaves it as it was. */
+uint32_t tridexel_sweep(tridexel_spec spec, const uint8_t *units, size_t units_len, const double *spans, size_t spans_len, const uint64_t *links,
+                        size_t links_len, const uint64_t *heads, size_t heads_len, uint64_t intervals, uint64_t axis, uint64_t shape, double m, double n,
+                        tridexel_cutter cutter, double guard, const double *chords, size_t chords_len, uint64_t budget, double *log, size_t log_len,
+                        size_t *entries, uint64_t *visits);
+
+#ifdef __cplusplus
+}
+#endif
+
+#endif
