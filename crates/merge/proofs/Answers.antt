@@ -1,27 +1,27 @@
 -- From the lists that the caller gave to the answer.
 use mathlib.Core.Path.{_≡_, refl, sym, _∙_, ap, ap₂, subst}
-use mathlib.Core.Bool.{Bool, true, false, cond, not, _&&_, _||_}
-use mathlib.Core.List.{List, [], _∷_, _++_}
+use mathlib.Core.Bool.{Bool, true, false, cond, not, _||_}
+use mathlib.Core.List.{List, _++_}
 use mathlib.Core.Logic.{inl, inr}
-use Prim.Native.Nat.{ℕ, _+_, _-_, _*_, _/_, _%_, _≤_, _<_}
+use Prim.Native.Nat.{ℕ, _+_, _-_, _*_, _/_, _≤_, _<_}
 use native.Mathlib.Omega.{arith}
 use lib.ListN.{length, getD, take, drop, replicate, length-append, length-replicate, List·getD-append}
 use lib.Seq.{length-take-le, getD-take, drop-at}
 use lib.Ieee.{Float, nan}
 use Rattle.refusal.specs.Refusal.{Due, NoneDue}
-use Rattle.doubles.proofs.Bools.{and-left, and-right, both, or-right, not-true, not-false, by-cases, clash}
-use Rattle.spans.specs.Spans.{holds, sound, ListOf}
+use Rattle.doubles.proofs.Bools.{and-left, and-right, both, not-true, clash}
+use Rattle.spans.specs.Spans.{holds}
 use Rattle.spans.specs.Results.{plusZero}
 use Rattle.spans.specs.Spans.{Within}
 use Rattle.validity.specs.Ray.{ValidRay}
-use Rattle.merge.specs.Merge.{eitherHit, spared, cellsOf, handed, Spared, Left, Mergeable, workPairs, mergeCauses, MergeAnswer}
-use Rattle.merge.specs.Steps.{part, Lies, Between, newList, Ready, Merging, Placed, Normal, Given, Lists}
+use Rattle.merge.specs.Merge.{eitherHit, cellsOf, handed, Spared, Mergeable, workPairs, MergeAnswer}
+use Rattle.merge.specs.Steps.{part, newList, Ready, Merging, Placed, Normal, Given, Lists}
 use Rattle.merge.specs.declared.Part.{Part}
 use Rattle.merge.specs.declared.Parts.{Parts}
 use Rattle.merge.specs.declared.Merged.the-variants.{Refused}
 use Rattle.merge.specs.declared.Merged.the-variants.{Lists as Answered}
 use Rattle.merge.proofs.Rays.{bounded-within}
-use Rattle.merge.proofs.Places.{part-length, part-kept, handed-still, handed-new}
+use Rattle.merge.proofs.Places.{part-kept, handed-still, handed-new}
 use Rattle.merge.proofs.Sparing.{spared-same}
 
 -- ---- the lists are brought into the work buffer

@@ -1,15 +1,15 @@
 -- Lists that stand in a buffer.
 use mathlib.Core.Path.{_≡_, refl, sym, _∙_, ap}
-use mathlib.Core.List.{List, [], _∷_, _++_, append-nil}
+use mathlib.Core.List.{List, _++_, append-nil}
 use borrow.Rule.Slice.PartMut.{putMid}
-use mathlib.Core.Bool.{Bool, true, false, cond, _&&_, _||_, true≢false, false≢true}
+use mathlib.Core.Bool.{Bool, true, false, cond, _&&_, true≢false, false≢true}
 use Prim.Native.Nat.{ℕ, _+_, _-_, _*_, _≤_, _<_}
 use borrow.Author.Tests.{lt-leb, le-leb}
 use native.Mathlib.Omega.{arith}
 use lib.ListN.{length, getD, take, drop, length-drop, length-append, drop-of-length-le, List·getD-append}
 use lib.Seq.{length-take-le, getD-take, getD-drop, drop-drop, drop-at, take-all, ext-getD}
 use lib.Ieee.{Float, nan}
-use Rattle.spans.specs.Spans.{holds, sound}
+use Rattle.spans.specs.Spans.{holds}
 use Rattle.doubles.proofs.Bools.{or-left, or-right}
 use Rattle.spans.specs.Steps.{Copied, Filled}
 use Rattle.merge.specs.Merge.{Moves, eitherHit, handed}

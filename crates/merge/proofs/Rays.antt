@@ -1,22 +1,18 @@
--- Bounds and valid rays: what the tests find, and that a list within a bounded one is bounded.
-use mathlib.Core.Path.{_≡_, refl, sym, _∙_, ap, subst}
-use mathlib.Core.Logic.{_⊎_, inl, inr}
-use mathlib.Core.Bool.{Bool, true, false, not, _&&_, _||_, true≢false, false≢true}
-use mathlib.Core.List.{List, [], _∷_, _++_}
-use Prim.Native.Nat.{ℕ, zero, suc, _+_, _%_, _≤_, _<_}
+-- A sound list whose points lie in a bounded list is bounded.
+use mathlib.Core.Path.{_≡_, refl}
+use mathlib.Core.Logic.{inl, inr}
+use mathlib.Core.Bool.{true, false, _&&_, false≢true}
+use mathlib.Core.List.{List, [], _∷_}
+use Prim.Native.Nat.{ℕ, suc, _%_}
 use native.Mathlib.Omega.{arith}
-use native.Mathlib.Numerals.{add-one}
-use lib.ListN.{length, getD, take}
-use lib.Seq.{take-suc}
-use lib.Ieee.{Float, nan, lt, le}
-use Rattle.doubles.proofs.Bools.{and-left, and-right, both, or-cases, or-left, or-right, not-true, not-false, by-cases, clash}
-use Rattle.doubles.proofs.Order.{lt-number, le-number, lt→le, le-refl, le-trans, lt-irrefl, le-lt-trans, lt-le-trans, not-le→lt}
+use lib.ListN.{length}
+use lib.Ieee.{Float, lt, le}
+use Rattle.doubles.proofs.Bools.{and-left, and-right, both, or-cases, or-left, or-right, by-cases, clash}
+use Rattle.doubles.proofs.Order.{lt-number, lt→le, le-refl, le-trans, lt-irrefl, lt-le-trans, not-le→lt}
 use Rattle.spans.specs.Spans.{within, holds, rising, sound, Within}
-use Rattle.comparing.specs.Verdicts.{Covers}
 use Rattle.spans.proofs.Sets.{sound-rising, sound-mod, make-sound}
 use Rattle.spans.proofs.Ends.{rising-tail}
-use Rattle.validity.specs.Ray.{bounded, ValidRay}
-use Rattle.merge.specs.Steps.{Decides}
+use Rattle.validity.specs.Ray.{bounded}
 
 pair-up : (x y : Float) (l : List Float) → rising (x ∷ y ∷ l) ≡ true → lt x y ≡ true
 unfolding rising
@@ -31,41 +27,12 @@ tail-sound x y l h =
 
 -- ---- bounds
 module _ (lo hi : Float) where
-  bounded-append : (a b : List Float) → bounded lo hi a ≡ true → bounded lo hi b ≡ true → bounded lo hi (a ++ b) ≡ true
-  unfolding bounded
-  bounded-append [] b h k = k
-  bounded-append (x ∷ a) b h k =
-      let t = and-right (le lo x) (le x hi && bounded lo hi a) h in
-      both (le lo x) (le x hi && bounded lo hi (a ++ b)) (and-left (le lo x) (le x hi && bounded lo hi a) h)
-      (both (le x hi) (bounded lo hi (a ++ b)) (and-left (le x hi) (bounded lo hi a) t) (bounded-append a b (and-right (le x hi) (bounded lo hi a) t) k))
-
   -- the first end, and the others
   first : (x : Float) (l : List Float) → bounded lo hi (x ∷ l) ≡ true → (le lo x ≡ true) × (le x hi ≡ true) × (bounded lo hi l ≡ true)
   unfolding bounded
   first x l h =
       let t = and-right (le lo x) (le x hi && bounded lo hi l) h in
       (and-left (le lo x) (le x hi && bounded lo hi l) h, and-left (le x hi) (bounded lo hi l) t, and-right (le x hi) (bounded lo hi l) t)
-
-  bounded-at : (l : List Float) (k : ℕ) → bounded lo hi l ≡ true → k < length l → (le lo (getD l k nan) ≡ true) × (le (getD l k nan) hi ≡ true)
-  bounded-at [] k h g = absurd (omega arith)
-  bounded-at (x ∷ l) zero h g = let f = first x l h in (f .0, f .1)
-  bounded-at (x ∷ l) (suc k) h g = bounded-at l k (first x l h .2) (omega arith)
-
-  pub bounded-none : (l : List Float) → bounded lo hi (take 0 l) ≡ true
-  unfolding bounded
-  bounded-none l = refl
-
-  pub bounded-more : (l : List Float) (k : ℕ) → k < length l → bounded lo hi (take k l) ≡ true → le lo (getD l k nan) ≡ true → le (getD l k nan) hi ≡ true
-      → bounded lo hi (take (k + 1) l) ≡ true
-  unfolding bounded
-  bounded-more l k h b f g = rw (add-one k, take-suc l k nan h)
-      (bounded-append (take k l) (getD l k nan ∷ []) b (both (le lo (getD l k nan)) (le (getD l k nan) hi && true) f (both (le (getD l k nan) hi) true g refl)))
-
-  pub below-bounds : (l : List Float) (k : ℕ) → k < length l → le lo (getD l k nan) ≡ false → false ≡ bounded lo hi l
-  below-bounds l k h g = elim (by-cases (bounded lo hi l)) [ inl t ↦ absurd (clash (le lo (getD l k nan)) (bounded-at l k t h .0) g) | inr f ↦ sym f ]
-
-  pub above-bounds : (l : List Float) (k : ℕ) → k < length l → le (getD l k nan) hi ≡ false → false ≡ bounded lo hi l
-  above-bounds l k h g = elim (by-cases (bounded lo hi l)) [ inl t ↦ absurd (clash (le (getD l k nan) hi) (bounded-at l k t h .1) g) | inr f ↦ sym f ]
 
   -- the points of a bounded list lie within the bounds
   point-bounds : (l : List Float) (p : Float) → bounded lo hi l ≡ true → holds l p ≡ true → (le lo p ≡ true) × (lt p hi ≡ true)
@@ -106,20 +73,3 @@ module _ (lo hi : Float) where
             let in-m = w hi (or-left (within x y hi) (holds l hi) (both (le x hi) (lt hi y) (lt→le x hi under) over)) in
             absurd (clash (lt hi hi) (point-bounds m hi b in-m .1) (lt-irrefl hi))
       ]
-
--- ---- what the tests found
--- a test r of x that a branch found false, or true
-pub found-not : (r x : Bool) → r ≡ x → not r ≡ true → ¬ (x ≡ true)
-found-not r x e h k = clash r (e ∙ k) (not-true r h)
-
-pub found : (r x : Bool) → r ≡ x → not r ≡ false → x ≡ true
-found r x e h = sym e ∙ not-false r h
-
-pub decides-no : {P Q : Type 0} → (P → Q) → ¬ Q → Decides false P
-decides-no f n p = n (f p)
-
-module _ (lo hi : Float) (possible certain : List Float) where
-  pub ray-decides : sound possible ≡ true → sound certain ≡ true → bounded lo hi possible ≡ true → bounded lo hi certain ≡ true → (r : Bool) → Covers possible certain r
-      → Decides r (ValidRay lo hi possible certain)
-  ray-decides sp sc bp bc true c = record { possible-sound = sp; certain-sound = sc; possible-bounded = bp; certain-bounded = bc; inside = c }
-  ray-decides sp sc bp bc false c = λ v. clash (holds possible (c .0)) (v .inside (c .0) (c .1)) (c .2)

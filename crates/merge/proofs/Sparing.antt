@@ -1,22 +1,17 @@
 -- Lists less their hits.
 use mathlib.Core.Path.{_≡_, refl, sym, _∙_, ap, ap₂, subst, fun-ext}
-use mathlib.Core.Bool.{Bool, true, false, cond, not, _&&_, _||_, true≢false, false≢true}
-use mathlib.Core.List.{List, [], _∷_, _++_}
-use mathlib.Core.Logic.{_⊎_, inl, inr}
-use Prim.Native.Nat.{ℕ, _+_, _-_, _*_, _/_, _%_, _≤_, _<_}
+use mathlib.Core.Bool.{Bool, true, false, not, _&&_, _||_, true≢false, false≢true}
+use mathlib.Core.List.{List}
+use Prim.Native.Nat.{ℕ, _+_, _-_, _*_, _/_, _%_, _≤_}
 use native.Mathlib.Omega.{arith}
-use lib.ListN.{length, getD, take, drop, replicate, length-drop}
-use lib.Ieee.{Float, nan}
-use Rattle.doubles.proofs.Bools.{and-left, and-right, both, not-true, not-false, by-cases, clash}
+use lib.ListN.{length}
+use lib.Ieee.{Float}
 use Rattle.spans.specs.Spans.{holds, sound, ListOf}
-use Rattle.spans.specs.Spans.{Within}
 use Rattle.spans.proofs.Sets.{sound-mod}
-use Rattle.merge.specs.Merge.{Moves, eitherHit, spared, cellsOf, handed, Spared, Left}
-use Rattle.merge.specs.Steps.{part, Lies, Between, Subtracted, Shortened, newList, Reduced, Ready, Merging, Placed, Normal, Given, Lists}
+use Rattle.merge.specs.Merge.{Moves, eitherHit, spared, cellsOf, Spared}
+use Rattle.merge.specs.Steps.{part, Lies, Between, Subtracted, Shortened, newList, Reduced, Ready, Merging}
 use Rattle.merge.specs.declared.Part.{Part}
-use Rattle.merge.specs.declared.Parts.{Parts}
-use Rattle.merge.proofs.Rays.{bounded-within}
-use Rattle.merge.proofs.Places.{part-length, part-past, part-front, part-kept, part-same, between-both, between-same, lies-past}
+use Rattle.merge.proofs.Places.{part-length, part-past, part-front, between-both, between-same, lies-past}
 
 -- the same list and the same hits by points
 pub spared-same : {a b : List Float} {hit hit′ : Float → Bool} {r : Part} {l : List Float} → a ≡ b → ((p : Float) → hit p ≡ hit′ p) → Spared a hit r l → Spared b hit′ r l

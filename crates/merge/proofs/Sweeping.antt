@@ -1,26 +1,26 @@
 -- The sweep over the ends of two sound lists: what a turn and a step keep, and what the sweep leaves.
 use mathlib.Core.Path.{_≡_, refl, sym, _∙_, ap, ap₂, subst}
-use mathlib.Core.Logic.{_⊎_, inl, inr}
+use mathlib.Core.Logic.{inl, inr}
 use mathlib.Core.Bool.{Bool, true, false, cond, not, _&&_}
 use mathlib.Core.List.{List, [], _∷_, _++_}
-use Prim.Native.Nat.{ℕ, zero, suc, _+_, _-_, _*_, _%_, _≤_, _<_}
+use Prim.Native.Nat.{ℕ, zero, suc, _+_, _-_, _%_, _≤_, _<_}
 use native.Mathlib.Omega.{arith}
 use native.Mathlib.Decide.{decLt, ℕ-discrete as decEq}
 use native.Mathlib.Numerals.{add-one}
 use borrow.Author.Tests.{lt-ltb, le-ltb, ltb-true, eq-eqb, ne-eqb}
 use lib.Dec.{ltb, eqb}
-use lib.ListN.{length, getD, take, drop, set, take-append-drop, length-drop, length-set, drop-of-length-le}
-use lib.Seq.{length-take-le, getD-take, getD-drop, take-suc, drop-cons, take-suc-set, take-all, getD-set-other, ext-getD}
-use lib.Ieee.{Float, nan, inf, lt, le, eq, isNan}
+use lib.ListN.{length, getD, take, drop, set, take-append-drop, length-set, drop-of-length-le}
+use lib.Seq.{length-take-le, getD-take, take-suc, drop-cons, take-suc-set, take-all, getD-set-other}
+use lib.Ieee.{Float, nan, inf, lt, le}
 use Rattle.spans.specs.Spans.{holds, rising, sound, ListOf}
 use Rattle.doubles.specs.Doubles.{Number}
 use Rattle.doubles.proofs.Bools.{and-left, and-right, by-cases, clash}
 use Rattle.doubles.proofs.Order.{le-number, lt→le, not-lt→le, not-le→lt, lt-trans, le-refl, le-trans, le-bottom}
-use Rattle.spans.proofs.Ends.{flip, flip-false, not-not, oddN, oddN-rem, odd, odd-append, All, all-append, all-left, all-right, all-map, all-by-place, all-at, Over, Under, AtMost, Past, From, Above, Below, UpTo, odd-all, odd-past, above-less, upTo-more, below-upTo, rising-tail, rising-above, rising-cons, rising-append, rising-left, rising-right, rising-at}
+use Rattle.spans.proofs.Ends.{flip, flip-false, oddN, oddN-rem, odd, odd-append, All, all-append, all-left, all-right, all-map, all-by-place, all-at, Over, Under, AtMost, Past, From, Above, Below, UpTo, odd-all, odd-past, upTo-more, below-upTo, rising-above, rising-cons, rising-append, rising-left, rising-right, rising-at}
 use Rattle.merge.specs.Steps.{part, Lies, Subtracted}
 use Rattle.merge.specs.Sweep.{parityOf, Turn, stays, puts, takes}
 use Rattle.merge.proofs.Places.{part-length, part-cell}
-use Rattle.spans.proofs.Sets.{oddN-mod, oddN-mod-odd, mod-oddN, sound-rising, sound-even, sound-mod, sound-numbers, sound-holds, make-sound}
+use Rattle.spans.proofs.Sets.{oddN-mod, oddN-mod-odd, mod-oddN, sound-rising, sound-even, sound-numbers, sound-holds, make-sound}
 
 -- ---- a turn
 -- the first r ends rise up to e, are `want` in number modulo 2, and below e stand for the same points as the first n; no cell past the n-th changed

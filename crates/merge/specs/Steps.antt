@@ -1,19 +1,14 @@
 -- What the inner steps of a merge ask and leave.
 use mathlib.Core.Path.{_≡_}
-use mathlib.Core.Bool.{Bool, true, false, cond, _&&_, not}
+use mathlib.Core.Bool.{Bool, true, cond, _&&_, not}
 use mathlib.Core.List.{List}
 use Prim.Native.Nat.{ℕ, _+_, _*_, _%_, _≤_, _<_}
 use lib.ListN.{length, take, drop, getD}
 use lib.Ieee.{Float, nan}
 use Rattle.spans.specs.Spans.{holds, sound, ListOf}
-use Rattle.merge.specs.Merge.{eitherHit, spared, cellsOf, workPairs, Spared}
+use Rattle.merge.specs.Merge.{eitherHit, spared, cellsOf, Spared}
 use Rattle.merge.specs.declared.Part.{Part}
 use Rattle.merge.specs.declared.Parts.{Parts}
-
--- a test that is true exactly where the fact holds
-abbrev pub Decides : Bool → Type 0 → Type 0
-Decides true fact = fact
-Decides false fact = ¬ fact
 
 -- the n cells from cell `at` on
 abbrev pub part : ℕ → ℕ → List Float → List Float

@@ -5,9 +5,7 @@ ghost use lib.Dec.{ltb};
 ghost use lib.Ieee.{nan, le};
 ghost use Prim.Native.Nat.{_+_, _-_, _*_, _/_, _%_, _^_, _≤_, _<_};
 ghost use lib.ListN.{length, getD};
-ghost use Rattle.spans.specs.Spans.{holds, sound, ListOf};
-ghost use Rattle.validity.specs.Ray.{bounded, ValidRay};
-ghost use Rattle.merge.specs.Steps.{Decides};
+ghost use Rattle.spans.specs.Spans.{holds};
 ghost use Rattle.merge.specs.Merge.{Moves, MergeAnswer, eitherHit, possibleHanded, certainHanded, handed, cellsOf};
 ghost use Rattle.merge.specs.Sweep.{parityOf, Turn};
 ghost use Rattle.merge.specs.Steps.{part, Lies, Subtracted, Shortened, Reduced, Ready, Merging, Placed, Normal, Given, Lists};
@@ -27,43 +25,6 @@ pub struct Parts {
 pub enum Merged {
     Lists(Part, Part),
     Refused(u32),
-}
-
-// Whether each end of a list lies within the bounds.
-fn is_bounded(s: &[f64], lo: f64, hi: f64) -> bool
-    ensures { λ r. ⌜ r ≡ bounded lo hi (now (s .entry)) ⌝ }
-{
-    let mut k = 0;
-    while k < s.len() {
-        let x = s[k];
-        if !(lo <= x) {
-            return false;
-        }
-        if !(x <= hi) {
-            return false;
-        }
-        k += 1;
-    }
-    true
-}
-
-// Whether a ray is valid within its bounds.
-pub fn valid_ray(possible: &[f64], certain: &[f64], lo: f64, hi: f64) -> bool
-    ensures { λ r. ⌜ Decides r (ValidRay lo hi (now (possible .entry)) (now (certain .entry))) ⌝ }
-{
-    if !spans::is_sound(possible) {
-        return false;
-    }
-    if !spans::is_sound(certain) {
-        return false;
-    }
-    if !is_bounded(possible, lo, hi) {
-        return false;
-    }
-    if !is_bounded(certain, lo, hi) {
-        return false;
-    }
-    comparing::covers(possible, certain)
 }
 
 // Whether the list of n cells at a and that of m cells at b share a point.
@@ -228,7 +189,7 @@ fn take_both(w: &mut [f64], to: usize, t: usize, c: usize, nc: usize, no: usize,
 }
 
 // The merge of a ray whose lists and normalized hits stand in the buffer that the new lists go to.
-pub fn merge_within(w: &mut [f64], at: usize, np: usize, nc: usize, no: usize, ni: usize) -> Parts
+fn merge_within(w: &mut [f64], at: usize, np: usize, nc: usize, no: usize, ni: usize) -> Parts
     requires { ⌜ Ready at np nc no ni (now w) ⌝ }
     ensures { λ r. ⌜ Merging at np nc no ni (now (w .entry)) (now (w .exit)) r ⌝ }
 {
@@ -308,7 +269,7 @@ pub fn merge(
     if inner.len() % 2 != 0 {
         return Merged::Refused(11);
     }
-    if !valid_ray(possible, certain, lo, hi) {
+    if !rays::valid_ray(possible, certain, lo, hi) {
         return Merged::Refused(11);
     }
     let parts = merge_lists(possible, certain, outer, inner, work);

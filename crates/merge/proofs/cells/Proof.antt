@@ -1,6 +1,4 @@
 -- `merge::cells` meets its contract.
-use borrow.Author.Needs.{needs}
-use native.Mathlib.Omega.{arith}
 use Rattle.merge.proofs.cells.Statement.{statement}
 use Rattle.merge.proofs.cells.Tie as tie
 

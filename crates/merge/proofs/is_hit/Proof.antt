@@ -1,7 +1,6 @@
 -- `merge::is_hit` meets its contract.
 use Rattle.merge.proofs.Places.{hit-outer, hit-inner}
 use borrow.Author.Needs.{needs}
-use native.Mathlib.Omega.{arith}
 use Rattle.merge.proofs.is_hit.Statement.{statement}
 use Rattle.merge.proofs.is_hit.Tie as tie
 

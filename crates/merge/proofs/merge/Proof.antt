@@ -1,11 +1,9 @@
 -- `merge::merge` meets its contract.
-use mathlib.Core.Path.{_≡_, ap₂}
-use mathlib.Core.Bool.{Bool, true, false, true≢false, false≢true}
+use mathlib.Core.Path.{ap₂}
 use Prim.Native.Nat.{ℕ, _+_, _/_, _<_}
 use lib.ListN.{length}
-use Rattle.doubles.proofs.Bools.{not-true, not-false}
+use Rattle.doubles.proofs.Bools.{not-true, not-false, clash}
 use Rattle.spans.proofs.Sets.{sound-mod}
-use Rattle.merge.specs.Steps.{Decides}
 use Rattle.merge.specs.Merge.{workPairs, Mergeable}
 use Rattle.merge.proofs.Answers.{refuse-short, refuse-bad, accept}
 use borrow.Author.Needs.{needs}
@@ -16,20 +14,11 @@ use Rattle.merge.proofs.merge.Tie as tie
 not-short : (c : tie.Else1) → let a = c .before .before .before .before .before .before .args in ¬ (length (a .work .now) / 2 < workPairs (a .possible .now) (a .certain .now) (a .outer .now) (a .inner .now))
 not-short c h = omega (arith, c .if1 .left)
 
--- what the test of the ray found
-bad : {P : Type 0} (r : Bool) → r ≡ false → Decides r P → ¬ P
-bad true h d = absurd (true≢false h)
-bad false h d = d
-
-held : {P : Type 0} (r : Bool) → r ≡ true → Decides r P → P
-held true h d = d
-held false h d = absurd (false≢true h)
-
 good : (c : tie.Else4) → let a = c .before .before .before .before .before .before .before .before .before .before .args in Mergeable (a .lo) (a .hi) (a .possible .now) (a .certain .now) (a .outer .now) (a .inner .now)
 good c =
     let v = c .before .valid-ray in
     let t = c .before .before in
-    record { outerWhole = t .before .if2 .left; innerWhole = t .if3 .left; ray = held (v .result) (not-false (v .result) (c .if4 .left)) (v .ensures) }
+    record { outerWhole = t .before .if2 .left; innerWhole = t .if3 .left; ray = v .ensures .0 (not-false (v .result) (c .if4 .left)) }
 
 add-if1 : tie.Need-add-if1
 add-if1 c = search needs
@@ -68,7 +57,7 @@ returns-4 : tie.Need-returns-4
 returns-4 c =
     let v = c .before .valid-ray in
     let a = c .before .before .before .before .before .before .before .before .before .before .args in
-    refuse-bad (a .lo) (a .hi) (a .possible .now) (a .certain .now) (a .outer .now) (a .inner .now) (a .work .now) (not-short (c .before .before .before .before)) (λ m. bad (v .result) (not-true (v .result) (c .if4 .taken)) (v .ensures) (m .ray))
+    refuse-bad (a .lo) (a .hi) (a .possible .now) (a .certain .now) (a .outer .now) (a .inner .now) (a .work .now) (not-short (c .before .before .before .before)) (λ m. clash (v .result) (v .ensures .1 (m .ray)) (not-true (v .result) (c .if4 .taken)))
 
 merge-lists-requires : tie.Need-merge-lists-requires
 merge-lists-requires c κs =

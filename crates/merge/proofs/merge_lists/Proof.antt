@@ -4,7 +4,6 @@ use Prim.Native.Nat.{_+_, _*_}
 use lib.ListN.{length}
 use Rattle.merge.proofs.Answers.{ready, lists}
 use borrow.Author.Needs.{needs}
-use native.Mathlib.Omega.{arith}
 use Rattle.merge.proofs.merge_lists.Statement.{statement}
 use Rattle.merge.proofs.merge_lists.Tie as tie
 

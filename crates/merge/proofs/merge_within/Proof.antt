@@ -1,7 +1,6 @@
 -- `merge::merge_within` meets its contract.
 use Rattle.merge.proofs.Sparing.{both-lie, merging}
 use borrow.Author.Needs.{needs}
-use native.Mathlib.Omega.{arith}
 use Rattle.merge.proofs.merge_within.Statement.{statement}
 use Rattle.merge.proofs.merge_within.Tie as tie
 

@@ -1,5 +1,4 @@
 -- `merge::parity` meets its contract.
-use Rattle.merge.specs.Sweep.{parityOf}
 use borrow.Author.Tests.{eq-eqb, ne-eqb}
 use borrow.Author.Needs.{needs}
 use Rattle.merge.proofs.parity.Statement.{statement}

@@ -1,6 +1,5 @@
 -- `merge::possible_of` meets its contract.
 use borrow.Author.Needs.{needs}
-use native.Mathlib.Omega.{arith}
 use Rattle.merge.proofs.possible_of.Statement.{statement}
 use Rattle.merge.proofs.possible_of.Tie as tie
 

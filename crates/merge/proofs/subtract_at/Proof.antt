@@ -1,6 +1,5 @@
 -- `merge::subtract_at` meets its contract.
 use mathlib.Core.Path.{_≡_, sym, _∙_}
-use mathlib.Core.Bool.{_&&_}
 use Prim.Native.Nat.{_+_, _-_, _≤_, _<_}
 use borrow.Author.Tests.{ltb-true}
 use lib.Dec.{ltb}
