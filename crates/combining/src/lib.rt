@@ -47,7 +47,7 @@ fn cut_pair(rest: &[f64], out: &mut [f64], n: usize, from: f64, hi: f64) -> Plac
 }
 
 // Fills the front of `out` with the sound list of a less b.
-pub fn subtract_into(a: &[f64], b: &[f64], out: &mut [f64]) -> usize
+fn subtract_into(a: &[f64], b: &[f64], out: &mut [f64]) -> usize
     requires { ⌜ (sound (now a) ≡ true) × (sound (now b) ≡ true) × (length (now a) + length (now b) ≤ length (now out)) ⌝ }
     ensures { λ r. ⌜ Filled (less (now (a .entry)) (now (b .entry))) (now (out .entry))
         (length (now (a .entry)) + length (now (b .entry))) (now (out .exit)) r ⌝ }
@@ -65,7 +65,7 @@ pub fn subtract_into(a: &[f64], b: &[f64], out: &mut [f64]) -> usize
 }
 
 // Fills the front of `out` with the sound list of the points in both a and b.
-pub fn intersect_into(a: &[f64], b: &[f64], out: &mut [f64]) -> usize
+fn intersect_into(a: &[f64], b: &[f64], out: &mut [f64]) -> usize
     requires { ⌜ (sound (now a) ≡ true) × (sound (now b) ≡ true) × (length (now a) + length (now b) ≤ length (now out)) ⌝ }
     ensures { λ r. ⌜ Filled (common (now (a .entry)) (now (b .entry))) (now (out .entry))
         (length (now (a .entry)) + length (now (b .entry))) (now (out .exit)) r ⌝ }

@@ -17,7 +17,7 @@ fn is_whole(x: f64) -> bool
 }
 
 // Whether the entry at place i names a ray.
-pub fn named(g: DexelGrid, log: &[f64], i: usize) -> bool
+fn named(g: DexelGrid, log: &[f64], i: usize) -> bool
     requires { ⌜ (rayCount g < 2 ^ 64) × (6 * i + 5 < length (now log)) ⌝ }
     ensures { λ r. ⌜ r ≡ namesOne g (entryAt (now (log .entry)) i) ⌝ }
 {

@@ -108,7 +108,7 @@ fn count_of(s: &[u8], n: usize, c: u8) -> usize
 }
 
 // Whether the text can be read.
-pub fn is_readable(s: &[u8]) -> bool
+fn is_readable(s: &[u8]) -> bool
     ensures { λ r. ⌜ r ≡ readable (now (s .entry)) ⌝ }
 {
     if s.len() % 36 != 0 {

@@ -15,6 +15,7 @@ use lib.Ieee.{Float}
 use Rattle.doubles.proofs.Bools.{or-cases, or-left, clash, not-true, not-false}
 use Rattle.refusal.specs.Refusal.{Cause, Due, NoneDue}
 use Rattle.spans.specs.Spans.{within, holds, ListOf}
+use Rattle.spans.proofs.Points.{or-assoc}
 use Rattle.grid.specs.Rays.{rayCount}
 use Rattle.grid.specs.declared.DexelStockSpec.{DexelStockSpec}
 use Rattle.grid.specs.declared.DexelGrid.{DexelGrid}
@@ -27,10 +28,6 @@ use Rattle.runs.proofs.Starts.{pairs-left}
 use Rattle.runs.proofs.Less.{less, less-list, same-list}
 
 -- ---- the points that a log takes, as those of one flat list
-
-or-assoc : (a b c : Bool) → ((a || b) || c) ≡ (a || (b || c))
-or-assoc true b c = refl
-or-assoc false b c = refl
 
 module _ (g : DexelGrid) (r : Ray g) where
   pairs-append : (es : List Entry) (w : HitKind) (m : List Float) (p : Float) → holds (pairsOn g es r w ++ m) p ≡ (holds (pairsOn g es r w) p || holds m p)

@@ -14,17 +14,14 @@ use Rattle.lists.proofs.Steps.{Step, no-ends, ends-length}
 use Rattle.runs.specs.Counts.{losOf, hisOf, among, distinct, startsLeft}
 use Rattle.starts.specs.Hits.{alikeAt, hitsFrom, takenFrom, isLeft, laterHis}
 use Rattle.starts.proofs.Taken.{his-length, hits-length, distinct-le, taken-his, taken-length, starts-le}
+use Rattle.spans.proofs.Points.{or-assoc}
 
 -- ---- a number in one of two lists
 
 pub among-append : (x : Float) (a b : List Float) → among x (a ++ b) ≡ (among x a || among x b)
 unfolding among
 among-append x [] b = refl
-among-append x (y ∷ a) b = ap (_||_ (eq x y)) (among-append x a b) ∙ sym (assoc (eq x y) (among x a) (among x b))
-  where
-    assoc : (a b c : Bool) → ((a || b) || c) ≡ (a || (b || c))
-    assoc true b c = refl
-    assoc false b c = refl
+among-append x (y ∷ a) b = ap (_||_ (eq x y)) (among-append x a b) ∙ sym (or-assoc (eq x y) (among x a) (among x b))
 
 pub among-first : (x : Float) (a b : List Float) → among x a ≡ true → false ≡ not (among x (a ++ b))
 among-first x a b h = sym (ap not (among-append x a b ∙ ap (λ (c : Bool). c || among x b) h))

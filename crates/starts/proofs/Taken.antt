@@ -8,13 +8,10 @@ use native.Mathlib.Omega.{arith}
 use lib.ListN.{length, getD, length-append}
 use lib.Ieee.{Float, nan, lt}
 use Rattle.spans.specs.Spans.{holds}
+use Rattle.spans.proofs.Points.{or-assoc}
 use Rattle.runs.specs.Counts.{losOf, hisOf, among, distinct, startsLeft}
 use Rattle.starts.specs.Hits.{alikeAt, hitsFrom, takenFrom, laterHis}
 use Rattle.starts.proofs.Any.{anyPair}
-
-or-assoc : (a b c : Bool) → ((a || b) || c) ≡ (a || (b || c))
-or-assoc true b c = refl
-or-assoc false b c = refl
 
 module _ (log : List Float) (first w : ℕ) where
   -- the hits are whole pairs, so that a list behind them is read as one
