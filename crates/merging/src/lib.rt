@@ -83,7 +83,7 @@ fn bring_hits(
     ensures { λ r. ⌜ Normal (pairsNamed g (entries (now (log .entry))) ray (kindOf inner)) at (now (work .entry)) (now (work .exit)) r ⌝ }
 {
     let e = grouping::gather_hits(g, log, work, ray, inner, at);
-    spans::normalize_front(&mut work[at..], e - at)
+    normalizing::normalize_front(&mut work[at..], e - at)
 }
 
 // Brings both lists of a ray and the sound lists of its hits, one after the other, to cell s.
