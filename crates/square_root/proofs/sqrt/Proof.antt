@@ -1,4 +1,4 @@
--- `doubles::sqrt` meets its contract. Assumes nothing.
+-- `square_root::sqrt` meets its contract. Assumes nothing.
 use mathlib.Core.Path.{_≡_, sym, ap, _∙_, subst}
 use Prim.Native.Nat.{ℕ}
 use mathlib.Core.Bool.{not}
@@ -7,12 +7,12 @@ use lib.Dec.{T}
 use lib.Ieee.{Float, nan, binary64, fits, isNan, ofBits, toBits}
 use lib.Ieee.Bits.{ofBits-toBits, toBits-lt}
 use lib.Ieee.Compare.{differs-from-itself}
-use Rattle.doubles.specs.Root.{squareRoot}
+use Rattle.square_root.specs.Root.{squareRoot}
 use Rattle.doubles.proofs.Bools.{of-true}
 use Rattle.doubles.proofs.Order.{no-nan, zero-over-zero}
-use Rattle.doubles.proofs.Result.{root-of-nan, root-of-zero, root-of-negative-zero, root-of-infinity, root-of-negative, finite-is-no-nan, positive-under}
-use Rattle.doubles.proofs.sqrt.Statement.{statement}
-use Rattle.doubles.proofs.sqrt.Tie as tie
+use Rattle.square_root.proofs.Result.{root-of-nan, root-of-zero, root-of-negative-zero, root-of-infinity, root-of-negative, finite-is-no-nan, positive-under}
+use Rattle.square_root.proofs.sqrt.Statement.{statement}
+use Rattle.square_root.proofs.sqrt.Tie as tie
 
 -- what owning an `f64` tells: the format holds it
 held : (c : tie.Start) → T (fits binary64 (c .args .x))

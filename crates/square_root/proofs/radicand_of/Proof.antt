@@ -1,4 +1,4 @@
--- `doubles::root::radicand_of` meets its contract. Assumes nothing.
+-- `square_root::radicand_of` meets its contract. Assumes nothing.
 use mathlib.Core.Path.{_≡_, refl, sym, ap, _∙_}
 use Prim.Native.Nat.{ℕ, _+_, _-_, _*_, _/_, _%_, _^_, _≤_, _<_}
 use native.Mathlib.Nat.{mul-one, mul-assoc}
@@ -6,11 +6,11 @@ use native.Mathlib.Omega.{arith}
 use borrow.Author.Needs.{needs}
 use lib.Dec.{lit≤}
 use lib.Ieee.{binary64, low, ofBits}
-use Rattle.doubles.specs.Root.{magnitude}
-use Rattle.doubles.proofs.Patterns.{magnitude-at, subnormal, normal}
-use Rattle.doubles.proofs.Scale.{joined}
-use Rattle.doubles.proofs.root.radicand_of.Statement.{statement}
-use Rattle.doubles.proofs.root.radicand_of.Tie as tie
+use Rattle.square_root.specs.Root.{magnitude}
+use Rattle.square_root.proofs.Patterns.{magnitude-at, subnormal, normal}
+use Rattle.square_root.proofs.Scale.{joined}
+use Rattle.square_root.proofs.radicand_of.Statement.{statement}
+use Rattle.square_root.proofs.radicand_of.Tie as tie
 
 -- the radicand of a normal double
 radicand : (b : ℕ) → 2 ^ 52 ≤ b → b < 0x7ff0_0000_0000_0000

@@ -1,15 +1,15 @@
--- `doubles::root::wide_root` meets its contract: `Halves` with a lower half of 27 digits. Assumes nothing.
+-- `square_root::wide_root` meets its contract: `Halves` with a lower half of 27 digits. Assumes nothing.
 use mathlib.Core.Path.{_≡_, sym, subst}
 use Prim.Native.Nat.{ℕ, _+_, _-_, _*_, _/_, _%_, _^_, _≤_, _<_}
 use native.Mathlib.Nat.{mod-lt, div-add-mod', mul-le-mul}
 use native.Mathlib.Omega.{arith}
 use borrow.Author.Needs.{needs}
-use Rattle.doubles.specs.Root.{wholeRoot}
-use Rattle.doubles.specs.Radicand.{RootOf}
-use Rattle.doubles.proofs.WholeRoot.{IsRoot, whole-root, root-unique}
-use Rattle.doubles.proofs.Halves.{low-le, whole, less}
-use Rattle.doubles.proofs.root.wide_root.Statement.{statement}
-use Rattle.doubles.proofs.root.wide_root.Tie as tie
+use Rattle.square_root.specs.Root.{wholeRoot}
+use Rattle.square_root.specs.Radicand.{RootOf}
+use Rattle.square_root.proofs.WholeRoot.{IsRoot, whole-root, root-unique}
+use Rattle.square_root.proofs.Halves.{low-le, whole, less}
+use Rattle.square_root.proofs.wide_root.Statement.{statement}
+use Rattle.square_root.proofs.wide_root.Tie as tie
 
 -- the remainder of m, with 27 digits after it; its quotient and remainder by twice the root
 abbrev rest : ℕ → ℕ → ℕ

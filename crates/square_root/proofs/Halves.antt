@@ -4,7 +4,7 @@ use mathlib.Core.Path.{_≡_, refl, sym, ap, subst}
 use Prim.Native.Nat.{ℕ, zero, suc, _+_, _-_, _*_, _≤_, _<_}
 use native.Mathlib.Nat.{le-trans, le-of-eq, mul-le-mul-right, mul-le-mul, le-of-mul-le-mul-right}
 use native.Mathlib.Omega.{arith}
-use Rattle.doubles.proofs.WholeRoot.{IsRoot}
+use Rattle.square_root.proofs.WholeRoot.{IsRoot}
 
 module _ (m B s low u : ℕ) (r : IsRoot m s) (pos : 0 < s) (wide : B ≤ 2 * s) (e : (m - s * s) * B ≡ low * (s * 2) + u) (l : u < s * 2) where
   -- m * B * B is the square of s * B + low, and u * B - low * low more

@@ -1,14 +1,14 @@
--- `doubles::root::root_bits` meets its contract. Assumes nothing.
+-- `square_root::root_bits` meets its contract. Assumes nothing.
 use mathlib.Core.Path.{_≡_, sym, ap, _∙_}
 use Prim.Native.Nat.{ℕ, _+_, _*_, _/_, _^_, _≤_, _<_}
 use native.Mathlib.Nat.{le-trans, mul-right-comm}
 use native.Mathlib.Omega.{arith}
 use borrow.Author.Needs.{needs}
 use lib.Ieee.{binary64, low, ofBits}
-use Rattle.doubles.specs.Root.{wholeRoot, magnitude}
-use Rattle.doubles.proofs.Result.{root-under, pattern, root-by-units}
-use Rattle.doubles.proofs.root.root_bits.Statement.{statement}
-use Rattle.doubles.proofs.root.root_bits.Tie as tie
+use Rattle.square_root.specs.Root.{wholeRoot, magnitude}
+use Rattle.square_root.proofs.Result.{root-under, pattern, root-by-units}
+use Rattle.square_root.proofs.root_bits.Statement.{statement}
+use Rattle.square_root.proofs.root_bits.Tie as tie
 
 radicand-of-requires : tie.Need-radicand-of-requires
 radicand-of-requires c κs = search needs

@@ -11,10 +11,10 @@ use lib.Ieee.{Float, nan, inf, fin, Format, binary64, low, up, odd, isNan, ofFie
 use lib.Ieee.Bits.{is-true, nanBits-is, nanBits-above}
 use lib.Ieee.Fits.{down-pos}
 use lib.Ieee.Exact.{HasValue, odd-sign}
-use Rattle.doubles.specs.Root.{wholeRoot, magnitude, rootOfUnits, squareRoot}
-use Rattle.doubles.proofs.WholeRoot.{IsRoot, whole-root, square-lt}
-use Rattle.doubles.proofs.Rounded.{rounded}
-use Rattle.doubles.proofs.Patterns.{magnitude-at, root-at, units-bits, subnormal, normal, ofBits-is}
+use Rattle.square_root.specs.Root.{wholeRoot, magnitude, rootOfUnits, squareRoot}
+use Rattle.square_root.proofs.WholeRoot.{IsRoot, whole-root, square-lt}
+use Rattle.square_root.proofs.Rounded.{rounded}
+use Rattle.square_root.proofs.Patterns.{magnitude-at, root-at, units-bits, subnormal, normal, ofBits-is}
 
 -- ---- the whole root s of m * 2 ^ 54 has 54 digits
 module _ (m : ℕ) where

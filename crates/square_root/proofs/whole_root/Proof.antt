@@ -1,13 +1,13 @@
--- `doubles::root::whole_root` meets its contract: its loop steps down from a number that is no less than the root. Assumes nothing.
+-- `square_root::whole_root` meets its contract: its loop steps down from a number that is no less than the root. Assumes nothing.
 use mathlib.Core.Path.{_≡_, subst}
 use Prim.Native.Nat.{ℕ, suc, _*_, _-_, _^_, _≤_, _<_}
 use native.Mathlib.Nat.{mul-le-mul, lt-of-le-of-lt}
 use native.Mathlib.Omega.{arith}
 use borrow.Author.Needs.{needs}
-use Rattle.doubles.proofs.WholeRoot.{whole-root, root-unique, square-lt}
-use Rattle.doubles.proofs.root.whole_root.Statement.{statement}
-use Rattle.doubles.proofs.root.whole_root.Tie as tie
-use Rattle.doubles.specs.Root.{wholeRoot}
+use Rattle.square_root.proofs.WholeRoot.{whole-root, root-unique, square-lt}
+use Rattle.square_root.proofs.whole_root.Statement.{statement}
+use Rattle.square_root.proofs.whole_root.Tie as tie
+use Rattle.square_root.specs.Root.{wholeRoot}
 
 abbrev Inv-loop : tie.InvT-loop
 Inv-loop m root₀ root = (m < suc root * suc root) × (root < 2 ^ 30)

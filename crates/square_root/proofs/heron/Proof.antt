@@ -1,12 +1,12 @@
--- `doubles::root::heron` meets its contract. Assumes nothing.
+-- `square_root::heron` meets its contract. Assumes nothing.
 use Prim.Native.Nat.{ℕ, suc, _*_, _/_, _^_, _≤_, _<_}
 use native.Mathlib.Nat.{lt-of-le-of-lt, div-lt-iff-lt-mul}
 use native.Mathlib.Omega.{arith}
 use borrow.Author.Needs.{needs}
-use Rattle.doubles.proofs.WholeRoot.{square-lt}
-use Rattle.doubles.proofs.HeronRule.{heron-above}
-use Rattle.doubles.proofs.root.heron.Statement.{statement}
-use Rattle.doubles.proofs.root.heron.Tie as tie
+use Rattle.square_root.proofs.WholeRoot.{square-lt}
+use Rattle.square_root.proofs.HeronRule.{heron-above}
+use Rattle.square_root.proofs.heron.Statement.{statement}
+use Rattle.square_root.proofs.heron.Tie as tie
 
 quotient-small : (m g : ℕ) → m < 2 ^ 54 → 2 ^ 25 ≤ g → m / g < 2 ^ 30
 quotient-small m g h k = div-lt-iff-lt-mul positive .1 under

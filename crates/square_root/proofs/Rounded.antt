@@ -10,8 +10,8 @@ use lib.Pow.{pow-pos, pow-add, pow-mono}
 use lib.Ieee.{Float, Format, prec, low, size, nearest, units}
 use lib.Ieee.Digits.{size-lt, size-le, size-reaches}
 use lib.Ieee.Fits.{kept-lt}
-use Rattle.doubles.specs.Root.{wholeRoot, rootOfUnits}
-use Rattle.doubles.proofs.WholeRoot.{IsRoot, whole-root, square-lt, square-le}
+use Rattle.square_root.specs.Root.{wholeRoot, rootOfUnits}
+use Rattle.square_root.proofs.WholeRoot.{IsRoot, whole-root, square-lt, square-le}
 
 -- ---- what `compare` says
 abbrev pub Compared : Ordering → ℕ → ℕ → Type 0

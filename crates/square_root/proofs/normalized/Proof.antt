@@ -1,12 +1,12 @@
--- `doubles::root::normalized` meets its contract: each turn of its loop moves two digits from half's power to m. Assumes nothing.
+-- `square_root::normalized` meets its contract: each turn of its loop moves two digits from half's power to m. Assumes nothing.
 use mathlib.Core.Path.{_≡_, refl, _∙_}
 use Prim.Native.Nat.{_*_, _^_, _-_, _<_, _≤_}
 use native.Mathlib.Nat.{le-refl, le-trans}
 use native.Mathlib.Omega.{arith}
 use lib.Dec.{lit≤}
-use Rattle.doubles.proofs.Scale.{moved, left-over}
-use Rattle.doubles.proofs.root.normalized.Statement.{statement}
-use Rattle.doubles.proofs.root.normalized.Tie as tie
+use Rattle.square_root.proofs.Scale.{moved, left-over}
+use Rattle.square_root.proofs.normalized.Statement.{statement}
+use Rattle.square_root.proofs.normalized.Tie as tie
 
 abbrev Inv-loop : tie.InvT-loop
 Inv-loop m₀ half₀ m half = (m * (2 ^ half * 2 ^ half) ≡ m₀ * (2 ^ half₀ * 2 ^ half₀)) × (0 < m) × (m < 2 ^ 54) × (half ≤ half₀)

@@ -12,8 +12,8 @@ use lib.Ieee.{Float, nan, inf, fin, Format, binary64, prec, emax, low, up, down,
 use lib.Ieee.Fits.{odd-fits, down-pos}
 use lib.Ieee.Bits.{is-false, cond-no, ofBits-toBits}
 use lib.Ieee.Exact.{HasValue, odd-sign}
-use Rattle.doubles.specs.Root.{magnitude, rootOfUnits, squareRoot}
-use Rattle.doubles.proofs.Rounded.{size-exact}
+use Rattle.square_root.specs.Root.{magnitude, rootOfUnits, squareRoot}
+use Rattle.square_root.proofs.Rounded.{size-exact}
 
 -- ---- a value of X units
 units-of : (f : Format) (s : Bool) (m : ℕ) (e : ℤ) (X : ℕ) → m * up e * 2 ^ low f ≡ X * down e → m * up e * 2 ^ low f / down e ≡ X

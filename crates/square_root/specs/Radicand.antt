@@ -2,7 +2,7 @@
 use mathlib.Core.Path.{_≡_}
 use Prim.Native.Nat.{ℕ, suc, _*_, _^_, _≤_, _<_}
 use lib.Ieee.{binary64, low, ofBits}
-use Rattle.doubles.specs.Root.{wholeRoot, magnitude}
+use Rattle.square_root.specs.Root.{wholeRoot, magnitude}
 
 -- the radicand of the positive finite double whose pattern is `bits`
 pub record RadicandOf (bits m half : ℕ) : Type 0 where

@@ -8,7 +8,7 @@ use lib.Dec.{T, leb, leb→le, nleb→lt}
 use lib.Pow.{pow-mono}
 use lib.Ieee.{size}
 use lib.Ieee.Digits.{size-lt}
-use Rattle.doubles.specs.Root.{rootDigits, wholeRoot}
+use Rattle.square_root.specs.Root.{rootDigits, wholeRoot}
 
 -- r is the whole part of the root of n
 abbrev pub IsRoot : ℕ → ℕ → Type 0

@@ -1,9 +1,9 @@
-// The square root of a positive finite double, worked out from its bit pattern with whole numbers.
+// The correctly rounded square root of a double, worked out from its bit pattern with whole numbers.
 ghost use mathlib.Core.Path.{_≡_};
 ghost use Prim.Native.Nat.{_*_, _^_, _<_, _≤_};
 ghost use lib.Ieee.{binary64, ofBits};
-ghost use Rattle.doubles.specs.Root.{wholeRoot, squareRoot};
-ghost use Rattle.doubles.specs.Radicand.{RadicandOf, Normalized, Guess, RootOf};
+ghost use Rattle.square_root.specs.Root.{wholeRoot, squareRoot};
+ghost use Rattle.square_root.specs.Radicand.{RadicandOf, Normalized, Guess, RootOf};
 
 // A radicand m * 2^52 * 4^half, in units of the square of the smallest positive double.
 struct Radicand {
@@ -11,8 +11,32 @@ struct Radicand {
     half: u64,
 }
 
+// The correctly rounded root of x: a NaN for a NaN and for a negative x that is not zero; a zero
+// keeps its sign.
+pub fn sqrt(x: f64) -> f64
+    ensures { λ r. ⌜ r ≡ squareRoot binary64 x ⌝ }
+{
+    if x != x {
+        return x;
+    }
+    let bits = f64::to_bits(x);
+    if bits == 0 {
+        return x;
+    }
+    if bits == 0x8000_0000_0000_0000 {
+        return x;
+    }
+    if bits == 0x7ff0_0000_0000_0000 {
+        return x;
+    }
+    if 0x8000_0000_0000_0000 < bits {
+        return 0.0 / 0.0;
+    }
+    f64::from_bits(root_bits(bits))
+}
+
 // The pattern of the root of the positive finite double whose pattern is `bits`.
-pub(crate) fn root_bits(bits: u64) -> u64
+fn root_bits(bits: u64) -> u64
     requires { ⌜ 0 < bits ⌝ }
     requires { ⌜ bits < 0x7ff0_0000_0000_0000 ⌝ }
     ensures { λ r. ⌜ ofBits binary64 r ≡ squareRoot binary64 (ofBits binary64 bits) ⌝ }

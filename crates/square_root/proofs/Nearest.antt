@@ -15,11 +15,11 @@ use lib.Ieee.Digits.{size-lt}
 use lib.Ieee.Fits.{two, two-le-pos, odd-fits, up-pos, down-pos}
 use lib.Ieee.Exact.{HasValue, units-val}
 use lib.Ieee.Positive.{positive, positive-of-value, values-of-le}
-use Rattle.doubles.specs.Root.{wholeRoot, magnitude, rootOfUnits, squareRoot, NearestRoot}
+use Rattle.square_root.specs.Root.{wholeRoot, magnitude, rootOfUnits, squareRoot, NearestRoot}
 use Rattle.doubles.proofs.Held.{held}
-use Rattle.doubles.proofs.WholeRoot.{whole-root, square-lt, square-le}
-use Rattle.doubles.proofs.Rounded.{Compared, compared, dropped, kept, root-is, bracket, kept-ge, kept-under}
-use Rattle.doubles.proofs.Patterns.{magnitude-at, units-is}
+use Rattle.square_root.proofs.WholeRoot.{whole-root, square-lt, square-le}
+use Rattle.square_root.proofs.Rounded.{Compared, compared, dropped, kept, root-is, bracket, kept-ge, kept-under}
+use Rattle.square_root.proofs.Patterns.{magnitude-at, units-is}
 
 -- ---- a value that the format holds is M * 2 ^ i units, for an M of at most prec digits
 abbrev Shape : Format → ℕ → Type 0
