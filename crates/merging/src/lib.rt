@@ -197,7 +197,7 @@ pub fn merge_all(
     ensures { λ r. ⌜ AllMerged spec g (cells (now (spans .entry)) (now (links .entry)) (now (heads .entry))) (now (log .entry))
         (now (work .entry)) (now (work .exit)) r ⌝ }
 {
-    let rays = grid::total_rays(g) as usize;
+    let rays = grid_rays::total_rays(g) as usize;
     let e = log.len() / 6;
     let n = spec.max_intervals as usize;
     let sizes = rays + e;

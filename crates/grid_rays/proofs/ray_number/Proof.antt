@@ -1,10 +1,10 @@
--- `grid::ray_number` meets its contract. Assumes nothing.
+-- `grid_rays::ray_number` meets its contract. Assumes nothing.
 use Rattle.grid.proofs.Numbering.{offset-le}
 use Rattle.grid.specs.Rays.{rayNumber}
 use native.Mathlib.Omega.{arith}
 use borrow.Author.Needs.{needs}
-use Rattle.grid.proofs.ray_number.Statement.{statement}
-use Rattle.grid.proofs.ray_number.Tie as tie
+use Rattle.grid_rays.proofs.ray_number.Statement.{statement}
+use Rattle.grid_rays.proofs.ray_number.Tie as tie
 
 ray-offset-requires : tie.Need-ray-offset-requires
 ray-offset-requires c κs = search needs

@@ -1,9 +1,9 @@
--- `grid::ray_axis` meets its contract. Assumes nothing.
+-- `grid_rays::ray_axis` meets its contract. Assumes nothing.
 use Rattle.grid.specs.Rays.{rayAxis}
 use borrow.Author.Tests.{lt-ltb, le-ltb}
 use borrow.Author.Needs.{needs}
-use Rattle.grid.proofs.ray_axis.Statement.{statement}
-use Rattle.grid.proofs.ray_axis.Tie as tie
+use Rattle.grid_rays.proofs.ray_axis.Statement.{statement}
+use Rattle.grid_rays.proofs.ray_axis.Tie as tie
 
 ray-offset-requires : tie.Need-ray-offset-requires
 ray-offset-requires c κs = search needs

@@ -1,8 +1,8 @@
--- `grid::ray_bounds` meets its contract. Assumes nothing.
+-- `grid_rays::ray_bounds` meets its contract. Assumes nothing.
 use Rattle.grid.specs.Rays.{boundsOf}
 use borrow.Author.Needs.{needs}
-use Rattle.grid.proofs.ray_bounds.Statement.{statement}
-use Rattle.grid.proofs.ray_bounds.Tie as tie
+use Rattle.grid_rays.proofs.ray_bounds.Statement.{statement}
+use Rattle.grid_rays.proofs.ray_bounds.Tie as tie
 
 ray-axis-requires : tie.Need-ray-axis-requires
 ray-axis-requires c κs = search needs

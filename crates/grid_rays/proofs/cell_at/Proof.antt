@@ -1,8 +1,8 @@
--- `grid::cell_at` meets its contract. Assumes nothing.
+-- `grid_rays::cell_at` meets its contract. Assumes nothing.
 use Rattle.grid.specs.Rays.{cellAt}
 use borrow.Author.Needs.{needs}
-use Rattle.grid.proofs.cell_at.Statement.{statement}
-use Rattle.grid.proofs.cell_at.Tie as tie
+use Rattle.grid_rays.proofs.cell_at.Statement.{statement}
+use Rattle.grid_rays.proofs.cell_at.Tie as tie
 
 along-requires : tie.Need-along-requires
 along-requires c κs = search needs

@@ -1,12 +1,12 @@
--- `grid::rays` meets its contract: the product is at most the count of all rays, so it fits. Assumes nothing.
+-- `grid_rays::rays` meets its contract: the product is at most the count of all rays, so it fits. Assumes nothing.
 use Rattle.grid.proofs.Numbering.{along-le}
 use Rattle.grid.specs.Rays.{raysAlong}
 use native.Mathlib.Omega.{arith}
 use Prim.Native.Nat.{_*_}
 use mathlib.Core.Path.{_≡_}
 use borrow.Author.Needs.{needs}
-use Rattle.grid.proofs.rays.Statement.{statement}
-use Rattle.grid.proofs.rays.Tie as tie
+use Rattle.grid_rays.proofs.rays.Statement.{statement}
+use Rattle.grid_rays.proofs.rays.Tie as tie
 
 cross-requires : tie.Need-cross-requires
 cross-requires c κs = search needs

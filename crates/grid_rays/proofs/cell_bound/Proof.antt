@@ -1,9 +1,9 @@
--- `grid::cell_bound` meets its contract. Assumes nothing.
+-- `grid_rays::cell_bound` meets its contract. Assumes nothing.
 use Rattle.grid.specs.Rays.{cellBoundOf}
 use borrow.Author.Tests.{eq-eqb, ne-eqb, le-leb, lt-leb}
 use borrow.Author.Needs.{needs}
-use Rattle.grid.proofs.cell_bound.Statement.{statement}
-use Rattle.grid.proofs.cell_bound.Tie as tie
+use Rattle.grid_rays.proofs.cell_bound.Statement.{statement}
+use Rattle.grid_rays.proofs.cell_bound.Tie as tie
 
 along-requires : tie.Need-along-requires
 along-requires c κs = search needs

@@ -1,9 +1,9 @@
--- `grid::total_rays` meets its contract: the three sums are the count of all rays. Assumes nothing.
+-- `grid_rays::total_rays` meets its contract: the three sums are the count of all rays. Assumes nothing.
 use Rattle.grid.proofs.Numbering.{total-is}
 use native.Mathlib.Omega.{arith}
 use borrow.Author.Needs.{needs}
-use Rattle.grid.proofs.total_rays.Statement.{statement}
-use Rattle.grid.proofs.total_rays.Tie as tie
+use Rattle.grid_rays.proofs.total_rays.Statement.{statement}
+use Rattle.grid_rays.proofs.total_rays.Tie as tie
 
 rays-requires : tie.Need-rays-requires
 rays-requires c κs = search needs

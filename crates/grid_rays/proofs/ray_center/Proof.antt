@@ -1,8 +1,8 @@
--- `grid::ray_center` meets its contract. Assumes nothing.
+-- `grid_rays::ray_center` meets its contract. Assumes nothing.
 use Rattle.grid.specs.Rays.{centerOf, cellCenter}
 use borrow.Author.Needs.{needs}
-use Rattle.grid.proofs.ray_center.Statement.{statement}
-use Rattle.grid.proofs.ray_center.Tie as tie
+use Rattle.grid_rays.proofs.ray_center.Statement.{statement}
+use Rattle.grid_rays.proofs.ray_center.Tie as tie
 
 cross-requires : tie.Need-cross-requires
 cross-requires c κs = search needs

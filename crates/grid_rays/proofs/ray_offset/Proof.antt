@@ -1,12 +1,12 @@
--- `grid::ray_offset` meets its contract: what it adds up is at most the count of all rays. Assumes nothing.
+-- `grid_rays::ray_offset` meets its contract: what it adds up is at most the count of all rays. Assumes nothing.
 use Rattle.grid.proofs.Tests.{third}
 use Rattle.grid.proofs.Numbering.{total-is}
 use Rattle.grid.specs.Axes.{byDigit}
 use Rattle.grid.specs.Rays.{offset}
 use native.Mathlib.Omega.{arith}
 use borrow.Author.Needs.{needs}
-use Rattle.grid.proofs.ray_offset.Statement.{statement}
-use Rattle.grid.proofs.ray_offset.Tie as tie
+use Rattle.grid_rays.proofs.ray_offset.Statement.{statement}
+use Rattle.grid_rays.proofs.ray_offset.Tie as tie
 
 returns : tie.Need-returns
 unfolding offset byDigit
