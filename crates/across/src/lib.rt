@@ -260,8 +260,8 @@ fn cells_met(spec: DexelStockSpec, g: DexelGrid, w: WorldAxis, s: Pair) -> Cells
         return Cells::Missed;
     }
     Cells::Met(
-        grid::cell_at(spec, g, w, s.lo),
-        grid::cell_at(spec, g, w, s.hi),
+        grid_rays::cell_at(spec, g, w, s.lo),
+        grid_rays::cell_at(spec, g, w, s.hi),
     )
 }
 

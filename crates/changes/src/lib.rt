@@ -83,7 +83,7 @@ pub fn ray_named(g: DexelGrid, h: ChangeHead) -> u64
     ensures { λ r. ⌜ r ≡ rayOf g (h .axis) (h .index) ⌝ }
 {
     let axis = h.axis as u8;
-    grid::ray_number(g, WorldAxis(axis), h.index)
+    grid_rays::ray_number(g, WorldAxis(axis), h.index)
 }
 
 // Whether a change names a ray, from the given one on.
@@ -95,7 +95,7 @@ fn names(g: DexelGrid, h: ChangeHead, from: u64) -> bool
         return false;
     }
     let axis = h.axis as u8;
-    if grid::rays(g, WorldAxis(axis)) <= h.index {
+    if grid_rays::rays(g, WorldAxis(axis)) <= h.index {
         return false;
     }
     from <= ray_named(g, h)
@@ -180,7 +180,7 @@ fn cuts(
     if !had(spec, g, spans, links, heads, ray, p, q) {
         return false;
     }
-    let bounds = grid::ray_bounds(spec, g, ray);
+    let bounds = grid_rays::ray_bounds(spec, g, ray);
     only_loses(p, q, np, nq, bounds.lo, bounds.hi)
 }
 

@@ -82,7 +82,7 @@ fn cut_lists(
     grouping::group(g, log, work);
     let changed = merging::merge_all(spec, g, spans, links, heads, log, work);
     let n = spec.max_intervals as usize;
-    let rays = grid::total_rays(g) as usize;
+    let rays = grid_rays::total_rays(g) as usize;
     let sizes = rays + log.len() / 6;
     laying::free_all(spans, links, heads, n, work, sizes, rays);
     laying::lay_all(spans, links, heads, n, work, sizes, sizes + 2 * rays, rays);

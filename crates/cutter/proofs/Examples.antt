@@ -2,7 +2,7 @@
 use mathlib.Core.Path.{refl}
 use lib.Ieee.{ofBits, add, sub, mul, lt, le, isNan}
 use Rattle.doubles.specs.Doubles.{ratio, largerOf}
-use Rattle.doubles.specs.Root.{squareRoot}
+use Rattle.square_root.specs.Root.{squareRoot}
 use Rattle.cutter.specs.Cutter.{isFinite, offTool, arcAt, cuttingRadius, radiusAt}
 use Rattle.cutter.specs.Examples.{AllRight, ball, examples}
 

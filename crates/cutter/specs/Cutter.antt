@@ -2,7 +2,7 @@
 use mathlib.Core.Bool.{Bool, true, false, cond, not, _||_, _&&_}
 use lib.Ieee.{Float, nan, inf, fin, binary64, ofBits, add, sub, mul, div, lt, le}
 use Rattle.doubles.specs.Doubles.{largerOf, smallerOf, clampOf}
-use Rattle.doubles.specs.Root.{squareRoot}
+use Rattle.square_root.specs.Root.{squareRoot}
 use Rattle.cutter.specs.declared.CutterShape.{CutterShape}
 use Rattle.cutter.specs.declared.CutterShape.the-variants.{Flat, Ball, Bull, Drill, Chamfer, Beam, Probe, Lollipop, Dovetail}
 use Rattle.cutter.specs.declared.PreparedCutter.{PreparedCutter}

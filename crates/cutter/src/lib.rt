@@ -61,7 +61,7 @@ fn is_finite(x: f64) -> bool
 fn arc_at(r: f64, z: f64) -> f64
     ensures { λ a. ⌜ a ≡ arcAt r z ⌝ }
 {
-    doubles::sqrt(doubles::larger(z * (2.0 * r - z), 0.0))
+    square_root::sqrt(doubles::larger(z * (2.0 * r - z), 0.0))
 }
 
 // Within the cutting length. Shapes that widen from the tip have the full radius from the tip height on.

@@ -5,12 +5,4 @@ pub mod Total
 pub mod Held
 pub mod Whole
 pub mod Greatest
-pub mod WholeRoot
-pub mod Rounded
-pub mod Patterns
-pub mod HeronRule
-pub mod Halves
-pub mod Scale
-pub mod Result
-pub mod Nearest
 pub mod Examples

@@ -1,10 +1,7 @@
-// Doubles: the larger and the smaller of two, a number kept within bounds, the `total_cmp` order, floor, ceiling, size, bits and square root.
-mod root; // root.rt: the square root of a positive finite double
-
+// Doubles: the larger and the smaller of two, a number kept within bounds, the `total_cmp` order, floor, ceiling, size and bits.
 ghost use mathlib.Core.Path.{_≡_};
 ghost use lib.Ieee.{binary64, ofBits, toBits, toUnsigned};
 ghost use Rattle.doubles.specs.Doubles.{largerOf, smallerOf, clampOf, floorOf, ceilOf, keyOf, totalOf, absOf};
-ghost use Rattle.doubles.specs.Root.{squareRoot};
 
 // Rust's `max`: a NaN loses, and of two equal numbers, as zeros of opposite sign, the first is kept.
 pub fn larger(a: f64, b: f64) -> f64
@@ -149,28 +146,4 @@ pub fn abs(x: f64) -> f64
         return 0.0;
     }
     x
-}
-
-// The correctly rounded root of x: a NaN for a NaN and for a negative x that is not zero; a zero
-// keeps its sign.
-pub fn sqrt(x: f64) -> f64
-    ensures { λ r. ⌜ r ≡ squareRoot binary64 x ⌝ }
-{
-    if x != x {
-        return x;
-    }
-    let bits = f64::to_bits(x);
-    if bits == 0 {
-        return x;
-    }
-    if bits == 0x8000_0000_0000_0000 {
-        return x;
-    }
-    if bits == 0x7ff0_0000_0000_0000 {
-        return x;
-    }
-    if 0x8000_0000_0000_0000 < bits {
-        return 0.0 / 0.0;
-    }
-    f64::from_bits(root::root_bits(bits))
 }

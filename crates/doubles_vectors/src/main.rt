@@ -35,7 +35,7 @@ fn double_answer(op: u64, x: f64, y: f64, z: f64) -> f64 {
     if op == 5 {
         return doubles::abs(x);
     }
-    doubles::sqrt(x)
+    square_root::sqrt(x)
 }
 
 // The answer of each function. `bits_of` and `of_bits` are tried on a whole number's double, made without the other.

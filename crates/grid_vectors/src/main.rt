@@ -45,11 +45,11 @@ fn asked(
 ) -> [u64; 14]
     requires { ⌜ GridFacts spec g ⌝ }
 {
-    let rays = grid::rays(g, axis);
+    let rays = grid_rays::rays(g, axis);
     if rays <= index {
         return [0; 14];
     }
-    let c = grid::ray_center(spec, g, axis, index);
+    let c = grid_rays::ray_center(spec, g, axis, index);
     [
         0,
         g.c0,
@@ -59,12 +59,12 @@ fn asked(
         doubles::bits_of(g.s1),
         doubles::bits_of(g.s2),
         rays,
-        grid::total_rays(g),
+        grid_rays::total_rays(g),
         doubles::bits_of(c.u),
         doubles::bits_of(c.v),
-        doubles::bits_of(grid::cell_bound(spec, g, axis, i)),
-        grid::cell_at(spec, g, axis, x),
-        grid::ray_number(g, axis, index),
+        doubles::bits_of(grid_rays::cell_bound(spec, g, axis, i)),
+        grid_rays::cell_at(spec, g, axis, x),
+        grid_rays::ray_number(g, axis, index),
     ]
 }
 

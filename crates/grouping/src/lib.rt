@@ -25,7 +25,7 @@ pub fn group(g: DexelGrid, log: &[f64], work: &mut [f64])
     requires { ⌜ EachNamed g (now log) × (rayCount g + entryCount (now log) ≤ length (now work)) ⌝ }
     ensures { λ _. ⌜ Groups g (now (log .entry)) (now (work .entry)) (now (work .exit)) ⌝ }
 {
-    let rays = grid::total_rays(g) as usize;
+    let rays = grid_rays::total_rays(g) as usize;
     spans::clear_from(&mut work[..rays], 0);
     let mut i = log.len() / 6;
     while 0 < i {
@@ -67,7 +67,7 @@ pub fn gather_hits(
         × (at + length (pairsNamed g (entries (now log)) ray (kindOf inner)) ≤ length (now work)) ⌝ }
     ensures { λ r. ⌜ Copied (pairsNamed g (entries (now (log .entry))) ray (kindOf inner)) (now (work .entry)) at (now (work .exit)) r ⌝ }
 {
-    let rays = grid::total_rays(g) as usize;
+    let rays = grid_rays::total_rays(g) as usize;
     let c = column(inner);
     let mut t = at;
     let mut k = numbers::number_at(work, ray);

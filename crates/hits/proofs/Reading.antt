@@ -9,7 +9,7 @@ use lib.ListN.{length, drop, length-drop}
 use lib.Seq.{drop-drop}
 use lib.Ieee.{Float, lt}
 use Rattle.spans.specs.Spans.{holds, retained}
-use Rattle.spans.proofs.Join.{retained-holds}
+use Rattle.spans.proofs.Points.{retained-holds}
 use Rattle.doubles.proofs.Bools.{by-cases}
 use Rattle.hits.specs.declared.Found.{Found}
 use Rattle.hits.specs.declared.Hit.{Hit}

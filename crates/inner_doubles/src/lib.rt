@@ -2,7 +2,7 @@
 ghost use mathlib.Core.Path.{_≡_};
 ghost use lib.Ieee.{binary64, ofBits, toBits, toUnsigned};
 ghost use Rattle.doubles.specs.Doubles.{largerOf, smallerOf, clampOf, floorOf, ceilOf, keyOf, totalOf, absOf};
-ghost use Rattle.doubles.specs.Root.{squareRoot};
+ghost use Rattle.square_root.specs.Root.{squareRoot};
 ghost use Rattle.inner_doubles.specs.Orderings.{numberOf};
 
 #[no_mangle]
@@ -51,7 +51,7 @@ pub extern "C" fn tridexel_inner_abs(x: f64) -> f64
 pub extern "C" fn tridexel_inner_sqrt(x: f64) -> f64
     ensures { λ r. ⌜ r ≡ squareRoot binary64 x ⌝ }
 {
-    doubles::sqrt(x)
+    square_root::sqrt(x)
 }
 
 #[no_mangle]

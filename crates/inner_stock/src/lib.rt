@@ -17,7 +17,7 @@ pub extern "C" fn tridexel_inner_rays(g: DexelGrid, axis: u8) -> u64
     requires { ⌜ rayCount g < 2 ^ 64 ⌝ }
     ensures { λ r. ⌜ r ≡ raysAlong g (worldAxis axis) ⌝ }
 {
-    grid::rays(g, WorldAxis(axis))
+    grid_rays::rays(g, WorldAxis(axis))
 }
 
 #[no_mangle]
@@ -25,7 +25,7 @@ pub extern "C" fn tridexel_inner_total_rays(g: DexelGrid) -> u64
     requires { ⌜ rayCount g < 2 ^ 64 ⌝ }
     ensures { λ r. ⌜ r ≡ rayCount g ⌝ }
 {
-    grid::total_rays(g)
+    grid_rays::total_rays(g)
 }
 
 #[no_mangle]
@@ -33,7 +33,7 @@ pub extern "C" fn tridexel_inner_ray_number(g: DexelGrid, axis: u8, index: u64) 
     requires { ⌜ (rayCount g < 2 ^ 64) × (index < raysAlong g (worldAxis axis)) ⌝ }
     ensures { λ r. ⌜ r ≡ rayNumber g (worldAxis axis) index ⌝ }
 {
-    grid::ray_number(g, WorldAxis(axis), index)
+    grid_rays::ray_number(g, WorldAxis(axis), index)
 }
 
 #[no_mangle]
@@ -46,7 +46,7 @@ pub extern "C" fn tridexel_inner_ray_center(
     requires { ⌜ 0 < cellsAlong g (crossOf (worldAxis axis) .u) ⌝ }
     ensures { λ r. ⌜ r ≡ centerOf spec g (worldAxis axis) index ⌝ }
 {
-    grid::ray_center(spec, g, WorldAxis(axis), index)
+    grid_rays::ray_center(spec, g, WorldAxis(axis), index)
 }
 
 #[no_mangle]
@@ -58,7 +58,7 @@ pub extern "C" fn tridexel_inner_cell_bound(
 ) -> f64
     ensures { λ r. ⌜ r ≡ cellBoundOf spec g (worldAxis axis) i ⌝ }
 {
-    grid::cell_bound(spec, g, WorldAxis(axis), i)
+    grid_rays::cell_bound(spec, g, WorldAxis(axis), i)
 }
 
 #[no_mangle]
@@ -71,7 +71,7 @@ pub extern "C" fn tridexel_inner_cell_at(
     requires { ⌜ 0 < cellsAlong g (worldAxis axis) ⌝ }
     ensures { λ r. ⌜ r ≡ cellAt spec g (worldAxis axis) x ⌝ }
 {
-    grid::cell_at(spec, g, WorldAxis(axis), x)
+    grid_rays::cell_at(spec, g, WorldAxis(axis), x)
 }
 
 #[no_mangle]

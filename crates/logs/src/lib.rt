@@ -33,7 +33,7 @@ fn named(g: DexelGrid, log: &[f64], i: usize) -> bool
     if !is_whole(index) {
         return false;
     }
-    doubles::to_u64(index) < grid::rays(g, WorldAxis(a as u8))
+    doubles::to_u64(index) < grid_rays::rays(g, WorldAxis(a as u8))
 }
 
 // The number of the ray that the entry at place i names.
@@ -43,7 +43,7 @@ pub fn ray_at(g: DexelGrid, log: &[f64], i: usize) -> usize
 {
     let a = doubles::to_u64(log[6 * i]);
     let index = doubles::to_u64(log[6 * i + 1]);
-    grid::ray_number(g, WorldAxis(a as u8), index) as usize
+    grid_rays::ray_number(g, WorldAxis(a as u8), index) as usize
 }
 
 // Whether each whole entry of the log names a ray.

@@ -215,7 +215,7 @@ fn place_normalized(s: &[f64], w: &mut [f64], at: usize) -> usize
     requires { ⌜ (length (now s) % 2 ≡ 0) × (at + length (now s) ≤ length (now w)) ⌝ }
     ensures { λ r. ⌜ Normal (now (s .entry)) at (now (w .entry)) (now (w .exit)) r ⌝ }
 {
-    spans::normalize_into(s, &mut w[at..])
+    normalizing::normalize_into(s, &mut w[at..])
 }
 
 // The merge of a sound ray: its lists and the hits are brought into the work buffer first.

@@ -83,7 +83,7 @@ fn bring_hits(
     ensures { λ r. ⌜ Normal (pairsNamed g (entries (now (log .entry))) ray (kindOf inner)) at (now (work .entry)) (now (work .exit)) r ⌝ }
 {
     let e = grouping::gather_hits(g, log, work, ray, inner, at);
-    spans::normalize_front(&mut work[at..], e - at)
+    normalizing::normalize_front(&mut work[at..], e - at)
 }
 
 // Brings both lists of a ray and the sound lists of its hits, one after the other, to cell s.
@@ -197,7 +197,7 @@ pub fn merge_all(
     ensures { λ r. ⌜ AllMerged spec g (cells (now (spans .entry)) (now (links .entry)) (now (heads .entry))) (now (log .entry))
         (now (work .entry)) (now (work .exit)) r ⌝ }
 {
-    let rays = grid::total_rays(g) as usize;
+    let rays = grid_rays::total_rays(g) as usize;
     let e = log.len() / 6;
     let n = spec.max_intervals as usize;
     let sizes = rays + e;

@@ -10,7 +10,7 @@ use native.Mathlib.Numerals.{add-one}
 use lib.ListN.{length, getD, take, drop, take-append-drop, length-drop, length-append}
 use lib.Seq.{length-take-le, getD-take, getD-drop, take-all}
 use lib.Ieee.{Float, nan, lt, le}
-use Rattle.spans.specs.Spans.{within, holds, sound, rising, ListOf}
+use Rattle.spans.specs.Spans.{within, holds, sound, rising, retained, ListOf}
 use Rattle.spans.specs.Steps.{Put}
 use Rattle.doubles.specs.Doubles.{Number}
 use Rattle.doubles.proofs.Bools.{and-left, and-right, and-false, or-left, by-cases, clash}
@@ -38,6 +38,16 @@ pub empty-pair : (lo hi p : Float) → lt lo hi ≡ false → within lo hi p ≡
 empty-pair lo hi p h = elim (by-cases (within lo hi p)) [
   | inl k ↦ absurd (clash (lt lo hi) (le-lt-trans lo p hi (and-left (le lo p) (lt p hi) k) (and-right (le lo p) (lt p hi) k)) h)
   | inr k ↦ k
+]
+
+-- no point is lost with the pairs that are dropped
+pub retained-holds : (l : List Float) (p : Float) → holds (retained l) p ≡ holds l p
+unfolding retained holds
+retained-holds [] p = refl
+retained-holds (x ∷ []) p = refl
+retained-holds (x ∷ y ∷ l) p = elim (by-cases (lt x y)) [
+  | inl t ↦ rw t (ap (_||_ (within x y p)) (retained-holds l p))
+  | inr t ↦ rw t (retained-holds l p ∙ sym (ap (λ (b : Bool). b || holds l p) (empty-pair x y p t)))
 ]
 
 -- ---- lists one behind the other

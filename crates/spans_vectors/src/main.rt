@@ -75,7 +75,7 @@ fn told(t: Told) -> Reply {
 // The function of this number.
 fn reply_of(op: u64, a: &[f64], b: &[f64], out: &mut [f64]) -> Reply {
     if op == 0 {
-        return listed(spans::normalize(a, out));
+        return listed(normalizing::normalize(a, out));
     }
     if op == 1 {
         return listed(combining::subtract(a, b, out));

@@ -47,7 +47,7 @@ fn check_ray(
 {
     let n = spec.max_intervals as usize;
     let j = 2 * (ray as usize);
-    let bounds = grid::ray_bounds(spec, g, ray);
+    let bounds = grid_rays::ray_bounds(spec, g, ray);
     lists::valid_ray_at(
         spans,
         links,
@@ -70,7 +70,7 @@ fn check_rays(
     requires { ⌜ Chained spec g (cells (now spans) (now links) (now heads)) ⌝ }
     ensures { λ r. ⌜ Tells (ValidTo spec g (cells (now (spans .entry)) (now (links .entry)) (now (heads .entry))) (rayCount g)) r ⌝ }
 {
-    let rays = grid::total_rays(g);
+    let rays = grid_rays::total_rays(g);
     let mut ray: u64 = 0;
     while ray < rays {
         if !check_ray(spec, g, spans, links, heads, ray) {
@@ -94,7 +94,7 @@ pub fn check_stock(
     ensures { λ r. ⌜ Tells (SoundCells spec g (cells (now (spans .entry)) (now (links .entry)) (now (heads .entry))) intervals) r ⌝ }
 {
     let n = spec.max_intervals as usize;
-    let m = 2 * (grid::total_rays(g) as usize);
+    let m = 2 * (grid_rays::total_rays(g) as usize);
     if !store::check_store(spans, links, heads, n, m, intervals) {
         return false;
     }
@@ -119,7 +119,7 @@ pub fn is_short(
     if links.len() / 2 < n {
         return true;
     }
-    (heads.len() as u64) < 2 * grid::total_rays(g)
+    (heads.len() as u64) < 2 * grid_rays::total_rays(g)
 }
 
 // A record of the uncut store. None has a next.
@@ -135,7 +135,7 @@ fn uncut_record(spec: DexelStockSpec, g: DexelGrid, m: usize, i: usize) -> Uncut
     ensures { λ r. ⌜ r ≡ recordAt spec g i ⌝ }
 {
     if i < m {
-        let bounds = grid::ray_bounds(spec, g, (i / 2) as u64);
+        let bounds = grid_rays::ray_bounds(spec, g, (i / 2) as u64);
         return UncutRecord {
             lo: bounds.lo,
             hi: bounds.hi,
@@ -214,7 +214,7 @@ fn fill_grid(
         return Filled::Refused(12);
     }
     let n = spec.max_intervals as usize;
-    let m = 2 * (grid::total_rays(g) as usize);
+    let m = 2 * (grid_rays::total_rays(g) as usize);
     fill_records(spec, g, spans, links, n, m);
     fill_heads(heads, m);
     Filled::Accepted(Tally {
@@ -304,8 +304,8 @@ fn axis_volume(
 {
     let across = grid::cross(axis);
     let area = grid::step_along(g, across.u) * grid::step_along(g, across.v);
-    let first = grid::ray_offset(g, axis);
-    let count = grid::rays(g, axis);
+    let first = grid_rays::ray_offset(g, axis);
+    let count = grid_rays::rays(g, axis);
     let mut v = AxisVolume {
         certain: 0.0,
         possible: 0.0,

@@ -2,7 +2,7 @@
 use mathlib.Core.Path.{refl}
 use lib.Ieee.{ofBits, neg, add, sub, mul, lt, le, isNan}
 use Rattle.doubles.specs.Doubles.{ratio, largerOf}
-use Rattle.doubles.specs.Root.{squareRoot}
+use Rattle.square_root.specs.Root.{squareRoot}
 use Rattle.strips.specs.Strip.{bandDistance, halfChord, chordStrip, diskStrip}
 use Rattle.strips.specs.Examples.{AllRight, disk, examples}
 

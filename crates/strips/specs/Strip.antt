@@ -2,7 +2,7 @@
 use mathlib.Core.Bool.{cond}
 use lib.Ieee.{Float, binary64, ofBits, add, sub, mul, div, neg, lt, le}
 use Rattle.doubles.specs.Doubles.{largerOf, smallerOf}
-use Rattle.doubles.specs.Root.{squareRoot}
+use Rattle.square_root.specs.Root.{squareRoot}
 use Rattle.strips.specs.declared.Point.{Point}
 use Rattle.strips.specs.declared.Strip.{Strip}
 use Rattle.strips.specs.declared.Strip.the-variants.{Hit, Miss}

@@ -45,7 +45,7 @@ fn band_distance(y: f64, y0: f64, y1: f64) -> f64
 fn half_chord(rho: f64, dy: f64) -> f64
     ensures { λ r. ⌜ r ≡ halfChord rho dy ⌝ }
 {
-    doubles::sqrt(doubles::larger((rho - dy) * (rho + dy), 0.0))
+    square_root::sqrt(doubles::larger((rho - dy) * (rho + dy), 0.0))
 }
 
 fn chord_strip(x: f64, rho: f64, dy: f64) -> Strip

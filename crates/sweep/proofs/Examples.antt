@@ -6,7 +6,7 @@ use Prim.Native.Nat.{ℕ, _*_, _%_}
 use lib.ListN.{length}
 use lib.Ieee.{ofBits, ofInt, toUnsigned, neg, add, sub, mul, div, lt, le, eq, isNan}
 use Rattle.doubles.specs.Doubles.{ratio, largerOf, smallerOf, absOf, clampOf, floorOf, ceilOf}
-use Rattle.doubles.specs.Root.{squareRoot}
+use Rattle.square_root.specs.Root.{squareRoot}
 use Rattle.grid.specs.Axes.{byDigit}
 use Rattle.grid.specs.Grid.{within, allWithin}
 use Rattle.gridding.specs.Grid.{anyBelow, anyAbove, isMm, misdescribed, cellsOf, magnitudeOf, leastStep, tooFine, gridOver, gridOf}

@@ -7,7 +7,8 @@ ghost use mathlib.Core.Path.{_≡_};
 ghost use mathlib.Core.Bool.{not, _&&_};
 ghost use Rattle.spans.specs.Spans.{holds};
 ghost use lib.ListN.{length};
-ghost use Rattle.spans.specs.Results.{Answer, normalizeCauses};
+ghost use Rattle.spans.specs.Results.{Answer};
+ghost use Rattle.normalizing.specs.Normalizing.{normalizeCauses};
 ghost use Rattle.combining.specs.Combining.{combineCauses};
 ghost use Rattle.comparing.specs.Verdicts.{Verdict, compareCauses, Covers, Meets};
 ghost use Rattle.comparing.specs.declared.Told.{Told};
@@ -53,13 +54,13 @@ fn hand_told(t: Told, yes: &mut u32) -> u32
     }
 }
 
-// `spans::normalize`; `pairs` becomes the number of pairs.
+// `normalizing::normalize`; `pairs` becomes the number of pairs.
 #[no_mangle]
 pub extern "C" fn tridexel_normalize(spans: &[f64], out: &mut [f64], pairs: &mut usize) -> u32
     ensures { λ r. ⌜ AnsweredBy listedNumbers Listed.Refused (Answer (holds (now (spans .entry))) (normalizeCauses (now (spans .entry)) (length (now (out .entry)))) (now (out .entry)) (now (out .exit)))
         r (now (pairs .entry)) (now (pairs .exit)) ⌝ }
 {
-    let l = spans::normalize(spans, out);
+    let l = normalizing::normalize(spans, out);
     hand_listed(l, pairs)
 }
 

@@ -6,7 +6,7 @@ use Rattle.across.proofs.cells_met.Tie as tie
 use Rattle.across.proofs.cells_met.Reads as reads
 use Rattle.across.proofs.cells_met.Lts as lts
 use Rattle.grid.proofs.along.Reads as along-reads
-use Rattle.grid.proofs.cell_at.Reads as cell-at-reads
+use Rattle.grid_rays.proofs.cell_at.Reads as cell-at-reads
 
 -- src/lib.rt:253:15
 along-requires : tie.Need-along-requires

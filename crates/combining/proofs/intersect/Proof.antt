@@ -6,7 +6,7 @@ use lib.ListN.{length}
 use Rattle.spans.specs.Spans.{common}
 use Rattle.combining.specs.Combining.{combineCauses}
 use Rattle.combining.proofs.Answers.{refuse-checked, accept-checked, good-lists}
-use Rattle.spans.proofs.Join.{laid}
+use Rattle.spans.proofs.Answers.{laid}
 use borrow.Author.Needs.{needs}
 use Rattle.combining.proofs.intersect.Statement.{statement}
 use Rattle.combining.proofs.intersect.Tie as tie

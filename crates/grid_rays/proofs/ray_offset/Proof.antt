@@ -1,0 +1,42 @@
+-- `grid_rays::ray_offset` meets its contract: what it adds up is at most the count of all rays. Assumes nothing.
+use Rattle.grid.proofs.Tests.{third}
+use Rattle.grid.proofs.Numbering.{total-is}
+use Rattle.grid.specs.Axes.{byDigit}
+use Rattle.grid.specs.Rays.{offset}
+use native.Mathlib.Omega.{arith}
+use borrow.Author.Needs.{needs}
+use Rattle.grid_rays.proofs.ray_offset.Statement.{statement}
+use Rattle.grid_rays.proofs.ray_offset.Tie as tie
+
+returns : tie.Need-returns
+unfolding offset byDigit
+returns c = rw (c .if1 .taken)
+
+rays-requires : tie.Need-rays-requires
+rays-requires c κs = search needs
+
+returns-2 : tie.Need-returns-2
+unfolding offset byDigit
+returns-2 c = rw (c .before .if2 .taken) (c .rays .ensures)
+
+rays-requires-2 : tie.Need-rays-requires-2
+rays-requires-2 c κs = search needs
+
+rays-requires-3 : tie.Need-rays-requires-3
+rays-requires-3 c κs = search needs
+
+add-result : tie.Need-add-result
+add-result c =
+    let s = c .before .before .before .before .before .before in
+    record { fits = omega (arith, total-is (s .args .g), s .pre, c .before .rays2 .ensures, c .rays3 .ensures) }
+
+returns-3 : tie.Need-returns-3
+unfolding offset byDigit
+returns-3 c =
+    let t = c .before .before in
+    rw (third _ (t .before .before .if1 .left) (t .if2 .left), ← c .before .rays2 .ensures, ← c .rays3 .ensures)
+
+pub ray-offset-spec : {M : Type 1} → statement M
+ray-offset-spec =
+    tie.close
+    (tie.spec returns rays-requires returns-2 rays-requires-2 rays-requires-3 add-result returns-3)

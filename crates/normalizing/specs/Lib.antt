@@ -1,0 +1,3 @@
+-- The definitions that the contracts of `normalizing` cite.
+pub mod Normalizing
+pub mod Steps
