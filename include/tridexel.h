@@ -1,4 +1,4 @@
-/* Tri-dexel stock rays: the C interface of libtridexel.a (tridexel_sweep: libtridexel_sweep.a).
+/* Tri-dexel stock rays: the C interface of libtridexel.a.
  *
  * Every function takes arbitrary numbers and bytes, always returns, allocates nothing and keeps nothing between calls. The result is document 01's
  * refusal number, 0 where the call is accepted. A refused call leaves every buffer and every number as it was; the one exception is named at

@@ -1,2 +1,3 @@
 -- The definitions that the contracts of `tridexel` cite.
+pub mod Named
 pub mod Numbers

@@ -16,6 +16,8 @@ use Rattle.stock.specs.declared.Tally.{Tally}
 use Rattle.stock.specs.declared.Filled.{Filled}
 use Rattle.stock.specs.declared.Measured.{Measured}
 use Rattle.stock.specs.declared.Committed.{Committed}
+use Rattle.sweep.specs.declared.Swept.{Swept}
+use Rattle.sweep.specs.declared.Totals.{Totals}
 
 -- What a C function leaves, where `numbers` says which numbers an accepted answer is handed back as. Accepted: the caller's numbers are those of an
 -- answer of which the entry's own promise holds. Refused: the promise holds of the refusal with this number, and the caller's numbers are as before.
@@ -94,3 +96,11 @@ volumeNumbers (Measured.Refused k) n = ⊥
 abbrev pub committedNumbers : Committed → ℕ → Type 0
 committedNumbers (Committed.Changed n) changed = changed ≡ n
 committedNumbers (Committed.Refused k) changed = ⊥
+
+-- the number of entries and the visit total of a sweep
+abbrev pub totals : (entries visits : ℕ) → Totals
+totals entries visits = record { entries = entries; visits = visits }
+
+abbrev pub sweptNumbers : Swept → Totals → Type 0
+sweptNumbers (Swept.Accepted t) n = n ≡ t
+sweptNumbers (Swept.Refused k) n = ⊥

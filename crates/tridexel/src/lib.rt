@@ -2,6 +2,7 @@
 // The result is document 01's refusal number, 0 where the call is accepted. A refused call leaves every number and cell as it was.
 mod commits;
 mod stocks;
+mod sweeps;
 
 ghost use mathlib.Core.Path.{_≡_};
 ghost use mathlib.Core.Bool.{not, _&&_};

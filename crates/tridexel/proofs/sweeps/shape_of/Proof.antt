@@ -1,9 +1,10 @@
-use Rattle.tridexel_sweep.specs.Numbers.{shapeOf}
+-- `tridexel::sweeps::shape_of` meets its contract: each number gives the shape of its branch.
+use Rattle.tridexel.specs.Named.{shapeOf}
 use borrow.Author.Tests.{eq-eqb, ne-eqb, lt-ltb, le-ltb}
 use Rattle.doubles.proofs.Order.{zero-over-zero}
 use borrow.Author.Needs.{needs}
-use Rattle.tridexel_sweep.proofs.shape_of.Statement.{statement}
-use Rattle.tridexel_sweep.proofs.shape_of.Tie as tie
+use Rattle.tridexel.proofs.sweeps.shape_of.Statement.{statement}
+use Rattle.tridexel.proofs.sweeps.shape_of.Tie as tie
 
 returns : tie.Need-returns
 unfolding shapeOf

@@ -1,8 +1,9 @@
-use Rattle.tridexel_sweep.specs.Numbers.{highShape}
+-- `tridexel::sweeps::high_shape` meets its contract: each number gives the shape of its branch.
+use Rattle.tridexel.specs.Named.{highShape}
 use borrow.Author.Tests.{eq-eqb, ne-eqb}
 use Rattle.doubles.proofs.Order.{zero-over-zero}
-use Rattle.tridexel_sweep.proofs.high_shape.Statement.{statement}
-use Rattle.tridexel_sweep.proofs.high_shape.Tie as tie
+use Rattle.tridexel.proofs.sweeps.high_shape.Statement.{statement}
+use Rattle.tridexel.proofs.sweeps.high_shape.Tie as tie
 
 returns : tie.Need-returns
 unfolding highShape

@@ -1,9 +1,11 @@
-// The sweep under a C name. An axis and a shape go in as numbers, in the order of their declarations from 0; a number that names none is refusal 6.
+// The sweep. An axis and a shape go in as numbers, in the order of their declarations from 0; a number that names none is refusal 6.
 ghost use mathlib.Core.Path.{_≡_};
 ghost use lib.ListN.{length};
 ghost use Rattle.store.specs.Updates.{cells};
 ghost use Rattle.sweep.specs.Answer.{settingOf, sweepCauses, Sweeps};
-ghost use Rattle.tridexel_sweep.specs.Numbers.{axisOf, lowShape, highShape, shapeOf, totals, SweptAs, SweptBy};
+ghost use Rattle.sweep.specs.declared.Swept.{Swept};
+ghost use Rattle.tridexel.specs.Named.{axisOf, lowShape, highShape, shapeOf};
+ghost use Rattle.tridexel.specs.Numbers.{AnsweredBy, HandedAs, sweptNumbers, totals};
 use cutter::CutterShape;
 use cutter::PreparedCutter;
 use frame::Axis;
@@ -82,7 +84,7 @@ fn shape_of(axis: u64, kind: u64, m: f64, n: f64) -> CutterShape
 
 // Hands the totals of a sweep back as numbers.
 fn hand_swept(s: Swept, entries: &mut usize, visits: &mut u64) -> u32
-    ensures { λ r. ⌜ SweptAs s r (totals (now (entries .entry)) (now (visits .entry))) (totals (now (entries .exit)) (now (visits .exit))) ⌝ }
+    ensures { λ r. ⌜ HandedAs sweptNumbers Swept.Refused s r (totals (now (entries .entry)) (now (visits .entry))) (totals (now (entries .exit)) (now (visits .exit))) ⌝ }
 {
     match s {
         Swept::Accepted(t) => {
@@ -117,7 +119,7 @@ pub extern "C" fn tridexel_sweep(
     entries: &mut usize,
     visits: &mut u64,
 ) -> u32
-    ensures { λ r. ⌜ SweptBy (Sweeps (sweepCauses (now (units .entry)) (settingOf spec (axisOf axis) (shapeOf axis kind m n) cutter guard (cells (now (spans .entry)) (now (links .entry)) (now (heads .entry)))) intervals (now (chords .entry)) budget (length (now (log .entry))))
+    ensures { λ r. ⌜ AnsweredBy sweptNumbers Swept.Refused (Sweeps (sweepCauses (now (units .entry)) (settingOf spec (axisOf axis) (shapeOf axis kind m n) cutter guard (cells (now (spans .entry)) (now (links .entry)) (now (heads .entry)))) intervals (now (chords .entry)) budget (length (now (log .entry))))
         (settingOf spec (axisOf axis) (shapeOf axis kind m n) cutter guard (cells (now (spans .entry)) (now (links .entry)) (now (heads .entry)))) (now (chords .entry)) (now (log .entry)) (now (log .exit)))
         r (totals (now (entries .entry)) (now (visits .entry))) (totals (now (entries .exit)) (now (visits .exit))) ⌝ }
 {

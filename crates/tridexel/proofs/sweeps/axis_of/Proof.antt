@@ -1,7 +1,8 @@
-use Rattle.tridexel_sweep.specs.Numbers.{axisOf}
+-- `tridexel::sweeps::axis_of` meets its contract: each number gives the axis of its branch.
+use Rattle.tridexel.specs.Named.{axisOf}
 use borrow.Author.Tests.{eq-eqb, ne-eqb}
-use Rattle.tridexel_sweep.proofs.axis_of.Statement.{statement}
-use Rattle.tridexel_sweep.proofs.axis_of.Tie as tie
+use Rattle.tridexel.proofs.sweeps.axis_of.Statement.{statement}
+use Rattle.tridexel.proofs.sweeps.axis_of.Tie as tie
 
 returns : tie.Need-returns
 unfolding axisOf

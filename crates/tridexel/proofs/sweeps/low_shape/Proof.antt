@@ -1,7 +1,8 @@
-use Rattle.tridexel_sweep.specs.Numbers.{lowShape}
+-- `tridexel::sweeps::low_shape` meets its contract: each number gives the shape of its branch.
+use Rattle.tridexel.specs.Named.{lowShape}
 use borrow.Author.Tests.{eq-eqb, ne-eqb}
-use Rattle.tridexel_sweep.proofs.low_shape.Statement.{statement}
-use Rattle.tridexel_sweep.proofs.low_shape.Tie as tie
+use Rattle.tridexel.proofs.sweeps.low_shape.Statement.{statement}
+use Rattle.tridexel.proofs.sweeps.low_shape.Tie as tie
 
 returns : tie.Need-returns
 unfolding lowShape

@@ -1,8 +1,9 @@
+-- `tridexel::sweeps::tridexel_sweep` meets its contract.
 use borrow.Author.Needs.{needs}
 use Rattle.store.specs.Updates.{cells}
-use Rattle.tridexel_sweep.proofs.Handing.{swept-by}
-use Rattle.tridexel_sweep.proofs.tridexel_sweep.Statement.{statement}
-use Rattle.tridexel_sweep.proofs.tridexel_sweep.Tie as tie
+use Rattle.tridexel.proofs.Sweeping.{swept-by}
+use Rattle.tridexel.proofs.sweeps.tridexel_sweep.Statement.{statement}
+use Rattle.tridexel.proofs.sweeps.tridexel_sweep.Tie as tie
 
 axis-of-requires : tie.Need-axis-of-requires
 axis-of-requires c κs = search needs
