@@ -151,6 +151,14 @@ pub fn same(port: &PortSide, rust: &mut RustSide) {
     assert!((0..3).all(|a| rays[a] == rust.stock.rays(a)));
 }
 
+/// How many rays a log changes, and how many more intervals there are then, on the uncut store that has so many records free.
+pub fn needs(log: &[Entry], store: impl Fn(usize) -> Laid) -> (u64, usize) {
+    let start = store(3 * log.len());
+    let (_, mut rust) = sides(&start, Given::Log(log, u64::MAX));
+    rust.call();
+    (rust.changed() as u64, rust.stock.intervals() - start.rust.intervals())
+}
+
 fn row(table: &Table, what: &str, start: &Laid, given: Given) {
     let per = given.len();
     let (mut port, mut rust) = sides(start, given);

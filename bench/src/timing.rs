@@ -60,6 +60,32 @@ pub fn seconds(side: &mut impl Side) -> f64 {
     stretch(1, &mut || side.call())
 }
 
+/// The seconds of one call: the best of the repetitions, of which none starts after this many seconds.
+pub fn best<T>(limit: f64, mut f: impl FnMut() -> T) -> f64 {
+    let start = Instant::now();
+    let (n, mut best) = calls(&mut f);
+    for _ in 1..REPETITIONS {
+        if start.elapsed().as_secs_f64() > limit {
+            break;
+        }
+        best = best.min(stretch(n, &mut f) / n as f64);
+    }
+    best
+}
+
+/// The same for a side.
+pub fn best_of(limit: f64, side: &mut impl Side) -> f64 {
+    let start = Instant::now();
+    let mut best = seconds(side);
+    for _ in 1..REPETITIONS {
+        if start.elapsed().as_secs_f64() > limit {
+            break;
+        }
+        best = best.min(seconds(side));
+    }
+    best
+}
+
 impl Table {
     pub fn new(rows: Rows) -> Self {
         if !matches!(rows, Rows::Count(_)) {
