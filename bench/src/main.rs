@@ -1,29 +1,57 @@
 //! The port's times beside the Rust's, from one run. Each module has one file here and a line in `modules`.
-//! `bench [NAME]`: all rows, or those whose text has NAME in it.
+//! `bench [NAME]`: all rows and then the growth tables, or the rows whose text has NAME in it. `bench growth`: the growth tables alone.
+//! `bench quadratic N [NAME]`: the log commits that take time with the square of N. `bench count MODULE ROW CALLS ROUNDS`: the port's side of a row alone, for
+//! a count of its instructions.
+mod commits;
 mod doubles;
 mod geometry;
+mod growth;
+mod laid;
 mod merge;
+mod quadratic;
 mod spans;
 mod stock;
 mod sweep;
 mod timing;
 
-use timing::Table;
+use timing::{Count, Rows, Table};
 
-fn modules() -> Vec<fn(&mut Table)> {
+type Module = (&'static str, fn(&mut Table));
+
+fn modules() -> Vec<Module> {
     vec![
-        doubles::rows, //
-        spans::rows,
-        geometry::rows,
-        merge::rows,
-        stock::rows,
-        sweep::rows,
+        ("doubles", doubles::rows), //
+        ("spans", spans::rows),
+        ("geometry", geometry::rows),
+        ("merge", merge::rows),
+        ("stock", stock::rows),
+        ("sweep", sweep::rows),
+        ("commits", commits::rows),
     ]
 }
 
 fn main() {
-    let mut table = Table::new(std::env::args().nth(1));
-    for rows in modules() {
-        rows(&mut table);
+    let args: Vec<String> = std::env::args().skip(1).collect();
+    let args: Vec<&str> = args.iter().map(String::as_str).collect();
+    let number = |s: &str| s.parse().expect("a number");
+    let (of, rows) = match args[..] {
+        [] => (None, Rows::All),
+        ["count", module, row, calls, rounds] => {
+            (Some(module), Rows::Count(Count { row: row.into(), calls: number(calls), rounds: number(rounds) }))
+        }
+        ["growth"] => return growth::print(),
+        ["quadratic", n] => return quadratic::print(&[number(n)], ""),
+        ["quadratic", n, name] => return quadratic::print(&[number(n)], name),
+        [name] => (None, Rows::With(name.into())),
+        _ => panic!("bench [NAME], bench growth, bench quadratic N [NAME] or bench count MODULE ROW CALLS ROUNDS"),
+    };
+    let mut table = Table::new(rows);
+    for (name, rows) in modules() {
+        if of.is_none_or(|of| of == name) {
+            rows(&mut table);
+        }
+    }
+    if args.is_empty() {
+        growth::print();
     }
 }

@@ -1,15 +1,10 @@
 //! The merge of one ray against the body of camlib's merge loop, called by the names of its functions. The port's work buffer is as long as required;
 //! the Rust allocates its lists.
-use crate::timing::Table;
+use crate::{spans::ascending, timing::Table};
 use compare::merge::{Parts, Ray, merge};
 use harness::{Pair, flat, pairs};
 use oracle::dexel::{self, opened as rust};
 use std::hint::black_box;
-
-/// n pairs of length 1, ascending, 1 apart, from `at` on.
-fn ascending(n: usize, at: f64) -> Vec<Pair> {
-    (0..n).map(|i| [i as f64 * 2. + at, i as f64 * 2. + 1. + at]).collect()
-}
 
 fn merged(before: &dexel::Ray, outer: Vec<Pair>, inner: Vec<Pair>) -> Option<dexel::Ray> {
     let outer = rust::normalize(outer);
@@ -21,26 +16,32 @@ fn merged(before: &dexel::Ray, outer: Vec<Pair>, inner: Vec<Pair>) -> Option<dex
     (!same).then(|| rust::ray(possible, certain))
 }
 
-/// A ray of n pairs with h hits of each kind, timed per ray or per hit.
-fn row(table: &Table, what: &str, n: usize, h: usize, per: usize, miss: bool) {
+/// A ray of n pairs with h hits of each kind.
+pub fn of(n: usize, h: usize, miss: bool) -> Ray {
     let list = flat(&ascending(n, 0.));
     let at = if miss { 2. * n as f64 + 1. } else { 0. };
-    let ray = Ray {
+    Ray {
         bounds: [0., 4. * (n + h) as f64],
         possible: list.clone(),
         certain: list,
         outer: flat(&ascending(h, at + 0.25)),
         inner: flat(&ascending(h, at + 0.5)),
-    };
+    }
+}
+
+pub fn port(ray: &Ray, work: &mut [f64]) -> Parts {
+    let mut parts = Parts { moved: [0; 2], pairs: [0; 2] };
+    assert_eq!(merge(black_box(ray).lists(), ray.bounds, work, &mut parts), 0);
+    parts
+}
+
+/// Timed per ray or per hit.
+fn row(table: &Table, what: &str, n: usize, h: usize, per: usize, miss: bool) {
+    let ray = of(n, h, miss);
     let mut work = vec![0.; ray.work()];
-    let port = || {
-        let mut parts = Parts { moved: [0; 2], pairs: [0; 2] };
-        assert_eq!(merge(black_box(&ray).lists(), ray.bounds, &mut work, &mut parts), 0);
-        parts
-    };
     let before = rust::ray(pairs(&ray.possible), pairs(&ray.certain));
     let (outer, inner) = (pairs(&ray.outer), pairs(&ray.inner));
-    table.row(what, per, port, || merged(black_box(&before), outer.clone(), inner.clone()));
+    table.row(what, per, || port(&ray, &mut work), || merged(black_box(&before), outer.clone(), inner.clone()));
 }
 
 pub fn rows(table: &mut Table) {

@@ -9,11 +9,11 @@ use std::hint::black_box;
 const SIZES: [usize; 4] = [4, 64, 1_000, 100_000];
 
 /// n pairs of length 1, ascending, 1 apart.
-fn ascending(n: usize, at: f64) -> Vec<Pair> {
+pub fn ascending(n: usize, at: f64) -> Vec<Pair> {
     (0..n).map(|i| [i as f64 * 2. + at, i as f64 * 2. + 1. + at]).collect()
 }
 
-fn shuffled(mut v: Vec<Pair>) -> Vec<Pair> {
+pub fn shuffled(mut v: Vec<Pair>) -> Vec<Pair> {
     let mut g = Gen::new(1, "shuffle", v.len() as u64);
     for i in (1..v.len()).rev() {
         v.swap(i, g.below(i as u64 + 1) as usize);

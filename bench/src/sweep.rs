@@ -1,16 +1,16 @@
 //! The sweep against camlib's `across`: an uncut blank of 200 x 200 x 50 cells, a ball cutter, chords across the whole blank.
 //! The port checks the whole store first, which the Rust does not; its log is lent, where the Rust's hits go into a map for each chord and axis.
-use crate::timing::Table;
+use crate::{laid::uncut, timing::Table};
 use compare::{
     cutter::{PreparedCutter, Tool, assembly},
-    sweep::{Lending, port, spec},
+    sweep::{Lending, port},
 };
 use oracle::dexel::{Axis, DexelStock, opened as rust};
 use std::hint::black_box;
 
-const MIN: [f64; 3] = [0.; 3];
-const MAX: [f64; 3] = [200., 200., 50.];
-const RAYS: u64 = 200 * 50 + 50 * 200 + 200 * 200;
+pub const MAX: [f64; 3] = [200., 200., 50.];
+/// 20 below the top
+const DEEP: f64 = 30.;
 const GUARD: f64 = 1e-3;
 const POS_Z: u64 = 4;
 const BALL: u64 = 1;
@@ -30,13 +30,25 @@ fn ball() -> Tool {
     Tool { kind: BALL, own: [0.; 2], c, h: [0.; 2] }
 }
 
-/// Slanted lines from one side to the other, 20 deep.
-fn chords(n: usize) -> Vec<rust::sweep::WorldChord> {
+/// Slanted lines from one side to the other at this height.
+fn chords(n: usize, z: f64) -> Vec<rust::sweep::WorldChord> {
     let line = |i: usize| {
         let y = 10. + 180. * i as f64 / n as f64;
-        rust::sweep::WorldChord { a: [5., y, 30.], b: [195., y + 7., 30.], e: 1e-4, length: None }
+        rust::sweep::WorldChord { a: [5., y, z], b: [195., y + 7., z], e: 1e-4, length: None }
     };
     (0..n).map(line).collect()
+}
+
+/// The log of so many passes on the uncut blank, each 2 below the one before, the last 20 deep.
+pub fn passes(passes: usize, lines: usize) -> Vec<rust::sweep::Entry> {
+    let stock = DexelStock::new(rust::spec([0.; 3], MAX, 1., 60_000, 120_000)).unwrap();
+    let tool = assembly(&ball());
+    let mut log = vec![];
+    for k in (0..passes).rev() {
+        let lines = chords(lines, DEEP + 2. * k as f64);
+        rust::sweep::sweep(&stock, &tool, Axis::PosZ, GUARD, &lines, u64::MAX, &mut log).unwrap();
+    }
+    log
 }
 
 fn flat(chords: &[rust::sweep::WorldChord]) -> Vec<f64> {
@@ -49,27 +61,22 @@ fn flat(chords: &[rust::sweep::WorldChord]) -> Vec<f64> {
 
 pub fn rows(table: &mut Table) {
     table.heading("sweep, 200 x 200 x 50 cells, a ball cutter, per visited ray; the port's time holds its check of the whole store, for no chord too");
-    let description = rust::spec(MIN, MAX, 1., RAYS as usize, 2 * RAYS as usize);
-    let stock = DexelStock::new(description).unwrap();
-    // the uncut store: list j alone has record j + 1
-    let ends = (0..3).flat_map(|a| std::iter::repeat_n([MIN[a], MAX[a]], 2 * stock.grid().rays(a)));
-    let spans: Vec<f64> = ends.flatten().collect();
-    let heads: Vec<u64> = (1..=2 * RAYS).collect();
-    let links: Vec<u64> = heads.iter().flat_map(|k| [0, *k]).collect();
+    let blank = uncut(MAX, 1., 0);
+    let stock = &blank.rust;
     let tool = ball();
     let rust_tool = assembly(&tool);
     for n in [4, 32] {
-        let lines = chords(n);
+        let lines = chords(n, DEEP);
         let ends = flat(&lines);
         let mut hits = vec![];
-        let visits = rust::sweep::sweep(&stock, &rust_tool, Axis::PosZ, GUARD, &lines, u64::MAX, &mut hits).unwrap();
+        let visits = rust::sweep::sweep(stock, &rust_tool, Axis::PosZ, GUARD, &lines, u64::MAX, &mut hits).unwrap();
         let mut log = vec![0.; 6 * hits.len()];
         let lending = Lending {
-            spec: spec(MIN, MAX, 1., RAYS, 2 * RAYS),
-            spans: &spans,
-            links: &links,
-            heads: &heads,
-            intervals: 2 * RAYS,
+            spec: blank.spec,
+            spans: &blank.spans,
+            links: &blank.links,
+            heads: &blank.heads,
+            intervals: blank.tally.intervals,
             axis: POS_Z,
             tool: &tool,
             guard: GUARD,
@@ -84,7 +91,7 @@ pub fn rows(table: &mut Table) {
         };
         table.row(&format!("sweep {n} chords, {visits} visits"), visits as usize, swept, || {
             let mut log = vec![];
-            rust::sweep::sweep(&stock, &rust_tool, Axis::PosZ, GUARD, black_box(&lines), u64::MAX, &mut log)
+            rust::sweep::sweep(stock, &rust_tool, Axis::PosZ, GUARD, black_box(&lines), u64::MAX, &mut log)
         });
     }
 }

@@ -56,7 +56,8 @@ mod raw {
 
 const UNITS: &[u8] = b"mm";
 
-fn described(s: &DexelStockSpec) -> crate::grid::DexelStockSpec {
+/// The description as the exports take it.
+pub fn described(s: &DexelStockSpec) -> crate::grid::DexelStockSpec {
     crate::grid::DexelStockSpec {
         version: s.version,
         min_mm: vec3(s.min_mm),

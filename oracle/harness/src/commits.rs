@@ -393,7 +393,7 @@ fn both(max_intervals: usize, logs: Vec<Vec<f64>>) -> [Run; 2] {
 }
 
 /// The change list as a caller lends it.
-fn listed(base: u64, changes: &[RayChange]) -> Commit {
+pub fn listed(base: u64, changes: &[RayChange]) -> Commit {
     let lists = |c: &RayChange| {
         [&c.before.possible, &c.before.certain, &c.after.possible, &c.after.certain].map(|l| l.as_slice().to_vec())
     };
