@@ -28,11 +28,11 @@
 //! assert!(volume.certain_mm3[0] < volume.possible_mm3[0]);
 //! # Ok::<(), tridexel::Refusal>(())
 //! ```
-mod raw;
 mod refusal;
 mod stock;
 mod tool;
 
+pub mod raw;
 pub mod spans;
 
 pub use refusal::{Blame, Refusal};

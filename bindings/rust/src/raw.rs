@@ -1,8 +1,9 @@
-//! The C interface, as `include/tridexel.h` declares it.
+//! The C interface, as `include/tridexel.h` declares it: for callers that keep their own buffers.
 use crate::{Cutter, Spec};
 
+/// `tridexel_spec`.
 #[repr(C)]
-#[derive(Clone, Copy)]
+#[derive(Clone, Copy, Debug)]
 pub struct RawSpec {
     pub version: u32,
     pub min_mm: [f64; 3],
@@ -47,6 +48,22 @@ unsafe extern "C" {
     ) -> u32;
     pub fn tridexel_contains(outer: *const f64, outer_len: usize, inner: *const f64, inner_len: usize, yes: *mut u32) -> u32;
     pub fn tridexel_overlaps(a: *const f64, a_len: usize, b: *const f64, b_len: usize, yes: *mut u32) -> u32;
+    pub fn tridexel_merge(
+        possible: *const f64,
+        possible_len: usize,
+        certain: *const f64,
+        certain_len: usize,
+        lo: f64,
+        hi: f64,
+        outer: *const f64,
+        outer_len: usize,
+        inner: *const f64,
+        inner_len: usize,
+        work: *mut f64,
+        work_len: usize,
+        moved: *mut [u32; 2],
+        pairs: *mut [usize; 2],
+    ) -> u32;
     pub fn tridexel_grid(spec: RawSpec, units: *const u8, units_len: usize, cells: *mut [u64; 3], steps: *mut [f64; 3]) -> u32;
     pub fn tridexel_fill(
         spec: RawSpec,

@@ -2,57 +2,13 @@
 use crate::{
     explained::Explained,
     function::{Function, Outcome, Words},
-    grid::vec3,
 };
 use harness::{
     commits::{Commit, Entries, Run, Tally, edges, run},
     store::{LentStore, Match},
 };
 use oracle::dexel::DexelStockSpec;
-
-mod raw {
-    use crate::grid::DexelStockSpec;
-    unsafe extern "C" {
-        pub fn tridexel_commit_changes(
-            spec: DexelStockSpec,
-            units: *const u8,
-            units_len: usize,
-            spans: *mut f64,
-            spans_len: usize,
-            links: *mut u64,
-            links_len: usize,
-            heads: *mut u64,
-            heads_len: usize,
-            generation: *mut u64,
-            intervals: *mut u64,
-            base: u64,
-            changes: *const u64,
-            changes_len: usize,
-            pairs: *const f64,
-            pairs_len: usize,
-            changed: *mut u64,
-        ) -> u32;
-        pub fn tridexel_commit_log(
-            spec: DexelStockSpec,
-            units: *const u8,
-            units_len: usize,
-            spans: *mut f64,
-            spans_len: usize,
-            links: *mut u64,
-            links_len: usize,
-            heads: *mut u64,
-            heads_len: usize,
-            generation: *mut u64,
-            intervals: *mut u64,
-            log: *const f64,
-            log_len: usize,
-            allowance: u64,
-            work: *mut f64,
-            work_len: usize,
-            changed: *mut u64,
-        ) -> u32;
-    }
-}
+use tridexel::raw;
 
 const UNITS: &[u8] = b"mm";
 
@@ -60,8 +16,8 @@ const UNITS: &[u8] = b"mm";
 pub fn described(s: &DexelStockSpec) -> crate::grid::DexelStockSpec {
     crate::grid::DexelStockSpec {
         version: s.version,
-        min_mm: vec3(s.min_mm),
-        max_mm: vec3(s.max_mm),
+        min_mm: s.min_mm,
+        max_mm: s.max_mm,
         cell_size_mm: s.cell_size_mm,
         max_rays: s.max_rays as u64,
         max_intervals: s.max_intervals as u64,

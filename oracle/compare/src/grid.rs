@@ -4,25 +4,8 @@ use crate::{
     strips,
 };
 use harness::grid::{Answer, Place, Query, UNITS, bound_place, center_place, edges, places, query};
-
-#[derive(Clone, Copy)]
-#[repr(C)]
-pub struct Vec3 {
-    pub x: f64,
-    pub y: f64,
-    pub z: f64,
-}
-
-#[derive(Clone, Copy)]
-#[repr(C)]
-pub struct DexelStockSpec {
-    pub version: u32,
-    pub min_mm: Vec3,
-    pub max_mm: Vec3,
-    pub cell_size_mm: f64,
-    pub max_rays: u64,
-    pub max_intervals: u64,
-}
+use tridexel::raw;
+pub use tridexel::raw::RawSpec as DexelStockSpec;
 
 #[derive(Clone, Copy)]
 #[repr(C)]
@@ -42,16 +25,9 @@ pub struct RayCenter {
     pub v: f64,
 }
 
-mod raw {
+mod inner {
     use super::{DexelGrid, DexelStockSpec, RayCenter};
     unsafe extern "C" {
-        pub fn tridexel_grid(
-            spec: DexelStockSpec,
-            units: *const u8,
-            units_len: usize,
-            counts: *mut [u64; 3],
-            steps: *mut [f64; 3],
-        ) -> u32;
         pub fn tridexel_inner_rays(g: DexelGrid, axis: u8) -> u64;
         pub fn tridexel_inner_total_rays(g: DexelGrid) -> u64;
         pub fn tridexel_inner_ray_number(g: DexelGrid, axis: u8, index: u64) -> u64;
@@ -61,16 +37,12 @@ mod raw {
     }
 }
 
-pub fn vec3(p: [f64; 3]) -> Vec3 {
-    Vec3 { x: p[0], y: p[1], z: p[2] }
-}
-
 /// The description as the port takes it.
 pub fn described(q: &Query) -> DexelStockSpec {
     DexelStockSpec {
         version: q.version,
-        min_mm: vec3(q.min),
-        max_mm: vec3(q.max),
+        min_mm: q.min,
+        max_mm: q.max,
         cell_size_mm: q.cell,
         max_rays: q.max_rays,
         max_intervals: q.max_intervals,
@@ -97,21 +69,21 @@ pub fn port(q: &Query) -> Answer {
     let g = DexelGrid { c0: cells[0], c1: cells[1], c2: cells[2], s0: steps[0], s1: steps[1], s2: steps[2] };
     let w = q.axis as u8;
     unsafe {
-        let rays = raw::tridexel_inner_rays(g, w);
+        let rays = inner::tridexel_inner_rays(g, w);
         if rays <= q.index {
             return Answer { cells, steps, rays, ..Answer::default() };
         }
-        let center = raw::tridexel_inner_ray_center(spec, g, w, q.index);
+        let center = inner::tridexel_inner_ray_center(spec, g, w, q.index);
         Answer {
             refused: 0,
             cells,
             steps,
             rays,
-            total: raw::tridexel_inner_total_rays(g),
+            total: inner::tridexel_inner_total_rays(g),
             center: [center.u, center.v],
-            bound: raw::tridexel_inner_cell_bound(spec, g, w, q.i),
-            cell: raw::tridexel_inner_cell_at(spec, g, w, q.x),
-            number: raw::tridexel_inner_ray_number(g, w, q.index),
+            bound: inner::tridexel_inner_cell_bound(spec, g, w, q.i),
+            cell: inner::tridexel_inner_cell_at(spec, g, w, q.x),
+            number: inner::tridexel_inner_ray_number(g, w, q.index),
         }
     }
 }
@@ -143,8 +115,7 @@ impl Words for Place {
 
 /// The box, which is all that the functions over a grid read of a description, and the grid.
 fn over(p: &Place) -> (DexelStockSpec, DexelGrid) {
-    let spec =
-        DexelStockSpec { version: 1, min_mm: vec3(p.min), max_mm: vec3(p.max), cell_size_mm: 1., max_rays: 1, max_intervals: 1 };
+    let spec = DexelStockSpec { version: 1, min_mm: p.min, max_mm: p.max, cell_size_mm: 1., max_rays: 1, max_intervals: 1 };
     let [c0, c1, c2] = p.grid.cells.map(|n| n as u64);
     let [s0, s1, s2] = p.grid.step_mm;
     (spec, DexelGrid { c0, c1, c2, s0, s1, s2 })
@@ -153,13 +124,13 @@ fn over(p: &Place) -> (DexelStockSpec, DexelGrid) {
 /// A place has at least one cell along each axis, which `ray_center` asks for.
 fn compare_center(p: &Place) -> Outcome {
     let (spec, g) = over(p);
-    let port = unsafe { raw::tridexel_inner_ray_center(spec, g, p.axis as u8, p.at) };
+    let port = unsafe { inner::tridexel_inner_ray_center(spec, g, p.axis as u8, p.at) };
     strips::answers((0, p.ray_center()), (0, [port.u, port.v]))
 }
 
 fn compare_bound(p: &Place) -> Outcome {
     let (spec, g) = over(p);
-    let port = unsafe { raw::tridexel_inner_cell_bound(spec, g, p.axis as u8, p.at) };
+    let port = unsafe { inner::tridexel_inner_cell_bound(spec, g, p.axis as u8, p.at) };
     strips::answers((0, [p.cell_bound(), 0.]), (0, [port, 0.]))
 }
 

@@ -1,5 +1,5 @@
-//! The port against the Rust. Each module of the port has one file here: the declarations of its C exports (nothing checks them
-//! against the Rattle source), a generator and a comparison per function, and a line in `modules`.
+//! The port against the Rust. Each module of the port has one file here: the declarations of its inner C exports (nothing checks them
+//! against the Rattle source; those of the entries are package `tridexel`'s), a generator and a comparison per function, and a line in `modules`.
 pub mod commits;
 pub mod cutter;
 pub mod doubles;

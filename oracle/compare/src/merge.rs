@@ -6,27 +6,7 @@ use crate::{
 };
 use harness::{Pair, flat, generate::Gen, lent::Lent, pairs, same};
 use oracle::dexel::opened::{self as rust, sweep};
-
-mod raw {
-    unsafe extern "C" {
-        pub fn tridexel_merge(
-            possible: *const f64,
-            possible_len: usize,
-            certain: *const f64,
-            certain_len: usize,
-            lo: f64,
-            hi: f64,
-            outer: *const f64,
-            outer_len: usize,
-            inner: *const f64,
-            inner_len: usize,
-            work: *mut f64,
-            work_len: usize,
-            moved: *mut [u32; 2],
-            pairs: *mut [usize; 2],
-        ) -> u32;
-    }
-}
+use tridexel::raw;
 
 /// A ray within its bounds and the hits on it.
 #[derive(Clone, Debug)]

@@ -10,32 +10,7 @@ use harness::{
     pairs, same, sound,
 };
 use oracle::dexel::opened as rust;
-
-mod raw {
-    unsafe extern "C" {
-        pub fn tridexel_normalize(spans: *const f64, spans_len: usize, out: *mut f64, out_len: usize, pairs: *mut usize) -> u32;
-        pub fn tridexel_subtract(
-            a: *const f64,
-            a_len: usize,
-            b: *const f64,
-            b_len: usize,
-            out: *mut f64,
-            out_len: usize,
-            pairs: *mut usize,
-        ) -> u32;
-        pub fn tridexel_intersect(
-            a: *const f64,
-            a_len: usize,
-            b: *const f64,
-            b_len: usize,
-            out: *mut f64,
-            out_len: usize,
-            pairs: *mut usize,
-        ) -> u32;
-        pub fn tridexel_contains(outer: *const f64, outer_len: usize, inner: *const f64, inner_len: usize, yes: *mut u32) -> u32;
-        pub fn tridexel_overlaps(a: *const f64, a_len: usize, b: *const f64, b_len: usize, yes: *mut u32) -> u32;
-    }
-}
+use tridexel::raw;
 
 pub fn normalize(spans: &[f64], out: &mut [f64], pairs: &mut usize) -> u32 {
     unsafe { raw::tridexel_normalize(spans.as_ptr(), spans.len(), out.as_mut_ptr(), out.len(), pairs) }

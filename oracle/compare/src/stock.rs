@@ -12,36 +12,11 @@ use harness::{
     store::{LentStore, Match, Record, Store, small_spec, sound_store, spoil},
 };
 use oracle::dexel::{DexelVolume, opened as rust};
+use tridexel::raw;
 
-mod raw {
+mod inner {
     use super::{DexelGrid, DexelStockSpec};
     unsafe extern "C" {
-        pub fn tridexel_fill(
-            spec: DexelStockSpec,
-            units: *const u8,
-            units_len: usize,
-            spans: *mut f64,
-            spans_len: usize,
-            links: *mut u64,
-            links_len: usize,
-            heads: *mut u64,
-            heads_len: usize,
-            generation: *mut u64,
-            intervals: *mut u64,
-        ) -> u32;
-        pub fn tridexel_volume(
-            spec: DexelStockSpec,
-            units: *const u8,
-            units_len: usize,
-            spans: *const f64,
-            spans_len: usize,
-            links: *const u64,
-            links_len: usize,
-            heads: *const u64,
-            heads_len: usize,
-            intervals: u64,
-            volume: *mut [f64; 10],
-        ) -> u32;
         pub fn tridexel_inner_check_stock(
             spec: DexelStockSpec,
             g: DexelGrid,
@@ -62,7 +37,7 @@ pub fn check_stock(spec: DexelStockSpec, g: DexelGrid, (spans, links, heads): (&
     let rays = g.c0 * g.c1 + g.c1 * g.c2 + g.c2 * g.c0;
     assert!(records >= spec.max_intervals && heads.len() as u64 >= 2 * rays);
     unsafe {
-        raw::tridexel_inner_check_stock(
+        inner::tridexel_inner_check_stock(
             spec,
             g,
             spans.as_ptr(),

@@ -1,10 +1,10 @@
 //! The sweep against camlib's `across` over chords and axes. Plan lengths go in as numbers, so camlib's text is that of package `oracle_len`.
 //! Its refusals are judged by document 01's words, since camlib has the budget only.
 use crate::{
-    cutter::{self, PreparedCutter, Tool},
+    cutter::{self, Tool},
     explained::Explained,
     function::{Function, Outcome, Words},
-    grid::{DexelStockSpec, Vec3},
+    grid::DexelStockSpec,
 };
 use harness::{Pair, generate::Gen, lent::Lent, same};
 use oracle_len::{
@@ -17,40 +17,9 @@ use oracle_len::{
         opened::{Given, prepared},
     },
 };
+use tridexel::raw;
 
-mod raw {
-    use super::{DexelStockSpec, PreparedCutter};
-    unsafe extern "C" {
-        #[allow(clippy::too_many_arguments)]
-        pub fn tridexel_sweep(
-            spec: DexelStockSpec,
-            units: *const u8,
-            units_len: usize,
-            spans: *const f64,
-            spans_len: usize,
-            links: *const u64,
-            links_len: usize,
-            heads: *const u64,
-            heads_len: usize,
-            intervals: u64,
-            axis: u64,
-            kind: u64,
-            m: f64,
-            n: f64,
-            cutter: PreparedCutter,
-            guard: f64,
-            chords: *const f64,
-            chords_len: usize,
-            budget: u64,
-            log: *mut f64,
-            log_len: usize,
-            entries: *mut usize,
-            visits: *mut u64,
-        ) -> u32;
-    }
-}
-
-const AXES: [Axis; 6] = [Axis::PosX, Axis::NegX, Axis::PosY, Axis::NegY, Axis::PosZ, Axis::NegZ];
+pub const AXES: [Axis; 6] = [Axis::PosX, Axis::NegX, Axis::PosY, Axis::NegY, Axis::PosZ, Axis::NegZ];
 const CHORD: usize = 8;
 const ENTRY: usize = 6;
 
@@ -94,7 +63,7 @@ impl Words for Case {
             self.links.words(),
             self.heads.words(),
             self.tool.own.words(),
-            self.tool.c.numbers().words(),
+            cutter::cutter_numbers(&self.tool.c).words(),
             self.guard.words(),
             self.chords.words()
         )
@@ -128,6 +97,32 @@ fn assembly(t: &Tool) -> PreparedAssembly {
     })
 }
 
+/// The whole chords of these cells.
+fn world_chords(cells: &[f64]) -> Vec<rust_sweep::WorldChord> {
+    let (chunks, _) = cells.as_chunks::<CHORD>();
+    let chord =
+        |c: &[f64; CHORD]| rust_sweep::WorldChord { a: [c[0], c[1], c[2]], b: [c[3], c[4], c[5]], e: c[6], length: Some(c[7]) };
+    chunks.iter().map(chord).collect()
+}
+
+/// Document 01's refusal 7.
+pub fn chord_fault(axis: Axis, guard: f64, chords: &[f64]) -> bool {
+    let perm = rust_sweep::frame(axis).0;
+    let fault = |c: &rust_sweep::WorldChord| {
+        let plan = [0, 1].map(|i| (c.b[perm[i]] - c.a[perm[i]]).abs());
+        let larger = plan[0].max(plan[1]);
+        let length = c.length.unwrap();
+        c.a.iter().chain(&c.b).any(|x| !x.is_finite() || x.abs() > 2e6)
+            || c.e.is_nan()
+            || c.e < 0.
+            || c.e > 1000.
+            || length.is_nan()
+            || length < larger
+            || length > 2. * larger
+    };
+    guard.is_nan() || guard <= 0. || guard > 1. || world_chords(chords).iter().any(fault)
+}
+
 impl Case {
     fn tool_axis(&self) -> Axis {
         AXES[self.axis as usize]
@@ -137,35 +132,6 @@ impl Case {
         let spec = rust::spec(self.min, self.max, self.cell, self.max_rays as usize, self.max_intervals as usize);
         let rays = |a: usize| -> Vec<Ray> { self.rays[a].iter().map(|(p, c)| rust::ray(p.clone(), c.clone())).collect() };
         rust::stock(spec, 0, [rays(0), rays(1), rays(2)])
-    }
-
-    fn world_chords(&self) -> Vec<rust_sweep::WorldChord> {
-        let (chunks, _) = self.chords.as_chunks::<CHORD>();
-        let chord = |c: &[f64; CHORD]| rust_sweep::WorldChord {
-            a: [c[0], c[1], c[2]],
-            b: [c[3], c[4], c[5]],
-            e: c[6],
-            length: Some(c[7]),
-        };
-        chunks.iter().map(chord).collect()
-    }
-
-    /// Document 01's refusal 7.
-    fn chord_fault(&self) -> bool {
-        let perm = rust_sweep::frame(self.tool_axis()).0;
-        let fault = |c: &rust_sweep::WorldChord| {
-            let plan = [0, 1].map(|i| (c.b[perm[i]] - c.a[perm[i]]).abs());
-            let larger = plan[0].max(plan[1]);
-            let length = c.length.unwrap();
-            c.a.iter().chain(&c.b).any(|x| !x.is_finite() || x.abs() > 2e6)
-                || c.e.is_nan()
-                || c.e < 0.
-                || c.e > 1000.
-                || length.is_nan()
-                || length < larger
-                || length > 2. * larger
-        };
-        self.guard.is_nan() || self.guard <= 0. || self.guard > 1. || self.world_chords().iter().any(fault)
     }
 
     /// The refusals that are found before a ray is visited, in document 01's order.
@@ -183,7 +149,7 @@ impl Case {
             return 11;
         }
         match cutter::refusal(&self.tool).0 {
-            0 if self.chord_fault() => 7,
+            0 if chord_fault(self.tool_axis(), self.guard, &self.chords) => 7,
             k => k as u32,
         }
     }
@@ -197,7 +163,8 @@ impl Case {
         let mut log = vec![];
         let stock = self.stock();
         let tool = assembly(&self.tool);
-        let visits = rust_sweep::sweep(&stock, &tool, self.tool_axis(), self.guard, &self.world_chords(), self.budget, &mut log);
+        let visits =
+            rust_sweep::sweep(&stock, &tool, self.tool_axis(), self.guard, &world_chords(&self.chords), self.budget, &mut log);
         match visits {
             _ if log.len() > self.log / ENTRY => (16, vec![], 0),
             None => (8, vec![], 0),
@@ -251,13 +218,9 @@ pub fn port(l: &Lending, log: &mut [f64], entries: &mut usize, visits: &mut u64)
     }
 }
 
-fn vec3(p: [f64; 3]) -> Vec3 {
-    Vec3 { x: p[0], y: p[1], z: p[2] }
-}
-
 /// A version 1 description.
 pub fn spec(min: [f64; 3], max: [f64; 3], cell: f64, max_rays: u64, max_intervals: u64) -> DexelStockSpec {
-    DexelStockSpec { version: 1, min_mm: vec3(min), max_mm: vec3(max), cell_size_mm: cell, max_rays, max_intervals }
+    DexelStockSpec { version: 1, min_mm: min, max_mm: max, cell_size_mm: cell, max_rays, max_intervals }
 }
 
 /// The log as the port must leave it, where it was written.
@@ -363,7 +326,7 @@ fn coordinate(g: &mut Gen, lo: f64, hi: f64) -> f64 {
     }
 }
 
-fn chord(g: &mut Gen, axis: Axis, min: [f64; 3], max: [f64; 3]) -> [f64; CHORD] {
+pub fn chord(g: &mut Gen, axis: Axis, min: [f64; 3], max: [f64; 3]) -> [f64; CHORD] {
     let a = [0, 1, 2].map(|i| coordinate(g, min[i], max[i]));
     let b = match g.below(6) {
         0 => a,

@@ -254,7 +254,8 @@ fn hit(g: &mut Gen, ends: &[f64], lo: f64, hi: f64) -> Pair {
     if g.once_in(8) { [a, b] } else { [a.min(b), a.max(b)] }
 }
 
-fn log(g: &mut Gen, s: &State) -> Commit {
+/// A log of hits on the stock's rays, now and then with one fault.
+pub fn log(g: &mut Gen, s: &State) -> Commit {
     let (stock, spec) = (&s.stock, s.stock.spec());
     let mut log = vec![];
     for _ in 0..g.below(8) {
@@ -283,8 +284,8 @@ fn log(g: &mut Gen, s: &State) -> Commit {
     Commit::Log { log, allowance, work }
 }
 
-/// The changes of some rays, each less some of its points.
-fn changes(g: &mut Gen, s: &State) -> Commit {
+/// The changes of some rays, each less some of its points, now and then with one fault.
+pub fn changes(g: &mut Gen, s: &State) -> Commit {
     let (stock, spec) = (&s.stock, s.stock.spec());
     let (mut changes, mut pairs) = (vec![], vec![]);
     let rays = stock.grid().total_rays() as u64;
