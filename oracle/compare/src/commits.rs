@@ -5,6 +5,7 @@ use crate::{
 };
 use harness::{
     commits::{Commit, Entries, Run, Tally, edges, run},
+    log_runs::{LogRun, log_run},
     store::{LentStore, Match},
 };
 use oracle::dexel::DexelStockSpec;
@@ -116,8 +117,15 @@ impl Words for Run {
     }
 }
 
-pub fn compare_run(r: &Run, port: &impl Entries) -> Outcome {
-    match r.play(port) {
+impl Words for LogRun {
+    fn words(&self) -> String {
+        let copies: Vec<String> = self.copies.iter().map(Words::words).collect();
+        format!("{} | {}", self.first.words(), copies.join(" | "))
+    }
+}
+
+fn outcome(played: Result<Match, String>) -> Outcome {
+    match played {
         Ok(Match::Same) => Outcome::Same,
         Ok(_) => Outcome::differs(Some(Explained::Zeros), "a zero's sign", "another"),
         Err(found) => Outcome::differs(None, "as due", found),
@@ -125,5 +133,8 @@ pub fn compare_run(r: &Run, port: &impl Entries) -> Outcome {
 }
 
 pub fn functions() -> Vec<Function> {
-    vec![Function::new("runs", edges(), run, |r| compare_run(r, &Port))]
+    vec![
+        Function::new("runs", edges(), run, |r| outcome(r.play(&Port))),
+        Function::new("log_runs", vec![], log_run, |r| outcome(r.play(&Port))),
+    ]
 }

@@ -182,6 +182,11 @@ impl Run {
     /// The first commit whose number, answer, small record or cells are not those that are due, and what was found; else whether only the sign of
     /// a zero differed.
     pub fn play(&self, port: &impl Entries) -> Result<Match, String> {
+        self.end(port).map(|(found, _)| found)
+    }
+
+    /// The same, with the store that the port's cells and small record spell at the end.
+    pub fn end(&self, port: &impl Entries) -> Result<(Match, Store), String> {
         let mut state = State::of(&self.spec, self.start.clone());
         let mut lent = self.start.lend(self.over);
         let mut tally = state.tally();
@@ -212,7 +217,8 @@ impl Run {
             }
             state = due.next;
         }
-        Ok(found)
+        let end = lent.read(self.start.records.len(), self.start.heads.len(), tally.generation, tally.intervals);
+        Ok((found, end))
     }
 }
 
@@ -254,7 +260,7 @@ fn hit(g: &mut Gen, ends: &[f64], lo: f64, hi: f64) -> Pair {
     if g.once_in(8) { [a, b] } else { [a.min(b), a.max(b)] }
 }
 
-/// A log of hits on the stock's rays, now and then with one fault.
+/// A log of up to seven entries on the rays of a stock, now and then one that names no ray or has part of an entry over.
 pub fn log(g: &mut Gen, s: &State) -> Commit {
     let (stock, spec) = (&s.stock, s.stock.spec());
     let mut log = vec![];

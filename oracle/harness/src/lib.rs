@@ -3,6 +3,7 @@ pub mod commits;
 pub mod generate;
 pub mod grid;
 pub mod lent;
+pub mod log_runs;
 pub mod store;
 
 pub type Pair = [f64; 2];

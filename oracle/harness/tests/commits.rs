@@ -2,6 +2,7 @@
 use harness::{
     commits::{Commit, Entries, State, Tally, edges, run},
     generate::Gen,
+    log_runs::log_run,
     store::{LentStore, Match},
 };
 use oracle::dexel::DexelStockSpec;
@@ -141,4 +142,44 @@ fn fixed() {
         }
         assert_eq!((last, state.store.intervals), due[k / 2], "run {k}");
     }
+}
+
+const LOG_RUNS: u64 = 500;
+
+#[test]
+fn log_runs() {
+    let (mut refused, mut logs, mut full, mut cut) = ([0; 18], [0; 21], 0, 0);
+    for case in 0..LOG_RUNS {
+        let r = log_run(&mut Gen::new(1, "log_runs", case));
+        assert_eq!(r.play(&StandIn(Fault::None)), Ok(Match::Same), "case {case}");
+        logs[r.first.commits.len()] += 1;
+        let mut state = State::of(&r.first.spec, r.first.start.clone());
+        let mut filled = false;
+        for c in &r.first.commits {
+            let due = state.due(c);
+            refused[due.refused as usize] += 1;
+            filled |= due.changed > 0 && due.next.store.intervals == r.first.spec.max_intervals as u64;
+            state = due.next;
+        }
+        full += filled as u64;
+        cut += (state.store.rays() != r.first.start.rays()) as u64;
+        assert_eq!(r.copies.len(), 4);
+    }
+    println!("by number {refused:?}, by logs {logs:?}, filled by a log {full}, cut {cut}");
+    assert!([9, 10, 11, 12, 15, 17].iter().all(|number| refused[*number] > 20), "{refused:?}");
+    assert!(logs[0] == 0 && logs[1..].iter().all(|n| *n > 5), "{logs:?}");
+    assert!(full > LOG_RUNS / 4 && cut > LOG_RUNS * 3 / 4, "{full} {cut}");
+}
+
+/// A copy that lost its last accepted log is told apart wherever that log took something that no other takes.
+#[test]
+fn copies_with_less() {
+    let mut found = 0;
+    for case in 0..LOG_RUNS {
+        let mut r = log_run(&mut Gen::new(1, "log_runs", case));
+        r.copies.truncate(1);
+        r.copies[0].commits.pop();
+        found += r.play(&StandIn(Fault::None)).is_err() as u64;
+    }
+    assert!(found > LOG_RUNS / 4, "{found}");
 }

@@ -1,0 +1,183 @@
+//! Runs of logs and copies of them with the same hits in their accepted logs: shuffled (logs, and the entries of each), and regrouped (the entries in
+//! other logs, some of them repeated, some taken apart into their outer and their inner hit). Every copy leaves the lists and the interval total of its run.
+use crate::{
+    commits::{Commit, Entries, Run, State, log, work_pairs},
+    generate::Gen,
+    store::{Match, Store, small_spec},
+};
+use oracle::dexel::DexelStockSpec;
+
+#[derive(Clone, Debug)]
+pub struct LogRun {
+    pub first: Run,
+    pub copies: Vec<Run>,
+}
+
+impl LogRun {
+    /// The first run that does not go as due, or copy whose lists or total differ at the end; else whether only the sign of a zero differed.
+    pub fn play(&self, port: &impl Entries) -> Result<Match, String> {
+        let (mut found, end) = self.first.end(port)?;
+        for (k, copy) in self.copies.iter().enumerate() {
+            let (how, other) = copy.end(port).map_err(|e| format!("copy {k}: {e}"))?;
+            if how == Match::Zeros {
+                found = Match::Zeros;
+            }
+            if !agree(&end, &other) {
+                return Err(format!("copy {k}: another list or interval total at the end"));
+            }
+        }
+        Ok(found)
+    }
+}
+
+/// Equal lists of every ray, as numbers, and equal interval totals.
+fn agree(a: &Store, b: &Store) -> bool {
+    let list = |s: &Store, head| s.list(head).expect("a sound store");
+    a.intervals == b.intervals && a.heads.len() == b.heads.len() && (0..a.heads.len()).all(|head| list(a, head) == list(b, head))
+}
+
+fn shuffle<T>(g: &mut Gen, list: &mut [T]) {
+    for i in (1..list.len()).rev() {
+        list.swap(i, g.below(i as u64 + 1) as usize);
+    }
+}
+
+/// The same blank with this interval budget.
+fn with_budget(spec: &DexelStockSpec, max_intervals: usize) -> DexelStockSpec {
+    DexelStockSpec { max_intervals, ..spec.clone() }
+}
+
+/// The log with an allowance that is often exactly the rays that it would change, or one less.
+fn allowed(g: &mut Gen, state: &State, commit: Commit) -> Commit {
+    let Commit::Log { log, work, .. } = commit else { return commit };
+    let changed = state.due(&Commit::Log { log: log.clone(), allowance: u64::MAX, work }).changed;
+    let allowance = g.pick(&[changed, changed, changed, changed.saturating_sub(1), changed + 1, u64::MAX]);
+    Commit::Log { log, allowance, work }
+}
+
+/// The same commits where each work buffer has as many pairs over, or too few, as before.
+fn moved_to(commits: &[Commit], from: usize, to: usize) -> Vec<Commit> {
+    let moved = |c: &Commit| match c {
+        Commit::Log { log, allowance, work } => {
+            Commit::Log { log: log.clone(), allowance: *allowance, work: work + 12 * to - 12 * from }
+        }
+        other => other.clone(),
+    };
+    commits.iter().map(moved).collect()
+}
+
+/// The most intervals that the store has in this run.
+fn peak(spec: &DexelStockSpec, start: &Store, commits: &[Commit]) -> usize {
+    let mut state = State::of(spec, start.clone());
+    let mut most = start.intervals;
+    for c in commits {
+        state = state.due(c).next;
+        most = most.max(state.store.intervals);
+    }
+    most as usize
+}
+
+/// The logs that are accepted, and those that are refused for themselves: part of an entry over, or no such ray.
+fn told_apart(run: &Run) -> (Vec<Vec<f64>>, Vec<Vec<f64>>) {
+    let mut state = State::of(&run.spec, run.start.clone());
+    let (mut accepted, mut refused) = (vec![], vec![]);
+    for c in &run.commits {
+        let due = state.due(c);
+        let Commit::Log { log, .. } = c else { unreachable!() };
+        match due.refused {
+            0 => accepted.push(log.clone()),
+            11 | 17 => refused.push(log.clone()),
+            _ => {}
+        }
+        state = due.next;
+    }
+    (accepted, refused)
+}
+
+/// The entries of all logs in a new order, repeated and taken apart now and then, in 1 to 20 logs.
+fn regrouped(g: &mut Gen, logs: &[Vec<f64>]) -> Vec<Vec<f64>> {
+    let mut entries: Vec<[f64; 6]> = vec![];
+    for e in logs.iter().flat_map(|log| log.as_chunks::<6>().0) {
+        let [axis, index, a, b, c, d] = *e;
+        match g.below(4) {
+            0 => entries.extend([[axis, index, a, b, 0., 0.], [axis, index, 0., 0., c, d]]),
+            1 => entries.extend([*e, *e]),
+            _ => entries.push(*e),
+        }
+    }
+    shuffle(g, &mut entries);
+    let mut out = vec![vec![]; 1 + g.below(20) as usize];
+    for e in entries {
+        let k = g.below(out.len() as u64) as usize;
+        out[k].extend(e);
+    }
+    out
+}
+
+/// The logs in a new order, the entries of each too.
+fn shuffled(g: &mut Gen, logs: &[Vec<f64>]) -> Vec<Vec<f64>> {
+    let mut out = logs.to_vec();
+    shuffle(g, &mut out);
+    for log in &mut out {
+        let mut entries = log.as_chunks::<6>().0.to_vec();
+        shuffle(g, &mut entries);
+        *log = entries.concat();
+    }
+    out
+}
+
+/// These logs, all with room, and the refused ones in between; now and then one comes with a work buffer too short first.
+fn roomy(g: &mut Gen, of: &Run, mut logs: Vec<Vec<f64>>, refused: &[Vec<f64>]) -> Run {
+    for log in refused {
+        let at = g.below(logs.len() as u64 + 1) as usize;
+        logs.insert(at, log.clone());
+    }
+    let entries: usize = logs.iter().map(|l| l.len() / 6).sum();
+    let spec = with_budget(&of.spec, 2 * of.start.heads.len() + 3 * entries);
+    let mut commits = vec![];
+    for log in logs {
+        let work = 2 * work_pairs(&spec, &log);
+        if g.once_in(8) {
+            commits.push(Commit::Log { log: log.clone(), allowance: u64::MAX, work: work - 1 });
+        }
+        let over = g.below(3) as usize;
+        commits.push(Commit::Log { log, allowance: u64::MAX, work: work + over });
+    }
+    let over = std::array::from_fn(|_| g.below(4) as usize);
+    Run { start: Store::fill(&spec), spec, over, commits }
+}
+
+/// 1 to 20 logs, with refused ones among them, on an uncut store whose interval budget is often the most that they reach, or one less; and two shuffled
+/// and two regrouped copies of what was accepted.
+pub fn log_run(g: &mut Gen) -> LogRun {
+    let spec = small_spec(g);
+    let rays = spec.grid().unwrap().total_rays();
+    let wide = with_budget(&spec, 2 * rays + 20 * 8 * 3);
+    let start = Store::fill(&wide);
+    let mut state = State::of(&wide, start.clone());
+    let mut commits = vec![];
+    for _ in 0..1 + g.below(20) {
+        let commit = log(g, &state);
+        let commit = allowed(g, &state, commit);
+        state = state.due(&commit).next;
+        commits.push(commit);
+    }
+    let most = peak(&wide, &start, &commits);
+    let budget = g.pick(&[most, most, most - 1, most + 1, spec.max_intervals]).max(2 * rays);
+    let commits = moved_to(&commits, wide.max_intervals, budget);
+    let spec = with_budget(&spec, budget);
+    let mut start = Store::fill(&spec);
+    if g.once_in(16) {
+        start.generation = u64::MAX - g.below(20);
+    }
+    let over = std::array::from_fn(|_| g.below(4) as usize);
+    let first = Run { spec, start, over, commits };
+    let (accepted, refused) = told_apart(&first);
+    let copies = (0..4)
+        .map(|k| {
+            let logs = if k < 2 { shuffled(g, &accepted) } else { regrouped(g, &accepted) };
+            roomy(g, &first, logs, &refused)
+        })
+        .collect();
+    LogRun { first, copies }
+}
