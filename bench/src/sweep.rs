@@ -66,6 +66,7 @@ pub fn rows(table: &mut Table) {
         let mut log = vec![0.; 6 * hits.len()];
         let lending = Lending {
             spec: spec(MIN, MAX, 1., RAYS, 2 * RAYS),
+            units: "mm",
             spans: &spans,
             links: &links,
             heads: &heads,
