@@ -73,6 +73,7 @@ pub fn rows(table: &mut Table) {
         let mut log = vec![0.; 6 * hits.len()];
         let lending = Lending {
             spec: blank.spec,
+            units: "mm",
             spans: &blank.spans,
             links: &blank.links,
             heads: &blank.heads,

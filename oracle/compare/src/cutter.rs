@@ -29,7 +29,7 @@ unsafe extern "C" {
     pub safe fn tridexel_inner_check_tool(kind: u64, m: f64, n: f64, c: PreparedCutter) -> u32;
 }
 
-const SHAPES: u64 = 9;
+pub const SHAPES: u64 = 9;
 pub const BEAM: u64 = 5;
 const DOVETAIL: u64 = 8;
 

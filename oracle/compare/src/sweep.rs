@@ -6,10 +6,10 @@ use crate::{
     function::{Function, Outcome, Words},
     grid::DexelStockSpec,
 };
-use harness::{Pair, generate::Gen, lent::Lent, same};
+use harness::{Pair, generate::Gen, grid::UNITS, lent::Lent, same};
 use oracle_len::{
     dexel::{
-        Axis, DexelStock, Ray,
+        Axis, DexelStock, DexelStockSpec as RustSpec, Ray,
         opened::{self as rust, sweep as rust_sweep},
     },
     tool::{
@@ -26,35 +26,40 @@ const ENTRY: usize = 6;
 /// A stock in its lent cells, a tool, chords, budgets, and one fault at the most.
 #[derive(Clone, Debug)]
 pub struct Case {
-    min: [f64; 3],
-    max: [f64; 3],
-    cell: f64,
-    max_rays: u64,
-    max_intervals: u64,
+    pub version: u32,
+    /// a place in `UNITS`
+    pub units: usize,
+    pub min: [f64; 3],
+    pub max: [f64; 3],
+    pub cell: f64,
+    pub max_rays: u64,
+    pub max_intervals: u64,
     /// the rays' lists, by axis
-    rays: [Vec<(Vec<Pair>, Vec<Pair>)>; 3],
-    spans: Vec<f64>,
-    links: Vec<u64>,
-    heads: Vec<u64>,
-    intervals: u64,
+    pub rays: [Vec<(Vec<Pair>, Vec<Pair>)>; 3],
+    pub spans: Vec<f64>,
+    pub links: Vec<u64>,
+    pub heads: Vec<u64>,
+    pub intervals: u64,
     /// the store is as the rays say
-    sound: bool,
+    pub sound: bool,
     /// poisoned cells after the spans, the links and the heads
-    over: usize,
-    axis: u64,
-    tool: Tool,
-    guard: f64,
-    chords: Vec<f64>,
-    budget: u64,
-    log: usize,
+    pub over: usize,
+    pub axis: u64,
+    pub tool: Tool,
+    pub guard: f64,
+    pub chords: Vec<f64>,
+    pub budget: u64,
+    pub log: usize,
 }
 
 impl Words for Case {
     fn words(&self) -> String {
+        let described = [self.version as u64, self.units as u64];
         let budgets =
             [self.max_rays, self.max_intervals, self.intervals, self.axis, self.tool.kind, self.budget, self.log as u64];
         format!(
-            "{} {} {} {} {} {} {} {} {} {} {}",
+            "{} {} {} {} {} {} {} {} {} {} {} {}",
+            described.words(),
             self.min.words(),
             self.max.words(),
             self.cell.words(),
@@ -128,16 +133,27 @@ impl Case {
         AXES[self.axis as usize]
     }
 
+    /// Its number names no axis, or no shape.
+    fn nameless(&self) -> bool {
+        self.axis >= AXES.len() as u64 || self.tool.kind >= cutter::SHAPES
+    }
+
+    fn spec(&self) -> RustSpec {
+        RustSpec {
+            version: self.version,
+            units: UNITS[self.units].into(),
+            ..rust::spec(self.min, self.max, self.cell, self.max_rays as usize, self.max_intervals as usize)
+        }
+    }
+
     fn stock(&self) -> DexelStock {
-        let spec = rust::spec(self.min, self.max, self.cell, self.max_rays as usize, self.max_intervals as usize);
         let rays = |a: usize| -> Vec<Ray> { self.rays[a].iter().map(|(p, c)| rust::ray(p.clone(), c.clone())).collect() };
-        rust::stock(spec, 0, [rays(0), rays(1), rays(2)])
+        rust::stock(self.spec(), 0, [rays(0), rays(1), rays(2)])
     }
 
     /// The refusals that are found before a ray is visited, in document 01's order.
     fn early(&self) -> u32 {
-        let spec = rust::spec(self.min, self.max, self.cell, self.max_rays as usize, self.max_intervals as usize);
-        let grid = match spec.grid() {
+        let grid = match self.spec().grid() {
             Ok(g) => g,
             Err(e) => return rust::grid_code(&e),
         };
@@ -149,6 +165,8 @@ impl Case {
             return 11;
         }
         match cutter::refusal(&self.tool).0 {
+            5 => 5,
+            _ if self.nameless() => 6,
             0 if chord_fault(self.tool_axis(), self.guard, &self.chords) => 7,
             k => k as u32,
         }
@@ -176,6 +194,7 @@ impl Case {
 /// A stock's cells, a tool and chords as the port takes them.
 pub struct Lending<'a> {
     pub spec: DexelStockSpec,
+    pub units: &'a str,
     pub spans: &'a [f64],
     pub links: &'a [u64],
     pub heads: &'a [u64],
@@ -192,8 +211,8 @@ pub fn port(l: &Lending, log: &mut [f64], entries: &mut usize, visits: &mut u64)
     unsafe {
         raw::tridexel_sweep(
             l.spec,
-            "mm".as_ptr(),
-            2,
+            l.units.as_ptr(),
+            l.units.len(),
             l.spans.as_ptr(),
             l.spans.len(),
             l.links.as_ptr(),
@@ -246,7 +265,8 @@ fn compare(c: &Case) -> Outcome {
     let mut log: Lent<f64> = Lent::new(c.log);
     let (mut entries, mut visits) = (ENTRIES, VISITS);
     let lending = Lending {
-        spec: spec(c.min, c.max, c.cell, c.max_rays, c.max_intervals),
+        spec: DexelStockSpec { version: c.version, ..spec(c.min, c.max, c.cell, c.max_rays, c.max_intervals) },
+        units: UNITS[c.units],
         spans: spans.read(),
         links: links.read(),
         heads: heads.read(),
@@ -379,14 +399,18 @@ fn lay(g: &mut Gen, c: &mut Case) {
     }
 }
 
-/// One fault of the description or the store, or a buffer that is too short.
+/// One fault of the description, the store, the chords or the numbers of the axis and the shape, or a buffer that is too short.
 fn spoil(g: &mut Gen, c: &mut Case) {
     let rays = c.heads.len() as u64 / 2;
-    match g.below(9) {
-        0 => c.intervals += 1,
+    match g.below(13) {
+        0 => {
+            c.intervals += 1;
+            c.sound = false;
+        }
         1 => {
             let i = g.below(c.heads.len() as u64) as usize;
             c.heads[i] = if c.heads[i] == 0 { 1 } else { 0 };
+            c.sound = false;
         }
         2 => {
             c.spans.pop();
@@ -398,10 +422,12 @@ fn spoil(g: &mut Gen, c: &mut Case) {
         5 => c.links.truncate(c.links.len() - 2),
         6 => c.max_rays = 0,
         7 => c.max_rays = rays - 1,
+        8 => c.version = g.pick(&[0, 2, u32::MAX]),
+        9 => c.units = 1 + g.below(UNITS.len() as u64 - 1) as usize,
+        10 => c.axis = g.pick(&[6, 7, u64::MAX]),
+        11 => c.tool.kind = g.pick(&[9, 10, u64::MAX]),
         _ => c.max_intervals = 2 * rays - 1,
     }
-    // only the first two faults are refused because of this
-    c.sound = false;
 }
 
 pub fn case(g: &mut Gen) -> Case {
@@ -410,6 +436,8 @@ pub fn case(g: &mut Gen) -> Case {
     let axis = g.below(6);
     let tool = if g.once_in(8) { cutter::any(g) } else { cutter::likely(g) };
     let mut c = Case {
+        version: 1,
+        units: 0,
         min,
         max,
         cell,
@@ -467,7 +495,7 @@ pub fn case(g: &mut Gen) -> Case {
     if g.once_in(4) {
         c.over = 1 + g.below(3) as usize;
     }
-    if g.once_in(20) {
+    if g.once_in(14) {
         c.over = 0;
         spoil(g, &mut c);
     }

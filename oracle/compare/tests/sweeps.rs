@@ -1,4 +1,5 @@
-//! The generated sweeps reach every refusal, rays with an inner and without, and sweeps that visit and hit nothing.
+//! The generated sweeps reach every refusal but 4, which no description is due, rays with an inner and without, and sweeps that visit and hit
+//! nothing.
 use compare::sweep::case;
 use harness::generate::Gen;
 
@@ -8,9 +9,15 @@ const CASES: u64 = 5_000;
 fn sweeps() {
     let mut refused = [0; 17];
     let (mut entries, mut inner, mut no_hit, mut no_visit) = (0, 0, 0, 0);
+    let (mut version, mut units, mut axis, mut shape) = (0, 0, 0, 0);
     for k in 0..CASES {
-        let (number, list, visits) = case(&mut Gen::new(1, "inputs", k)).rust();
+        let c = case(&mut Gen::new(1, "inputs", k));
+        let (number, list, visits) = c.rust();
         refused[number as usize] += 1;
+        version += (number == 1 && c.version != 1) as u64;
+        units += (number == 1 && c.units != 0) as u64;
+        axis += (number == 6 && c.axis > 5) as u64;
+        shape += (number == 6 && c.tool.kind > 8) as u64;
         if number == 0 {
             entries += list.len();
             inner += list.iter().filter(|e| e.inner.is_some()).count();
@@ -19,9 +26,11 @@ fn sweeps() {
         }
     }
     println!("{refused:?}, entries {entries}, with an inner {inner}, no hit {no_hit}, no visit {no_visit}");
+    println!("version {version}, units {units}, no axis {axis}, no shape {shape}");
     for number in [0, 1, 2, 3, 5, 6, 7, 8, 11, 12, 16] {
         assert!(refused[number] >= 10, "{number}: {refused:?}");
     }
+    assert!([version, units, axis, shape].iter().all(|n| *n >= 5), "{version} {units} {axis} {shape}");
     assert!(entries > 1000 && 4 * inner > entries / 10 && inner < entries, "{entries} {inner}");
     assert!(no_hit >= 20 && no_visit >= 20, "{no_hit} {no_visit}");
 }
