@@ -1,6 +1,6 @@
 -- One turn and the end of each loop that reads a chain.
 use mathlib.Core.Path.{_≡_, refl, sym, ap, _∙_}
-use mathlib.Core.Bool.{Bool, true, false, _&&_}
+use mathlib.Core.Bool.{Bool, true, false, not, _&&_}
 use mathlib.Core.List.{List, [], _∷_}
 use Prim.Native.Nat.{ℕ, zero, suc, _+_, _-_, _≤_, _<_}
 use native.Mathlib.Numerals.{add-one}
@@ -10,7 +10,7 @@ use lib.Ieee.{Float, nan, binary64, add, sub, lt, le, eq}
 use lib.ListN.{length, getD, set, drop, length-drop}
 use lib.Seq.{sets, sets-eq, drop-cons}
 use borrow.Author.Tests.{eq-eqb, ne-eqb, eqb-true}
-use Rattle.doubles.proofs.Bools.{both, same-if, and-false}
+use Rattle.doubles.proofs.Bools.{same-if, and-false, not-true, not-false}
 use Rattle.spans.specs.Spans.{equal}
 use Rattle.store.specs.Store.{loAt, hiAt, nextAt}
 use Rattle.validity.specs.Ray.{from, covers, contained}
@@ -18,7 +18,7 @@ use Rattle.validity.proofs.Containment.{from-skip, from-stop}
 use Rattle.lists.specs.Reading.{listFrom, lengthFrom, Copied, Reaches}
 use Rattle.lists.proofs.Steps.{Step, no-ends}
 
--- ---- `list_length`
+-- ---- the sum of the pairs' lengths
 length-cons : (sum lo hi : Float) (l : List Float) → lengthFrom sum (lo ∷ hi ∷ l) ≡ lengthFrom (add binary64 sum (sub binary64 hi lo)) l
 unfolding lengthFrom
 length-cons sum lo hi l = refl
@@ -122,30 +122,34 @@ pub reach-none : (n : ℕ) (spans : List Float) (links : List ℕ) (k : ℕ) (x 
 unfolding from
 reach-none n spans links k x e = no-ends n spans links k e ∙ ap (from x) (sym (no-ends n spans links k e))
 
--- ---- `contains_at`
-module _ {n : ℕ} {spans : List Float} {links : List ℕ} {o k r : ℕ} (q : Reaches n spans links o (hiAt spans (k - 1)) r) (s : Step n spans links k) where
+-- ---- `reaches_over`
+pub over-none : (n : ℕ) (spans : List Float) (links : List ℕ) (r : ℕ) (lo hi : Float) → r ≡ 0 → false ≡ covers (listFrom n spans links r) lo hi
+over-none n spans links r lo hi e = sym (ap (λ (l : List Float). covers l lo hi) (no-ends n spans links r e))
+
+module _ {n : ℕ} {spans : List Float} {links : List ℕ} {r : ℕ} (t : Step n spans links r) (lo hi : Float) where
+  over : covers (listFrom n spans links r) lo hi ≡ (le (loAt spans (r - 1)) lo && le hi (hiAt spans (r - 1)))
+  over = ap (λ (l : List Float). covers l lo hi) (t .read)
+
+  pub over-both : le (loAt spans (r - 1)) lo ≡ true → le hi (hiAt spans (r - 1)) ≡ covers (listFrom n spans links r) lo hi
+  over-both h = sym (over ∙ ap (λ (b : Bool). b && le hi (hiAt spans (r - 1))) h)
+
+  pub over-begin : le (loAt spans (r - 1)) lo ≡ false → false ≡ covers (listFrom n spans links r) lo hi
+  over-begin h = sym (over ∙ ap (λ (b : Bool). b && le hi (hiAt spans (r - 1))) h)
+
+-- ---- `sound_within`
+module _ {n : ℕ} {spans : List Float} {links : List ℕ} {o k r : ℕ} (q : Reaches n spans links o (hiAt spans (k - 1)) r) (s : Step n spans links k) (c : Bool) where
   inner-pair : contained (listFrom n spans links o) (listFrom n spans links k)
       ≡ (covers (listFrom n spans links r) (loAt spans (k - 1)) (hiAt spans (k - 1)) && contained (listFrom n spans links r) (listFrom n spans links (nextAt links (k - 1))))
   unfolding contained
   inner-pair = ap (contained (listFrom n spans links o)) (s .read)
       ∙ ap (λ (l : List Float). covers l (loAt spans (k - 1)) (hiAt spans (k - 1)) && contained l (listFrom n spans links (nextAt links (k - 1)))) (sym (q .rest))
 
-  pub none-left : r ≡ 0 → contained (listFrom n spans links o) (listFrom n spans links k) ≡ false
-  none-left e = inner-pair ∙ ap (λ (l : List Float). covers l (loAt spans (k - 1)) (hiAt spans (k - 1)) && contained (listFrom n spans links r) (listFrom n spans links (nextAt links (k - 1)))) (no-ends n spans links r e)
+  pub lies-out : c ≡ covers (listFrom n spans links r) (loAt spans (k - 1)) (hiAt spans (k - 1)) → not c ≡ true → contained (listFrom n spans links o) (listFrom n spans links k) ≡ false
+  lies-out e h = inner-pair ∙ ap (λ (b : Bool). b && contained (listFrom n spans links r) (listFrom n spans links (nextAt links (k - 1)))) (sym e ∙ not-true c h)
 
-  outer-pair : Step n spans links r → contained (listFrom n spans links o) (listFrom n spans links k)
-      ≡ ((le (loAt spans (r - 1)) (loAt spans (k - 1)) && le (hiAt spans (k - 1)) (hiAt spans (r - 1))) && contained (listFrom n spans links r) (listFrom n spans links (nextAt links (k - 1))))
-  outer-pair t = inner-pair ∙ ap (λ (l : List Float). covers l (loAt spans (k - 1)) (hiAt spans (k - 1)) && contained (listFrom n spans links r) (listFrom n spans links (nextAt links (k - 1)))) (t .read)
-
-  pub starts-before : Step n spans links r → le (loAt spans (r - 1)) (loAt spans (k - 1)) ≡ false → contained (listFrom n spans links o) (listFrom n spans links k) ≡ false
-  starts-before t h = outer-pair t ∙ ap (λ (b : Bool). (b && le (hiAt spans (k - 1)) (hiAt spans (r - 1))) && contained (listFrom n spans links r) (listFrom n spans links (nextAt links (k - 1)))) h
-
-  pub ends-after : Step n spans links r → le (hiAt spans (k - 1)) (hiAt spans (r - 1)) ≡ false → contained (listFrom n spans links o) (listFrom n spans links k) ≡ false
-  ends-after t h = outer-pair t ∙ ap (λ (b : Bool). b && contained (listFrom n spans links r) (listFrom n spans links (nextAt links (k - 1)))) (and-false (le (loAt spans (r - 1)) (loAt spans (k - 1))) (le (hiAt spans (k - 1)) (hiAt spans (r - 1))) h)
-
-  pub lies-in : Step n spans links r → le (loAt spans (r - 1)) (loAt spans (k - 1)) ≡ true → le (hiAt spans (k - 1)) (hiAt spans (r - 1)) ≡ true
+  pub lies-in : c ≡ covers (listFrom n spans links r) (loAt spans (k - 1)) (hiAt spans (k - 1)) → not c ≡ false
       → contained (listFrom n spans links o) (listFrom n spans links k) ≡ contained (listFrom n spans links r) (listFrom n spans links (nextAt links (k - 1)))
-  lies-in t h g = outer-pair t ∙ ap (λ (b : Bool). b && contained (listFrom n spans links r) (listFrom n spans links (nextAt links (k - 1)))) (both (le (loAt spans (r - 1)) (loAt spans (k - 1))) (le (hiAt spans (k - 1)) (hiAt spans (r - 1))) h g)
+  lies-in e h = inner-pair ∙ ap (λ (b : Bool). b && contained (listFrom n spans links r) (listFrom n spans links (nextAt links (k - 1)))) (sym e ∙ not-false c h)
 
 pub all-contained : (n : ℕ) (spans : List Float) (links : List ℕ) (o k : ℕ) → k ≡ 0 → contained (listFrom n spans links o) (listFrom n spans links k) ≡ true
 unfolding contained

@@ -1,13 +1,13 @@
 // Reads the lists of a lent store off their chains, with no memory of its own.
 ghost use mathlib.Core.Path.{_≡_};
-ghost use mathlib.Core.Bool.{true, _&&_};
+ghost use mathlib.Core.Bool.{true, not, _&&_};
 ghost use Prim.Native.Nat.{_+_, _*_, _<_, _≤_};
 ghost use lib.ListN.{length};
-ghost use lib.Ieee.{binary64, ofBits, lt, le};
+ghost use lib.Ieee.{le};
 ghost use Rattle.spans.specs.Spans.{sound, equal};
 ghost use Rattle.store.specs.Store.{places, loAt, hiAt};
-ghost use Rattle.validity.specs.Ray.{ValidRay, bounded, contained};
-ghost use Rattle.lists.specs.Reading.{listFrom, Linked, Readable, lengthFrom, Copied, Reaches};
+ghost use Rattle.validity.specs.Ray.{ValidRay, bounded, covers, contained};
+ghost use Rattle.lists.specs.Reading.{listFrom, Linked, Readable, pairIn, Sums, Measures, Copied, Reaches};
 
 // How many pairs the list has.
 pub fn list_pairs(links: &[u64], n: usize, head: u64) -> usize
@@ -22,21 +22,6 @@ pub fn list_pairs(links: &[u64], n: usize, head: u64) -> usize
         c += 1;
     }
     c
-}
-
-// The sum of the lengths of the pairs.
-pub fn list_length(spans: &[f64], links: &[u64], n: usize, head: u64) -> f64
-    requires { ⌜ Readable n (now spans) (now links) head ⌝ }
-    ensures { λ r. ⌜ r ≡ lengthFrom (ofBits binary64 0) (listFrom n (now (spans .entry)) (now (links .entry)) head) ⌝ }
-{
-    let mut sum = 0.0;
-    let mut k = head;
-    while k != 0 {
-        let i = (k - 1) as usize;
-        sum = sum + (spans[2 * i + 1] - spans[2 * i]);
-        k = links[2 * i];
-    }
-    sum
 }
 
 // Copies the list into the buffer from cell `at` on, and says which cell is past it.
@@ -87,13 +72,16 @@ pub fn list_is(spans: &[f64], links: &[u64], n: usize, head: u64, pairs: &[f64])
     t == pairs.len()
 }
 
-// Whether the pair at place i has lo < hi and lies within the bounds.
-fn pair_between(spans: &[f64], i: usize, low: f64, high: f64) -> bool
+// Whether the pair at place i does not begin at x or below, has lo < hi and lies within the bounds.
+fn follows_within(spans: &[f64], i: usize, x: f64, low: f64, high: f64) -> bool
     requires { ⌜ 2 * i + 1 < length (now spans) ⌝ }
-    ensures { λ r. ⌜ r ≡ (le low (loAt (now (spans .entry)) i) && (lt (loAt (now (spans .entry)) i) (hiAt (now (spans .entry)) i) && le (hiAt (now (spans .entry)) i) high)) ⌝ }
+    ensures { λ r. ⌜ r ≡ (not (le (loAt (now (spans .entry)) i) x) && pairIn low high (loAt (now (spans .entry)) i) (hiAt (now (spans .entry)) i)) ⌝ }
 {
     let lo = spans[2 * i];
     let hi = spans[2 * i + 1];
+    if lo <= x {
+        return false;
+    }
     if low <= lo {
         if lo < hi {
             return hi <= high;
@@ -102,32 +90,37 @@ fn pair_between(spans: &[f64], i: usize, low: f64, high: f64) -> bool
     false
 }
 
-// Whether the list is sound and within the bounds.
-pub fn sound_between(spans: &[f64], links: &[u64], n: usize, head: u64, low: f64, high: f64) -> bool
+// Whether a list passes a test, and if so the sum of its pairs' lengths.
+pub struct ListSum {
+    pub good: bool,
+    pub length: f64,
+}
+
+// Whether the list is sound and within the bounds. No end is at most the NaN that stands for the end before the first pair.
+fn sound_between(spans: &[f64], links: &[u64], n: usize, head: u64, low: f64, high: f64) -> ListSum
     requires { ⌜ Readable n (now spans) (now links) head ⌝ }
-    ensures { λ r. ⌜ r ≡ (sound (listFrom n (now (spans .entry)) (now (links .entry)) head) && bounded low high (listFrom n (now (spans .entry)) (now (links .entry)) head)) ⌝ }
+    ensures { λ r. ⌜ Sums (sound (listFrom n (now (spans .entry)) (now (links .entry)) head) && bounded low high (listFrom n (now (spans .entry)) (now (links .entry)) head))
+        (listFrom n (now (spans .entry)) (now (links .entry)) head) r ⌝ }
 {
-    if head == 0 {
-        return true;
-    }
-    let first = (head - 1) as usize;
-    if !pair_between(spans, first, low, high) {
-        return false;
-    }
-    let mut last = spans[2 * first + 1];
-    let mut k = links[2 * first];
+    let mut sum = 0.0;
+    let mut last = 0.0 / 0.0;
+    let mut k = head;
     while k != 0 {
         let i = (k - 1) as usize;
-        if !(last < spans[2 * i]) {
-            return false;
-        }
-        if !pair_between(spans, i, low, high) {
-            return false;
+        if !follows_within(spans, i, last, low, high) {
+            return ListSum {
+                good: false,
+                length: sum,
+            };
         }
         last = spans[2 * i + 1];
+        sum = sum + (last - spans[2 * i]);
         k = links[2 * i];
     }
-    true
+    ListSum {
+        good: true,
+        length: sum,
+    }
 }
 
 // The first record from `head` on whose upper end is not below x, or zero.
@@ -146,31 +139,99 @@ fn first_reaching(spans: &[f64], links: &[u64], n: usize, head: u64, x: f64) -> 
     k
 }
 
-// Whether each pair of the inner list lies in one of the outer list's.
-pub fn contains_at(spans: &[f64], links: &[u64], n: usize, outer: u64, inner: u64) -> bool
-    requires { ⌜ Readable n (now spans) (now links) outer × Readable n (now spans) (now links) inner ⌝ }
-    ensures { λ r. ⌜ r ≡ contained (listFrom n (now (spans .entry)) (now (links .entry)) outer) (listFrom n (now (spans .entry)) (now (links .entry)) inner) ⌝ }
+// Whether the first pair from record number `outer` on reaches over the pair at place i.
+fn reaches_over(spans: &[f64], links: &[u64], n: usize, outer: u64, i: usize) -> bool
+    requires { ⌜ Readable n (now spans) (now links) outer × (2 * i + 1 < length (now spans)) ⌝ }
+    ensures { λ r. ⌜ r ≡ covers (listFrom n (now (spans .entry)) (now (links .entry)) outer) (loAt (now (spans .entry)) i) (hiAt (now (spans .entry)) i) ⌝ }
 {
+    if outer == 0 {
+        return false;
+    }
+    let q = (outer - 1) as usize;
+    if spans[2 * q] <= spans[2 * i] {
+        return spans[2 * i + 1] <= spans[2 * q + 1];
+    }
+    false
+}
+
+// Whether the inner list is sound and within the bounds, and each of its pairs lies in one of the outer list's.
+fn sound_within(
+    spans: &[f64],
+    links: &[u64],
+    n: usize,
+    outer: u64,
+    inner: u64,
+    low: f64,
+    high: f64,
+) -> ListSum
+    requires { ⌜ Readable n (now spans) (now links) outer × Readable n (now spans) (now links) inner ⌝ }
+    ensures { λ r. ⌜ Sums ((sound (listFrom n (now (spans .entry)) (now (links .entry)) inner) && bounded low high (listFrom n (now (spans .entry)) (now (links .entry)) inner))
+        && contained (listFrom n (now (spans .entry)) (now (links .entry)) outer) (listFrom n (now (spans .entry)) (now (links .entry)) inner))
+        (listFrom n (now (spans .entry)) (now (links .entry)) inner) r ⌝ }
+{
+    let mut sum = 0.0;
+    let mut last = 0.0 / 0.0;
     let mut o = outer;
     let mut k = inner;
     while k != 0 {
         let i = (k - 1) as usize;
-        let lo = spans[2 * i];
-        let hi = spans[2 * i + 1];
-        o = first_reaching(spans, links, n, o, hi);
-        if o == 0 {
-            return false;
+        if !follows_within(spans, i, last, low, high) {
+            return ListSum {
+                good: false,
+                length: sum,
+            };
         }
-        let q = (o - 1) as usize;
-        if !(spans[2 * q] <= lo) {
-            return false;
+        last = spans[2 * i + 1];
+        o = first_reaching(spans, links, n, o, last);
+        if !reaches_over(spans, links, n, o, i) {
+            return ListSum {
+                good: false,
+                length: sum,
+            };
         }
-        if !(hi <= spans[2 * q + 1]) {
-            return false;
-        }
+        sum = sum + (last - spans[2 * i]);
         k = links[2 * i];
     }
-    true
+    ListSum {
+        good: true,
+        length: sum,
+    }
+}
+
+// Whether a ray is valid, and if so the lengths of its two lists.
+pub struct RaySums {
+    pub valid: bool,
+    pub possible: f64,
+    pub certain: f64,
+}
+
+// Whether the ray of these two lists is valid within its bounds, and their lengths.
+pub fn measure_ray(
+    spans: &[f64],
+    links: &[u64],
+    n: usize,
+    possible: u64,
+    certain: u64,
+    low: f64,
+    high: f64,
+) -> RaySums
+    requires { ⌜ Readable n (now spans) (now links) possible × Readable n (now spans) (now links) certain ⌝ }
+    ensures { λ r. ⌜ Measures low high (listFrom n (now (spans .entry)) (now (links .entry)) possible) (listFrom n (now (spans .entry)) (now (links .entry)) certain) r ⌝ }
+{
+    let p = sound_between(spans, links, n, possible, low, high);
+    if !p.good {
+        return RaySums {
+            valid: false,
+            possible: 0.0,
+            certain: 0.0,
+        };
+    }
+    let c = sound_within(spans, links, n, possible, certain, low, high);
+    RaySums {
+        valid: c.good,
+        possible: p.length,
+        certain: c.length,
+    }
 }
 
 // Whether the ray of these two lists is valid within its bounds.
@@ -187,11 +248,6 @@ pub fn valid_ray_at(
     ensures { λ r. ⌜ (r ≡ true → ValidRay low high (listFrom n (now (spans .entry)) (now (links .entry)) possible) (listFrom n (now (spans .entry)) (now (links .entry)) certain))
         × (ValidRay low high (listFrom n (now (spans .entry)) (now (links .entry)) possible) (listFrom n (now (spans .entry)) (now (links .entry)) certain) → r ≡ true) ⌝ }
 {
-    if !sound_between(spans, links, n, possible, low, high) {
-        return false;
-    }
-    if !sound_between(spans, links, n, certain, low, high) {
-        return false;
-    }
-    contains_at(spans, links, n, possible, certain)
+    let r = measure_ray(spans, links, n, possible, certain, low, high);
+    r.valid
 }

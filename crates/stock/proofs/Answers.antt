@@ -6,26 +6,29 @@ use mathlib.Core.Logic.{_⊎_, inl, inr}
 use Prim.Native.Nat.{ℕ, _*_}
 use lib.Ieee.{Float}
 use Rattle.refusal.specs.Refusal.{Cause, Due, NoneDue}
-use Rattle.doubles.proofs.Bools.{not-true, clash}
+use Rattle.doubles.proofs.Bools.{not-true, not-false, clash}
 use Rattle.grid.specs.Axes.{worldAxis}
 use Rattle.gridding.specs.Grid.{gridOf}
 use Rattle.grid.specs.Rays.{rayCount}
 use Rattle.gridding.specs.Causes.{gridCauses, gridIn, ByCauses}
 use Rattle.grid.specs.declared.DexelStockSpec.{DexelStockSpec}
 use Rattle.grid.specs.declared.DexelGrid.{DexelGrid}
+use Rattle.grid.specs.declared.WorldAxis.{WorldAxis}
 use Rattle.grid.specs.declared.Gridded.the-variants.{Accepted as Griddable, Refused as NoGrid}
 use Rattle.gridding.proofs.Causes.{grid-by-causes}
-use Rattle.store.specs.Updates.{Cells, cells}
+use Rattle.store.specs.Updates.{Cells, cells, SoundStore}
 use Rattle.stock.specs.Stock.{SoundCells, Tells, short}
 use Rattle.stock.specs.Uncut.{uncutSpans, uncutLinks, uncutHeads, uncutTally, roomCauses, fillCauses, Fills}
-use Rattle.stock.specs.Volume.{volumeAlong, boxVolume, boundsBy, volumeOf, storeCauses, volumeCauses, Measures}
+use Rattle.stock.specs.Volume.{volumeAlong, AddsAlong, boxVolume, boundsBy, volumeOf, MeasuresRays, storeCauses, volumeCauses, Measures}
 use Rattle.stock.specs.declared.AxisVolume.{AxisVolume}
+use Rattle.stock.specs.declared.AxisSums.{AxisSums}
 use Rattle.stock.specs.declared.DexelVolume.{DexelVolume}
 use Rattle.stock.specs.declared.Tally.{Tally}
 use Rattle.stock.specs.declared.Filled.{Filled}
 use Rattle.stock.specs.declared.Filled.the-variants.{Accepted, Refused}
 use Rattle.stock.specs.declared.Measured.{Measured}
 use Rattle.stock.specs.declared.Measured.the-variants.{Accepted as Told, Refused as Declined}
+use Rattle.stock.proofs.Lengths.{after-z}
 use Rattle.stock.proofs.Causes.{due-first, due-second, none-in-both}
 use Rattle.stock.proofs.Uncut.{same-cells, heads-end}
 
@@ -70,18 +73,31 @@ module _ (spec : DexelStockSpec) (g : DexelGrid) (c : Cells) (intervals : ℕ) w
   unfolding Due
   measure-short r e t = inl (sym e ∙ t, refl)
 
-  pub measure-bad : (r s : Bool) → r ≡ short spec g c → r ≡ false → Tells (SoundCells spec g c intervals) s → not s ≡ true → Measures (storeCauses spec g c intervals) (volumeOf spec g c) (Declined 11)
+  pub measure-bad : (r s : Bool) → r ≡ short spec g c → r ≡ false → Tells (SoundStore (spec .«max_intervals») (2 * rayCount g) intervals c) s → not s ≡ true → Measures (storeCauses spec g c intervals) (volumeOf spec g c) (Declined 11)
   unfolding Due
-  measure-bad r s e f t h = inr ((λ u. clash (short spec g c) u (sym e ∙ f)), inl ((λ p. clash s (t .1 p) (not-true s h)), refl))
+  measure-bad r s e f t h = inr ((λ u. clash (short spec g c) u (sym e ∙ f)), inl ((λ p. clash s (t .1 (p .store)) (not-true s h)), refl))
 
-  pub measure-done : (r s : Bool) → r ≡ short spec g c → r ≡ false → SoundCells spec g c intervals → (total : Float) (x y z : AxisVolume) (w : DexelVolume) → w ≡ boundsBy total x y z → total ≡ boxVolume spec
-      → x ≡ volumeAlong spec g c (worldAxis 0) → y ≡ volumeAlong spec g c (worldAxis 1) → z ≡ volumeAlong spec g c (worldAxis 2) → Measures (storeCauses spec g c intervals) (volumeOf spec g c) (Told w)
-  unfolding NoneDue
-  measure-done r s e f sound total x y z w d p i j k = (
-    ((λ u. clash (short spec g c) u (sym e ∙ f)), ((λ (no-sound : SoundCells spec g c intervals → ⊥). no-sound sound), tt)),
-    d ∙ ap (λ (t : Float). boundsBy t x y z) p ∙ ap (λ (v : AxisVolume). boundsBy (boxVolume spec) v y z) i
-        ∙ ap (λ (v : AxisVolume). boundsBy (boxVolume spec) (volumeAlong spec g c (worldAxis 0)) v z) j
-        ∙ ap (λ (v : AxisVolume). boundsBy (boxVolume spec) (volumeAlong spec g c (worldAxis 0)) (volumeAlong spec g c (worldAxis 1)) v) k,
+  pub measure-done : (r s : Bool) → r ≡ short spec g c → r ≡ false → Tells (SoundStore (spec .«max_intervals») (2 * rayCount g) intervals c) s → not s ≡ false → (m : Measured) → MeasuresRays spec g c m → Measures (storeCauses spec g c intervals) (volumeOf spec g c) m
+  unfolding Due NoneDue
+  measure-done r s e f t h (Declined k) m = inr ((λ u. clash (short spec g c) u (sym e ∙ f)), inl ((λ p. m .1 (p .valid)), m .0))
+  measure-done r s e f t h (Told w) m = (
+    ((λ u. clash (short spec g c) u (sym e ∙ f)), ((λ (no-sound : SoundCells spec g c intervals → ⊥). no-sound (record { store = t .0 (not-false s h); valid = m .0 })), tt)),
+    m .1,
+  )
+
+-- ---- the rays of a store
+module _ (spec : DexelStockSpec) (g : DexelGrid) (c : Cells) where
+  pub axis-bad : (a : WorldAxis) (r : AxisSums) → AddsAlong spec g c a r → not (r .valid) ≡ true → MeasuresRays spec g c (Declined 11)
+  axis-bad a r t h = (refl, (λ all. clash (r .valid) (t .if-valid all) (not-true (r .valid) h)))
+
+  pub axes-good : (total : Float) (x y z : AxisSums) (w : DexelVolume) → w ≡ boundsBy total (x .volume) (y .volume) (z .volume) → total ≡ boxVolume spec
+      → AddsAlong spec g c (worldAxis 0) x → not (x .valid) ≡ false → AddsAlong spec g c (worldAxis 1) y → not (y .valid) ≡ false → AddsAlong spec g c (worldAxis 2) z → not (z .valid) ≡ false
+      → MeasuresRays spec g c (Told w)
+  axes-good total x y z w d p tx hx ty hy tz hz = (
+    after-z spec g c (tz .is-valid (not-false (z .valid) hz)),
+    d ∙ ap (λ (t : Float). boundsBy t (x .volume) (y .volume) (z .volume)) p ∙ ap (λ (v : AxisVolume). boundsBy (boxVolume spec) v (y .volume) (z .volume)) (tx .summed (not-false (x .valid) hx))
+        ∙ ap (λ (v : AxisVolume). boundsBy (boxVolume spec) (volumeAlong spec g c (worldAxis 0)) v (z .volume)) (ty .summed (not-false (y .valid) hy))
+        ∙ ap (λ (v : AxisVolume). boundsBy (boxVolume spec) (volumeAlong spec g c (worldAxis 0)) (volumeAlong spec g c (worldAxis 1)) v) (tz .summed (not-false (z .valid) hz)),
   )
 
 module _ (spec : DexelStockSpec) (units : List ℕ) (c : Cells) (intervals : ℕ) where

@@ -9,7 +9,7 @@ use Rattle.refusal.specs.Refusal.{Cause, cause, Due, NoneDue}
 use Rattle.grid.specs.Axes.{worldAxis, stepAlong, crossOf}
 use Rattle.grid.specs.Grid.{one}
 use Rattle.gridding.specs.Grid.{extentsOf}
-use Rattle.grid.specs.Rays.{raysAlong, offset}
+use Rattle.grid.specs.Rays.{rayCount, raysAlong, offset}
 use Rattle.gridding.specs.Causes.{gridCauses, gridIn}
 use Rattle.grid.specs.declared.WorldAxis.{WorldAxis}
 use Rattle.grid.specs.declared.DexelStockSpec.{DexelStockSpec}
@@ -17,8 +17,9 @@ use Rattle.grid.specs.declared.DexelGrid.{DexelGrid}
 use Rattle.store.specs.Store.{plusZero}
 use Rattle.store.specs.Updates.{Cells}
 use Rattle.lists.specs.Reading.{lengthFrom}
-use Rattle.stock.specs.Stock.{possibleIn, certainIn, SoundCells, short}
+use Rattle.stock.specs.Stock.{possibleIn, certainIn, ValidAt, ValidTo, SoundCells, Tells, short}
 use Rattle.stock.specs.declared.AxisVolume.{AxisVolume}
+use Rattle.stock.specs.declared.AxisSums.{AxisSums}
 use Rattle.stock.specs.declared.DexelVolume.{DexelVolume}
 use Rattle.stock.specs.declared.Measured.{Measured}
 use Rattle.stock.specs.declared.Measured.the-variants.{Accepted, Refused}
@@ -45,6 +46,16 @@ volumeTo spec c area first (suc k) = addRay spec c area (first + k) (volumeTo sp
 abbrev pub volumeAlong : DexelStockSpec → DexelGrid → Cells → WorldAxis → AxisVolume
 volumeAlong spec g c a = volumeTo spec c (areaOf g a) (offset g a) (raysAlong g a)
 
+-- what is told of one ray more, and of all rays along an axis where those before are valid: whether they are valid, and if so the sums
+pub record AddsRay (spec : DexelStockSpec) (g : DexelGrid) (c : Cells) (area : Float) (ray : ℕ) (v : AxisVolume) (r : AxisSums) : Type 0 where
+  pub told : Tells (ValidAt spec g c ray) (r .valid)
+  pub added : r .valid ≡ true → r .volume ≡ addRay spec c area ray v
+
+pub record AddsAlong (spec : DexelStockSpec) (g : DexelGrid) (c : Cells) (a : WorldAxis) (r : AxisSums) : Type 0 where
+  pub is-valid : r .valid ≡ true → ValidTo spec g c (offset g a + raysAlong g a)
+  pub if-valid : ValidTo spec g c (rayCount g) → r .valid ≡ true
+  pub summed : r .valid ≡ true → r .volume ≡ volumeAlong spec g c a
+
 -- the volume of the box, the product of the extents begun with 1
 unfoldable pub boxVolume : DexelStockSpec → Float
 boxVolume spec = mul binary64 (mul binary64 (mul binary64 one (extentsOf spec .x)) (extentsOf spec .y)) (extentsOf spec .z)
@@ -70,6 +81,11 @@ boundsBy total x y z =
 -- the volume of a stock
 abbrev pub volumeOf : DexelStockSpec → DexelGrid → Cells → DexelVolume
 volumeOf spec g c = boundsBy (boxVolume spec) (volumeAlong spec g c (worldAxis 0)) (volumeAlong spec g c (worldAxis 1)) (volumeAlong spec g c (worldAxis 2))
+
+-- of a store that is sound but for the validity of its rays: 11 where a ray is not valid, and the volume otherwise
+abbrev pub MeasuresRays : DexelStockSpec → DexelGrid → Cells → Measured → Type 0
+MeasuresRays spec g c (Refused k) = (k ≡ 11) × (ValidTo spec g c (rayCount g) → ⊥)
+MeasuresRays spec g c (Accepted w) = ValidTo spec g c (rayCount g) × (w ≡ volumeOf spec g c)
 
 -- 12 and 11, once `grid` accepts
 abbrev pub storeCauses : DexelStockSpec → DexelGrid → Cells → ℕ → List Cause

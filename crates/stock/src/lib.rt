@@ -2,13 +2,13 @@
 ghost use mathlib.Core.Path.{_≡_};
 ghost use Prim.Native.Nat.{_+_, _*_, _<_, _≤_};
 ghost use lib.ListN.{length};
-ghost use Rattle.grid.specs.Rays.{rayCount};
+ghost use Rattle.grid.specs.Rays.{rayCount, offset};
 ghost use Rattle.gridding.specs.Causes.{GridFacts, gridIn};
 ghost use Rattle.store.specs.Store.{putSpan, putLink};
-ghost use Rattle.store.specs.Updates.{cells, Room};
+ghost use Rattle.store.specs.Updates.{cells, Room, SoundStore};
 ghost use Rattle.stock.specs.Stock.{Tells, ValidAt, ValidTo, Chained, SoundCells, short};
 ghost use Rattle.stock.specs.Uncut.{recordAt, uncutSpans, uncutLinks, uncutHeads, Fills, roomCauses, fillCauses};
-ghost use Rattle.stock.specs.Volume.{addRay, volumeAlong, boxVolume, boundsBy, volumeOf, Measures, storeCauses, volumeCauses};
+ghost use Rattle.stock.specs.Volume.{AddsRay, AddsAlong, boxVolume, boundsBy, volumeOf, MeasuresRays, Measures, storeCauses, volumeCauses};
 use grid::DexelGrid;
 use grid::DexelStockSpec;
 use grid::Gridded;
@@ -81,6 +81,23 @@ fn check_rays(
     true
 }
 
+// Whether the store with this interval total is sound, but for the validity of its rays.
+fn is_chained(
+    spec: DexelStockSpec,
+    g: DexelGrid,
+    spans: &[f64],
+    links: &[u64],
+    heads: &[u64],
+    intervals: u64,
+) -> bool
+    requires { ⌜ Room (spec .«max_intervals») (2 * rayCount g) (cells (now spans) (now links) (now heads)) ⌝ }
+    ensures { λ r. ⌜ Tells (SoundStore (spec .«max_intervals») (2 * rayCount g) intervals (cells (now (spans .entry)) (now (links .entry)) (now (heads .entry)))) r ⌝ }
+{
+    let n = spec.max_intervals as usize;
+    let m = 2 * (grid_rays::total_rays(g) as usize);
+    store::check_store(spans, links, heads, n, m, intervals)
+}
+
 // Whether the store with this interval total is sound, for any cells. Linear, and with no memory of its own.
 pub fn check_stock(
     spec: DexelStockSpec,
@@ -93,9 +110,7 @@ pub fn check_stock(
     requires { ⌜ Room (spec .«max_intervals») (2 * rayCount g) (cells (now spans) (now links) (now heads)) ⌝ }
     ensures { λ r. ⌜ Tells (SoundCells spec g (cells (now (spans .entry)) (now (links .entry)) (now (heads .entry))) intervals) r ⌝ }
 {
-    let n = spec.max_intervals as usize;
-    let m = 2 * (grid_rays::total_rays(g) as usize);
-    if !store::check_store(spans, links, heads, n, m, intervals) {
+    if !is_chained(spec, g, spans, links, heads, intervals) {
         return false;
     }
     check_rays(spec, g, spans, links, heads)
@@ -266,7 +281,13 @@ pub enum Measured {
     Refused(u32),
 }
 
-// Adds a ray's lengths, times its cell's area.
+// Whether the rays that were looked at are valid, and if so the sums over them.
+pub struct AxisSums {
+    pub valid: bool,
+    pub volume: AxisVolume,
+}
+
+// Tests a ray and adds its lengths, times its cell's area.
 fn add_ray(
     spec: DexelStockSpec,
     g: DexelGrid,
@@ -276,21 +297,32 @@ fn add_ray(
     area: f64,
     ray: u64,
     v: AxisVolume,
-) -> AxisVolume
+) -> AxisSums
     requires { ⌜ Chained spec g (cells (now spans) (now links) (now heads)) × (ray < rayCount g) ⌝ }
-    ensures { λ r. ⌜ r ≡ addRay spec (cells (now (spans .entry)) (now (links .entry)) (now (heads .entry))) area ray v ⌝ }
+    ensures { λ r. ⌜ AddsRay spec g (cells (now (spans .entry)) (now (links .entry)) (now (heads .entry))) area ray v r ⌝ }
 {
     let n = spec.max_intervals as usize;
     let j = 2 * (ray as usize);
-    let certain = lists::list_length(spans, links, n, heads[j + 1]);
-    let possible = lists::list_length(spans, links, n, heads[j]);
-    AxisVolume {
-        certain: v.certain + certain * area,
-        possible: v.possible + possible * area,
+    let bounds = grid_rays::ray_bounds(spec, g, ray);
+    let r = lists::measure_ray(
+        spans,
+        links,
+        n,
+        heads[j],
+        heads[j + 1],
+        bounds.lo,
+        bounds.hi,
+    );
+    AxisSums {
+        valid: r.valid,
+        volume: AxisVolume {
+            certain: v.certain + r.certain * area,
+            possible: v.possible + r.possible * area,
+        },
     }
 }
 
-// The sums over the rays along an axis, in order.
+// Tests the rays along an axis and sums over them, in order. The rays before them are valid.
 fn axis_volume(
     spec: DexelStockSpec,
     g: DexelGrid,
@@ -298,9 +330,9 @@ fn axis_volume(
     links: &[u64],
     heads: &[u64],
     axis: WorldAxis,
-) -> AxisVolume
-    requires { ⌜ Chained spec g (cells (now spans) (now links) (now heads)) ⌝ }
-    ensures { λ r. ⌜ r ≡ volumeAlong spec g (cells (now (spans .entry)) (now (links .entry)) (now (heads .entry))) axis ⌝ }
+) -> AxisSums
+    requires { ⌜ Chained spec g (cells (now spans) (now links) (now heads)) × ValidTo spec g (cells (now spans) (now links) (now heads)) (offset g axis) ⌝ }
+    ensures { λ r. ⌜ AddsAlong spec g (cells (now (spans .entry)) (now (links .entry)) (now (heads .entry))) axis r ⌝ }
 {
     let across = grid::cross(axis);
     let area = grid::step_along(g, across.u) * grid::step_along(g, across.v);
@@ -312,10 +344,20 @@ fn axis_volume(
     };
     let mut k: u64 = 0;
     while k < count {
-        v = add_ray(spec, g, spans, links, heads, area, first + k, v);
+        let r = add_ray(spec, g, spans, links, heads, area, first + k, v);
+        if !r.valid {
+            return AxisSums {
+                valid: false,
+                volume: v,
+            };
+        }
+        v = r.volume;
         k += 1;
     }
-    v
+    AxisSums {
+        valid: true,
+        volume: v,
+    }
 }
 
 // The volume of the box.
@@ -353,7 +395,34 @@ fn bounds_by(total: f64, x: AxisVolume, y: AxisVolume, z: AxisVolume) -> DexelVo
     }
 }
 
-// The volume, over a grid that is accepted.
+// The volume of a store that is sound but for the validity of its rays: 11 where a ray is not valid.
+fn measure_rays(
+    spec: DexelStockSpec,
+    g: DexelGrid,
+    spans: &[f64],
+    links: &[u64],
+    heads: &[u64],
+) -> Measured
+    requires { ⌜ Chained spec g (cells (now spans) (now links) (now heads)) ⌝ }
+    ensures { λ r. ⌜ MeasuresRays spec g (cells (now (spans .entry)) (now (links .entry)) (now (heads .entry))) r ⌝ }
+{
+    let x = axis_volume(spec, g, spans, links, heads, WorldAxis(0));
+    if !x.valid {
+        return Measured::Refused(11);
+    }
+    let y = axis_volume(spec, g, spans, links, heads, WorldAxis(1));
+    if !y.valid {
+        return Measured::Refused(11);
+    }
+    let z = axis_volume(spec, g, spans, links, heads, WorldAxis(2));
+    if !z.valid {
+        return Measured::Refused(11);
+    }
+    let total = box_volume(spec);
+    Measured::Accepted(bounds_by(total, x.volume, y.volume, z.volume))
+}
+
+// The volume, over a grid that is accepted. The rays are tested and summed in one pass.
 fn measure(
     spec: DexelStockSpec,
     g: DexelGrid,
@@ -369,13 +438,10 @@ fn measure(
     if is_short(spec, g, spans, links, heads) {
         return Measured::Refused(12);
     }
-    if !check_stock(spec, g, spans, links, heads, intervals) {
+    if !is_chained(spec, g, spans, links, heads, intervals) {
         return Measured::Refused(11);
     }
-    let x = axis_volume(spec, g, spans, links, heads, WorldAxis(0));
-    let y = axis_volume(spec, g, spans, links, heads, WorldAxis(1));
-    let z = axis_volume(spec, g, spans, links, heads, WorldAxis(2));
-    Measured::Accepted(bounds_by(box_volume(spec), x, y, z))
+    measure_rays(spec, g, spans, links, heads)
 }
 
 // The volume of a stock. Refusals: 1, 2, 3, 4, 12, 11.
