@@ -6,11 +6,11 @@ use Prim.Native.Nat.{ℕ, _-_, _%_}
 use lib.Dec.{eqb}
 use lib.ListN.{length}
 use lib.Ieee.{Float, lt}
-use Rattle.doubles.proofs.Bools.{and-left, and-right, same-if, or-cases}
+use Rattle.doubles.proofs.Bools.{and-left, and-right}
 use Rattle.doubles.proofs.Order.{lt-trans}
 use Rattle.doubles.specs.Doubles.{largerOf, smallerOf}
 use Rattle.spans.specs.Spans.{rising, sound}
-use Rattle.store.specs.Store.{loAt, hiAt, nextAt, places, endsAt}
+use Rattle.store.specs.Store.{loAt, hiAt, nextAt, endsAt}
 use Rattle.lists.specs.Reading.{listFrom, Readable}
 use Rattle.lists.proofs.Steps.{Step, link-step, no-ends}
 use Rattle.frame.specs.declared.Pair.{Pair}

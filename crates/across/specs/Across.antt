@@ -1,12 +1,13 @@
 -- What a chord does to one ray across the tool axis (sweep.rs: `across`). Each operation is rounded, in the Rust's order.
 use mathlib.Core.Bool.{cond}
 use mathlib.Core.List.{List}
-use lib.Ieee.{Float, binary64, ofBits, add, sub, lt}
+use lib.Ieee.{Float, binary64, add, sub, lt}
+use Rattle.doubles.specs.Constants.{plusZero}
 use Rattle.doubles.specs.Doubles.{largerOf, smallerOf}
 use Rattle.cutter.specs.Cutter.{cutMax, cutMin}
 use Rattle.cutter.specs.declared.Radius.{Radius}
 use Rattle.cutter.specs.declared.Radius.the-variants.{Is}
-use Rattle.frame.specs.Frame.{zeroF, worldOf}
+use Rattle.frame.specs.Frame.{worldOf}
 use Rattle.frame.specs.declared.Pair.{Pair}
 use Rattle.strips.specs.Strip.{stadiumStrip}
 use Rattle.strips.specs.declared.Strip.{Strip}
@@ -14,14 +15,13 @@ use Rattle.strips.specs.declared.Strip.the-variants.{Hit, Miss}
 use Rattle.across.specs.declared.Profile.{Profile}
 use Rattle.across.specs.declared.Lane.{Lane}
 use Rattle.across.specs.declared.Section.{Section}
-use Rattle.across.specs.declared.Hits.{Hits}
 use Rattle.across.specs.declared.RayHit.{RayHit}
 use Rattle.across.specs.declared.RayHit.the-variants.{On, Off}
 use Rattle.across.specs.Meets.{spansMeet, overlapsOf}
 
 -- document 01's "no inner is [0, 0]"
 abbrev pub noPair : Pair
-noPair = record { lo = zeroF; hi = zeroF }
+noPair = record { lo = plusZero; hi = plusZero }
 
 abbrev pub pair : Float → Float → Pair
 pair lo hi = record { lo = lo; hi = hi }
@@ -55,7 +55,7 @@ abbrev pub innerAt : Lane → Section → Radius → Pair
 innerAt l s Radius.Outside = noPair
 innerAt l s (Is r) =
     let rho = sub binary64 r (l .e) in
-    cond (lt zeroF rho)
+    cond (lt plusZero rho)
     (innerFrom l (stadiumStrip (l .a) (l .b) (l .length) rho (s .y0) (s .y0)) (stadiumStrip (l .a) (l .b) (l .length) rho (s .y1) (s .y1)))
     noPair
 

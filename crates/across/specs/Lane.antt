@@ -2,7 +2,8 @@
 use mathlib.Core.Bool.{cond}
 use Prim.Native.Nat.{ℕ}
 use lib.Dec.{eqb}
-use lib.Ieee.{Float, binary64, ofBits, add, sub, mul, div, lt}
+use lib.Ieee.{Float, binary64, add, sub, mul, div, lt}
+use Rattle.doubles.specs.Constants.{two}
 use Rattle.doubles.specs.Doubles.{largerOf, smallerOf}
 use Rattle.cutter.specs.declared.CutterShape.{CutterShape}
 use Rattle.cutter.specs.declared.PreparedCutter.{PreparedCutter}
@@ -11,7 +12,7 @@ use Rattle.frame.specs.declared.Frame.{Frame}
 use Rattle.frame.specs.declared.LocalAxis.{LocalAxis}
 use Rattle.frame.specs.declared.Pair.{Pair}
 use Rattle.grid.specs.Axes.{alongOf, stepAlong, crossOf}
-use Rattle.grid.specs.Grid.{two, whole}
+use Rattle.grid.specs.Grid.{whole}
 use Rattle.grid.specs.Rays.{half, cellAt}
 use Rattle.grid.specs.declared.Vec3.{Vec3}
 use Rattle.grid.specs.declared.WorldAxis.{WorldAxis}
@@ -25,7 +26,6 @@ use Rattle.across.specs.declared.Side.{Side}
 use Rattle.across.specs.declared.Lane.{Lane}
 use Rattle.across.specs.declared.Cells.{Cells}
 use Rattle.across.specs.declared.Cells.the-variants.{Met, Missed}
-use Rattle.across.specs.declared.Rect.{Rect}
 use Rattle.across.specs.declared.Rectangle.{Rectangle}
 use Rattle.across.specs.declared.Rectangle.the-variants.{Rays, NoRays}
 use Rattle.across.specs.declared.Section.{Section}

@@ -4,9 +4,9 @@ use mathlib.Core.List.{List}
 use Prim.Native.Nat.{ℕ, zero, suc, _/_}
 use lib.Ieee.{Float, binary64, ofBits, neg, sub, mul, lt, le}
 use lib.ListN.{length}
+use Rattle.doubles.specs.Constants.{one, plusZero, two}
 use Rattle.doubles.specs.Doubles.{largerOf, absOf}
-use Rattle.grid.specs.Grid.{one, two, within, allWithin}
-use Rattle.frame.specs.Frame.{zeroF}
+use Rattle.grid.specs.Grid.{within, allWithin}
 use Rattle.frame.specs.declared.Frame.{Frame}
 use Rattle.across.specs.declared.Chord.{Chord}
 use Rattle.chords.specs.Chords.{fromAt, toAt, chordOf}
@@ -20,7 +20,7 @@ thousand = ofBits binary64 0x408f_4000_0000_0000
 
 -- the guard is in (0, 1]
 unfoldable pub guardFits : Float → Bool
-guardFits guard = lt zeroF guard && le guard one
+guardFits guard = lt plusZero guard && le guard one
 
 -- each coordinate is finite and not beyond ±2e6
 unfoldable pub endsFit : List Float → ℕ → Bool
@@ -38,7 +38,7 @@ lengthFits c = within (c .length) (planSize c) (mul binary64 two (planSize c))
 -- e is in [0, 1000], and the plan length fits
 unfoldable pub numbersFit : Chord → Bool
 unfolding lengthFits
-numbersFit c = within (c .e) zeroF thousand && lengthFits c
+numbersFit c = within (c .e) plusZero thousand && lengthFits c
 
 unfoldable pub chordFits : Frame → List Float → ℕ → Bool
 unfolding endsFit numbersFit chordOf

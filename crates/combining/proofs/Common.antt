@@ -1,21 +1,20 @@
 -- The points that two sound lists have in common, pair by pair of both.
 use mathlib.Core.Path.{_≡_, refl, sym, _∙_, ap, ap₂}
 use mathlib.Core.Logic.{_⊎_, inl, inr}
-use mathlib.Core.Bool.{Bool, true, false, not, _&&_, _||_, and-comm, or-comm}
-use mathlib.Core.List.{List, [], _∷_}
+use mathlib.Core.Bool.{Bool, true, false, _&&_, _||_, and-comm, or-comm}
+use mathlib.Core.List.{List}
 use Prim.Native.Nat.{ℕ, _+_, _%_, _≤_, _<_}
 use native.Mathlib.Omega.{arith}
-use lib.ListN.{length, getD, take, drop}
+use lib.ListN.{length, getD, take}
 use lib.Seq.{take-all}
 use lib.Ieee.{Float, nan, lt, le}
 use Rattle.spans.specs.Spans.{within, holds, rising, sound, common, ListOf}
 use Rattle.spans.specs.Steps.{Put, Filled}
-use Rattle.doubles.specs.Doubles.{Number}
 use Rattle.doubles.proofs.Bools.{and-left, and-right, and-false, both, by-cases, clash}
-use Rattle.doubles.proofs.Order.{lt→le, not-lt→le, not-le→lt, le-number, le-trans, lt-trans, lt-le-trans, le-lt-trans}
+use Rattle.doubles.proofs.Order.{lt→le, not-lt→le, not-le→lt, le-number, le-trans, lt-trans, lt-le-trans}
 use Rattle.spans.proofs.Ends.{all-map, Under, Below, rising-at}
 use Rattle.spans.proofs.Sets.{sound-rising, sound-mod}
-use Rattle.spans.proofs.Points.{or-assoc, or-false, or-true, holds-more, front-only, front-in, in-pair, number-at, put-all, put-list}
+use Rattle.spans.proofs.Points.{or-false, or-true, holds-more, front-only, front-in, in-pair, number-at, put-all, put-list}
 use Rattle.combining.proofs.Cutting.{top, top-first, top-second, top-both}
 
 -- ---- the loop of `intersect_into`

@@ -4,7 +4,7 @@ use mathlib.Core.List.{List}
 use Prim.Native.Nat.{ℕ, _+_, _-_, _*_, _/_, _%_, _^_, _≤_, _<_}
 use lib.ListN.{length, replicate}
 use lib.Ieee.{Float}
-use Rattle.spans.specs.Results.{plusZero}
+use Rattle.doubles.specs.Constants.{plusZero}
 use Rattle.grid.specs.Rays.{rayCount}
 use Rattle.gridding.specs.Causes.{GridFacts}
 use Rattle.gridding.specs.Grid.{gridOf}

@@ -1,12 +1,12 @@
 -- Two sound lists walked pair by pair: what a turn keeps, and the point that decides.
-use mathlib.Core.Path.{_≡_, refl, sym, _∙_, ap, subst}
+use mathlib.Core.Path.{_≡_, sym, _∙_, ap, subst}
 use mathlib.Core.Logic.{_⊎_, inl, inr}
-use mathlib.Core.Bool.{Bool, true, false, _&&_, _||_, true≢false, false≢true}
+use mathlib.Core.Bool.{true, false, false≢true}
 use mathlib.Core.List.{List}
 use Prim.Native.Nat.{ℕ, _+_, _-_, _%_, _≤_, _<_}
 use native.Mathlib.Omega.{arith}
 use native.Mathlib.Decide.{decLt}
-use lib.ListN.{length, getD, take, drop}
+use lib.ListN.{length, getD, take}
 use lib.Seq.{take-all}
 use lib.Ieee.{Float, nan, lt, le}
 use Rattle.spans.specs.Spans.{within, holds, sound, Within, Outside, Share, Apart}
@@ -16,7 +16,7 @@ use Rattle.spans.proofs.Points.{holds-more, front-only, in-pair, in-gap, upTo-l
 use Rattle.combining.proofs.Cutting.{top, top-first, top-second, top-both}
 use Rattle.doubles.specs.Doubles.{Number}
 use Rattle.doubles.proofs.Bools.{and-left, and-right, or-cases, by-cases, clash}
-use Rattle.doubles.proofs.Order.{lt-number, lt→le, not-lt→le, not-le→lt, le-refl, le-trans, lt-trans, lt-le-trans, le-lt-trans}
+use Rattle.doubles.proofs.Order.{lt-number, lt→le, not-lt→le, not-le→lt, le-refl, le-trans, lt-trans, lt-le-trans}
 
 -- the points of a list's first pairs and one more
 one-more : (l : List Float) (k : ℕ) (p : Float) → k % 2 ≡ 0 → k + 2 ≤ length l → holds (take (k + 2) l) p ≡ true

@@ -12,7 +12,7 @@ use Rattle.grid.specs.declared.DexelStockSpec.{DexelStockSpec}
 use Rattle.grid.specs.declared.DexelGrid.{DexelGrid}
 use Rattle.store.specs.Updates.{Cells}
 use Rattle.stock.specs.Stock.{possibleIn, certainIn}
-use Rattle.runs.specs.Logs.{entryAt, entryCount, entries, rayOf}
+use Rattle.runs.specs.Logs.{entryAt, entryCount, rayOf}
 use Rattle.runs.specs.Counts.{hitBy, startsLeft}
 use Rattle.logs.specs.Named.{EachNamed}
 use Rattle.starts.specs.Hits.{alikeAt, takenFrom}

@@ -2,12 +2,10 @@
 ghost use mathlib.Core.Path.{_≡_};
 ghost use mathlib.Core.Bool.{true, _||_};
 ghost use Prim.Native.Nat.{_+_, _-_, _*_, _^_, _≤_, _<_};
-ghost use lib.ListN.{length};
 ghost use Rattle.grid.specs.Rays.{rayCount};
-ghost use Rattle.gridding.specs.Causes.{GridFacts};
 ghost use Rattle.store.specs.Updates.{cells};
-ghost use Rattle.stock.specs.Stock.{Chained, Tells};
-ghost use Rattle.runs.specs.Logs.{entries, entryAt, entryCount, rayOf};
+ghost use Rattle.stock.specs.Stock.{Tells};
+ghost use Rattle.runs.specs.Logs.{entries, entryCount};
 ghost use Rattle.runs.specs.Counts.{raysChanged, pairsLeft};
 ghost use Rattle.logs.specs.Named.{EachNamed};
 ghost use Rattle.counting.specs.Answer.{listsIn, budgetOf, Countable, Counting};

@@ -2,14 +2,15 @@
 use mathlib.Core.Path.{_≡_, refl, ap}
 use mathlib.Core.Bool.{Bool, true, false, cond, _&&_, false≢true}
 use lib.Ieee.{Float, nan, inf, fin, ofBits, lt, le, eq}
+use Rattle.doubles.specs.Constants.{million, plusZero}
 use Rattle.doubles.specs.Doubles.{Number, clampOf}
 use Rattle.doubles.proofs.Bools.{and-left, and-right}
 use Rattle.doubles.proofs.Order.{le-refl, le-trans, lt→le, le-number, le→not-lt, not-lt→le}
 use Rattle.cutter.specs.declared.CutterShape.{CutterShape}
 use Rattle.cutter.specs.declared.PreparedCutter.{PreparedCutter}
 use Rattle.cutter.specs.declared.ProfileSlice.the-variants.{Cutting}
-use Rattle.cutter.specs.Cutter.{plusZero, isFinite, offTool, cuttingRadius, radiusAt, radiusOf, cutRadius}
-use Rattle.cutter.specs.Limits.{million, aboveZero, sizesFit, heightsFit, lengthsFit, diametersFit, shapeFits, withinLimits}
+use Rattle.cutter.specs.Cutter.{isFinite, offTool, cuttingRadius, radiusAt, radiusOf, cutRadius}
+use Rattle.cutter.specs.Limits.{aboveZero, sizesFit, heightsFit, lengthsFit, diametersFit, shapeFits, withinLimits}
 
 finite-between : (x : Float) → le plusZero x ≡ true → le x million ≡ true → isFinite x ≡ true
 unfolding isFinite lt eq le ofBits

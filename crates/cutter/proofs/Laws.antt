@@ -1,6 +1,6 @@
 -- The code's test for a finite double, by the two infinities.
 use mathlib.Core.Path.{_≡_, refl}
-use mathlib.Core.Bool.{true, false, not, true≢false, false≢true}
+use mathlib.Core.Bool.{true, false, true≢false, false≢true}
 use lib.Ieee.{Float, nan, inf, fin, binary64, ofBits, div, neg, lt}
 use Rattle.cutter.specs.Cutter.{isFinite}
 

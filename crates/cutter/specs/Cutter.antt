@@ -1,6 +1,7 @@
 -- The radius of a cutter by height, each operation rounded (tool.rs: radius_at; sweep.rs: cut_radius, cut_max, cut_min).
 use mathlib.Core.Bool.{Bool, true, false, cond, not, _||_, _&&_}
-use lib.Ieee.{Float, nan, inf, fin, binary64, ofBits, add, sub, mul, div, lt, le}
+use lib.Ieee.{Float, nan, inf, fin, binary64, add, sub, mul, div, lt, le}
+use Rattle.doubles.specs.Constants.{plusZero, two}
 use Rattle.doubles.specs.Doubles.{largerOf, smallerOf, clampOf}
 use Rattle.square_root.specs.Root.{squareRoot}
 use Rattle.cutter.specs.declared.CutterShape.{CutterShape}
@@ -10,12 +11,6 @@ use Rattle.cutter.specs.declared.ProfileSlice.{ProfileSlice}
 use Rattle.cutter.specs.declared.ProfileSlice.the-variants.{Cutting, NonCutting}
 use Rattle.cutter.specs.declared.Radius.{Radius}
 use Rattle.cutter.specs.declared.Radius.the-variants.{Is}
-
-abbrev pub plusZero : Float
-plusZero = ofBits binary64 0
-
-abbrev pub two : Float
-two = ofBits binary64 0x4000_0000_0000_0000
 
 -- neither a NaN nor an infinity
 unfoldable pub isFinite : Float → Bool

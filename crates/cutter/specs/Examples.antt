@@ -1,9 +1,7 @@
 -- Document 01's example of a cutter's radius, as a table (`examples-right` in proofs/Examples.antt claims it).
 use mathlib.Core.Path.{_≡_}
 use mathlib.Core.List.{List, [], _∷_}
-use lib.Ieee.{Float}
 use Rattle.doubles.specs.Doubles.{ratio}
-use Rattle.cutter.specs.declared.CutterShape.{CutterShape}
 use Rattle.cutter.specs.declared.CutterShape.the-variants.{Ball}
 use Rattle.cutter.specs.declared.PreparedCutter.{PreparedCutter}
 use Rattle.cutter.specs.declared.ProfileSlice.{ProfileSlice}

@@ -2,21 +2,14 @@
 use mathlib.Core.Path.{_≡_}
 use mathlib.Core.Bool.{Bool, true, false, not, _&&_}
 use mathlib.Core.List.{List, [], _∷_}
-use lib.Ieee.{Float, binary64, ofBits, lt, le, isNan}
+use lib.Ieee.{Float, lt, le, isNan}
+use Rattle.doubles.specs.Constants.{million, millionth, plusZero}
 use Rattle.refusal.specs.Refusal.{Cause, cause, Due, NoneDue}
-use Rattle.cutter.specs.Cutter.{plusZero}
 use Rattle.cutter.specs.declared.CutterShape.{CutterShape}
 use Rattle.cutter.specs.declared.CutterShape.the-variants.{Flat, Ball, Bull, Drill, Chamfer, Beam, Probe, Lollipop, Dovetail}
 use Rattle.cutter.specs.declared.PreparedCutter.{PreparedCutter}
 use Rattle.cutter.specs.declared.ToolCheck.{ToolCheck}
 use Rattle.cutter.specs.declared.ToolCheck.the-variants.{Accepted, Refused}
-
--- 1e6 and 1e-6
-abbrev pub million : Float
-million = ofBits binary64 0x412e_8480_0000_0000
-
-abbrev pub millionth : Float
-millionth = ofBits binary64 0x3eb0_c6f7_a0b5_ed8d
 
 -- in (0, 1e6]
 unfoldable pub aboveZero : Float → Bool

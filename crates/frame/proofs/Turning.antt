@@ -1,10 +1,11 @@
 -- A turned interval holds a point exactly when the interval holds the turned point, whatever the sign, the interval and the point, a NaN too.
 use mathlib.Core.Path.{_≡_, refl, sym, ap, _∙_}
-use mathlib.Core.Bool.{Bool, true, false, cond, _&&_}
+use mathlib.Core.Bool.{Bool, true, false, _&&_}
 use lib.Ieee.{Float, nan, inf, fin, neg, lt, le}
+use Rattle.doubles.specs.Constants.{plusZero}
 use Rattle.doubles.proofs.Order.{lt-neg, le-neg}
 use Rattle.frame.specs.declared.Pair.{Pair}
-use Rattle.frame.specs.Frame.{zeroF, turned}
+use Rattle.frame.specs.Frame.{turned}
 use Rattle.frame.specs.Turns.{turnedPoint, Turned}
 
 neg-neg : (x : Float) → neg (neg x) ≡ x
@@ -36,9 +37,9 @@ module _ (x p : Float) where
 
 pub turned-holds : (s : Float) (i : Pair) (p : Float) → Turned s i p
 unfolding turned turnedPoint
-turned-holds s i p = go (lt zeroF s) refl
+turned-holds s i p = go (lt plusZero s) refl
   where
-    go : (b : Bool) → lt zeroF s ≡ b → Turned s i p
+    go : (b : Bool) → lt plusZero s ≡ b → Turned s i p
     go true e = record { closed-is = rw e; between-is = rw e; span-is = rw e }
     go false e = record {
       closed-is = rw (e, le-over (i .hi) p, le-under (i .lo) p) (both (le (neg p) (i .hi)) (le (i .lo) (neg p)));

@@ -1,7 +1,7 @@
 -- Document 01's example of a turned interval, as a table; `examples-right` in proofs/Examples.antt claims it.
 use mathlib.Core.Path.{_≡_}
 use mathlib.Core.List.{List, [], _∷_}
-use lib.Ieee.{Float, neg}
+use lib.Ieee.{neg}
 use Rattle.doubles.specs.Doubles.{ratio}
 use Rattle.frame.specs.declared.Pair.{Pair}
 use Rattle.frame.specs.declared.Axis.the-variants.{PosZ, NegZ}

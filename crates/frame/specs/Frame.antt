@@ -1,9 +1,10 @@
 -- The tool's frame (sweep.rs: `Axis::frame`, `local`, `local_axis`, `world`). local[i] = sign[i] * world[perm[i]], where perm is first, first + 1,
 -- first + 2 modulo 3, and sign is 1, sign, sign.
 use mathlib.Core.Bool.{cond}
-use Prim.Native.Nat.{ℕ, zero, suc, _+_, _-_, _%_}
+use Prim.Native.Nat.{ℕ, _+_, _-_, _%_}
 use lib.Dec.{eqb, ltb}
-use lib.Ieee.{Float, binary64, ofBits, neg, mul, lt}
+use lib.Ieee.{Float, binary64, neg, mul, lt}
+use Rattle.doubles.specs.Constants.{one, plusZero}
 use Rattle.grid.specs.Axes.{alongOf, worldAxis}
 use Rattle.grid.specs.declared.Vec3.{Vec3}
 use Rattle.grid.specs.declared.WorldAxis.{WorldAxis}
@@ -12,12 +13,6 @@ use Rattle.frame.specs.declared.Axis.the-variants.{PosX, NegX, PosY, Neg
 use Rattle.frame.specs.declared.LocalAxis.{LocalAxis}
 use Rattle.frame.specs.declared.Frame.{Frame}
 use Rattle.frame.specs.declared.Pair.{Pair}
-
-abbrev pub zeroF : Float
-zeroF = ofBits binary64 0
-
-abbrev pub one : Float
-one = ofBits binary64 0x3ff0_0000_0000_0000
 
 abbrev pub frame : ℕ → Float → Frame
 frame n s = record { first = worldAxis n; sign = s }
@@ -61,7 +56,7 @@ localOf f p = record { x = localAt f p (localAxis 0); y = localAt f p (localAxis
 
 -- an interval turned by a sign: a negative one negates the ends and swaps them
 unfoldable pub turned : Float → Pair → Pair
-turned s p = cond (lt zeroF s) p (record { lo = neg (p .hi); hi = neg (p .lo) })
+turned s p = cond (lt plusZero s) p (record { lo = neg (p .hi); hi = neg (p .lo) })
 
 -- the world interval of an interval along a local axis
 unfoldable pub worldOf : Frame → LocalAxis → Pair → Pair

@@ -2,12 +2,13 @@
 use mathlib.Core.Path.{_≡_}
 use mathlib.Core.Bool.{Bool, cond, _&&_}
 use lib.Ieee.{Float, neg, lt, le}
+use Rattle.doubles.specs.Constants.{plusZero}
 use Rattle.frame.specs.declared.Pair.{Pair}
-use Rattle.frame.specs.Frame.{zeroF, turned}
+use Rattle.frame.specs.Frame.{turned}
 
 -- a point turned by a sign
 unfoldable pub turnedPoint : Float → Float → Float
-turnedPoint s p = cond (lt zeroF s) p (neg p)
+turnedPoint s p = cond (lt plusZero s) p (neg p)
 
 -- lo ≤ p ≤ hi, lo < p < hi, lo ≤ p < hi and lo < p ≤ hi
 abbrev pub closed : Pair → Float → Bool
@@ -27,4 +28,4 @@ pub record Turned (s : Float) (i : Pair) (p : Float) : Type 0 where
   pub closed-is : closed (turned s i) p ≡ closed i (turnedPoint s p)
   pub between-is : between (turned s i) p ≡ between i (turnedPoint s p)
   -- a span holds lo and not hi; turned by a positive sign it still does, by a negative one it holds the points whose turn lies above lo and up to hi
-  pub span-is : fromLo (turned s i) p ≡ cond (lt zeroF s) (fromLo i p) (toHi i (neg p))
+  pub span-is : fromLo (turned s i) p ≡ cond (lt plusZero s) (fromLo i p) (toHi i (neg p))

@@ -2,18 +2,8 @@
 use mathlib.Core.Bool.{Bool, _&&_}
 use Prim.Native.Nat.{ℕ}
 use lib.IntN.{pos}
-use lib.Ieee.{Float, binary64, ofBits, ofInt, le}
+use lib.Ieee.{Float, binary64, ofInt, le}
 use Rattle.grid.specs.declared.Vec3.{Vec3}
-
--- 1, 2 and 1e6
-abbrev pub one : Float
-one = ofBits binary64 0x3ff0_0000_0000_0000
-
-abbrev pub two : Float
-two = ofBits binary64 0x4000_0000_0000_0000
-
-abbrev pub million : Float
-million = ofBits binary64 0x412e_8480_0000_0000
 
 -- a whole number as the nearest double, Rust's `as f64`
 abbrev pub whole : ℕ → Float

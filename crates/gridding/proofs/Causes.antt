@@ -8,9 +8,10 @@ use native.Mathlib.Omega.{arith}
 use borrow.Author.Tests.{ltb-true, ltb-false}
 use lib.Dec.{ltb}
 use lib.Ieee.{binary64, mul, lt, toUnsigned}
+use Rattle.doubles.specs.Constants.{two}
 use Rattle.refusal.specs.Refusal.{Due, NoneDue}
 use Rattle.grid.specs.Axes.{byDigit, worldAxis, alongOf, cellsAlong}
-use Rattle.grid.specs.Grid.{two, whole}
+use Rattle.grid.specs.Grid.{whole}
 use Rattle.gridding.specs.Grid.{anyAbove, isMm, sizesOf, extentsOf, misdescribed, raysOf, tooFine, gridOver, gridOf}
 use Rattle.grid.specs.Rays.{rayCount}
 use Rattle.gridding.specs.Causes.{Misdescribed, Crowded, OverBudget, TooFine, dimsIn, gridIn, gridCauses, ByCauses, units-not-mm}

@@ -12,10 +12,11 @@ use lib.Ieee.Exact.{HasValue}
 use lib.Ieee.Back.{round-whole}
 use lib.Ieee.Order.{round-mono}
 use lib.Ieee.Fits.{down-pos, div-fits}
+use Rattle.doubles.specs.Constants.{one}
 use Rattle.doubles.specs.Doubles.{largerOf, ceilOf}
 use Rattle.doubles.proofs.Order.{lt-le-trans, le→not-lt}
 use Rattle.doubles.proofs.Whole.{ceil-exact}
-use Rattle.grid.specs.Grid.{one, whole}
+use Rattle.grid.specs.Grid.{whole}
 use Rattle.gridding.specs.Grid.{cellsOf}
 
 -- ---- the order of whole numbers

@@ -10,12 +10,13 @@ use lib.Dec.{eqb}
 use lib.ListN.{length}
 use lib.Ieee.{Float, nan, inf, fin, ofBits, neg, lt, le, eq, isNan}
 use lib.Ieee.Scale.{finite}
+use Rattle.doubles.specs.Constants.{million, millionth}
 use Rattle.doubles.specs.Doubles.{Number, absOf}
 use Rattle.doubles.proofs.Bools.{or-cases, not-true, not-false, and-true}
 use Rattle.doubles.proofs.Order.{not-le→lt, lt→not-le, fin-number, nan-none, le-number, le-neg, side→le}
 use Rattle.grid.specs.Axes.{byDigit, byAxis, worldAxis, alongOf}
-use Rattle.grid.specs.Grid.{million, within, allWithin}
-use Rattle.gridding.specs.Grid.{micro, leastSize, anyBelow, anyAbove, isMm, extentsOf, misdescribed}
+use Rattle.grid.specs.Grid.{within, allWithin}
+use Rattle.gridding.specs.Grid.{leastSize, anyBelow, anyAbove, isMm, extentsOf, misdescribed}
 use Rattle.gridding.specs.Causes.{mm, OutOf, Misdescribed, version-not-1, units-not-mm, min-out, max-out, size-out, no-rays, too-many-rays, no-intervals, thin}
 use Rattle.grid.specs.declared.Vec3.{Vec3}
 use Rattle.grid.specs.declared.WorldAxis.{WorldAxis}
@@ -187,7 +188,7 @@ pub record Passes (s : DexelStockSpec) (sizes : Vec3) : Type 0 where
   pub some-rays : s .«max_rays» ≡ 0 → ⊥
   pub few-rays : s .«max_rays» ≤ 4294967295
   pub some-intervals : s .«max_intervals» ≡ 0 → ⊥
-  pub thick : (a : WorldAxis) → lt (alongOf (extentsOf s) a) micro ≡ false
+  pub thick : (a : WorldAxis) → lt (alongOf (extentsOf s) a) millionth ≡ false
 
 module _ (s : DexelStockSpec) (sizes : Vec3) where
   pub passes : misdescribed s sizes (extentsOf s) ≡ false → Passes s sizes
@@ -208,7 +209,7 @@ module _ (s : DexelStockSpec) (sizes : Vec3) where
         some-rays = eqb-false _ _ (b5 .0);
         few-rays = ltb-false _ _ (b6 .0);
         some-intervals = eqb-false _ _ (b7 .0);
-        thick = not-below (extentsOf s) micro (b7 .1);
+        thick = not-below (extentsOf s) millionth (b7 .1);
       }
 
   pub no-clause : (units : List ℕ) → isMm units ≡ true → Passes s sizes → Misdescribed s sizes units → ⊥
@@ -232,5 +233,5 @@ module _ (s : DexelStockSpec) (sizes : Vec3) where
       (λ k. ⊎-elim (λ t. no-rays (eqb-true _ _ t))
       (λ k. ⊎-elim (λ t. too-many-rays (ltb-true _ _ t))
       (λ k. ⊎-elim (λ t. no-intervals (eqb-true _ _ t))
-      (λ t. let o = below-axis (extentsOf s) micro t in thin (o .0) (o .1))
+      (λ t. let o = below-axis (extentsOf s) millionth t in thin (o .0) (o .1))
       (or-cases _ _ k)) (or-cases _ _ k)) (or-cases _ _ k)) (or-cases _ _ k)) (or-cases _ _ k)) (or-cases _ _ k)) (or-cases _ _ h)

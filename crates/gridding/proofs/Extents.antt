@@ -13,11 +13,11 @@ use lib.Ieee.Exact.{HasValue}
 use lib.Ieee.Scale.{finite, round-same}
 use lib.Ieee.Order.{round-mono}
 use lib.Ieee.Fits.{down-pos}
+use Rattle.doubles.specs.Constants.{million, millionth}
 use Rattle.doubles.specs.Doubles.{Number}
 use Rattle.doubles.proofs.Order.{le→side, side→lt, fin-number, not-lt→le}
 use Rattle.doubles.proofs.Whole.{neg-round}
-use Rattle.grid.specs.Grid.{million, whole, within}
-use Rattle.gridding.specs.Grid.{micro}
+use Rattle.grid.specs.Grid.{whole}
 use Rattle.gridding.proofs.Counts.{value}
 use Rattle.gridding.proofs.Described.{finite-number}
 use Rattle.gridding.proofs.Sums.{Plain, endless, number, round-plain}
@@ -111,23 +111,23 @@ sub-sized k (fin s m e) (fin t n d) h l small =
 
 -- ---- a difference that is not below 1e-6
 
-pub micro-number : Number micro
+pub micro-number : Number millionth
 unfolding ofBits isNan
 micro-number = refl
 
-negative-low : (n d : ℕ) → lt (round binary64 true n d) micro ≡ true
+negative-low : (n d : ℕ) → lt (round binary64 true n d) millionth ≡ true
 unfolding ofBits
-negative-low n d = subst (λ (x : Float). lt x micro ≡ true) (neg-round binary64 false n d) (go (round binary64 false n d) (round-plain n d))
+negative-low n d = subst (λ (x : Float). lt x millionth ≡ true) (neg-round binary64 false n d) (go (round binary64 false n d) (round-plain n d))
   where
-    go : (x : Float) → Plain x → lt (neg x) micro ≡ true
+    go : (x : Float) → Plain x → lt (neg x) millionth ≡ true
     go x endless = unfold neg lt in refl
-    go x (number m e) = unfold neg in side→lt (fin true m e) micro (fin-number true m e) (micro-number) (let p = down-pos e in omega arith)
+    go x (number m e) = unfold neg in side→lt (fin true m e) millionth (fin-number true m e) (micro-number) (let p = down-pos e in omega arith)
 
-zero-low : (n d : ℕ) → 0 < d → n ≡ 0 → lt (round binary64 false n d) micro ≡ true
+zero-low : (n d : ℕ) → 0 < d → n ≡ 0 → lt (round binary64 false n d) millionth ≡ true
 unfolding ofBits lt round
 zero-low n d p h = rw (h, round-same binary64 false 0 d 0 1 p (lit< tt) (sym (zero-mul d)))
 
-low-difference : (x y : Float) → finite x ≡ true → finite y ≡ true → le x y ≡ true → lt (sub binary64 x y) micro ≡ true
+low-difference : (x y : Float) → finite x ≡ true → finite y ≡ true → le x y ≡ true → lt (sub binary64 x y) millionth ≡ true
 unfolding sub add neg sum
 low-difference nan y f g h = absurd (true≢false (sym f))
 low-difference (inf s) y f g h = absurd (true≢false (sym f))
@@ -139,24 +139,24 @@ low-difference (fin false m e) (fin true n d) f g h =
     zero-low (m * up e * down d + n * up d * down e) (down e * down d) (mul-pos (down-pos e) (down-pos d)) (omega arith)
 low-difference (fin false m e) (fin false n d) f g h = go (m * up e * down d) (n * up d * down e) (le→side (fin false m e) (fin false n d) h)
   where
-    go : (a b : ℕ) → a ≤ b → lt (cond (ltb a b) (round binary64 true (b - a) (down e * down d)) (round binary64 false (a - b) (down e * down d))) micro ≡ true
+    go : (a b : ℕ) → a ≤ b → lt (cond (ltb a b) (round binary64 true (b - a) (down e * down d)) (round binary64 false (a - b) (down e * down d))) millionth ≡ true
     go a b l = pick (ltb a b)
       where
-        pick : (u : Bool) → lt (cond u (round binary64 true (b - a) (down e * down d)) (round binary64 false (a - b) (down e * down d))) micro ≡ true
+        pick : (u : Bool) → lt (cond u (round binary64 true (b - a) (down e * down d)) (round binary64 false (a - b) (down e * down d))) millionth ≡ true
         pick true = negative-low (b - a) (down e * down d)
         pick false = zero-low (a - b) (down e * down d) (mul-pos (down-pos e) (down-pos d)) (omega arith)
 low-difference (fin true m e) (fin true n d) f g h = go (m * up e * down d) (n * up d * down e) (le→side (fin true m e) (fin true n d) h)
   where
-    go : (a b : ℕ) → b ≤ a → lt (cond (ltb a b) (round binary64 false (b - a) (down e * down d)) (round binary64 (ltb b a) (a - b) (down e * down d))) micro ≡ true
+    go : (a b : ℕ) → b ≤ a → lt (cond (ltb a b) (round binary64 false (b - a) (down e * down d)) (round binary64 (ltb b a) (a - b) (down e * down d))) millionth ≡ true
     go a b l = pick (ltb a b) (ltb b a) (ltb-false b a)
       where
-        pick : (u v : Bool) → (v ≡ false → a ≤ b) → lt (cond u (round binary64 false (b - a) (down e * down d)) (round binary64 v (a - b) (down e * down d))) micro ≡ true
+        pick : (u v : Bool) → (v ≡ false → a ≤ b) → lt (cond u (round binary64 false (b - a) (down e * down d)) (round binary64 v (a - b) (down e * down d))) millionth ≡ true
         pick true v k = zero-low (b - a) (down e * down d) (mul-pos (down-pos e) (down-pos d)) (omega arith)
         pick false true k = negative-low (a - b) (down e * down d)
         pick false false k = let j = k refl in zero-low (a - b) (down e * down d) (mul-pos (down-pos e) (down-pos d)) (omega arith)
 
 -- a box whose extent is not below 1e-6 has its min below its max
-pub box : (x y : Float) → finite x ≡ true → finite y ≡ true → lt (sub binary64 y x) micro ≡ false → lt x y ≡ true
+pub box : (x y : Float) → finite x ≡ true → finite y ≡ true → lt (sub binary64 y x) millionth ≡ false → lt x y ≡ true
 box x y f g h = go (lt x y) refl
   where
     go : (b : Bool) → lt x y ≡ b → lt x y ≡ true

@@ -8,15 +8,16 @@ use native.Mathlib.Omega.{arith}
 use lib.Ieee.{Float, binary64, ofBits, sub, div, neg, lt, le, isNan}
 use lib.Ieee.Exact.{HasValue}
 use lib.Ieee.Scale.{finite}
+use Rattle.doubles.specs.Constants.{million, millionth, plusZero}
 use Rattle.refusal.specs.Refusal.{NoneDue}
 use Rattle.doubles.specs.Doubles.{Number, largerOf}
 use Rattle.doubles.proofs.Order.{le-refl, lt-le-trans, not-lt→le, le-trans, le-number}
 use Rattle.doubles.proofs.Pick.{larger-left, larger-nan-right}
 use Rattle.grid.specs.Axes.{byDigit, worldAxis, alongOf, cellsAlong, stepAlong}
-use Rattle.grid.specs.Grid.{million, whole, within}
-use Rattle.gridding.specs.Grid.{micro, sizesOf, extentsOf, misdescribed, leastStep, gridOf}
+use Rattle.grid.specs.Grid.{whole, within}
+use Rattle.gridding.specs.Grid.{sizesOf, extentsOf, misdescribed, leastStep, gridOf}
 use Rattle.grid.specs.Rays.{rayCount}
-use Rattle.gridding.specs.Causes.{Misdescribed, Crowded, OverBudget, TooFine, dimsIn, gridIn, gridCauses, ByCauses, plusZero, GridFacts}
+use Rattle.gridding.specs.Causes.{Misdescribed, Crowded, OverBudget, TooFine, dimsIn, gridIn, gridCauses, ByCauses, GridFacts}
 use Rattle.grid.specs.declared.WorldAxis.{WorldAxis}
 use Rattle.grid.specs.declared.DexelStockSpec.{DexelStockSpec}
 use Rattle.grid.specs.declared.DexelGrid.{DexelGrid}
@@ -67,7 +68,7 @@ larger-from a b p = go (isNan b) refl
 not-lt : (m n : ℕ) → (m < n → ⊥) → n ≤ m
 not-lt m n h = omega arith
 
-micro-above : lt plusZero micro ≡ true
+micro-above : lt plusZero millionth ≡ true
 unfolding lt ofBits
 micro-above = refl
 
@@ -109,12 +110,12 @@ module _ (s : DexelStockSpec) (p : Passes s (sizesOf s)) (n2 : Crowded s (gridIn
   steps-finite a = sized-finite 2000000 (stepAlong (gridIn s) a) (steps-sized a)
 
   -- a step is no less than the least step, so no less than 1e-6
-  steps-least : (a : WorldAxis) → le micro (stepAlong (gridIn s) a) ≡ true
+  steps-least : (a : WorldAxis) → le millionth (stepAlong (gridIn s) a) ≡ true
   unfolding TooFine leastStep
   steps-least a =
       let l = leastStep (s .«min_mm») (s .«max_mm») in
-      let u = larger-from micro _ micro-number in
-      le-trans micro l (stepAlong (gridIn s) a) u (not-lt→le (stepAlong (gridIn s) a) l (finite-number (stepAlong (gridIn s) a) (steps-finite a)) (le-number micro l u .1) (none (lt (stepAlong (gridIn s) a) l) (λ e. n4 (a, e))))
+      let u = larger-from millionth _ micro-number in
+      le-trans millionth l (stepAlong (gridIn s) a) u (not-lt→le (stepAlong (gridIn s) a) l (finite-number (stepAlong (gridIn s) a) (steps-finite a)) (le-number millionth l u .1) (none (lt (stepAlong (gridIn s) a) l) (λ e. n4 (a, e))))
     where
       none : (b : Bool) → (b ≡ true → ⊥) → b ≡ false
       none true h = absurd (h refl)
@@ -123,7 +124,7 @@ module _ (s : DexelStockSpec) (p : Passes s (sizesOf s)) (n2 : Crowded s (gridIn
   boxes : (a : WorldAxis) → lt (alongOf (s .«min_mm») a) (alongOf (s .«max_mm») a) ≡ true
   boxes a =
       box (alongOf (s .«min_mm») a) (alongOf (s .«max_mm») a) (sized-finite 1000000 (alongOf (s .«min_mm») a) (min-sized a)) (sized-finite 1000000 (alongOf (s .«max_mm») a) (max-sized a))
-      (subst (λ (x : Float). lt x micro ≡ false) (extent-axis s a) (p .thick a))
+      (subst (λ (x : Float). lt x millionth ≡ false) (extent-axis s a) (p .thick a))
 
   total-le : rayCount (gridIn s) ≤ s .«max_rays»
   unfolding Crowded
@@ -149,7 +150,7 @@ module _ (s : DexelStockSpec) (p : Passes s (sizesOf s)) (n2 : Crowded s (gridIn
         max-finite = λ a. sized-finite 1000000 (alongOf (s .«max_mm») a) (max-sized a);
         box = boxes;
         step-finite = steps-finite;
-        step-above = λ a. lt-le-trans plusZero micro (stepAlong (gridIn s) a) micro-above (steps-least a);
+        step-above = λ a. lt-le-trans plusZero millionth (stepAlong (gridIn s) a) micro-above (steps-least a);
       }
 
 -- a grid that `grid` accepts a description with

@@ -15,8 +15,9 @@ use lib.Ieee.Scale.{round-same}
 use lib.Ieee.Order.{round-mono}
 use lib.Ieee.Positive.{mul-at, positive-of-value}
 use lib.Ieee.Fits.{down-pos, round-is}
+use Rattle.doubles.specs.Constants.{two}
 use Rattle.doubles.proofs.Order.{le-number, lt-le-trans, le-top, le→side}
-use Rattle.grid.specs.Grid.{two, whole}
+use Rattle.grid.specs.Grid.{whole}
 use Rattle.gridding.specs.Grid.{raysOf}
 use Rattle.grid.specs.declared.Vec3.{Vec3}
 use Rattle.gridding.proofs.Counts.{value, le-wholes, lt-whole, lt-whole-right}

@@ -4,12 +4,13 @@ use mathlib.Core.Bool.{true, false}
 use mathlib.Core.List.{List, [], _∷_}
 use mathlib.Core.Logic.{_⊎_}
 use Prim.Native.Nat.{ℕ, _*_, _^_, _≤_, _<_}
-use lib.Ieee.{Float, binary64, ofBits, neg, lt}
+use lib.Ieee.{Float, neg, lt}
 use lib.Ieee.Scale.{finite}
+use Rattle.doubles.specs.Constants.{million, millionth, plusZero}
 use Rattle.refusal.specs.Refusal.{Cause, cause, Due, NoneDue}
 use Rattle.grid.specs.Axes.{alongOf, cellsAlong, stepAlong}
-use Rattle.grid.specs.Grid.{million, whole}
-use Rattle.gridding.specs.Grid.{micro, leastSize, sizesOf, extentsOf, dimsOf, raysOf, gridWith, leastStep}
+use Rattle.grid.specs.Grid.{whole}
+use Rattle.gridding.specs.Grid.{leastSize, sizesOf, extentsOf, dimsOf, raysOf, gridWith, leastStep}
 use Rattle.grid.specs.Rays.{rayCount}
 use Rattle.grid.specs.declared.Vec3.{Vec3}
 use Rattle.grid.specs.declared.WorldAxis.{WorldAxis}
@@ -36,7 +37,7 @@ pub data Misdescribed (s : DexelStockSpec) (sizes : Vec3) (units : List ℕ) : T
   no-rays : s .«max_rays» ≡ 0 → Misdescribed s sizes units
   too-many-rays : 4294967295 < s .«max_rays» → Misdescribed s sizes units
   no-intervals : s .«max_intervals» ≡ 0 → Misdescribed s sizes units
-  thin : (a : WorldAxis) → lt (alongOf (extentsOf s) a) micro ≡ true → Misdescribed s sizes units
+  thin : (a : WorldAxis) → lt (alongOf (extentsOf s) a) millionth ≡ true → Misdescribed s sizes units
 
 -- 2 an axis has more cells, or all grids more rays, than `max_rays`
 unfoldable pub Crowded : DexelStockSpec → DexelGrid → Type 0
@@ -70,10 +71,6 @@ gridCauses s units =
 abbrev pub ByCauses : DexelStockSpec → (units : List ℕ) → Gridded → Type 0
 ByCauses s units (Refused k) = Due (gridCauses s units) k
 ByCauses s units (Accepted g) = NoneDue (gridCauses s units) × (g ≡ gridIn s)
-
--- the double plus zero
-abbrev pub plusZero : Float
-plusZero = ofBits binary64 0
 
 -- what holds of a description and the grid that `grid` accepts it with
 pub record GridFacts (s : DexelStockSpec) (g : DexelGrid) : Type 0 where

@@ -3,9 +3,9 @@ use mathlib.Core.Path.{_≡_}
 use mathlib.Core.List.{List, [], _∷_}
 use Prim.Native.Nat.{ℕ}
 use lib.Ieee.{Float, binary64, ofBits}
+use Rattle.doubles.specs.Constants.{millionth, one, plusZero}
 use Rattle.grid.specs.Axes.{worldAxis}
-use Rattle.grid.specs.Grid.{one}
-use Rattle.gridding.specs.Grid.{micro, gridOf}
+use Rattle.gridding.specs.Grid.{gridOf}
 use Rattle.grid.specs.Rays.{rayCount, cellAt}
 use Rattle.gridding.specs.Causes.{mm}
 use Rattle.grid.specs.declared.Vec3.{Vec3}
@@ -28,10 +28,7 @@ abbrev pub AllRight : List Example → Type 0
 AllRight [] = Unit
 AllRight (e ∷ es) = Right e × AllRight es
 
--- 0, 2.5, 3, 10 and the double below 1e-6
-abbrev pub nought : Float
-nought = ofBits binary64 0
-
+-- 2.5, 3, 10 and the double below 1e-6
 abbrev pub twoAndHalf : Float
 twoAndHalf = ofBits binary64 0x4004_0000_0000_0000
 
@@ -41,8 +38,8 @@ three = ofBits binary64 0x4008_0000_0000_0000
 abbrev pub ten : Float
 ten = ofBits binary64 0x4024_0000_0000_0000
 
-abbrev pub belowMicro : Float
-belowMicro = ofBits binary64 0x3eb0_c6f7_a0b5_ed8c
+abbrev pub belowMillionth : Float
+belowMillionth = ofBits binary64 0x3eb0_c6f7_a0b5_ed8c
 
 abbrev pub corner : Float → Vec3
 corner x = record { x = x; y = x; z = x }
@@ -50,7 +47,7 @@ corner x = record { x = x; y = x; z = x }
 -- the box from 0 to `to` on each axis
 abbrev pub cube : (to size : Float) (rays intervals : ℕ) → DexelStockSpec
 cube to size rays intervals =
-    record { version = 1; «min_mm» = corner nought; «max_mm» = corner to; «cell_size_mm» = size; «max_rays» = rays; «max_intervals» = intervals }
+    record { version = 1; «min_mm» = corner plusZero; «max_mm» = corner to; «cell_size_mm» = size; «max_rays» = rays; «max_intervals» = intervals }
 
 abbrev pub cubeGrid : ℕ → Float → DexelGrid
 cubeGrid n step = record { c0 = n; c1 = n; c2 = n; s0 = step; s1 = step; s2 = step }
@@ -61,8 +58,8 @@ examples =
     ∷ counts (cubeGrid 4 twoAndHalf) 48
     ∷ grids (cube ten three 47 96) mm (Refused 2)
     ∷ grids (cube ten three 48 95) mm (Refused 3)
-    ∷ grids (cube micro one 48 96) mm (Accepted (cubeGrid 1 micro))
-    ∷ grids (cube belowMicro one 48 96) mm (Refused 1)
+    ∷ grids (cube millionth one 48 96) mm (Accepted (cubeGrid 1 millionth))
+    ∷ grids (cube belowMillionth one 48 96) mm (Refused 1)
     ∷ grids (cube ten three 48 96) (109 ∷ []) (Refused 1)
     ∷ finds (cube ten three 48 96) (cubeGrid 4 twoAndHalf) ten 3
     ∷ []

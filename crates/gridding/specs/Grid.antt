@@ -6,20 +6,18 @@ use Prim.Native.Nat.{ℕ}
 use lib.Dec.{eqb, ltb}
 use lib.ListN.{length, getD}
 use lib.Ieee.{Float, binary64, ofBits, toUnsigned, add, sub, mul, div, neg, lt}
+use Rattle.doubles.specs.Constants.{million, millionth, one, two}
 use Rattle.doubles.specs.Doubles.{largerOf, ceilOf, absOf}
 use Rattle.grid.specs.declared.Vec3.{Vec3}
 use Rattle.grid.specs.declared.DexelStockSpec.{DexelStockSpec}
 use Rattle.grid.specs.declared.DexelGrid.{DexelGrid}
 use Rattle.grid.specs.declared.Gridded.{Gridded}
 use Rattle.grid.specs.declared.Gridded.the-variants.{Accepted, Refused}
-use Rattle.grid.specs.Grid.{one, two, million, whole, within, allWithin}
+use Rattle.grid.specs.Grid.{whole, allWithin}
 
 -- 128, 1e-6, 1e-5 and 2 ^ -52 (Rust's `f64::EPSILON`)
 abbrev pub hundred28 : Float
 hundred28 = ofBits binary64 0x4060_0000_0000_0000
-
-abbrev pub micro : Float
-micro = ofBits binary64 0x3eb0_c6f7_a0b5_ed8d
 
 abbrev pub leastSize : Float
 leastSize = ofBits binary64 0x3ee4_f8b5_88e3_68f1
@@ -63,7 +61,7 @@ misdescribed s sizes extents =
     || (eqb (s .«max_rays») 0
     || (ltb 4294967295 (s .«max_rays»)
     || (eqb (s .«max_intervals») 0
-    || anyBelow extents micro))))))
+    || anyBelow extents millionth))))))
 
 -- ---- cells, rays and steps
 
@@ -99,7 +97,7 @@ magnitudeOf p q =
 
 -- max (1e-6, 128 epsilon × magnitude)
 unfoldable pub leastStep : (min max : Vec3) → Float
-leastStep p q = largerOf micro (mul binary64 (mul binary64 hundred28 epsilon) (magnitudeOf p q))
+leastStep p q = largerOf millionth (mul binary64 (mul binary64 hundred28 epsilon) (magnitudeOf p q))
 
 unfoldable pub tooFine : (min max : Vec3) → DexelGrid → Bool
 tooFine p q g = anyBelow (record { x = g .s0; y = g .s1; z = g .s2 }) (leastStep p q)

@@ -9,9 +9,9 @@ use lib.Dec.{eqb}
 use lib.ListN.{length, getD, set, take, drop, replicate, length-set, length-replicate, getD-replicate, length-append, length-drop, List·getD-append}
 use lib.Seq.{length-take-le, getD-set-same, getD-set-other, getD-append-add, getD-drop}
 use lib.Ieee.{Float, nan, binary64, toBits}
+use Rattle.doubles.specs.Constants.{plusZero}
 use Rattle.numbers.specs.Numbers.{numberCell, numberAt, largestNumber}
 use Rattle.numbers.proofs.Cells.{number-put, number-same, number-zero}
-use Rattle.spans.specs.Results.{plusZero}
 use Rattle.grid.specs.Rays.{rayCount}
 use Rattle.grid.specs.declared.DexelGrid.{DexelGrid}
 use Rattle.runs.specs.Logs.{entryAt, entryCount, rayOf}

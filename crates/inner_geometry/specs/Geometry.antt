@@ -4,7 +4,8 @@ use mathlib.Core.Bool.{cond}
 use mathlib.Core.Logic.{_⊎_}
 use Prim.Native.Nat.{ℕ}
 use lib.Dec.{eqb, ltb}
-use lib.Ieee.{Float, binary64, ofBits}
+use lib.Ieee.{Float}
+use Rattle.doubles.specs.Constants.{plusZero}
 use Rattle.strips.specs.declared.Strip.{Strip}
 use Rattle.strips.specs.declared.Strip.the-variants.{Hit, Miss}
 use Rattle.cutter.specs.declared.CutterShape.{CutterShape}
@@ -17,9 +18,6 @@ use Rattle.cutter.specs.declared.ToolCheck.{ToolCheck}
 use Rattle.cutter.specs.declared.ToolCheck.the-variants.{Accepted, Refused}
 use Rattle.inner_geometry.specs.declared.StripNumbers.{StripNumbers}
 use Rattle.inner_geometry.specs.declared.RadiusNumbers.{RadiusNumbers}
-
-abbrev pub plusZero : Float
-plusZero = ofBits binary64 0
 
 unfoldable pub stripAs : Strip → StripNumbers
 stripAs (Hit lo hi) = record { hit = 1; lo = lo; hi = hi }

@@ -8,16 +8,16 @@ use lib.Dec.{eqb}
 use lib.Ieee.{Float, binary64, isNan, div, lt, le}
 use lib.ListN.{length}
 use borrow.Author.Tests.{eq-eqb, eqb-true}
+use Rattle.doubles.specs.Constants.{plusZero}
 use Rattle.doubles.proofs.Bools.{and-left, and-right, and-false, both, same-if, clash, not-true, not-false}
 use Rattle.doubles.specs.Doubles.{Number}
 use Rattle.doubles.proofs.Order.{lt-number, lt→le, le-trans, le-nan, lt-not-le, zero-over-zero}
 use Rattle.spans.specs.Spans.{rising, sound}
-use Rattle.store.specs.Store.{loAt, hiAt, nextAt, plusZero}
-use Rattle.validity.specs.Ray.{bounded, contained, valid, ValidRay}
+use Rattle.store.specs.Store.{loAt, hiAt, nextAt}
+use Rattle.validity.specs.Ray.{bounded, contained, valid}
 use Rattle.validity.proofs.Containment.{valid-ray, ray-valid}
 use Rattle.lists.specs.Reading.{listFrom, lengthFrom, pairIn, Sums, Measures}
 use Rattle.lists.specs.declared.ListSum.{ListSum}
-use Rattle.lists.specs.declared.RaySums.{RaySums}
 use Rattle.lists.proofs.Steps.{Step, no-ends}
 
 module _ (low high : Float) where

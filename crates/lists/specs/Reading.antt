@@ -5,7 +5,8 @@ use mathlib.Core.List.{List, [], _∷_, _++_}
 use Prim.Native.Nat.{ℕ, _+_, _*_, _≤_}
 use lib.ListN.{length, take, drop}
 use lib.Ieee.{Float, binary64, add, sub, lt, le}
-use Rattle.store.specs.Store.{places, Chain, endsAt, plusZero}
+use Rattle.doubles.specs.Constants.{plusZero}
+use Rattle.store.specs.Store.{places, Chain, endsAt}
 use Rattle.validity.specs.Ray.{from, ValidRay}
 use Rattle.lists.specs.declared.ListSum.{ListSum}
 use Rattle.lists.specs.declared.RaySums.{RaySums}

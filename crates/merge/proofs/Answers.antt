@@ -8,10 +8,10 @@ use native.Mathlib.Omega.{arith}
 use lib.ListN.{length, getD, take, drop, replicate, length-append, length-replicate, List·getD-append}
 use lib.Seq.{length-take-le, getD-take, drop-at}
 use lib.Ieee.{Float, nan}
+use Rattle.doubles.specs.Constants.{plusZero}
 use Rattle.refusal.specs.Refusal.{Due, NoneDue}
 use Rattle.doubles.proofs.Bools.{and-left, and-right, both, not-true, clash}
 use Rattle.spans.specs.Spans.{holds}
-use Rattle.spans.specs.Results.{plusZero}
 use Rattle.spans.specs.Spans.{Within}
 use Rattle.validity.specs.Ray.{ValidRay}
 use Rattle.merge.specs.Merge.{eitherHit, cellsOf, handed, Spared, Mergeable, workPairs, MergeAnswer}

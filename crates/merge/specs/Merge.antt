@@ -6,9 +6,9 @@ use Prim.Native.Nat.{ℕ, _+_, _*_, _-_, _/_, _%_, _≤_, _<_}
 use lib.Dec.{leb}
 use lib.ListN.{length, take, drop, replicate}
 use lib.Ieee.{Float}
+use Rattle.doubles.specs.Constants.{plusZero}
 use Rattle.refusal.specs.Refusal.{Cause, cause, Due, NoneDue}
 use Rattle.spans.specs.Spans.{holds, ListOf}
-use Rattle.spans.specs.Results.{plusZero}
 use Rattle.validity.specs.Ray.{ValidRay}
 use Rattle.merge.specs.declared.Part.{Part}
 use Rattle.merge.specs.declared.Merged.{Merged}

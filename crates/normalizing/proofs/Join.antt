@@ -1,30 +1,29 @@
 -- One pair worked into a sound list: `joinAt` at the right places gives the sound list of the union.
 use mathlib.Core.Path.{_≡_, refl, sym, _∙_, ap, subst}
-use mathlib.Core.Logic.{_⊎_, inl, inr}
-use mathlib.Core.Bool.{Bool, true, false, not, _&&_, _||_, or-comm, true≢false, false≢true}
+use mathlib.Core.Logic.{inl, inr}
+use mathlib.Core.Bool.{Bool, true, false, not, _&&_, _||_, or-comm}
 use mathlib.Core.List.{List, [], _∷_, _++_, append-nil, append-assoc}
-use Prim.Native.Nat.{ℕ, zero, suc, _+_, _-_, _*_, _/_, _%_, _≤_, _<_}
+use Prim.Native.Nat.{ℕ, zero, suc, _+_, _-_, _%_, _≤_, _<_}
 use native.Mathlib.Omega.{arith}
 use native.Mathlib.Decide.{decLt}
-use borrow.Author.Tests.{eqb-true, eq-eqb, ne-eqb}
+use borrow.Author.Tests.{eq-eqb, ne-eqb}
 use lib.Dec.{eqb}
 use native.Mathlib.Numerals.{add-one}
-use lib.ListN.{length, getD, take, drop, set, replicate, take-append-drop, drop-of-length-le, length-drop, length-append, length-set, length-replicate}
-use lib.Seq.{length-take-le, getD-take, getD-drop, getD-set-same, getD-set-other, take-suc, take-suc-set, take-set-le, take-at, drop-at, take-all, take-append-le}
+use lib.ListN.{length, getD, take, drop, set, take-append-drop, drop-of-length-le, length-drop, length-append, length-set}
+use lib.Seq.{length-take-le, getD-take, getD-drop, getD-set-same, getD-set-other, take-suc, take-suc-set, take-set-le, drop-at, take-all, take-append-le}
 use borrow.Rule.Slice.PartMut.{putMid, postOf}
-use lib.Ieee.{Float, nan, lt, le, eq, isNan}
+use lib.Ieee.{Float, nan, lt, le}
 use Rattle.spans.specs.Spans.{within, holds, rising, sound, retained, ListOf}
 use Rattle.spans.specs.Steps.{SameFrom, Put, Filled, pairIf}
-use Rattle.spans.specs.declared.Place.{Place}
 use Rattle.normalizing.specs.Steps.{Counted, Spliced, Joined, Begun, BegunBack, Front, endIf, joinAt}
 use Rattle.sorting.specs.Pairs.{Rearranged, SamePairs, foldPairs}
 use Rattle.sorting.proofs.Rearranging.{fold-rearranged}
 use Rattle.doubles.specs.Doubles.{Number}
 use Rattle.doubles.proofs.Bools.{and-left, and-right, both, by-cases, clash}
-use Rattle.doubles.proofs.Order.{lt-number, le-number, le-nan, lt-nan, lt-not-le, lt→le, lt→not-le, not-lt→le, not-le→lt, lt-trans, lt-le-trans, le-lt-trans, le-refl, le-trans}
-use Rattle.spans.proofs.Ends.{flip, flip-false, not-not, oddN, odd, odd-append, All, all-append, all-map, all-by-place, all-at, Over, Under, AtMost, Past, From, Above, Below, UpTo, odd-all, odd-none, odd-past, above-less, upTo-more, below-upTo, oddN-add, rising-tail, rising-above, rising-cons, rising-append, rising-left, rising-right, rising-at, rising-before, Before}
-use Rattle.spans.proofs.Points.{or-false, or-true, or-assoc, empty-pair, retained-holds, holds-more, holds-append, holds-drop, holds-parts, put-list, below-by-last}
-use Rattle.spans.proofs.Sets.{oddN-mod, oddN-mod-odd, mod-oddN, sound-rising, sound-even, sound-mod, sound-numbers, sound-holds, make-sound}
+use Rattle.doubles.proofs.Order.{lt-number, le-number, lt-not-le, lt→le, not-lt→le, not-le→lt, lt-trans, lt-le-trans, le-refl, le-trans}
+use Rattle.spans.proofs.Ends.{flip, flip-false, not-not, oddN, odd, odd-append, All, all-append, all-map, all-by-place, all-at, Over, Under, AtMost, Past, From, Above, Below, UpTo, odd-all, odd-none, odd-past, above-less, upTo-more, below-upTo, oddN-add, rising-cons, rising-append, rising-left, rising-right, rising-at, rising-before}
+use Rattle.spans.proofs.Points.{or-false, or-true, or-assoc, retained-holds, holds-more, holds-append, holds-drop, holds-parts, put-list, below-by-last}
+use Rattle.spans.proofs.Sets.{oddN-mod, mod-oddN, sound-rising, sound-even, sound-mod, sound-numbers, sound-holds, make-sound}
 
 pub even-odd : (n : ℕ) → eqb (n % 2) 0 ≡ not (oddN n)
 even-odd n = elim (by-cases (oddN n)) [

@@ -1,12 +1,11 @@
 -- What the loops that print keep, and how long what they print is.
 use mathlib.Core.Path.{_≡_, refl, sym, _∙_, ap, subst}
-use mathlib.Core.Bool.{Bool, true, false}
 use mathlib.Core.List.{List, [], _∷_, _++_, append-assoc, append-nil}
 use Prim.Native.Nat.{ℕ, zero, suc, _+_, _-_, _*_, _/_, _%_, _≤_, _<_}
 use native.Mathlib.Omega.{arith}
 use native.Mathlib.Numerals.{add-one}
 use lib.ListN.{length, getD, take, drop, set, length-append, length-drop, take-append-drop}
-use lib.Seq.{length-take-le, take-suc, take-all, set-at, append-snoc}
+use lib.Seq.{length-take-le, take-suc, set-at}
 use lib.Ieee.{Float, nan, binary64, toBits}
 use Rattle.ray_text.specs.Format.{newline}
 use Rattle.ray_text.specs.Output.{glyph, hex, fieldText, lineText, linesText}

@@ -1,8 +1,8 @@
 -- From a readable text to what is written of it.
-use mathlib.Core.Path.{_≡_, refl, sym, _∙_, ap, subst}
-use mathlib.Core.Bool.{Bool, true, false, cond, _&&_, _||_, true≢false, false≢true}
-use mathlib.Core.List.{List, [], _∷_, _++_}
-use mathlib.Core.Logic.{_⊎_, inl, inr}
+use mathlib.Core.Path.{_≡_, refl, sym, _∙_, ap}
+use mathlib.Core.Bool.{Bool, true, false, cond, _&&_, _||_, true≢false}
+use mathlib.Core.List.{List, _++_}
+use mathlib.Core.Logic.{inl, inr}
 use Prim.Native.Nat.{ℕ, _+_, _*_, _/_, _%_, _≤_, _<_}
 use native.Mathlib.Omega.{arith}
 use borrow.Author.Tests.{leb-true}
@@ -11,12 +11,11 @@ use lib.ListN.{length, take, drop}
 use lib.Ieee.{Float}
 use Rattle.refusal.specs.Refusal.{Due, NoneDue}
 use Rattle.spans.specs.Spans.{holds}
-use Rattle.validity.specs.Ray.{ValidRay}
-use Rattle.merge.specs.Merge.{eitherHit, cellsOf, handed, Spared, Left, Mergeable, mergeCauses}
+use Rattle.merge.specs.Merge.{eitherHit, cellsOf, handed, Spared, Left, mergeCauses}
 use Rattle.merge.specs.declared.Part.{Part}
 use Rattle.ray_text.specs.Format.{letterB, letterP, letterC, letterO, letterI, lines, letterOf, count, pairs, few, total, readable}
 use Rattle.ray_text.specs.Output.{linesText, endText, refusedText}
-use Rattle.ray_text.specs.Run.{loOf, hiOf, possibleIn, certainIn, outerIn, innerIn, After, Written, rayCauses, runCauses, Result, refused, written, Printed, Ran, Small}
+use Rattle.ray_text.specs.Run.{loOf, hiOf, possibleIn, certainIn, outerIn, innerIn, rayCauses, runCauses, Result, refused, written, Printed, Ran, Small}
 use Rattle.ray_text.specs.Steps.{Appended}
 use Rattle.ray_text.proofs.Reading.{and-left, and-right, pairs-length}
 use Rattle.ray_text.proofs.Printing.{lines-length}

@@ -1,7 +1,7 @@
 -- What follows from a cause being due: at most one number is, and where one is due the causes are not all absent.
 use mathlib.Core.Path.{_≡_, refl, sym, _∙_}
 use mathlib.Core.List.{List, [], _∷_}
-use mathlib.Core.Logic.{_⊎_, inl, inr}
+use mathlib.Core.Logic.{inl, inr}
 use Prim.Native.Nat.{ℕ}
 use Rattle.refusal.specs.Refusal.{Cause, Due, NoneDue}
 

@@ -11,7 +11,7 @@ use Rattle.grid.specs.declared.DexelStockSpec.{DexelStockSpec}
 use Rattle.grid.specs.declared.DexelGrid.{DexelGrid}
 use Rattle.grid.specs.declared.Gridded.{Gridded}
 use Rattle.grid.specs.declared.Gridded.the-variants.{Accepted}
-use Rattle.stock.specs.Stock.{Stock, SoundStock}
+use Rattle.stock.specs.Stock.{Stock}
 use Rattle.stock.specs.declared.Committed.{Committed}
 use Rattle.stock.specs.declared.Committed.the-variants.{Changed, Refused}
 use Rattle.runs.specs.Logs.{Commit}
@@ -21,8 +21,8 @@ use Rattle.runs.specs.Runs.{Committed as CommitPromise}
 use Rattle.runs.specs.Lent.{lentStore, LogCommit}
 use Rattle.runs.proofs.Demand3.{extend}
 use Rattle.runs.proofs.Lent.{demand3-lent}
-use Rattle.commit.specs.Commit.{LogCommits, answerOf, commitOf}
-use Rattle.running.specs.Running.{beginOf, logFrom, commitAt, commitsTo, answerBy, answersTo, kindOf, numberOf, answered, Turned, Ran, RanOn}
+use Rattle.commit.specs.Commit.{answerOf, commitOf}
+use Rattle.running.specs.Running.{beginOf, logFrom, commitAt, commitsTo, answerBy, answersTo, kindOf, numberOf, answered, Turned, RanOn}
 
 -- the two numbers of an answer tell it
 by-numbers : (a : Committed) → answerBy (kindOf a) (numberOf a) ≡ answerOf a

@@ -10,7 +10,7 @@ use Rattle.grid.specs.declared.Gridded.{Gridded}
 use Rattle.grid.specs.declared.Gridded.the-variants.{Accepted, Refused}
 use Rattle.store.specs.Store.{listOf}
 use Rattle.stock.specs.Stock.{Stock, SoundStock}
-use Rattle.runs.specs.Logs.{Ray, Kind, possible, certain, Commit}
+use Rattle.runs.specs.Logs.{Kind, possible, certain, Commit}
 use Rattle.runs.specs.Model.{Answer, refused}
 use Rattle.runs.specs.Runs.{Reading, Committed}
 

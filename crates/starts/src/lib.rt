@@ -1,7 +1,7 @@
 // How many pairs a list will have when a log's hits on its ray are taken from it, and whether it changes at all. Nothing is written and nothing
 // is kept: each is worked out over the list's chain and the log, by the numbers where new pairs start.
 ghost use mathlib.Core.Path.{_≡_};
-ghost use mathlib.Core.Bool.{Bool, not, _&&_, _||_};
+ghost use mathlib.Core.Bool.{not, _&&_};
 ghost use mathlib.Core.List.{_++_};
 ghost use Prim.Native.Nat.{_+_, _-_, _*_, _≤_, _<_};
 ghost use lib.ListN.{length, getD};

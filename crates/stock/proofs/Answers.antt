@@ -1,11 +1,11 @@
 -- What the entries answer, by their causes.
 use mathlib.Core.Path.{_≡_, refl, sym, ap, _∙_, subst}
 use mathlib.Core.Bool.{Bool, true, false, not}
-use mathlib.Core.List.{List, [], _∷_, _++_}
-use mathlib.Core.Logic.{_⊎_, inl, inr}
+use mathlib.Core.List.{List}
+use mathlib.Core.Logic.{inl, inr}
 use Prim.Native.Nat.{ℕ, _*_}
 use lib.Ieee.{Float}
-use Rattle.refusal.specs.Refusal.{Cause, Due, NoneDue}
+use Rattle.refusal.specs.Refusal.{Due, NoneDue}
 use Rattle.doubles.proofs.Bools.{not-true, not-false, clash}
 use Rattle.grid.specs.Axes.{worldAxis}
 use Rattle.gridding.specs.Grid.{gridOf}
@@ -18,19 +18,18 @@ use Rattle.grid.specs.declared.Gridded.the-variants.{Accepted as Griddable, Ref
 use Rattle.gridding.proofs.Causes.{grid-by-causes}
 use Rattle.store.specs.Updates.{Cells, cells, SoundStore}
 use Rattle.stock.specs.Stock.{SoundCells, Tells, short}
-use Rattle.stock.specs.Uncut.{uncutSpans, uncutLinks, uncutHeads, uncutTally, roomCauses, fillCauses, Fills}
+use Rattle.stock.specs.Uncut.{uncutSpans, uncutLinks, uncutHeads, roomCauses, fillCauses, Fills}
 use Rattle.stock.specs.Volume.{volumeAlong, AddsAlong, boxVolume, boundsBy, volumeOf, MeasuresRays, storeCauses, volumeCauses, Measures}
 use Rattle.stock.specs.declared.AxisVolume.{AxisVolume}
 use Rattle.stock.specs.declared.AxisSums.{AxisSums}
 use Rattle.stock.specs.declared.DexelVolume.{DexelVolume}
-use Rattle.stock.specs.declared.Tally.{Tally}
 use Rattle.stock.specs.declared.Filled.{Filled}
 use Rattle.stock.specs.declared.Filled.the-variants.{Accepted, Refused}
 use Rattle.stock.specs.declared.Measured.{Measured}
 use Rattle.stock.specs.declared.Measured.the-variants.{Accepted as Told, Refused as Declined}
 use Rattle.stock.proofs.Lengths.{after-z}
 use Rattle.stock.proofs.Causes.{due-first, due-second, none-in-both}
-use Rattle.stock.proofs.Uncut.{same-cells, heads-end}
+use Rattle.stock.proofs.Uncut.{same-cells}
 
 -- ---- a description that `grid` accepts, and one that it refuses
 module _ (spec : DexelStockSpec) (units : List ℕ) where

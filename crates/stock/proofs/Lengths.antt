@@ -1,21 +1,19 @@
 -- Steps of the functions that measure a stock.
-use mathlib.Core.Path.{_≡_, refl, sym, ap, _∙_, subst}
+use mathlib.Core.Path.{_≡_, refl, sym, ap, _∙_}
 use mathlib.Core.Bool.{true, false, not}
-use mathlib.Core.List.{List}
-use Prim.Native.Nat.{ℕ, zero, suc, _+_, _*_, _≤_, _<_}
+use Prim.Native.Nat.{ℕ, _+_, _<_}
 use native.Mathlib.Numerals.{add-one}
 use native.Mathlib.Omega.{arith}
 use lib.Ieee.{Float, binary64, ofBits, inf, add, mul, div}
+use Rattle.doubles.specs.Constants.{one, plusZero}
 use Rattle.doubles.proofs.Bools.{not-true, clash}
 use Rattle.grid.specs.Axes.{byDigit, worldAxis, stepAlong, crossOf}
-use Rattle.grid.specs.Grid.{one}
 use Rattle.grid.specs.Rays.{rayCount, raysAlong, offset, boundsOf}
 use Rattle.grid.specs.declared.WorldAxis.{WorldAxis}
 use Rattle.grid.specs.declared.CrossAxes.{CrossAxes}
 use Rattle.grid.specs.declared.DexelStockSpec.{DexelStockSpec}
 use Rattle.grid.specs.declared.DexelGrid.{DexelGrid}
 use Rattle.grid.specs.declared.RayBounds.{RayBounds}
-use Rattle.store.specs.Store.{plusZero}
 use Rattle.store.specs.Updates.{Cells}
 use Rattle.lists.specs.Reading.{lengthFrom, Measures as RayMeasures}
 use Rattle.lists.specs.declared.RaySums.{RaySums}

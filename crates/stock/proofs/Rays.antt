@@ -1,24 +1,19 @@
 -- Steps of the functions that check the rays of a store.
-use mathlib.Core.Path.{_≡_, refl, sym, _∙_, subst}
-use mathlib.Core.Bool.{Bool, true, false, not, _||_, cond}
-use mathlib.Core.List.{List}
-use Prim.Native.Nat.{ℕ, suc, _+_, _*_, _/_, _≤_, _<_, min}
-use native.Mathlib.Omega.{arith}
-use lib.Dec.{ltb}
-use lib.Ieee.{Float}
-use lib.ListN.{length, getD}
+use mathlib.Core.Path.{_≡_, refl, subst}
+use mathlib.Core.Bool.{Bool, true, false, not}
+use Prim.Native.Nat.{ℕ, _+_, _*_, _<_}
+use lib.ListN.{getD}
 use borrow.Author.Count.{below-more}
-use borrow.Author.Tests.{ltb-true, ltb-false, lt-ltb, le-ltb}
 use Rattle.doubles.proofs.Bools.{not-true, not-false, clash}
 use Rattle.grid.specs.Rays.{rayCount, boundsOf}
 use Rattle.grid.specs.declared.DexelStockSpec.{DexelStockSpec}
 use Rattle.grid.specs.declared.DexelGrid.{DexelGrid}
 use Rattle.grid.specs.declared.RayBounds.{RayBounds}
-use Rattle.store.specs.Updates.{Cells, Room, SoundStore, held}
+use Rattle.store.specs.Updates.{Cells, Room, SoundStore}
 use Rattle.validity.specs.Ray.{ValidRay}
 use Rattle.lists.specs.Reading.{Readable}
 use Rattle.lists.proofs.Steps.{readable}
-use Rattle.stock.specs.Stock.{possibleIn, certainIn, ValidAt, ValidTo, SoundCells, Tells, Chained, short}
+use Rattle.stock.specs.Stock.{possibleIn, certainIn, ValidAt, ValidTo, SoundCells, Tells, Chained}
 
 -- a test that fails, of what P brings with it
 pub tells-bad : (P Q : Type 0) (r : Bool) → Tells Q r → not r ≡ true → (P → Q) → Tells P false

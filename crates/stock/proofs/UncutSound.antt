@@ -4,7 +4,7 @@
 --     uncut-sound   it is sound
 --     uncut-kept    the cells that do not count are as before
 use mathlib.Core.Path.{_≡_, refl, sym, ap, _∙_, subst}
-use mathlib.Core.Bool.{Bool, true, false, _&&_, cond}
+use mathlib.Core.Bool.{Bool, true, false}
 use mathlib.Core.List.{List, [], _∷_, _++_, List·Memᴰ, List·Memᴰ·head}
 use Prim.Native.Nat.{ℕ, zero, suc, _+_, _*_, _/_, _≤_, _<_}
 use native.Mathlib.Decide.{ℕ-discrete}
@@ -12,25 +12,23 @@ use native.Mathlib.Numerals.{add-one}
 use native.Mathlib.Omega.{arith}
 use lib.Dec.{ltb}
 use lib.Ieee.{Float, lt, le}
-use lib.ListN.{length, getD, set, drop}
+use lib.ListN.{length, getD, drop}
 use lib.Seq.{getD-set-other, getD-set-same, drop-set-lt}
 use borrow.Author.Tests.{ltb-true, ltb-false}
-use Rattle.doubles.specs.Doubles.{Number}
 use Rattle.doubles.proofs.Bools.{both, clash}
 use Rattle.doubles.proofs.Order.{lt-number, le-refl, lt→le}
 use Rattle.spans.specs.Spans.{rising, sound}
-use Rattle.grid.specs.Axes.{alongOf}
 use Rattle.grid.specs.Rays.{rayCount, rayAxis, boundsOf}
 use Rattle.gridding.specs.Causes.{GridFacts}
 use Rattle.grid.specs.declared.DexelStockSpec.{DexelStockSpec}
 use Rattle.grid.specs.declared.DexelGrid.{DexelGrid}
-use Rattle.store.specs.Store.{plusZero, loAt, hiAt, nextAt, ownerAt, usedAt, Chain, ends, more, placesOf, chained, endsAt, Sound}
+use Rattle.store.specs.Store.{loAt, hiAt, ownerAt, usedAt, Chain, ends, more, placesOf, chained, endsAt, Sound}
 use Rattle.store.specs.Updates.{Cells, Room, Kept, held}
 use Rattle.store.proofs.Records.{Written, written-same, put-other, put-here, Within, within-none, within-then, within-put, free-used}
 use Rattle.store.proofs.Chains.{chain-places}
 use Rattle.store.proofs.Replacing.{mem-to}
 use Rattle.validity.specs.Ray.{bounded, ValidRay}
-use Rattle.stock.specs.Stock.{Stock, possibleIn, certainIn, SoundCells, SoundStock}
+use Rattle.stock.specs.Stock.{possibleIn, certainIn, SoundStock}
 use Rattle.stock.specs.Uncut.{recordAt, uncutSpans, uncutLinks, uncutHeads, uncut}
 use Rattle.stock.specs.declared.UncutRecord.{UncutRecord}
 use Rattle.stock.proofs.Uncut.{rec, record-listed, record-free, spans-length, links-length, heads-length}

@@ -1,17 +1,18 @@
 -- The uncut store, which the fill lays: one full pair in each list, records from 1 up in ray order, possible first, and all other records free.
 use mathlib.Core.Path.{_≡_}
-use mathlib.Core.Bool.{Bool, true, cond}
+use mathlib.Core.Bool.{true, cond}
 use mathlib.Core.List.{List, [], _∷_, _++_}
 use Prim.Native.Nat.{ℕ, zero, suc, _+_, _*_, _/_}
 use lib.Dec.{ltb}
 use lib.Ieee.{Float}
 use lib.ListN.{set}
+use Rattle.doubles.specs.Constants.{plusZero}
 use Rattle.refusal.specs.Refusal.{Cause, cause, Due, NoneDue}
 use Rattle.grid.specs.Rays.{rayCount, boundsOf}
 use Rattle.gridding.specs.Causes.{gridCauses, gridIn}
 use Rattle.grid.specs.declared.DexelStockSpec.{DexelStockSpec}
 use Rattle.grid.specs.declared.DexelGrid.{DexelGrid}
-use Rattle.store.specs.Store.{plusZero, putSpan, putLink}
+use Rattle.store.specs.Store.{putSpan, putLink}
 use Rattle.store.specs.Updates.{Cells, cells}
 use Rattle.stock.specs.Stock.{short}
 use Rattle.stock.specs.declared.Tally.{Tally}

@@ -3,18 +3,17 @@ use mathlib.Core.Path.{_≡_}
 use mathlib.Core.Bool.{true, false}
 use mathlib.Core.List.{List, [], _∷_, _++_}
 use Prim.Native.Nat.{ℕ, zero, suc, _+_}
-use lib.Ieee.{Float, binary64, ofBits, inf, add, sub, mul}
+use lib.Ieee.{Float, binary64, inf, add, sub, mul}
+use Rattle.doubles.specs.Constants.{one, plusZero}
 use Rattle.doubles.specs.Doubles.{largerOf, smallerOf}
 use Rattle.refusal.specs.Refusal.{Cause, cause, Due, NoneDue}
 use Rattle.grid.specs.Axes.{worldAxis, stepAlong, crossOf}
-use Rattle.grid.specs.Grid.{one}
 use Rattle.gridding.specs.Grid.{extentsOf}
 use Rattle.grid.specs.Rays.{rayCount, raysAlong, offset}
 use Rattle.gridding.specs.Causes.{gridCauses, gridIn}
 use Rattle.grid.specs.declared.WorldAxis.{WorldAxis}
 use Rattle.grid.specs.declared.DexelStockSpec.{DexelStockSpec}
 use Rattle.grid.specs.declared.DexelGrid.{DexelGrid}
-use Rattle.store.specs.Store.{plusZero}
 use Rattle.store.specs.Updates.{Cells}
 use Rattle.lists.specs.Reading.{lengthFrom}
 use Rattle.stock.specs.Stock.{possibleIn, certainIn, ValidAt, ValidTo, SoundCells, Tells, short}

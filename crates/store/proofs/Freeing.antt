@@ -8,7 +8,8 @@ use native.Mathlib.Omega.{arith}
 use lib.Ieee.{Float}
 use lib.ListN.{length, getD, set, length-set}
 use lib.Seq.{getD-set-other, getD-set-same, drop-set-lt}
-use Rattle.store.specs.Store.{nextAt, places, placesOf, Chain, ends, plusZero, freeSpan, freeLink, freedSpans, freedLinks}
+use Rattle.doubles.specs.Constants.{plusZero}
+use Rattle.store.specs.Store.{nextAt, places, placesOf, Chain, ends, freeSpan, freeLink, freedSpans, freedLinks}
 use Rattle.store.specs.Updates.{Cells, cells, SoundStore, Room, Kept, Freeable, freedList}
 use Rattle.store.proofs.Counting.{Distinct}
 use Rattle.store.proofs.Records.{Same, same-refl, same-trans, written-same, put-other, put-here, Free, free-used, among, Within, within-none, within-put, within-then}

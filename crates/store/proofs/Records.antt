@@ -1,9 +1,9 @@
 -- The cells of one record when another is written, and of that one.
 use mathlib.Core.Path.{_≡_, refl, sym, _∙_}
-use mathlib.Core.Bool.{true, false, not, and-false as and-no}
+use mathlib.Core.Bool.{true, false, and-false as and-no}
 use mathlib.Core.List.{List, [], _∷_, List·Memᴰ, List·Memᴰ·head, List·Memᴰ·tail, List·Memᴰ·cases-cons, List·Memᴰ·not-nil}
 use mathlib.Core.Logic.{_⊎_, inl, inr}
-use Prim.Native.Nat.{ℕ, zero, suc, _+_, _*_, _<_}
+use Prim.Native.Nat.{ℕ, suc, _+_, _*_, _<_}
 use native.Mathlib.Decide.{ℕ-discrete}
 use native.Mathlib.Omega.{arith}
 use lib.Dec.{eqb}
@@ -11,8 +11,9 @@ use lib.Ieee.{Float, nan, ofBits}
 use lib.ListN.{length, getD, set, drop, length-set}
 use lib.Seq.{getD-set-other, getD-set-same, drop-set-lt}
 use borrow.Author.Tests.{ne-eqb, eqb-true}
+use Rattle.doubles.specs.Constants.{plusZero}
 use Rattle.doubles.proofs.Bools.{and-left, and-right, not-false}
-use Rattle.store.specs.Store.{isPlusZero, loAt, hiAt, nextAt, ownerAt, usedAt, plusZero, putSpan, putLink}
+use Rattle.store.specs.Store.{isPlusZero, loAt, hiAt, nextAt, ownerAt, usedAt, putSpan, putLink}
 use Rattle.store.proofs.Zero.{plus-is, bits-zero}
 
 -- the record at place x has the same cells in both

@@ -6,8 +6,9 @@ use mathlib.Core.List.{List, [], _∷_, _++_, List·Memᴰ}
 use Prim.Native.Nat.{ℕ, zero, suc, _+_, _*_, _<_}
 use lib.Dec.{eqb}
 use lib.IntN.{pos, negsuc}
-use lib.Ieee.{Float, nan, inf, fin, binary64, ofBits}
+use lib.Ieee.{Float, nan, inf, fin}
 use lib.ListN.{length, getD, set, drop}
+use Rattle.doubles.specs.Constants.{plusZero}
 
 -- ---- the cells of the record at place i
 abbrev pub loAt : List Float → ℕ → Float
@@ -73,9 +74,6 @@ abbrev pub listOf : ℕ → List Float → List ℕ → List ℕ → ℕ → Lis
 listOf n spans links heads j = endsAt spans (placesOf n links heads j)
 
 -- ---- freeing records
-abbrev pub plusZero : Float
-plusZero = ofBits binary64 0
-
 -- the cells of the spans and of the links with the record at place i free
 abbrev pub freeSpan : List Float → ℕ → List Float
 freeSpan spans i = set (set spans (2 * i) plusZero) (2 * i + 1) plusZero

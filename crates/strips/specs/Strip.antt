@@ -1,15 +1,13 @@
 -- Extents along x within a band of y, each operation rounded (sweep.rs: disk_strip, stadium_strip).
 use mathlib.Core.Bool.{cond}
-use lib.Ieee.{Float, binary64, ofBits, add, sub, mul, div, neg, lt, le}
+use lib.Ieee.{Float, binary64, add, sub, mul, div, neg, lt, le}
+use Rattle.doubles.specs.Constants.{plusZero}
 use Rattle.doubles.specs.Doubles.{largerOf, smallerOf}
 use Rattle.square_root.specs.Root.{squareRoot}
 use Rattle.strips.specs.declared.Point.{Point}
 use Rattle.strips.specs.declared.Strip.{Strip}
 use Rattle.strips.specs.declared.Strip.the-variants.{Hit, Miss}
 use Rattle.strips.specs.Polygon.{polygonStrip}
-
-abbrev pub plusZero : Float
-plusZero = ofBits binary64 0
 
 -- how far y lies outside the band from y0 to y1
 unfoldable pub bandDistance : Float → Float → Float → Float

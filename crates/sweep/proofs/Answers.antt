@@ -3,12 +3,13 @@ use mathlib.Core.Path.{_≡_, refl, sym, ap, subst, _∙_}
 use mathlib.Core.Bool.{Bool, true, false, not, cond, _||_}
 use mathlib.Core.List.{List, [], _∷_, _++_}
 use mathlib.Core.Logic.{_⊎_, inl, inr}
-use Prim.Native.Nat.{ℕ, _+_, _-_, _/_, _%_, _≤_}
+use Prim.Native.Nat.{ℕ, _+_, _-_, _%_, _≤_}
 use native.Mathlib.Omega.{arith}
 use lib.Dec.{eqb}
 use lib.Ieee.{Float}
 use lib.ListN.{length, take, replicate}
 use lib.Seq.{length-take-le}
+use Rattle.doubles.specs.Constants.{plusZero}
 use Rattle.doubles.proofs.Bools.{clash, not-true}
 use Rattle.refusal.specs.Refusal.{Cause, cause, Due, NoneDue}
 use Rattle.refusal.proofs.Laws.{first, later}
@@ -21,7 +22,6 @@ use Rattle.frame.specs.declared.Frame.{Frame}
 use Rattle.cutter.specs.Limits.{toolCauses, Checked}
 use Rattle.cutter.specs.declared.ToolCheck.{ToolCheck}
 use Rattle.cutter.specs.declared.ToolCheck.the-variants.{Accepted as Usable, Refused as Unusable}
-use Rattle.spans.specs.Results.{plusZero}
 use Rattle.stock.specs.Stock.{SoundCells, Tells, short}
 use Rattle.stock.proofs.Causes.{due-first, due-second, none-in-both, room-of}
 use Rattle.stock.proofs.Rays.{sound-chained}
@@ -29,16 +29,14 @@ use Rattle.stock.proofs.Answers.{accepted, refused}
 use Rattle.across.specs.declared.Kernel.{Kernel}
 use Rattle.across.specs.declared.Profile.{Profile}
 use Rattle.store.specs.Updates.{Cells}
-use Rattle.visits.specs.Entries.{joined}
-use Rattle.visits.specs.Walk.{Walks, Went, Halted, Done, Stop, walk}
+use Rattle.visits.specs.Walk.{Walks, Stop}
 use Rattle.visits.specs.declared.Cursor.{Cursor}
 use Rattle.visits.specs.declared.Progress.{Progress}
 use Rattle.visits.specs.declared.Progress.the-variants.{At, Stopped}
 use Rattle.visits.proofs.Walks.{walk-done, walk-stop, stop-is, done-no-stop}
 use Rattle.chords.specs.Limits.{chordsFit}
-use Rattle.sweep.specs.Entries.{Setting, setting, sweepEntries, logOf, visitTotal, Sweepable}
-use Rattle.sweep.specs.Answer.{Unsound, settingCauses, walkOf, visitCauses, causesIn, sweepCauses, refusedLog, Logs, Sweeps, Checks, endOf, loggedBy, endLog}
-use Rattle.sweep.specs.declared.Totals.{Totals}
+use Rattle.sweep.specs.Entries.{Setting, setting, sweepEntries, logOf, Sweepable}
+use Rattle.sweep.specs.Answer.{Unsound, settingCauses, walkOf, visitCauses, causesIn, sweepCauses, refusedLog, Sweeps, Checks, endOf, loggedBy, endLog}
 use Rattle.sweep.specs.declared.Swept.{Swept}
 use Rattle.sweep.specs.declared.Swept.the-variants.{Accepted, Refused}
 use Rattle.sweep.specs.declared.SweepCheck.{SweepCheck}

@@ -1,6 +1,6 @@
 -- The rays that a sweep visits, in order, each with its log entry or none; and how many they are.
 use mathlib.Core.List.{List, _++_}
-use Prim.Native.Nat.{ℕ, _+_, _*_, _/_}
+use Prim.Native.Nat.{ℕ, _+_, _/_}
 use lib.Ieee.{Float}
 use lib.ListN.{length}
 use Rattle.grid.specs.Axes.{byDigit, worldAxis, cellsAlong, crossOf}

@@ -6,12 +6,12 @@ use mathlib.Core.List.{List, [], _∷_, _++_}
 use Prim.Native.Nat.{ℕ}
 use lib.Ieee.{Float, neg}
 use lib.ListN.{replicate}
+use Rattle.doubles.specs.Constants.{plusZero}
 use Rattle.doubles.specs.Doubles.{ratio}
 use Rattle.gridding.specs.Examples.{cube, ten}
 use Rattle.frame.specs.declared.Axis.the-variants.{PosZ}
 use Rattle.cutter.specs.declared.CutterShape.the-variants.{Flat}
 use Rattle.cutter.specs.declared.PreparedCutter.{PreparedCutter}
-use Rattle.spans.specs.Results.{plusZero}
 use Rattle.grid.specs.declared.DexelStockSpec.{DexelStockSpec}
 use Rattle.gridding.specs.Causes.{gridIn}
 use Rattle.store.specs.Updates.{Cells, cells}

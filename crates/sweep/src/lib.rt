@@ -1,6 +1,6 @@
 // Document 01's lateral sweep: chords in order, for each the two world axes other than the tool's, and the rays of each clamped rectangle.
 ghost use mathlib.Core.Path.{_≡_};
-ghost use Prim.Native.Nat.{_+_, _*_, _<_, _≤_, _^_};
+ghost use Prim.Native.Nat.{_+_, _<_, _≤_, _^_};
 ghost use lib.ListN.{length};
 ghost use Rattle.grid.specs.Rays.{rayCount};
 ghost use Rattle.gridding.specs.Causes.{GridFacts};

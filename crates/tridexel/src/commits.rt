@@ -1,5 +1,4 @@
 // The two commits. The small record is two numbers that the caller keeps; a refused commit leaves both as they were.
-ghost use mathlib.Core.Path.{_≡_};
 ghost use Rattle.change_commit.specs.Commit.{ChangeCommits};
 ghost use Rattle.commit.specs.Commit.{LogCommits};
 ghost use Rattle.stock.specs.Outcomes.{stock};

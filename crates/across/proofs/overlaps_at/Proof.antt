@@ -1,10 +1,7 @@
 use borrow.Author.Needs.{needs}
 use mathlib.Core.Path.{_≡_, refl, sym, _∙_}
 use lib.ListN.{length}
-use lib.Ieee.{lt}
-use mathlib.Core.Bool.{true, false}
 use Rattle.doubles.proofs.Bools.{not-true, not-false}
-use Rattle.doubles.specs.Doubles.{largerOf, smallerOf}
 use Rattle.store.specs.Store.{places}
 use Rattle.lists.specs.Reading.{Readable, listFrom}
 use Rattle.lists.proofs.Steps.{step}

@@ -1,4 +1,4 @@
-use mathlib.Core.Path.{_≡_, refl, sym, _∙_}
+use mathlib.Core.Path.{sym, _∙_}
 use Rattle.lists.proofs.Steps.{step}
 use Rattle.across.proofs.Meeting.{meet-empty, meet-above, meet-some}
 use borrow.Author.Needs.{needs}

@@ -1,11 +1,10 @@
 use borrow.Author.Needs.{needs}
 use native.Mathlib.Omega.{arith}
-use mathlib.Core.Path.{_≡_, refl, sym, ap, _∙_}
+use mathlib.Core.Path.{_≡_}
 use mathlib.Core.Bool.{true}
-use Prim.Native.Nat.{_+_, _-_, _*_, _/_, _<_, _≤_}
-use lib.ListN.{length}
-use Rattle.chords.specs.Limits.{chordFits, chordsFit, every}
-use Rattle.chords.proofs.Fitting.{every-none, every-more, not-every, guard-out, chord-out, all-fit}
+use Prim.Native.Nat.{_-_, _≤_}
+use Rattle.chords.specs.Limits.{chordFits, every}
+use Rattle.chords.proofs.Fitting.{every-none, every-more, guard-out, chord-out, all-fit}
 use Rattle.chords.proofs.check_chords.Statement.{statement}
 use Rattle.chords.proofs.check_chords.Tie as tie
 

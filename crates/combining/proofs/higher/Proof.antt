@@ -1,6 +1,4 @@
 -- `combining::higher` meets its contract.
-use borrow.Author.Needs.{needs}
-use native.Mathlib.Omega.{arith}
 use mathlib.Core.Path.{refl}
 use Rattle.combining.proofs.higher.Statement.{statement}
 use Rattle.combining.proofs.higher.Tie as tie

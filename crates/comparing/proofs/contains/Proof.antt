@@ -1,5 +1,4 @@
 -- `comparing::contains` meets its contract.
-use native.Mathlib.Omega.{arith}
 use mathlib.Core.Path.{_≡_}
 use mathlib.Core.Bool.{true}
 use Rattle.spans.specs.Spans.{sound}

@@ -1,6 +1,5 @@
 use Rattle.frame.specs.Frame.{worldAxisOf}
 use Prim.Native.Nat.{_≤_}
-use native.Mathlib.Omega.{arith}
 use Rattle.frame.proofs.Axes.{digit-most}
 use borrow.Author.Needs.{needs}
 use Rattle.frame.proofs.world_axis.Statement.{statement}

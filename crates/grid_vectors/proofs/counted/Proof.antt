@@ -1,6 +1,5 @@
 -- `grid_vectors::counted` meets its contract.
 use borrow.Author.Needs.{needs}
-use native.Mathlib.Omega.{arith}
 use Rattle.grid_vectors.proofs.counted.Statement.{statement}
 use Rattle.grid_vectors.proofs.counted.Tie as tie
 

@@ -1,6 +1,6 @@
 -- `hits::hit_from` meets its contract. The loop's invariant: what is asked of the place now is what was asked of the first place. The measure is what is left.
 -- Assumes nothing.
-use Prim.Native.Nat.{_≤_, _<_, _-_, _+_}
+use Prim.Native.Nat.{_<_, _-_}
 use mathlib.Core.Path.{_≡_, refl, sym, _∙_}
 use native.Mathlib.Omega.{arith}
 use lib.ListN.{length, drop}

@@ -1,9 +1,10 @@
 use borrow.Author.Needs.{needs}
-use mathlib.Core.Path.{_≡_, refl, sym, _∙_}
+use mathlib.Core.Path.{_≡_, refl, _∙_}
 use mathlib.Core.Bool.{_&&_}
 use lib.ListN.{length}
+use Rattle.doubles.specs.Constants.{plusZero}
 use Rattle.spans.specs.Spans.{sound}
-use Rattle.store.specs.Store.{places, plusZero}
+use Rattle.store.specs.Store.{places}
 use Rattle.validity.specs.Ray.{bounded}
 use Rattle.lists.specs.Reading.{Readable, listFrom, lengthFrom}
 use Rattle.lists.proofs.Steps.{step}

@@ -1,12 +1,12 @@
 -- `normalizing::insert` meets its contract.
 use native.Mathlib.Omega.{arith}
 use Prim.Native.Nat.{_-_}
-use lib.ListN.{length, getD, take}
+use lib.ListN.{getD, take}
 use lib.Seq.{length-take-le}
 use lib.Ieee.{nan, lt}
 use mathlib.Core.Bool.{true}
 use mathlib.Core.Path.{_≡_}
-use Rattle.doubles.proofs.Bools.{not-true, not-false, clash, and-left}
+use Rattle.doubles.proofs.Bools.{not-true, not-false, clash}
 use Rattle.spans.proofs.Sets.{sound-mod}
 use Rattle.spans.proofs.Points.{empty-pair}
 use Rattle.normalizing.proofs.Join.{insert-last, insert-inside, insert-extends, insert-none, insert-done, places-rise}

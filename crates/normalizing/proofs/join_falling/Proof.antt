@@ -2,7 +2,6 @@
 use borrow.Author.Needs.{needs}
 use native.Mathlib.Omega.{arith}
 use Prim.Native.Nat.{_-_}
-use lib.ListN.{length}
 use Rattle.normalizing.specs.Steps.{BegunBack}
 use Rattle.normalizing.proofs.Join.{back-start, back-step, filled-even}
 use Rattle.normalizing.proofs.join_falling.Statement.{statement}

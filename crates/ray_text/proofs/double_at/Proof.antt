@@ -4,7 +4,6 @@ use Rattle.rows.specs.declared.Word.{Word}
 use lib.Ieee.{binary64, ofBits}
 use Rattle.ray_text.specs.Format.{valueOf}
 use borrow.Author.Needs.{needs}
-use native.Mathlib.Omega.{arith}
 use Rattle.ray_text.proofs.double_at.Statement.{statement}
 use Rattle.ray_text.proofs.double_at.Tie as tie
 

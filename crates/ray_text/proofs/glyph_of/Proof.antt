@@ -1,5 +1,4 @@
 -- `ray_text::glyph_of` meets its contract.
-use Rattle.ray_text.specs.Output.{glyph}
 use borrow.Author.Tests.{le-leb, le-ltb, lt-leb, lt-ltb}
 use borrow.Author.Needs.{needs}
 use Rattle.ray_text.proofs.glyph_of.Statement.{statement}

@@ -1,5 +1,4 @@
 -- `ray_text::is_letter` meets its contract.
-use Rattle.ray_text.specs.Format.{isLetter}
 use borrow.Author.Tests.{eq-eqb, ne-eqb}
 use Rattle.ray_text.proofs.is_letter.Statement.{statement}
 use Rattle.ray_text.proofs.is_letter.Tie as tie

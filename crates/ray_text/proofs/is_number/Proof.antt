@@ -2,7 +2,6 @@
 use mathlib.Core.Path.{sym, _∙_, ap}
 use Rattle.ray_text.specs.Format.{isSpelled}
 use borrow.Author.Needs.{needs}
-use native.Mathlib.Omega.{arith}
 use Rattle.ray_text.proofs.is_number.Statement.{statement}
 use Rattle.ray_text.proofs.is_number.Tie as tie
 

@@ -1,7 +1,6 @@
 -- `ray_text::put_byte` meets its contract.
 use Rattle.ray_text.proofs.Writing.{put-one}
 use borrow.Author.Needs.{needs}
-use native.Mathlib.Omega.{arith}
 use Rattle.ray_text.proofs.put_byte.Statement.{statement}
 use Rattle.ray_text.proofs.put_byte.Tie as tie
 

@@ -4,7 +4,6 @@ use mathlib.Core.Bool.{Bool, _||_}
 use Rattle.ray_text.specs.Output.{endText}
 use Rattle.ray_text.specs.Steps.{Appended}
 use borrow.Author.Needs.{needs}
-use native.Mathlib.Omega.{arith}
 use Rattle.ray_text.proofs.put_end.Statement.{statement}
 use Rattle.ray_text.proofs.put_end.Tie as tie
 

@@ -7,7 +7,6 @@ use Rattle.ray_text.specs.Output.{hex}
 use Rattle.ray_text.specs.Steps.{Appended}
 use Rattle.ray_text.proofs.Writing.{put-then}
 use borrow.Author.Needs.{needs}
-use native.Mathlib.Omega.{arith}
 use Rattle.ray_text.proofs.put_field.Statement.{statement}
 use Rattle.ray_text.proofs.put_field.Tie as tie
 

@@ -6,7 +6,6 @@ use Rattle.ray_text.specs.Steps.{Appended}
 use Rattle.ray_text.proofs.Reading.{pair-miss, pair-hit}
 use Rattle.ray_text.proofs.Writing.{put-none}
 use borrow.Author.Needs.{needs}
-use native.Mathlib.Omega.{arith}
 use Rattle.ray_text.proofs.put_line_of.Statement.{statement}
 use Rattle.ray_text.proofs.put_line_of.Tie as tie
 

@@ -5,7 +5,6 @@ use Rattle.ray_text.specs.Format.{newline, space}
 use Rattle.ray_text.specs.Output.{refusedText}
 use Rattle.ray_text.proofs.Writing.{put-then}
 use borrow.Author.Needs.{needs}
-use native.Mathlib.Omega.{arith}
 use Rattle.ray_text.proofs.put_refused.Statement.{statement}
 use Rattle.ray_text.proofs.put_refused.Tie as tie
 

@@ -2,7 +2,6 @@
 use Rattle.ray_text.proofs.Reading.{found, found-not}
 use Rattle.ray_text.proofs.Running.{run-refused}
 use borrow.Author.Needs.{needs}
-use native.Mathlib.Omega.{arith}
 use Rattle.ray_text.proofs.run.Statement.{statement}
 use Rattle.ray_text.proofs.run.Tie as tie
 

@@ -1,6 +1,5 @@
 -- `ray_text_vectors::counted` meets its contract.
 use borrow.Author.Needs.{needs}
-use native.Mathlib.Omega.{arith}
 use Rattle.ray_text_vectors.proofs.counted.Statement.{statement}
 use Rattle.ray_text_vectors.proofs.counted.Tie as tie
 

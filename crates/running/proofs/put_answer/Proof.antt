@@ -1,8 +1,5 @@
 -- `running::put_answer` meets its contract.
 use borrow.Author.Needs.{needs}
-use mathlib.Core.Path.{_≡_, sym, subst}
-use Rattle.stock.specs.declared.Committed.{Committed}
-use Rattle.running.specs.Running.{answered}
 use Rattle.running.proofs.put_answer.Statement.{statement}
 use Rattle.running.proofs.put_answer.Tie as tie
 

@@ -2,7 +2,6 @@
 use borrow.Author.Needs.{needs}
 use native.Mathlib.Omega.{arith}
 use Prim.Native.Nat.{_-_}
-use lib.ListN.{length}
 use Rattle.stock.specs.Outcomes.{stock}
 use Rattle.running.proofs.Turns.{RunTo, run-start, run-next, run-end}
 use Rattle.running.proofs.run_logs.Statement.{statement}

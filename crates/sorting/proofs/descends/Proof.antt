@@ -1,6 +1,5 @@
 -- `sorting::descends` meets its contract.
 use borrow.Author.Needs.{needs}
-use native.Mathlib.Omega.{arith}
 use Prim.Native.Nat.{_<_, _-_}
 use Rattle.sorting.proofs.descends.Statement.{statement}
 use Rattle.sorting.proofs.descends.Tie as tie

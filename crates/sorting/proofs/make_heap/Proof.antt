@@ -1,6 +1,5 @@
 -- `sorting::make_heap` meets its contract.
 use borrow.Author.Needs.{needs}
-use native.Mathlib.Omega.{arith}
 use Rattle.sorting.specs.Pairs.{SamePairs}
 use Rattle.sorting.proofs.Rearranging.{unchanged, after}
 use Rattle.sorting.proofs.make_heap.Statement.{statement}

@@ -1,5 +1,4 @@
 -- `sorting::sort_pairs` meets its contract.
-use native.Mathlib.Omega.{arith}
 use Rattle.sorting.proofs.Rearranging.{unchanged}
 use borrow.Author.Needs.{needs}
 use Rattle.sorting.proofs.sort_pairs.Statement.{statement}

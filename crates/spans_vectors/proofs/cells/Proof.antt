@@ -1,6 +1,5 @@
 -- `spans_vectors::cells` meets its contract.
 use borrow.Author.Needs.{needs}
-use native.Mathlib.Omega.{arith}
 use Prim.Native.Nat.{_-_}
 use Rattle.spans_vectors.proofs.cells.Statement.{statement}
 use Rattle.spans_vectors.proofs.cells.Tie as tie

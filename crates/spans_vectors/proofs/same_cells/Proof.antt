@@ -1,6 +1,5 @@
 -- `spans_vectors::same_cells` meets its contract.
 use borrow.Author.Needs.{needs}
-use native.Mathlib.Omega.{arith}
 use Prim.Native.Nat.{_-_}
 use Rattle.spans_vectors.proofs.same_cells.Statement.{statement}
 use Rattle.spans_vectors.proofs.same_cells.Tie as tie

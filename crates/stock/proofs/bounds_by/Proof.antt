@@ -1,5 +1,4 @@
 use borrow.Author.Needs.{needs}
-use native.Mathlib.Omega.{arith}
 use Rattle.stock.specs.Volume.{boundsBy}
 use Rattle.stock.proofs.Lengths.{infinity-is}
 use Rattle.stock.proofs.bounds_by.Statement.{statement}

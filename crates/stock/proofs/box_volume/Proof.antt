@@ -1,8 +1,6 @@
-use borrow.Author.Needs.{needs}
-use native.Mathlib.Omega.{arith}
-use Prim.Native.Nat.{_+_, _-_, _*_, _≤_}
+use Prim.Native.Nat.{_-_}
 use Rattle.stock.specs.Volume.{boxVolume}
-use mathlib.Core.Path.{_≡_, refl, sym, ap, _∙_}
+use mathlib.Core.Path.{refl}
 use Rattle.stock.proofs.box_volume.Statement.{statement}
 use Rattle.stock.proofs.box_volume.Tie as tie
 

@@ -1,6 +1,5 @@
 use borrow.Author.Needs.{needs}
-use native.Mathlib.Omega.{arith}
-use Prim.Native.Nat.{_+_, _-_, _*_, _≤_}
+use Prim.Native.Nat.{_-_}
 use Rattle.store.specs.Updates.{cells}
 use Rattle.stock.proofs.Rays.{store-bad, chained-of, stock-tells}
 use Rattle.stock.proofs.check_stock.Statement.{statement}

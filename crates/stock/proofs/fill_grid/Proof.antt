@@ -1,11 +1,10 @@
 use borrow.Author.Needs.{needs}
 use native.Mathlib.Omega.{arith}
-use Prim.Native.Nat.{_+_, _-_, _*_, _≤_}
-use mathlib.Core.Path.{_≡_, refl, sym, ap, _∙_}
+use Prim.Native.Nat.{_-_, _*_}
+use mathlib.Core.Path.{sym, ap, _∙_}
 use Rattle.store.specs.Updates.{cells}
 use Rattle.stock.proofs.Causes.{room-of}
 use Rattle.stock.proofs.Answers.{fill-short, fill-done}
-use Rattle.stock.proofs.Uncut.{spans-size, links-size, heads-size}
 use Rattle.stock.proofs.fill_grid.Statement.{statement}
 use Rattle.stock.proofs.fill_grid.Tie as tie
 

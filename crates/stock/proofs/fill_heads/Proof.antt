@@ -1,7 +1,7 @@
 use borrow.Author.Needs.{needs}
 use native.Mathlib.Omega.{arith}
-use Prim.Native.Nat.{_+_, _-_, _*_, _≤_}
-use mathlib.Core.Path.{_≡_, refl, sym, ap, _∙_}
+use Prim.Native.Nat.{_-_, _≤_}
+use mathlib.Core.Path.{_≡_}
 use Rattle.stock.specs.Uncut.{uncutHeads}
 use Rattle.stock.proofs.Uncut.{heads-first, heads-end, heads-next, heads-size}
 use Rattle.stock.proofs.fill_heads.Statement.{statement}

@@ -1,7 +1,7 @@
 use borrow.Author.Needs.{needs}
 use native.Mathlib.Omega.{arith}
-use Prim.Native.Nat.{_+_, _-_, _*_, _≤_}
-use mathlib.Core.Path.{_≡_, refl, sym, ap, _∙_}
+use Prim.Native.Nat.{_-_, _≤_}
+use mathlib.Core.Path.{_≡_}
 use Rattle.stock.specs.Uncut.{uncutSpans, uncutLinks}
 use Rattle.stock.proofs.Uncut.{spans-first, links-first, spans-end, links-end, spans-next, links-next, spans-size, links-size}
 use Rattle.stock.proofs.fill_records.Statement.{statement}

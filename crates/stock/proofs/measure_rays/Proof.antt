@@ -1,7 +1,6 @@
 use borrow.Author.Needs.{needs}
-use native.Mathlib.Omega.{arith}
-use Prim.Native.Nat.{_+_, _-_, _*_, _≤_}
-use mathlib.Core.Path.{_≡_, refl, sym, ap, _∙_}
+use Prim.Native.Nat.{_-_}
+use mathlib.Core.Path.{refl}
 use Rattle.store.specs.Updates.{cells}
 use Rattle.doubles.proofs.Bools.{not-false}
 use Rattle.stock.proofs.Lengths.{before-x, before-y, before-z}

@@ -1,6 +1,6 @@
 use borrow.Author.Needs.{needs}
 use native.Mathlib.Omega.{arith}
-use Prim.Native.Nat.{_+_, _-_, _*_, _≤_}
+use Prim.Native.Nat.{_-_}
 use Rattle.stock.proofs.Uncut.{record-listed, record-free}
 use Rattle.stock.proofs.uncut_record.Statement.{statement}
 use Rattle.stock.proofs.uncut_record.Tie as tie

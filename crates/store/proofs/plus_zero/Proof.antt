@@ -1,6 +1,5 @@
 -- A NaN is not plus zero, and else the bits tell.
 use mathlib.Core.Path.{sym, ap, subst}
-use mathlib.Core.Bool.{not}
 use lib.Dec.{T}
 use lib.Ieee.Compare.{differs-from-itself}
 use Rattle.store.specs.Store.{isPlusZero}

@@ -7,7 +7,7 @@ use borrow.Author.Needs.{needs}
 use lib.ListN.{length, getD, take, drop, drop-of-length-le}
 use lib.Seq.{length-take-le}
 use mathlib.Core.Logic.{⊎-elim}
-use Rattle.strips.specs.Polygon.{widenAll, edges, clip, headOr}
+use Rattle.strips.specs.Polygon.{widenAll, edges, headOr}
 use Rattle.strips.proofs.Laws.{length-field, step, next-in, next-out, clip-edges}
 use Rattle.strips.proofs.widen_clip.Statement.{statement}
 use Rattle.strips.proofs.widen_clip.Tie as tie

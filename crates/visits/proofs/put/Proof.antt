@@ -1,5 +1,4 @@
 use native.Mathlib.Omega.{arith}
-use mathlib.Core.Path.{sym, _∙_}
 use lib.ListN.{length-set}
 use Rattle.visits.specs.Entries.{entryOf}
 use Rattle.visits.proofs.Cells.{six-stores}

@@ -1,9 +1,7 @@
 use borrow.Author.Needs.{needs}
 use native.Mathlib.Omega.{arith}
-use mathlib.Core.Path.{_≡_, refl, sym, ap, _∙_}
-use mathlib.Core.List.{List, [], _∷_}
-use Prim.Native.Nat.{ℕ, _+_, _-_, _<_, _≤_}
-use lib.Ieee.{Float}
+use mathlib.Core.Path.{_∙_}
+use Prim.Native.Nat.{_+_, _-_}
 use Rattle.visits.specs.Entries.{rayEntry, rowEntries, rectEntries}
 use Rattle.visits.proofs.Walks.{Sweeping, sweeping-start, sweeping-next, sweeping-halt, sweeping-all, halted-of, went-of}
 use Rattle.visits.proofs.sweep_rect.Statement.{statement}

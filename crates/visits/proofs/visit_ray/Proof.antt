@@ -1,10 +1,7 @@
 use Rattle.visits.proofs.Walks.{halt-8, halt-full, went-on, went-off, entry-off, entry-on, entry-length}
 use native.Mathlib.Omega.{arith}
-use mathlib.Core.Path.{_≡_, refl, sym, ap, _∙_}
-use Prim.Native.Nat.{_+_, _<_, _≤_}
+use mathlib.Core.Path.{sym, ap, _∙_}
 use lib.ListN.{length}
-use denote.Ref.{now}
-use Rattle.visits.specs.Entries.{entryOf, rayEntry}
 use borrow.Author.Needs.{needs}
 use Rattle.visits.proofs.visit_ray.Statement.{statement}
 use Rattle.visits.proofs.visit_ray.Tie as tie
