@@ -160,6 +160,9 @@ pub fn needs(log: &[Entry], store: impl Fn(usize) -> Laid) -> (u64, usize) {
 }
 
 fn row(table: &Table, what: &str, start: &Laid, given: Given) {
+    if !table.takes(what) {
+        return;
+    }
     let per = given.len();
     let (mut port, mut rust) = sides(start, given);
     agree(&mut port, &mut rust);
@@ -205,11 +208,15 @@ fn volume_rows(table: &Table) {
     table.heading("volume of the 60,492 rays after a change commit on the uncut store; the port checks the whole store first");
     let start = uncut(BOX, 1., 2 * RAYS);
     for (share, every) in SHARES {
+        let what = format!("{share} changed");
+        if !table.takes(&format!("volume, {what}, per ray")) {
+            continue;
+        }
         let changes = cut_in_two(&start, every);
         let (mut port, mut rust) = sides(&start, Given::Changes(&changes));
         agree(&mut port, &mut rust);
         let cells = (port.lent.spans.read(), port.lent.links.read(), port.lent.heads.read());
-        volume_row(table, &format!("{share} changed"), &start, &rust.stock, cells, port.tally.intervals);
+        volume_row(table, &what, &start, &rust.stock, cells, port.tally.intervals);
     }
 }
 
