@@ -151,7 +151,7 @@ pub fn same(port: &PortSide, rust: &mut RustSide) {
     assert!((0..3).all(|a| rays[a] == rust.stock.rays(a)));
 }
 
-/// How many rays a log changes, and how many more intervals there are then, on the uncut store that has so many records free.
+/// How many rays a log changes, and how many more intervals there are then; `store` makes the store with so many free records.
 pub fn needs(log: &[Entry], store: impl Fn(usize) -> Laid) -> (u64, usize) {
     let start = store(3 * log.len());
     let (_, mut rust) = sides(&start, Given::Log(log, u64::MAX));
@@ -160,14 +160,17 @@ pub fn needs(log: &[Entry], store: impl Fn(usize) -> Laid) -> (u64, usize) {
 }
 
 fn row(table: &Table, what: &str, start: &Laid, given: Given) {
+    if !table.takes(what) {
+        return;
+    }
     let per = given.len();
     let (mut port, mut rust) = sides(start, given);
     agree(&mut port, &mut rust);
-    assert_eq!(port.code, 0);
     table.row_of_sides(what, per, &mut port, &mut rust);
+    assert_eq!([port.code, rust.code], [0; 2]);
 }
 
-/// Every so manieth ray gets these lists.
+/// Every `every`-th ray gets these lists.
 pub fn changes(start: &Laid, every: usize, possible: &[Pair], certain: &[Pair]) -> Vec<RayChange> {
     let after = rust::ray(possible.to_vec(), certain.to_vec());
     let all = (0..3).flat_map(|a| start.rust.rays(a).iter().enumerate().map(move |(index, ray)| (a, index, ray)));
@@ -182,7 +185,7 @@ pub fn changes(start: &Laid, every: usize, possible: &[Pair], certain: &[Pair]) 
 
 const SHARES: [(&str, usize); 3] = [("1 %", 100), ("10 %", 10), ("100 %", 1)];
 
-/// Both lists of every so manieth ray of the uncut store are cut in two.
+/// Both lists of every `every`-th ray of the uncut store are cut in two.
 fn cut_in_two(start: &Laid, every: usize) -> Vec<RayChange> {
     changes(start, every, &[[0., 60.], [80., 142.]], &[[0., 50.], [90., 142.]])
 }
@@ -205,11 +208,15 @@ fn volume_rows(table: &Table) {
     table.heading("volume of the 60,492 rays after a change commit on the uncut store; the port checks the whole store first");
     let start = uncut(BOX, 1., 2 * RAYS);
     for (share, every) in SHARES {
+        let what = format!("{share} changed");
+        if !table.takes(&format!("volume, {what}, per ray")) {
+            continue;
+        }
         let changes = cut_in_two(&start, every);
         let (mut port, mut rust) = sides(&start, Given::Changes(&changes));
         agree(&mut port, &mut rust);
         let cells = (port.lent.spans.read(), port.lent.links.read(), port.lent.heads.read());
-        volume_row(table, &format!("{share} changed"), &start, &rust.stock, cells, port.tally.intervals);
+        volume_row(table, &what, &start, &rust.stock, cells, port.tally.intervals);
     }
 }
 

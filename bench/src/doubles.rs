@@ -24,7 +24,10 @@ pub fn rows(table: &mut Table) {
     let normal: Vec<f64> = (0..N).map(|_| g.scale(1e-6, 1e6)).collect();
     let subnormal: Vec<f64> = (0..N).map(|_| f64::from_bits(g.u64() >> (12 + g.below(40)))).collect();
     table.heading("sqrt, per root, against the machine's instruction");
-    table.row("sqrt, independent", N, || sum(&normal, |x| port(x)), || sum(&normal, machine));
-    table.row("sqrt, independent, subnormal", N, || sum(&subnormal, |x| port(x)), || sum(&subnormal, machine));
+    for (what, xs) in [("sqrt, independent", &normal), ("sqrt, independent, subnormal", &subnormal)] {
+        assert_eq!(sum(xs, |x| port(x)), sum(xs, machine));
+        table.row(what, N, || sum(xs, |x| port(x)), || sum(xs, machine));
+    }
+    assert_eq!(chain(|x| port(x)), chain(f64::sqrt));
     table.row("sqrt, chained", N, || chain(|x| port(x)), || chain(f64::sqrt));
 }

@@ -33,25 +33,31 @@ fn tools(kind: Option<u64>) -> Vec<Tool> {
     out
 }
 
+/// A row of N calls on each side, whose answers must come to the same sum.
+fn sum_row(table: &Table, what: &str, mut port: impl FnMut() -> f64, mut rust: impl FnMut() -> f64) {
+    assert_eq!(port(), rust(), "{what}");
+    table.row(what, N, port, rust);
+}
+
 fn cutter_rows(table: &Table, what: &str, tools: &[Tool]) {
     let built: Vec<PreparedAssembly> = tools.iter().map(assembly).collect();
     let heights: Vec<rust::Heights> = built.iter().map(rust::Heights::new).collect();
     let port = |f: fn(&Tool) -> f64| move || black_box(tools).iter().map(f).sum::<f64>();
-    table.row(
+    sum_row(
+        table,
         &format!("radius_at, {what}"),
-        N,
         port(|t| cutter::tridexel_inner_radius_at(t.kind, t.own[0], t.own[1], t.c, t.h[0]).radius),
         || built.iter().zip(tools).map(|(a, t)| a.cutter().radius_at(black_box(t.h[0])).map_or(0., |s| s.radius_mm)).sum::<f64>(),
     );
-    table.row(
+    sum_row(
+        table,
         &format!("cut_max, {what}"),
-        N,
         port(|t| cutter::tridexel_inner_cut_max(t.kind, t.own[0], t.own[1], t.c, t.h[0], t.h[1]).radius),
         || heights.iter().zip(tools).map(|(p, t)| p.cut_max(black_box(t.h[0]), t.h[1]).unwrap_or(0.)).sum::<f64>(),
     );
-    table.row(
+    sum_row(
+        table,
         &format!("cut_min, {what}"),
-        N,
         port(|t| cutter::tridexel_inner_cut_min(t.kind, t.own[0], t.own[1], t.c, t.h[0], t.h[1]).radius),
         || heights.iter().zip(tools).map(|(p, t)| p.cut_min(black_box(t.h[0]), t.h[1]).unwrap_or(0.)).sum::<f64>(),
     );
@@ -63,6 +69,13 @@ fn inputs(name: &str, make: fn(&mut Gen) -> Vec<f64>) -> Vec<Vec<f64>> {
     (0..).map(|k| make(&mut Gen::new(1, name, k))).filter(ordinary).take(N).collect()
 }
 
+/// With the length that the Rust works out itself.
+fn stadium(g: &mut Gen) -> Vec<f64> {
+    let mut x = strips::stadium(g);
+    x[4] = (x[2] - x[0]).hypot(x[3] - x[1]);
+    x
+}
+
 fn strip_row(
     table: &Table,
     name: &str,
@@ -70,10 +83,11 @@ fn strip_row(
     port: fn(&[f64]) -> strips::StripNumbers,
     rust: fn(&[f64]) -> Option<[f64; 2]>,
 ) {
-    table.row(
+    let lo = |s: strips::StripNumbers| if s.hit == 1 { s.lo } else { 0. };
+    sum_row(
+        table,
         name,
-        N,
-        || black_box(&inputs).iter().map(|x| port(x).lo).sum::<f64>(),
+        || black_box(&inputs).iter().map(|x| lo(port(x))).sum::<f64>(),
         || black_box(&inputs).iter().map(|x| rust(x).map_or(0., |s| s[0])).sum::<f64>(),
     );
 }
@@ -87,6 +101,8 @@ pub fn rows(table: &mut Table) {
         assert_eq!(grid::grid(black_box(described), UNITS[0].as_bytes(), &mut counts, &mut steps), 0);
         (counts, steps)
     };
+    let due = spec.grid().unwrap();
+    assert_eq!(port(), (due.cells.map(|c| c as u64), due.step_mm));
     table.row("grid", 1, port, || black_box(&spec).grid().unwrap());
     cutter_rows(table, "ball", &tools(Some(1)));
     cutter_rows(table, "all shapes", &tools(None));
@@ -107,7 +123,7 @@ pub fn rows(table: &mut Table) {
     strip_row(
         table,
         "stadium_strip",
-        inputs("stadium", strips::stadium),
+        inputs("stadium", stadium),
         |x| strips::tridexel_inner_stadium_strip(at(x, 0), at(x, 2), x[4], x[5], x[6], x[7]),
         |x| rust::stadium_strip([x[0], x[1]], [x[2], x[3]], x[5], x[6], x[7]),
     );

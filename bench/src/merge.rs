@@ -41,6 +41,10 @@ fn row(table: &Table, what: &str, n: usize, h: usize, per: usize, miss: bool) {
     let mut work = vec![0.; ray.work()];
     let before = rust::ray(pairs(&ray.possible), pairs(&ray.certain));
     let (outer, inner) = (pairs(&ray.outer), pairs(&ray.inner));
+    let made = merged(&before, outer.clone(), inner.clone());
+    let after = made.as_ref().unwrap_or(&before);
+    let parts = port(&ray, &mut work);
+    assert_eq!((parts.moved != [0; 2], parts.pairs), (made.is_some(), [after.possible.len(), after.certain.len()]));
     table.row(what, per, || port(&ray, &mut work), || merged(black_box(&before), outer.clone(), inner.clone()));
 }
 

@@ -2,7 +2,7 @@
 //! calls; the Rust allocates its result, and for `normalize`, which takes its list by value, a copy of it.
 use crate::timing::Table;
 use compare::spans::{contains, intersect, normalize, overlaps, subtract};
-use harness::{Pair, flat, generate::Gen};
+use harness::{Pair, flat, generate::Gen, pairs};
 use oracle::dexel::opened as rust;
 use std::hint::black_box;
 
@@ -21,19 +21,21 @@ pub fn shuffled(mut v: Vec<Pair>) -> Vec<Pair> {
     v
 }
 
-fn accepted(code: u32, n: usize) -> usize {
-    assert_eq!(code, 0);
+/// The number that an accepted call answers.
+fn answer<N: Default>(call: impl FnOnce(&mut N) -> u32) -> N {
+    let mut n = N::default();
+    assert_eq!(call(&mut n), 0);
     n
 }
 
 fn normalize_row(table: &Table, what: &str, list: Vec<Pair>) {
     let ends = flat(&list);
     let mut out = vec![0.; ends.len()];
-    let port = || {
-        let mut n = 0;
-        accepted(normalize(black_box(&ends), &mut out, &mut n), n)
-    };
-    table.row(&format!("normalize {} {what}", list.len()), 1, port, || rust::normalize(black_box(&list).clone()));
+    let port = |out: &mut [f64]| answer(|n| normalize(black_box(&ends), out, n));
+    let n = port(&mut out);
+    assert_eq!(pairs(&out[..2 * n]), rust::normalize(list.clone()));
+    let what = format!("normalize {} {what}", list.len());
+    table.row(&what, 1, || port(&mut out), || rust::normalize(black_box(&list).clone()));
 }
 
 type Port = fn(&[f64], &[f64], &mut [f64], &mut usize) -> u32;
@@ -42,11 +44,10 @@ type Rust = fn(&[Pair], &[Pair]) -> Vec<Pair>;
 fn two_list_row(table: &Table, what: &str, a: &[Pair], b: &[Pair], port: Port, rust: Rust) {
     let (fa, fb) = (flat(a), flat(b));
     let mut out = vec![0.; fa.len() + fb.len()];
-    let port = || {
-        let mut n = 0;
-        accepted(port(black_box(&fa), black_box(&fb), &mut out, &mut n), n)
-    };
-    table.row(what, 1, port, || rust(black_box(a), black_box(b)));
+    let port = |out: &mut [f64]| answer(|n| port(black_box(&fa), black_box(&fb), out, n));
+    let n = port(&mut out);
+    assert_eq!(pairs(&out[..2 * n]), rust(a, b));
+    table.row(what, 1, || port(&mut out), || rust(black_box(a), black_box(b)));
 }
 
 type PortTold = fn(&[f64], &[f64], &mut u32) -> u32;
@@ -54,10 +55,8 @@ type RustTold = fn(&[Pair], &[Pair]) -> bool;
 
 fn told_row(table: &Table, what: &str, a: &[Pair], b: &[Pair], port: PortTold, rust: RustTold) {
     let (fa, fb) = (flat(a), flat(b));
-    let port = || {
-        let mut yes = 0;
-        accepted(port(black_box(&fa), black_box(&fb), &mut yes), yes as usize)
-    };
+    let port = || answer(|yes| port(black_box(&fa), black_box(&fb), yes));
+    assert_eq!(port() == 1, rust(a, b));
     table.row(what, 1, port, || rust(black_box(a), black_box(b)));
 }
 

@@ -8,6 +8,7 @@ use compare::{
     grid::{DexelGrid, grid},
     stock::{check_stock, fill, ten, volume},
 };
+use harness::store::LentStore;
 use oracle::dexel::DexelStock;
 use std::hint::black_box;
 
@@ -56,10 +57,13 @@ pub fn rows(table: &mut Table) {
     rows_of(table, "cut", &cut());
     let spec = uncut.rust.spec();
     let mut lent = uncut.lend();
-    let lay = || {
+    lent.spans.cells().fill(f64::NAN);
+    let lay = |lent: &mut LentStore| {
         let (mut generation, mut intervals) = (0, 0);
-        assert_eq!(fill(black_box(uncut.spec), b"mm", &mut lent, &mut generation, &mut intervals), 0);
+        assert_eq!(fill(black_box(uncut.spec), b"mm", lent, &mut generation, &mut intervals), 0);
         intervals
     };
-    table.row("fill, per ray", RAYS, lay, || DexelStock::new(black_box(spec).clone()).unwrap());
+    assert_eq!(lay(&mut lent), uncut.tally.intervals);
+    assert_eq!((lent.spans.read(), lent.links.read(), lent.heads.read()), uncut.cells());
+    table.row("fill, per ray", RAYS, || lay(&mut lent), || DexelStock::new(black_box(spec).clone()).unwrap());
 }

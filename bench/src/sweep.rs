@@ -1,6 +1,6 @@
 //! The sweep against camlib's `across`: an uncut blank of 200 x 200 x 50 cells, a ball cutter, chords across the whole blank.
 //! The port checks the whole store first, which the Rust does not; its log is lent, where the Rust's hits go into a map for each chord and axis.
-use crate::{laid::uncut, timing::Table};
+use crate::{commits, laid::uncut, timing::Table};
 use compare::{
     cutter::{PreparedCutter, Tool, assembly},
     sweep::{Lending, port},
@@ -84,15 +84,22 @@ pub fn rows(table: &mut Table) {
             chords: &ends,
             budget: visits,
         };
-        let swept = || {
+        let swept = |log: &mut [f64]| {
             let (mut entries, mut total) = (0, 0);
-            assert_eq!(port(black_box(&lending), &mut log, &mut entries, &mut total), 0);
+            assert_eq!(port(black_box(&lending), log, &mut entries, &mut total), 0);
             assert_eq!((entries, total), (hits.len(), visits));
             entries
         };
-        table.row(&format!("sweep {n} chords, {visits} visits"), visits as usize, swept, || {
-            let mut log = vec![];
-            rust::sweep::sweep(stock, &rust_tool, Axis::PosZ, GUARD, black_box(&lines), u64::MAX, &mut log)
-        });
+        swept(&mut log);
+        assert_eq!(log, commits::flat(&hits));
+        table.row(
+            &format!("sweep {n} chords, {visits} visits"),
+            visits as usize,
+            || swept(&mut log),
+            || {
+                let mut log = vec![];
+                rust::sweep::sweep(stock, &rust_tool, Axis::PosZ, GUARD, black_box(&lines), u64::MAX, &mut log)
+            },
+        );
     }
 }
