@@ -3,32 +3,34 @@ use mathlib.Core.Path.{_≡_, refl, sym, ap, ap₂, _∙_, subst}
 use mathlib.Core.Bool.{Bool, true, false, not, _&&_, _||_, false≢true}
 use mathlib.Core.List.{List, [], _∷_, _++_, map, List·Memᴰ, List·Memᴰ·head, List·Memᴰ·tail}
 use mathlib.Core.Logic.{inl, inr}
-use Prim.Native.Nat.{ℕ, zero, suc, _<_}
+use Prim.Native.Nat.{ℕ, zero, suc, _+_, _<_}
 use native.Mathlib.Omega.{arith}
 use native.Mathlib.Decide.{decLt}
 use borrow.Author.Tests.{eqb-true}
 use lib.Dec.{lit<, eqb}
 use lib.IntN.{pos}
-use lib.ListN.{getD}
+use lib.ListN.{length, getD, replicate}
 use lib.Ieee.{Float, nan, inf, binary64, lt, le, eq, neg, ofInt, ofBits, toUnsigned, isNan, sub, add, mul, div}
 use Rattle.doubles.specs.Doubles.{ratio, largerOf, ceilOf, absOf}
 use Rattle.doubles.proofs.Bools.{or-cases, and-left, and-right, clash, not-true}
-use Rattle.spans.specs.Spans.{holds, sound, ListOf}
-use Rattle.spans.proofs.Pieces.{by-ends, of-list, in-left, in-right, both-of}
+use Rattle.spans.specs.Spans.{holds, sound, equal, ListOf}
+use Rattle.doubles.proofs.Order.{lt-number, eq-refl}
+use Rattle.spans.proofs.Pieces.{agree, by-ends, of-list, in-left, in-right, both-of}
 use Rattle.grid.specs.Axes.{byDigit}
 use Rattle.grid.specs.Grid.{allWithin, within}
 use Rattle.gridding.specs.Grid.{gridOf, isMm, misdescribed, anyBelow, gridOver, anyAbove, cellsOf, tooFine, leastStep, magnitudeOf}
 use Rattle.grid.specs.Rays.{rayCount, raysAlong, offset, rayAxis, boundsOf}
-use Rattle.grid.specs.declared.DexelStockSpec.{DexelStockSpec}
-use Rattle.grid.specs.declared.DexelGrid.{DexelGrid}
 use Rattle.grid.specs.declared.Gridded.the-variants.{Accepted}
 use Rattle.store.specs.Store.{usedAt, places, Chain, ends, more, placesOf, chained, endsAt}
 use Rattle.validity.specs.Ray.{bounded, ValidRay}
-use Rattle.runs.specs.Logs.{Ray, Kind, possible, certain, entries, namesOne, Commit}
-use Rattle.runs.specs.Model.{Answer, changed, refused, causes, Judged}
+use Rattle.runs.specs.Logs.{Ray, Kind, possible, certain, entries, namesOne, loOf, hiOf, Among, Alike, Commit}
+use Rattle.runs.specs.Model.{Answer, changed, refused, causes, Judged, accepted}
 use Rattle.runs.specs.Counts.{hitsOn, raysChanged}
-use Rattle.runs.specs.Runs.{points, Left, Committed, Run, done, next, Settled}
+use Rattle.runs.specs.Runs.{points, Left, Committed, Run, done, next, Settled, Agree}
+use Rattle.runs.specs.Examples.{num, box, grid, filled, hit, commit, notAllowed, innerWider, threeLogs, threeAnswers, listAfter, AtEnd, RunRight}
+use Rattle.store.specs.Updates.{cells}
 use Rattle.stock.specs.Stock.{Stock, ValidAt, SoundStock}
+use Rattle.stock.specs.Uncut.{uncut as uncutCells, uncutSpans, uncutLinks, uncutHeads, recordAt}
 use Rattle.runs.specs.Lent.{listIn, lentStore}
 use Rattle.runs.proofs.Unique.{judged-unsound}
 use Rattle.runs.proofs.Less.{less}
@@ -36,31 +38,9 @@ use Rattle.runs.proofs.Decided.{tests, answerBy, judged, left-list}
 use Rattle.runs.proofs.Lent.{lent-laws, demand3-lent}
 use Rattle.runs.proofs.Plain.{Plain, Valid, answers, final}
 
--- a whole number as a double
-abbrev num : ℕ → Float
-num n = ofInt binary64 (pos n)
-
--- a box from 0 to 10 with one cell: one ray along each axis
-abbrev box : ℕ → DexelStockSpec
-box n = record {
-  version = 1;
-  «min_mm» = record { x = num 0; y = num 0; z = num 0 };
-  «max_mm» = record { x = num 10; y = num 10; z = num 10 };
-  «cell_size_mm» = num 10;
-  «max_rays» = 3;
-  «max_intervals» = n;
-}
-
-abbrev grid : DexelGrid
-grid = record { c0 = 1; c1 = 1; c2 = 1; s0 = num 10; s1 = num 10; s2 = num 10 }
-
 accepted-box : gridOf (box 8) (109 ∷ 109 ∷ []) ≡ Accepted grid
 unfolding gridOf isMm misdescribed allWithin within anyBelow gridOver anyAbove cellsOf tooFine leastStep magnitudeOf largerOf ceilOf absOf le lt neg ofBits ofInt toUnsigned isNan sub add mul div
 accepted-box = refl
-
--- a log of one entry: outer 1 to 4, inner 2 to 3
-abbrev hit : Float → Float → List Float
-hit axis index = axis ∷ index ∷ num 1 ∷ num 4 ∷ num 2 ∷ num 3 ∷ []
 
 -- minus zero names axis 0; an axis of 3, a fraction, a negative number, an infinity and NaN name no ray
 naming : map (λ log. map (namesOne grid) (entries log))
@@ -78,10 +58,6 @@ uncut n = record { lists = λ r k. num 0 ∷ num 10 ∷ []; generation = 0; lent
 full : (n : ℕ) → Valid grid (uncut n)
 unfolding sound lt ofInt
 full n = record { isSound = λ r k. refl; within = λ r p t. t }
-
--- index, allowance and work pairs of a commit
-abbrev commit : ℕ → ℕ → ℕ → Commit
-commit index allowance work = record { log = hit (num 1) (num index); allowance = allowance; work = work }
 
 -- the ray changes once; the same log again is accepted and changes nothing, even with no ray allowed
 twice : answers (box 8) grid (uncut 8) (commit 0 1 66 ∷ commit 0 0 66 ∷ []) ≡ changed 1 ∷ changed 0 ∷ []
@@ -114,18 +90,7 @@ cut-generation : final (box 8) grid (uncut 8) (commit 0 1 66 ∷ commit 0 0 66 �
 unfolding final rayCount byDigit eq lt le
 cut-generation = refl
 
--- ---- the same first commit on the lent store. The uncut store has records 1 to 6 in ray order, possible first, and two free ones.
-
-abbrev filled : Stock
-filled = record {
-  cells = record {
-    spans = num 0 ∷ num 10 ∷ num 0 ∷ num 10 ∷ num 0 ∷ num 10 ∷ num 0 ∷ num 10 ∷ num 0 ∷ num 10 ∷ num 0 ∷ num 10 ∷ num 0 ∷ num 0 ∷ num 0 ∷ num 0 ∷ [];
-    links = 0 ∷ 1 ∷ 0 ∷ 2 ∷ 0 ∷ 3 ∷ 0 ∷ 4 ∷ 0 ∷ 5 ∷ 0 ∷ 6 ∷ 0 ∷ 0 ∷ 0 ∷ 0 ∷ [];
-    heads = 1 ∷ 2 ∷ 3 ∷ 4 ∷ 5 ∷ 6 ∷ [];
-  };
-  generation = 0;
-  intervals = 6;
-}
+-- ---- the worked run on the lent store
 
 -- records 3 and 4 were freed; possible has 3 and 4, certain 7 and 8
 abbrev cut : Stock
@@ -137,6 +102,18 @@ cut = record {
   };
   generation = 1;
   intervals = 8;
+}
+
+-- those four were freed; possible has 3 and 4, certain 7
+abbrev cut-again : Stock
+cut-again = record {
+  cells = record {
+    spans = num 0 ∷ num 10 ∷ num 0 ∷ num 10 ∷ num 0 ∷ num 2 ∷ num 3 ∷ num 4 ∷ num 0 ∷ num 10 ∷ num 0 ∷ num 10 ∷ num 0 ∷ num 1 ∷ num 0 ∷ num 0 ∷ [];
+    links = 0 ∷ 1 ∷ 0 ∷ 2 ∷ 4 ∷ 3 ∷ 0 ∷ 3 ∷ 0 ∷ 5 ∷ 0 ∷ 6 ∷ 0 ∷ 4 ∷ 0 ∷ 0 ∷ [];
+    heads = 1 ∷ 2 ∷ 3 ∷ 7 ∷ 5 ∷ 6 ∷ [];
+  };
+  generation = 2;
+  intervals = 7;
 }
 
 -- what holds of each of the three rays holds of every ray
@@ -203,22 +180,33 @@ whole-ray : ValidRay (num 0) (num 10) (num 0 ∷ num 10 ∷ []) (num 0 ∷ num 1
 unfolding sound bounded lt le ofInt
 whole-ray = record { possible-sound = refl; certain-sound = refl; possible-bounded = refl; certain-bounded = refl; inside = λ p t. t }
 
+-- certain lies within possible, by a test at the ends
+inside-of : (P C : List Float) → agree (C ++ P) (λ (q : Float). holds C q && holds P q) (holds C) ≡ true → (p : Float) → holds C p ≡ true → holds P p ≡ true
+inside-of P C h p t =
+    and-right (holds C p) (holds P p)
+    (by-ends (C ++ P) (λ (q : Float). holds C q && holds P q) (holds C) (both-of (C ++ P) (holds C) (holds P) (in-left C P (holds C) (of-list C)) (in-right C P (holds P) (of-list P))) (in-left C P (holds C) (of-list C)) h p ∙ t)
+
 -- the ray that was cut: 0 to 1 and 4 to 10 lie within 0 to 2 and 3 to 10
 cut-whole : ValidRay (num 0) (num 10) (num 0 ∷ num 2 ∷ num 3 ∷ num 10 ∷ []) (num 0 ∷ num 1 ∷ num 4 ∷ num 10 ∷ [])
-unfolding sound bounded lt le ofInt
-cut-whole = record { possible-sound = refl; certain-sound = refl; possible-bounded = refl; certain-bounded = refl; inside = inside }
-  where
-    P : List Float
-    P = num 0 ∷ num 2 ∷ num 3 ∷ num 10 ∷ []
+unfolding sound bounded holds lt le ofInt
+cut-whole = record {
+  possible-sound = refl;
+  certain-sound = refl;
+  possible-bounded = refl;
+  certain-bounded = refl;
+  inside = inside-of (num 0 ∷ num 2 ∷ num 3 ∷ num 10 ∷ []) (num 0 ∷ num 1 ∷ num 4 ∷ num 10 ∷ []) refl;
+}
 
-    C : List Float
-    C = num 0 ∷ num 1 ∷ num 4 ∷ num 10 ∷ []
-
-    inside : (p : Float) → holds C p ≡ true → holds P p ≡ true
-    inside p t =
-        and-right (holds C p) (holds P p)
-        (by-ends (C ++ P) (λ q. holds C q && holds P q) (holds C) (both-of (C ++ P) (holds C) (holds P) (in-left C P (holds C) (of-list C)) (in-right C P (holds P) (of-list P))) (in-left C P (holds C) (of-list C))
-        (unfold holds in refl) p ∙ t)
+-- and cut again: 0 to 1 lies within 0 to 2 and 3 to 4
+again-whole : ValidRay (num 0) (num 10) (num 0 ∷ num 2 ∷ num 3 ∷ num 4 ∷ []) (num 0 ∷ num 1 ∷ [])
+unfolding sound bounded holds lt le ofInt
+again-whole = record {
+  possible-sound = refl;
+  certain-sound = refl;
+  possible-bounded = refl;
+  certain-bounded = refl;
+  inside = inside-of (num 0 ∷ num 2 ∷ num 3 ∷ num 4 ∷ []) (num 0 ∷ num 1 ∷ []) refl;
+}
 
 filled-sound : SoundStock (box 8) grid filled
 unfolding rayCount boundsOf rayAxis offset raysAlong byDigit listIn chained places endsAt usedAt all-used elem ofInt
@@ -244,65 +232,185 @@ cut-sound = record {
   valid = λ ray h. three (λ r. ValidAt (box 8) grid (cut .cells) (r .0)) (λ h. whole-ray) (λ h. cut-whole) (λ h. whole-ray) (ray, h);
 }
 
--- the lists of the uncut store are those of its sets
-filled-lists : (r : Ray grid) (k : Kind) → ListOf (points grid (lentStore (box 8) grid) filled r k) (listIn (box 8) filled (r .0) k)
-unfolding points
-filled-lists r k = record { isSound = lent-laws (box 8) grid .sound-list filled filled-sound r k; points = λ p. refl }
-
-one-changed : answerBy (causes (box 8) grid (lentStore (box 8) grid .lent filled) ⊥ (points grid (lentStore (box 8) grid) filled) 0 (commit 0 1 66))
-    (tests (box 8) grid (lentStore (box 8) grid .lent filled) (λ r k. listIn (box 8) filled (r .0) k) 0 (commit 0 1 66))
-    (changed (raysChanged grid (λ r k. listIn (box 8) filled (r .0) k) (entries (hit (num 1) (num 0)))))
-    ≡ changed 1
-unfolding answerBy causes tests raysChanged rayCount eq byDigit lt listIn endsAt places le
-one-changed = refl
-
--- the pairs that the log takes from each list
-abbrev pairs-at : ℕ → Kind → List Float
-pairs-at zero k = []
-pairs-at (suc zero) possible = num 2 ∷ num 3 ∷ []
-pairs-at (suc zero) certain = num 1 ∷ num 4 ∷ num 2 ∷ num 3 ∷ []
-pairs-at (suc (suc n)) k = []
-
-hits-are : (r : Ray grid) (k : Kind) → hitsOn grid (entries (hit (num 1) (num 0))) r k ≡ pairs-at (r .0) k
-unfolding hitsOn entries eq byDigit
-hits-are r possible = three (λ r. hitsOn grid (entries (hit (num 1) (num 0))) r possible ≡ pairs-at (r .0) possible) (λ h. refl) (λ h. refl) (λ h. refl) r
-hits-are r certain = three (λ r. hitsOn grid (entries (hit (num 1) (num 0))) r certain ≡ pairs-at (r .0) certain) (λ h. refl) (λ h. refl) (λ h. refl) r
-
-full-ray : (r : Ray grid) (k : Kind) → listIn (box 8) filled (r .0) k ≡ num 0 ∷ num 10 ∷ []
-unfolding listIn endsAt places
-full-ray r possible = three (λ r. listIn (box 8) filled (r .0) possible ≡ num 0 ∷ num 10 ∷ []) (λ h. refl) (λ h. refl) (λ h. refl) r
-full-ray r certain = three (λ r. listIn (box 8) filled (r .0) certain ≡ num 0 ∷ num 10 ∷ []) (λ h. refl) (λ h. refl) (λ h. refl) r
-
--- the lists that are left are the old ones less the hits
-less-hits : (r : Ray grid) (k : Kind) → listIn (box 8) cut (r .0) k ≡ less (num 0 ∷ num 10 ∷ []) (pairs-at (r .0) k)
-unfolding listIn endsAt places less lt ofInt
-less-hits r possible = three (λ r. listIn (box 8) cut (r .0) possible ≡ less (num 0 ∷ num 10 ∷ []) (pairs-at (r .0) possible)) (λ h. refl) (λ h. refl) (λ h. refl) r
-less-hits r certain = three (λ r. listIn (box 8) cut (r .0) certain ≡ less (num 0 ∷ num 10 ∷ []) (pairs-at (r .0) certain)) (λ h. refl) (λ h. refl) (λ h. refl) r
-
-left-over : (r : Ray grid) (k : Kind) → listIn (box 8) cut (r .0) k ≡ less (listIn (box 8) filled (r .0) k) (hitsOn grid (entries (hit (num 1) (num 0))) r k)
-left-over r k = less-hits r k ∙ ap₂ less (sym (full-ray r k)) (sym (hits-are r k))
-
--- one accepted commit
-lent-commit : Committed (box 8) grid (lentStore (box 8) grid) filled (commit 0 1 66) (changed 1) cut
-unfolding Left
-lent-commit = record {
-  answers = judged-unsound (box 8) grid (lentStore (box 8) grid .lent filled) (¬ SoundStock (box 8) grid filled) (λ n. n filled-sound)
-      (points grid (lentStore (box 8) grid) filled) 0 (commit 0 1 66) (changed 1)
-      (subst (λ (a : Answer). Judged (box 8) grid (lentStore (box 8) grid .lent filled) ⊥ (points grid (lentStore (box 8) grid) filled) 0 (commit 0 1 66) a) one-changed
-      (judged (box 8) grid (lentStore (box 8) grid .lent filled) (points grid (lentStore (box 8) grid) filled) (λ r k. listIn (box 8) filled (r .0) k) filled-lists 0 (commit 0 1 66)));
-  leaves = record {
-    sound = cut-sound;
-    exactly = λ r k p.
-        unfold points in ap (λ (l : List Float). holds l p) (left-over r k)
-        ∙ left-list grid (points grid (lentStore (box 8) grid) filled) (λ r k. listIn (box 8) filled (r .0) k) filled-lists (entries (hit (num 1) (num 0))) r k .points p;
-    generation = refl;
-    lent = refl;
+again-sound : SoundStock (box 8) grid cut-again
+unfolding rayCount boundsOf rayAxis offset raysAlong byDigit listIn chained places endsAt usedAt all-used elem ofInt
+again-sound = record {
+  store = record {
+    chains = six (λ j. Chain (cut-again .cells .links) 8 (suc j) (getD (cut-again .cells .heads) j 0) (placesOf 8 (cut-again .cells .links) (cut-again .cells .heads) j))
+        (more (lit< tt) refl ends) (more (lit< tt) refl ends) (more (lit< tt) refl (more (lit< tt) refl ends)) (more (lit< tt) refl ends) (more (lit< tt) refl ends) (more (lit< tt) refl ends);
+    others = used-in (chained 8 (cut-again .cells .links) (cut-again .cells .heads) 0 6) (usedAt (cut-again .cells .spans) (cut-again .cells .links)) 8 refl;
+    counts = refl;
   };
+  valid = λ ray h. three (λ r. ValidAt (box 8) grid (cut-again .cells) (r .0)) (λ h. whole-ray) (λ h. again-whole) (λ h. whole-ray) (ray, h);
 }
 
-lent-run : Run (box 8) grid (lentStore (box 8) grid) filled (commit 0 1 66 ∷ []) (changed 1 ∷ []) cut
-lent-run = next lent-commit done
+-- the answer that the order gives to a commit on a sound stock, worked out
+abbrev answer-on : Stock → Commit → Answer
+answer-on s c =
+    answerBy (causes (box 8) grid (lentStore (box 8) grid .lent s) ⊥ (points grid (lentStore (box 8) grid) s) (s .generation) c)
+    (tests (box 8) grid (lentStore (box 8) grid .lent s) (λ r k. listIn (box 8) s (r .0) k) (s .generation) c)
+    (changed (raysChanged grid (λ r k. listIn (box 8) s (r .0) k) (entries (c .log))))
+
+module _ (s : Stock) (S : SoundStock (box 8) grid s) (c : Commit) where
+  -- the lists of the stock are those of its sets
+  lists-on : (r : Ray grid) (k : Kind) → ListOf (points grid (lentStore (box 8) grid) s r k) (listIn (box 8) s (r .0) k)
+  unfolding points
+  lists-on r k = record { isSound = lent-laws (box 8) grid .sound-list s S r k; points = λ p. refl }
+
+  judged-on : (a : Answer) → answer-on s c ≡ a
+      → Judged (box 8) grid (lentStore (box 8) grid .lent s) (¬ SoundStock (box 8) grid s) (points grid (lentStore (box 8) grid) s) (s .generation) c a
+  judged-on a e = judged-unsound (box 8) grid (lentStore (box 8) grid .lent s) (¬ SoundStock (box 8) grid s) (λ n. n S) (points grid (lentStore (box 8) grid) s) (s .generation) c a
+      (subst (λ (b : Answer). Judged (box 8) grid (lentStore (box 8) grid .lent s) ⊥ (points grid (lentStore (box 8) grid) s) (s .generation) c b) e
+      (judged (box 8) grid (lentStore (box 8) grid .lent s) (points grid (lentStore (box 8) grid) s) (λ r k. listIn (box 8) s (r .0) k) lists-on (s .generation) c))
+
+  refuses : (k : ℕ) → answer-on s c ≡ refused k → Committed (box 8) grid (lentStore (box 8) grid) s c (refused k) s
+  unfolding Left
+  refuses k e = record { answers = judged-on (refused k) e; leaves = refl }
+
+  -- the lists that are left are the old ones less the hits
+  cuts-to : (n : ℕ) (t : Stock) → answer-on s c ≡ changed n → SoundStock (box 8) grid t
+      → ((r : Ray grid) (k : Kind) → listIn (box 8) t (r .0) k ≡ less (listIn (box 8) s (r .0) k) (hitsOn grid (entries (c .log)) r k))
+      → t .generation ≡ suc (s .generation) → lentStore (box 8) grid .lent t ≡ lentStore (box 8) grid .lent s
+      → Committed (box 8) grid (lentStore (box 8) grid) s c (changed n) t
+  unfolding Left
+  cuts-to n t e T l g h = record {
+    answers = judged-on (changed n) e;
+    leaves = record {
+      sound = T;
+      exactly = λ r k p.
+          unfold points in ap (λ (l : List Float). holds l p) (l r k)
+          ∙ left-list grid (points grid (lentStore (box 8) grid) s) (λ r k. listIn (box 8) s (r .0) k) lists-on (entries (c .log)) r k .points p;
+      generation = g;
+      lent = h;
+    };
+  }
+
+first-answer : answer-on filled (commit 0 1 66) ≡ changed 1
+unfolding answerBy causes tests raysChanged rayCount eq byDigit lt listIn endsAt places le
+first-answer = refl
+
+second-answer : answer-on cut notAllowed ≡ refused 9
+unfolding answerBy causes tests raysChanged rayCount eq byDigit lt listIn endsAt places le
+second-answer = refl
+
+third-answer : answer-on cut innerWider ≡ changed 1
+unfolding answerBy causes tests raysChanged rayCount eq byDigit lt listIn endsAt places le
+third-answer = refl
+
+-- the lists after the first log, and the pairs that the first and the third take from each
+abbrev cut-at : ℕ → Kind → List Float
+cut-at zero k = num 0 ∷ num 10 ∷ []
+cut-at (suc zero) possible = num 0 ∷ num 2 ∷ num 3 ∷ num 10 ∷ []
+cut-at (suc zero) certain = num 0 ∷ num 1 ∷ num 4 ∷ num 10 ∷ []
+cut-at (suc (suc n)) k = num 0 ∷ num 10 ∷ []
+
+abbrev first-pairs : ℕ → Kind → List Float
+first-pairs zero k = []
+first-pairs (suc zero) possible = num 2 ∷ num 3 ∷ []
+first-pairs (suc zero) certain = num 1 ∷ num 4 ∷ num 2 ∷ num 3 ∷ []
+first-pairs (suc (suc n)) k = []
+
+abbrev third-pairs : ℕ → Kind → List Float
+third-pairs zero k = []
+third-pairs (suc zero) possible = num 4 ∷ num 10 ∷ []
+third-pairs (suc zero) certain = num 9 ∷ num 10 ∷ num 4 ∷ num 10 ∷ []
+third-pairs (suc (suc n)) k = []
+
+filled-lists : (r : Ray grid) (k : Kind) → listIn (box 8) filled (r .0) k ≡ num 0 ∷ num 10 ∷ []
+unfolding listIn endsAt places
+filled-lists r possible = three (λ r. listIn (box 8) filled (r .0) possible ≡ num 0 ∷ num 10 ∷ []) (λ h. refl) (λ h. refl) (λ h. refl) r
+filled-lists r certain = three (λ r. listIn (box 8) filled (r .0) certain ≡ num 0 ∷ num 10 ∷ []) (λ h. refl) (λ h. refl) (λ h. refl) r
+
+cut-lists : (r : Ray grid) (k : Kind) → listIn (box 8) cut (r .0) k ≡ cut-at (r .0) k
+unfolding listIn endsAt places
+cut-lists r possible = three (λ r. listIn (box 8) cut (r .0) possible ≡ cut-at (r .0) possible) (λ h. refl) (λ h. refl) (λ h. refl) r
+cut-lists r certain = three (λ r. listIn (box 8) cut (r .0) certain ≡ cut-at (r .0) certain) (λ h. refl) (λ h. refl) (λ h. refl) r
+
+again-lists : (r : Ray grid) (k : Kind) → listIn (box 8) cut-again (r .0) k ≡ listAfter (r .0) k
+unfolding listIn endsAt places
+again-lists r possible = three (λ r. listIn (box 8) cut-again (r .0) possible ≡ listAfter (r .0) possible) (λ h. refl) (λ h. refl) (λ h. refl) r
+again-lists r certain = three (λ r. listIn (box 8) cut-again (r .0) certain ≡ listAfter (r .0) certain) (λ h. refl) (λ h. refl) (λ h. refl) r
+
+first-hits : (r : Ray grid) (k : Kind) → hitsOn grid (entries (commit 0 1 66 .log)) r k ≡ first-pairs (r .0) k
+unfolding hitsOn entries eq byDigit
+first-hits r possible = three (λ r. hitsOn grid (entries (commit 0 1 66 .log)) r possible ≡ first-pairs (r .0) possible) (λ h. refl) (λ h. refl) (λ h. refl) r
+first-hits r certain = three (λ r. hitsOn grid (entries (commit 0 1 66 .log)) r certain ≡ first-pairs (r .0) certain) (λ h. refl) (λ h. refl) (λ h. refl) r
+
+third-hits : (r : Ray grid) (k : Kind) → hitsOn grid (entries (innerWider .log)) r k ≡ third-pairs (r .0) k
+unfolding hitsOn entries eq byDigit
+third-hits r possible = three (λ r. hitsOn grid (entries (innerWider .log)) r possible ≡ third-pairs (r .0) possible) (λ h. refl) (λ h. refl) (λ h. refl) r
+third-hits r certain = three (λ r. hitsOn grid (entries (innerWider .log)) r certain ≡ third-pairs (r .0) certain) (λ h. refl) (λ h. refl) (λ h. refl) r
+
+-- the lists that are left are the old ones less the hits
+first-less : (r : Ray grid) (k : Kind) → cut-at (r .0) k ≡ less (num 0 ∷ num 10 ∷ []) (first-pairs (r .0) k)
+unfolding less lt ofInt
+first-less r possible = three (λ r. cut-at (r .0) possible ≡ less (num 0 ∷ num 10 ∷ []) (first-pairs (r .0) possible)) (λ h. refl) (λ h. refl) (λ h. refl) r
+first-less r certain = three (λ r. cut-at (r .0) certain ≡ less (num 0 ∷ num 10 ∷ []) (first-pairs (r .0) certain)) (λ h. refl) (λ h. refl) (λ h. refl) r
+
+third-less : (r : Ray grid) (k : Kind) → listAfter (r .0) k ≡ less (cut-at (r .0) k) (third-pairs (r .0) k)
+unfolding less lt ofInt
+third-less r possible = three (λ r. listAfter (r .0) possible ≡ less (cut-at (r .0) possible) (third-pairs (r .0) possible)) (λ h. refl) (λ h. refl) (λ h. refl) r
+third-less r certain = three (λ r. listAfter (r .0) certain ≡ less (cut-at (r .0) certain) (third-pairs (r .0) certain)) (λ h. refl) (λ h. refl) (λ h. refl) r
+
+first-lists : (r : Ray grid) (k : Kind) → listIn (box 8) cut (r .0) k ≡ less (listIn (box 8) filled (r .0) k) (hitsOn grid (entries (commit 0 1 66 .log)) r k)
+first-lists r k = cut-lists r k ∙ first-less r k ∙ ap₂ less (sym (filled-lists r k)) (sym (first-hits r k))
+
+third-lists : (r : Ray grid) (k : Kind) → listIn (box 8) cut-again (r .0) k ≡ less (listIn (box 8) cut (r .0) k) (hitsOn grid (entries (innerWider .log)) r k)
+third-lists r k = again-lists r k ∙ third-less r k ∙ ap₂ less (sym (cut-lists r k)) (sym (third-hits r k))
+
+three-run : Run (box 8) grid (lentStore (box 8) grid) filled threeLogs threeAnswers cut-again
+three-run =
+    next (cuts-to filled filled-sound (commit 0 1 66) 1 cut first-answer cut-sound first-lists refl refl)
+    (next (refuses cut cut-sound notAllowed 9 second-answer)
+    (next (cuts-to cut cut-sound innerWider 1 cut-again third-answer again-sound third-lists refl refl) done))
 
 -- what demand 3 says of it
-lent-settled : Settled (box 8) grid (lentStore (box 8) grid) filled (commit 0 1 66 ∷ []) (changed 1 ∷ []) cut
-lent-settled = demand3-lent (box 8) grid .settles filled cut (commit 0 1 66 ∷ []) (changed 1 ∷ []) filled-sound lent-run
+three-settled : Settled (box 8) grid (lentStore (box 8) grid) filled threeLogs threeAnswers cut-again
+three-settled = demand3-lent (box 8) grid .settles filled cut-again threeLogs threeAnswers filled-sound three-run
+
+-- ---- and of every other run of the three logs
+
+alike-self : (ls : List (List Float)) → Alike grid ls ls
+unfolding Alike Among
+alike-self ls = (self, self)
+  where
+    self : Among grid ls ls
+    self r w h =
+        let n = lt-number (loOf w (h .entry)) (hiOf w (h .entry)) (h .proper) in
+        (h, eq-refl (loOf w (h .entry)) (n .0), eq-refl (hiOf w (h .entry)) (n .1))
+
+module _ (vs : List Answer) (t : Stock) (x : Run (box 8) grid (lentStore (box 8) grid) filled threeLogs vs t) where
+  same-answers : threeAnswers ≡ vs
+  same-answers = demand3-lent (box 8) grid .settles filled t threeLogs vs filled-sound x .no-others threeAnswers (three-settled .answers)
+
+  same-end : Agree grid (lentStore (box 8) grid) t cut-again
+  same-end = demand3-lent (box 8) grid .agrees filled t cut-again threeLogs threeLogs vs threeAnswers filled-sound x three-run
+      (subst (λ (ws : List Answer). Alike grid (accepted threeLogs ws) (accepted threeLogs threeAnswers)) same-answers (alike-self (accepted threeLogs threeAnswers)))
+
+  two-accepted : t .generation ≡ 2
+  unfolding accepted
+  two-accepted = demand3-lent (box 8) grid .settles filled t threeLogs vs filled-sound x .generation ∙ ap (λ (ws : List Answer). 0 + length (accepted threeLogs ws)) (sym same-answers)
+
+  at-end : AtEnd t
+  at-end = record {
+    lists = λ r k. subst (λ (l : List Float). equal (listIn (box 8) t (r .0) k) l ≡ true) (again-lists r k) (same-end .same-lists r k);
+    generation = two-accepted;
+    intervals = same-end .same-total;
+  }
+
+-- the uncut store of the box
+fill-lays : uncutCells (box 8) grid (cells (replicate 16 (num 7)) (replicate 16 7) (replicate 6 7)) ≡ filled .cells
+unfolding uncutSpans uncutLinks uncutHeads recordAt rayCount boundsOf rayAxis offset raysAlong byDigit ofInt ofBits
+fill-lays = refl
+
+pub run-right : RunRight
+unfolding rayCount
+run-right = record {
+  accepted = accepted-box;
+  fills = fill-lays;
+  fills-record = refl;
+  end = cut-again;
+  ran = three-run;
+  answers = λ vs t x. sym (same-answers vs t x);
+  ends = at-end;
+}

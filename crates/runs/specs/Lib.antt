@@ -3,3 +3,4 @@ pub mod Model
 pub mod Runs
 pub mod Counts
 pub mod Lent
+pub mod Examples
