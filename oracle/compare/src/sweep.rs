@@ -243,7 +243,7 @@ pub fn spec(min: [f64; 3], max: [f64; 3], cell: f64, max_rays: u64, max_interval
 }
 
 /// The log as the port must leave it, where it was written.
-fn cells(entries: &[rust_sweep::Entry], len: usize) -> Vec<f64> {
+pub fn logged(entries: &[rust_sweep::Entry], len: usize) -> Vec<f64> {
     let mut out: Vec<f64> = entries
         .iter()
         .flat_map(|e| {
@@ -281,7 +281,7 @@ fn compare(c: &Case) -> Outcome {
     let (want, list, total) = c.rust();
     let store =
         spans.untouched(&c.spans) && links.untouched(&c.links) && heads.untouched(&c.heads) && chords.untouched(&c.chords);
-    let expected = cells(&list, c.log);
+    let expected = logged(&list, c.log);
     let (numbers, written) = match want {
         0 => (
             entries == list.len() && visits == total,

@@ -7,16 +7,13 @@
 //! is an argument; `check_tool`'s answers are document 01's limits, which camlib lacks but for the beam.
 use compare::{
     cutter::{self, Tool, cutter_numbers},
+    row::bits,
     strips::{self, Answer},
 };
 use harness::generate::Gen;
 
 const SEED: u64 = 1;
 const COUNT: u64 = 250;
-
-fn bits(x: f64) -> u64 {
-    if x.is_nan() { 0x7ff8_0000_0000_0000 } else { x.to_bits() }
-}
 
 fn print(op: u64, arguments: &[u64], answer: Answer) {
     let mut words = arguments.to_vec();

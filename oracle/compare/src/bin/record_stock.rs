@@ -12,37 +12,15 @@
 //! `volume` gives · 24 cells of spans, 24 of links, 10 of heads: the store after `fill` or before `volume`. Cells that `fill` does not write are 7.
 use compare::{
     merge::{Ray, ray_and_room},
+    row::{bits, doubles, numbers, print},
     stock::{Blank, Stock, blank, fill_refusal, rust_volume, stock, volume_refusal},
 };
 use harness::{flat, generate::Gen, grid::Query, pairs, store::Store};
 
 const SEED: u64 = 1;
 const COUNT: usize = 150;
+const WORDS: usize = 87;
 const SEVEN: f64 = 7.;
-
-fn bits(x: f64) -> u64 {
-    if x.is_nan() { 0x7ff8_0000_0000_0000 } else { x.to_bits() }
-}
-
-fn doubles(list: &[f64], n: usize) -> Vec<u64> {
-    assert!(list.len() <= n);
-    let mut words: Vec<u64> = list.iter().map(|x| bits(*x)).collect();
-    words.resize(n, 0);
-    words
-}
-
-fn numbers(list: &[u64], n: usize) -> Vec<u64> {
-    assert!(list.len() <= n);
-    let mut words = list.to_vec();
-    words.resize(n, 0);
-    words
-}
-
-fn print(mut words: Vec<u64>) {
-    assert!(words.len() <= 87);
-    words.resize(87, 0);
-    println!("{}", words.iter().map(|w| format!("{w:016x}")).collect::<Vec<_>>().join(" "));
-}
 
 /// None where the row has no room for it.
 fn merge_row(ray: &Ray, room: usize) -> Option<Vec<u64>> {
@@ -124,7 +102,7 @@ fn volume_row(s: &Stock) -> Option<Vec<u64>> {
 }
 
 fn record(name: &str, row: impl Fn(&mut Gen) -> Option<Vec<u64>>) {
-    (0..).filter_map(|k| row(&mut Gen::new(SEED, name, k))).take(COUNT).for_each(print);
+    (0..).filter_map(|k| row(&mut Gen::new(SEED, name, k))).take(COUNT).for_each(|words| print(&words, WORDS));
 }
 
 fn main() {
