@@ -4,7 +4,7 @@ use crate::{
     function::{Function, Outcome, Words},
 };
 use harness::{
-    commits::{Commit, Entries, Run, Tally, edges, run},
+    commits::{Commit, Entries, Kind, Run, Tally, edges, run, run_of},
     store::{LentStore, Match},
 };
 use oracle::dexel::DexelStockSpec;
@@ -113,6 +113,10 @@ impl Words for Run {
         let commits: Vec<String> = self.commits.iter().map(Words::words).collect();
         format!("{blank} generation {} over {} {}", self.start.generation, self.over.words(), commits.join("; "))
     }
+
+    fn calls(&self) -> u64 {
+        self.commits.len() as u64
+    }
 }
 
 pub fn compare_run(r: &Run, port: &impl Entries) -> Outcome {
@@ -123,6 +127,22 @@ pub fn compare_run(r: &Run, port: &impl Entries) -> Outcome {
     }
 }
 
+fn kind_of(c: &Commit) -> Kind {
+    match c {
+        Commit::Changes { .. } => Kind::Changes,
+        Commit::Log { .. } => Kind::Logs,
+    }
+}
+
+/// Runs of one kind of commit, so that each entry has a row of its own, and mixed ones.
 pub fn functions() -> Vec<Function> {
-    vec![Function::new("runs", edges(), run, |r| compare_run(r, &Port))]
+    let of = |name: &'static str, kind: Kind| {
+        let edges = edges().into_iter().filter(|r| r.commits.iter().all(|c| kind_of(c) == kind)).collect();
+        Function::new(name, edges, move |g| run_of(g, Some(kind)), |r| compare_run(r, &Port))
+    };
+    vec![
+        of("commit_changes", Kind::Changes),
+        of("commit_log", Kind::Logs),
+        Function::new("runs", edges(), run, |r| compare_run(r, &Port)),
+    ]
 }
