@@ -134,6 +134,10 @@ impl Case {
         rust::stock(spec, 0, [rays(0), rays(1), rays(2)])
     }
 
+    fn chord_fault(&self) -> bool {
+        chord_fault(self.tool_axis(), self.guard, &self.chords)
+    }
+
     /// The refusals that are found before a ray is visited, in document 01's order.
     fn early(&self) -> u32 {
         let spec = rust::spec(self.min, self.max, self.cell, self.max_rays as usize, self.max_intervals as usize);
@@ -149,7 +153,7 @@ impl Case {
             return 11;
         }
         match cutter::refusal(&self.tool).0 {
-            0 if chord_fault(self.tool_axis(), self.guard, &self.chords) => 7,
+            0 if self.chord_fault() => 7,
             k => k as u32,
         }
     }

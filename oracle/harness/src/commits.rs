@@ -254,7 +254,7 @@ fn hit(g: &mut Gen, ends: &[f64], lo: f64, hi: f64) -> Pair {
     if g.once_in(8) { [a, b] } else { [a.min(b), a.max(b)] }
 }
 
-/// A log of hits on the stock's rays, now and then with one fault.
+/// A log of up to seven entries on the rays of a stock, now and then one that names no ray or has part of an entry over.
 pub fn log(g: &mut Gen, s: &State) -> Commit {
     let (stock, spec) = (&s.stock, s.stock.spec());
     let mut log = vec![];
