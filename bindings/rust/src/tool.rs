@@ -84,6 +84,36 @@ impl Cutter {
     pub fn flat(diameter_mm: f64, cutting_length_mm: f64, overall_length_mm: f64) -> Cutter {
         Cutter { tip_height: 0., ..Cutter::ball(diameter_mm, cutting_length_mm, overall_length_mm) }
     }
+
+    /// The numbers in the header's order.
+    pub fn numbers(&self) -> [f64; 9] {
+        [
+            self.diameter_mm,
+            self.cutting_length_mm,
+            self.overall_length_mm,
+            self.neck_diameter_mm,
+            self.shank_diameter_mm,
+            self.radius,
+            self.tip_height,
+            self.slope,
+            self.shoulder,
+        ]
+    }
+
+    /// The cutter of these numbers, in the header's order.
+    pub fn of_numbers(x: [f64; 9]) -> Cutter {
+        Cutter {
+            diameter_mm: x[0],
+            cutting_length_mm: x[1],
+            overall_length_mm: x[2],
+            neck_diameter_mm: x[3],
+            shank_diameter_mm: x[4],
+            radius: x[5],
+            tip_height: x[6],
+            slope: x[7],
+            shoulder: x[8],
+        }
+    }
 }
 
 /// A straight move of the tool's tip from a to b in world coordinates; e bounds how far the true path strays from it.

@@ -4,7 +4,7 @@ use crate::{
     function::{Function, Outcome, Words},
 };
 use harness::{
-    commits::{Commit, Entries, Run, Tally, edges, run},
+    commits::{Commit, Entries, Kind, Run, Tally, edges, run, run_of},
     log_runs::{LogRun, log_run},
     store::{LentStore, Match},
 };
@@ -115,12 +115,20 @@ impl Words for Run {
         let commits: Vec<String> = self.commits.iter().map(Words::words).collect();
         format!("{blank} generation {} over {} {}", self.start.generation, self.over.words(), commits.join("; "))
     }
+
+    fn calls(&self) -> u64 {
+        self.commits.len() as u64
+    }
 }
 
 impl Words for LogRun {
     fn words(&self) -> String {
         let copies: Vec<String> = self.copies.iter().map(Words::words).collect();
         format!("{} | {}", self.first.words(), copies.join(" | "))
+    }
+
+    fn calls(&self) -> u64 {
+        self.first.calls() + self.copies.iter().map(Words::calls).sum::<u64>()
     }
 }
 
@@ -132,8 +140,22 @@ fn outcome(played: Result<Match, String>) -> Outcome {
     }
 }
 
+fn kind_of(c: &Commit) -> Kind {
+    match c {
+        Commit::Changes { .. } => Kind::Changes,
+        Commit::Log { .. } => Kind::Logs,
+    }
+}
+
+/// Runs of one kind of commit, so that each entry has a row of its own, mixed ones, and runs of logs with their copies.
 pub fn functions() -> Vec<Function> {
+    let of = |name: &'static str, kind: Kind| {
+        let edges = edges().into_iter().filter(|r| r.commits.iter().all(|c| kind_of(c) == kind)).collect();
+        Function::new(name, edges, move |g| run_of(g, Some(kind)), |r| outcome(r.play(&Port)))
+    };
     vec![
+        of("commit_changes", Kind::Changes),
+        of("commit_log", Kind::Logs),
         Function::new("runs", edges(), run, |r| outcome(r.play(&Port))),
         Function::new("log_runs", vec![], log_run, |r| outcome(r.play(&Port))),
     ]

@@ -42,38 +42,9 @@ pub struct Tool {
     pub h: [f64; 2],
 }
 
-/// The numbers in the order of the struct.
-pub fn cutter_numbers(c: &PreparedCutter) -> [f64; 9] {
-    [
-        c.diameter_mm,
-        c.cutting_length_mm,
-        c.overall_length_mm,
-        c.neck_diameter_mm,
-        c.shank_diameter_mm,
-        c.radius,
-        c.tip_height,
-        c.slope,
-        c.shoulder,
-    ]
-}
-
-pub fn cutter_of(x: [f64; 9]) -> PreparedCutter {
-    PreparedCutter {
-        diameter_mm: x[0],
-        cutting_length_mm: x[1],
-        overall_length_mm: x[2],
-        neck_diameter_mm: x[3],
-        shank_diameter_mm: x[4],
-        radius: x[5],
-        tip_height: x[6],
-        slope: x[7],
-        shoulder: x[8],
-    }
-}
-
 impl Words for Tool {
     fn words(&self) -> String {
-        format!("{} {} {} {}", self.kind, self.own.words(), cutter_numbers(&self.c).words(), self.h.words())
+        format!("{} {} {} {}", self.kind, self.own.words(), self.c.numbers().words(), self.h.words())
     }
 }
 
@@ -175,7 +146,7 @@ fn odd(g: &mut Gen, x: f64) -> f64 {
 pub fn any(g: &mut Gen) -> Tool {
     let t = likely(g);
     let own = t.own.map(|x| odd(g, x));
-    let c = cutter_of(cutter_numbers(&t.c).map(|x| odd(g, x)));
+    let c = PreparedCutter::of_numbers(t.c.numbers().map(|x| odd(g, x)));
     Tool { own, c, ..t }
 }
 
@@ -219,7 +190,7 @@ pub fn refusal(t: &Tool) -> Answer {
         4 => &t.own[..],
         _ => &[],
     };
-    let nan = cutter_numbers(c).iter().chain(own).any(|x| x.is_nan());
+    let nan = c.numbers().iter().chain(own).any(|x| x.is_nan());
     let positive = [c.diameter_mm, c.cutting_length_mm, c.radius];
     let limit = positive.iter().any(|x| *x <= 0. || *x > 1e6)
         || [c.tip_height, c.slope, c.shoulder].iter().chain(own).any(|x| *x < 0. || *x > 1e6)

@@ -1,6 +1,7 @@
 //! One function of the port: its inputs and how its answers are compared.
 use crate::explained::Explained;
 use harness::{generate::Gen, hex};
+use std::{cell::Cell, rc::Rc};
 
 /// What a comparison found.
 pub enum Outcome {
@@ -22,6 +23,11 @@ impl Outcome {
 /// An input as hex words, lists in brackets.
 pub trait Words {
     fn words(&self) -> String;
+
+    /// How many calls of the port it is compared by.
+    fn calls(&self) -> u64 {
+        1
+    }
 }
 
 impl Words for f64 {
@@ -84,6 +90,7 @@ pub struct Function {
     pub name: &'static str,
     /// how many fixed cases there are; they have the numbers from 0 on
     pub edges: u64,
+    calls: Rc<Cell<u64>>,
     case: Box<dyn Fn(u64, u64) -> Option<Difference>>,
 }
 
@@ -95,16 +102,26 @@ impl Function {
         make: impl Fn(&mut Gen) -> I + 'static,
         compare: impl Fn(&I) -> Outcome + 'static,
     ) -> Self {
-        let judge = move |input: &I| match compare(input) {
-            Outcome::Same => None,
-            Outcome::Differs { meant, rust, port } => Some(Difference { meant, input: input.words(), rust, port }),
+        let calls = Rc::new(Cell::new(0));
+        let counted = calls.clone();
+        let judge = move |input: &I| {
+            counted.update(|n| n + input.calls());
+            match compare(input) {
+                Outcome::Same => None,
+                Outcome::Differs { meant, rust, port } => Some(Difference { meant, input: input.words(), rust, port }),
+            }
         };
         let count = edges.len() as u64;
         let case = Box::new(move |seed, number| match edges.get(number as usize) {
             Some(input) => judge(input),
             None => judge(&make(&mut Gen::new(seed, name, number))),
         });
-        Self { name, edges: count, case }
+        Self { name, edges: count, calls, case }
+    }
+
+    /// The calls of the port by all cases so far.
+    pub fn calls(&self) -> u64 {
+        self.calls.get()
     }
 
     /// Compares the case of this number: an edge, or past these a generated one.

@@ -82,8 +82,11 @@ fn main() -> ExitCode {
         return ExitCode::from(2);
     };
     println!("seed {}, {} generated inputs for each function, after its fixed ones", o.seed, o.count);
-    println!("{:<24} {:>10} {:>22} {:>10} {:>8}", "function", "cases", "meant (row: times)", "different", "seconds");
-    let (mut functions, mut cases, mut different) = (0, 0, 0);
+    println!(
+        "{:<24} {:>10} {:>10} {:>22} {:>10} {:>8}",
+        "function", "cases", "calls", "meant (row: times)", "different", "seconds"
+    );
+    let (mut functions, mut cases, mut calls, mut different) = (0, 0, 0, 0);
     for (module, list) in modules() {
         for f in list {
             let name = format!("{module}::{}", f.name);
@@ -97,10 +100,12 @@ fn main() -> ExitCode {
             };
             let meant: Vec<_> = t.meant.iter().map(|(e, n)| format!("{}: {n}", e.number())).collect();
             let seconds = start.elapsed().as_secs_f64();
-            println!("{name:<24} {:>10} {:>22} {:>10} {seconds:>8.1}", t.cases, meant.join(", "), t.different);
+            let called = f.calls();
+            println!("{name:<24} {:>10} {called:>10} {:>22} {:>10} {seconds:>8.1}", t.cases, meant.join(", "), t.different);
             print_first(&t, &name, &o);
             functions += 1;
             cases += t.cases;
+            calls += called;
             different += t.different;
         }
     }
@@ -111,6 +116,6 @@ fn main() -> ExitCode {
     for e in Explained::ALL {
         println!("row {} of docs/DIFFERENCES.md: {}", e.number(), e.text());
     }
-    println!("{functions} functions, {cases} cases, {different} unexplained differences");
+    println!("{functions} functions, {cases} cases, {calls} calls, {different} unexplained differences");
     ExitCode::from((different > 0) as u8)
 }

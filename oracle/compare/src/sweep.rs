@@ -68,7 +68,7 @@ impl Words for Case {
             self.links.words(),
             self.heads.words(),
             self.tool.own.words(),
-            cutter::cutter_numbers(&self.tool.c).words(),
+            self.tool.c.numbers().words(),
             self.guard.words(),
             self.chords.words()
         )

@@ -342,8 +342,21 @@ pub fn changes(g: &mut Gen, s: &State) -> Commit {
     Commit::Changes { base, changes, pairs }
 }
 
-/// Commits of both kinds, or of one, on a store that is often nearly full, now and then at the highest generation.
+/// Which commits a run has.
+#[derive(Clone, Copy, Debug, PartialEq)]
+pub enum Kind {
+    Changes,
+    Logs,
+    Both,
+}
+
+/// Commits of both kinds, or of one.
 pub fn run(g: &mut Gen) -> Run {
+    run_of(g, None)
+}
+
+/// Commits on a store that is often nearly full, now and then at the highest generation; of any kind where none is asked for.
+pub fn run_of(g: &mut Gen, kind: Option<Kind>) -> Run {
     let mut spec = small_spec(g);
     let rays = spec.grid().unwrap().total_rays();
     spec.max_intervals = 2 * rays + g.below(rays as u64 + 1) as usize;
@@ -351,12 +364,12 @@ pub fn run(g: &mut Gen) -> Run {
     if g.once_in(8) {
         start.generation = u64::MAX - g.below(4);
     }
-    let kind = g.below(3);
+    let kind = kind.unwrap_or_else(|| g.pick(&[Kind::Changes, Kind::Logs, Kind::Both]));
     let mut state = State::of(&spec, start.clone());
     let mut commits = vec![];
     for _ in 0..1 + g.below(12) {
         let both = g.once_in(2);
-        let commit = if kind == 0 || (kind == 2 && both) { changes(g, &state) } else { log(g, &state) };
+        let commit = if kind == Kind::Changes || (kind == Kind::Both && both) { changes(g, &state) } else { log(g, &state) };
         state = state.due(&commit).next;
         commits.push(commit);
     }

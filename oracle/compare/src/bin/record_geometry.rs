@@ -6,7 +6,7 @@
 //! of its case and two doubles. What a function does not take or give is 0, and every NaN is 7ff8000000000000. A stadium's plan length
 //! is an argument; `check_tool`'s answers are document 01's limits, which camlib lacks but for the beam.
 use compare::{
-    cutter::{self, Tool, cutter_numbers},
+    cutter::{self, Tool},
     row::bits,
     strips::{self, Answer},
 };
@@ -35,7 +35,7 @@ fn strip(op: u64, name: &str, edges: Vec<Vec<f64>>, make: fn(&mut Gen) -> Vec<f6
 
 fn tool(op: u64, name: &str, edges: Vec<Tool>, make: fn(&mut Gen) -> Tool, rust: fn(&Tool) -> Answer) {
     for t in inputs(name, edges, make) {
-        let numbers = t.own.iter().chain(&cutter_numbers(&t.c)).chain(&t.h).map(|x| bits(*x)).collect::<Vec<_>>();
+        let numbers = t.own.iter().chain(&t.c.numbers()).chain(&t.h).map(|x| bits(*x)).collect::<Vec<_>>();
         print(op, &[&[t.kind], &numbers[..]].concat(), rust(&t));
     }
 }

@@ -325,7 +325,7 @@ fn likely_pass(g: &mut Gen, s: &Stock) -> Pass {
     let spec = s.spec();
     let guard = g.pick(&[1e-3, 1e-6, 0.1, 1.]);
     let mut numbers = tool.own.to_vec();
-    numbers.extend(cutter::cutter_numbers(&tool.c));
+    numbers.extend(tool.c.numbers());
     numbers.push(guard);
     let chords = (0..g.below(4)).flat_map(|_| chord(g, AXES[axis as usize], spec.min_mm, spec.max_mm)).collect::<Vec<_>>();
     let budget = if g.once_in(4) { g.below(60) } else { g.pick(&[u64::MAX, 1 << 20]) };

@@ -5,7 +5,7 @@ use crate::{
     words::doubles,
 };
 use compare::{
-    cutter::{self, PreparedCutter, Tool, cutter_of},
+    cutter::{self, PreparedCutter, Tool},
     sweep::{AXES, chord_fault},
 };
 use harness::{
@@ -349,7 +349,7 @@ impl Pass {
     }
 
     fn cutter(&self) -> PreparedCutter {
-        cutter_of(std::array::from_fn(|k| self.number(k + 2)))
+        PreparedCutter::of_numbers(std::array::from_fn(|k| self.number(k + 2)))
     }
 
     /// 5, 6 or 7, else 0.
