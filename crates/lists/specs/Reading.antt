@@ -1,10 +1,10 @@
 -- Reading the lists of a store off their chains.
 use mathlib.Core.Path.{_≡_}
-use mathlib.Core.Bool.{Bool, true, _&&_}
+use mathlib.Core.Bool.{Bool, true}
 use mathlib.Core.List.{List, [], _∷_, _++_}
 use Prim.Native.Nat.{ℕ, _+_, _*_, _≤_}
 use lib.ListN.{length, take, drop}
-use lib.Ieee.{Float, binary64, add, sub, lt, le}
+use lib.Ieee.{Float, binary64, add, sub, le}
 use Rattle.doubles.specs.Constants.{plusZero}
 use Rattle.store.specs.Store.{places, Chain, endsAt}
 use Rattle.validity.specs.Ray.{from, ValidRay}
@@ -32,9 +32,10 @@ lengthFrom sum [] = sum
 lengthFrom sum (lo ∷ []) = sum
 lengthFrom sum (lo ∷ hi ∷ l) = lengthFrom (add binary64 sum (sub binary64 hi lo)) l
 
--- the pair is within the bounds, and lo < hi
-abbrev pub pairIn : (low high lo hi : Float) → Bool
-pairIn low high lo hi = le low lo && (lt lo hi && le hi high)
+-- the list has no first end below low
+abbrev pub startsIn : (low : Float) → List Float → Bool
+startsIn low [] = true
+startsIn low (a ∷ l) = le low a
 
 -- the answer of a test of a list, and where it passes the list's length
 pub record Sums (passes : Bool) (l : List Float) (r : ListSum) : Type 0 where

@@ -3,11 +3,11 @@ ghost use mathlib.Core.Path.{_≡_};
 ghost use mathlib.Core.Bool.{true, not, _&&_};
 ghost use Prim.Native.Nat.{_+_, _*_, _<_, _≤_};
 ghost use lib.ListN.{length};
-ghost use lib.Ieee.{le};
+ghost use lib.Ieee.{lt, le};
 ghost use Rattle.spans.specs.Spans.{sound, equal};
 ghost use Rattle.store.specs.Store.{places, loAt, hiAt};
 ghost use Rattle.validity.specs.Ray.{ValidRay, bounded, covers, contained};
-ghost use Rattle.lists.specs.Reading.{listFrom, Linked, Readable, pairIn, Sums, Measures, Copied, Reaches};
+ghost use Rattle.lists.specs.Reading.{listFrom, Linked, Readable, startsIn, Sums, Measures, Copied, Reaches};
 
 // How many pairs the list has.
 pub fn list_pairs(links: &[u64], n: usize, head: u64) -> usize
@@ -72,22 +72,27 @@ pub fn list_is(spans: &[f64], links: &[u64], n: usize, head: u64, pairs: &[f64])
     t == pairs.len()
 }
 
-// Whether the pair at place i does not begin at x or below, has lo < hi and lies within the bounds.
-fn follows_within(spans: &[f64], i: usize, x: f64, low: f64, high: f64) -> bool
+// Whether the pair at place i does not begin at x or below, and has lo < hi.
+fn follows(spans: &[f64], i: usize, x: f64) -> bool
     requires { ⌜ 2 * i + 1 < length (now spans) ⌝ }
-    ensures { λ r. ⌜ r ≡ (not (le (loAt (now (spans .entry)) i) x) && pairIn low high (loAt (now (spans .entry)) i) (hiAt (now (spans .entry)) i)) ⌝ }
+    ensures { λ r. ⌜ r ≡ (not (le (loAt (now (spans .entry)) i) x) && lt (loAt (now (spans .entry)) i) (hiAt (now (spans .entry)) i)) ⌝ }
 {
-    let lo = spans[2 * i];
-    let hi = spans[2 * i + 1];
-    if lo <= x {
+    if spans[2 * i] <= x {
         return false;
     }
-    if low <= lo {
-        if lo < hi {
-            return hi <= high;
-        }
+    spans[2 * i] < spans[2 * i + 1]
+}
+
+// Whether the list is empty or does not begin below `low`.
+fn starts_within(spans: &[f64], links: &[u64], n: usize, head: u64, low: f64) -> bool
+    requires { ⌜ Readable n (now spans) (now links) head ⌝ }
+    ensures { λ r. ⌜ r ≡ startsIn low (listFrom n (now (spans .entry)) (now (links .entry)) head) ⌝ }
+{
+    if head == 0 {
+        return true;
     }
-    false
+    let first = (head - 1) as usize;
+    low <= spans[2 * first]
 }
 
 // Whether a list passes a test, and if so the sum of its pairs' lengths.
@@ -96,18 +101,25 @@ pub struct ListSum {
     pub length: f64,
 }
 
-// Whether the list is sound and within the bounds. No end is at most the NaN that stands for the end before the first pair.
+// Whether the list is sound and within the bounds: as it rises, its first and its last end tell the bounds. No end is at most the NaN that stands
+// for the end before the first pair.
 fn sound_between(spans: &[f64], links: &[u64], n: usize, head: u64, low: f64, high: f64) -> ListSum
     requires { ⌜ Readable n (now spans) (now links) head ⌝ }
     ensures { λ r. ⌜ Sums (sound (listFrom n (now (spans .entry)) (now (links .entry)) head) && bounded low high (listFrom n (now (spans .entry)) (now (links .entry)) head))
         (listFrom n (now (spans .entry)) (now (links .entry)) head) r ⌝ }
 {
     let mut sum = 0.0;
+    if !starts_within(spans, links, n, head, low) {
+        return ListSum {
+            good: false,
+            length: sum,
+        };
+    }
     let mut last = 0.0 / 0.0;
     let mut k = head;
     while k != 0 {
         let i = (k - 1) as usize;
-        if !follows_within(spans, i, last, low, high) {
+        if !follows(spans, i, last) {
             return ListSum {
                 good: false,
                 length: sum,
@@ -117,8 +129,14 @@ fn sound_between(spans: &[f64], links: &[u64], n: usize, head: u64, low: f64, hi
         sum = sum + (last - spans[2 * i]);
         k = links[2 * i];
     }
+    if head == 0 {
+        return ListSum {
+            good: true,
+            length: sum,
+        };
+    }
     ListSum {
-        good: true,
+        good: last <= high,
         length: sum,
     }
 }
@@ -154,19 +172,10 @@ fn reaches_over(spans: &[f64], links: &[u64], n: usize, outer: u64, i: usize) ->
     false
 }
 
-// Whether the inner list is sound and within the bounds, and each of its pairs lies in one of the outer list's.
-fn sound_within(
-    spans: &[f64],
-    links: &[u64],
-    n: usize,
-    outer: u64,
-    inner: u64,
-    low: f64,
-    high: f64,
-) -> ListSum
+// Whether the inner list is sound and each of its pairs lies in one of the outer list's.
+fn sound_within(spans: &[f64], links: &[u64], n: usize, outer: u64, inner: u64) -> ListSum
     requires { ⌜ Readable n (now spans) (now links) outer × Readable n (now spans) (now links) inner ⌝ }
-    ensures { λ r. ⌜ Sums ((sound (listFrom n (now (spans .entry)) (now (links .entry)) inner) && bounded low high (listFrom n (now (spans .entry)) (now (links .entry)) inner))
-        && contained (listFrom n (now (spans .entry)) (now (links .entry)) outer) (listFrom n (now (spans .entry)) (now (links .entry)) inner))
+    ensures { λ r. ⌜ Sums (sound (listFrom n (now (spans .entry)) (now (links .entry)) inner) && contained (listFrom n (now (spans .entry)) (now (links .entry)) outer) (listFrom n (now (spans .entry)) (now (links .entry)) inner))
         (listFrom n (now (spans .entry)) (now (links .entry)) inner) r ⌝ }
 {
     let mut sum = 0.0;
@@ -175,7 +184,7 @@ fn sound_within(
     let mut k = inner;
     while k != 0 {
         let i = (k - 1) as usize;
-        if !follows_within(spans, i, last, low, high) {
+        if !follows(spans, i, last) {
             return ListSum {
                 good: false,
                 length: sum,
@@ -226,7 +235,7 @@ pub fn measure_ray(
             certain: 0.0,
         };
     }
-    let c = sound_within(spans, links, n, possible, certain, low, high);
+    let c = sound_within(spans, links, n, possible, certain);
     RaySums {
         valid: c.good,
         possible: p.length,

@@ -1,37 +1,40 @@
 use borrow.Author.Needs.{needs}
 use mathlib.Core.Path.{_≡_, refl, _∙_}
-use mathlib.Core.Bool.{_&&_}
 use lib.ListN.{length}
 use Rattle.doubles.specs.Constants.{plusZero}
-use Rattle.spans.specs.Spans.{sound}
 use Rattle.store.specs.Store.{places}
-use Rattle.validity.specs.Ray.{bounded}
 use Rattle.lists.specs.Reading.{Readable, listFrom, lengthFrom}
 use Rattle.lists.proofs.Steps.{step}
 use Rattle.lists.proofs.Loops.{length-step, length-end}
-use Rattle.lists.proofs.Bounds.{after, after-nan, zero-nan, after-none, after-bad, after-good, sum-bad, sum-good}
+use Rattle.lists.proofs.Bounds.{after, lastEnd, zero-nan, sound-after, starts-bad, after-none, after-bad, after-good, last-step, last-none, none-between, all-between, left-bad, sum-bad, sum-good}
 use Rattle.lists.proofs.sound_between.Statement.{statement}
 use Rattle.lists.proofs.sound_between.Tie as tie
 
 abbrev Inv-loop : tie.InvT-loop
 Inv-loop spans links n head low high sum₀ last₀ k₀ sum last k =
-    Readable n spans links k × ((sound (listFrom n spans links head) && bounded low high (listFrom n spans links head)) ≡ after low high last (listFrom n spans links k))
-    × (lengthFrom plusZero (listFrom n spans links head) ≡ lengthFrom sum (listFrom n spans links k))
+    Readable n spans links k × (after last₀ (listFrom n spans links head) ≡ after last (listFrom n spans links k))
+    × (lastEnd last₀ (listFrom n spans links head) ≡ lastEnd last (listFrom n spans links k)) × (lengthFrom plusZero (listFrom n spans links head) ≡ lengthFrom sum (listFrom n spans links k))
 
 abbrev μ-loop : tie.MeasureT-loop
 μ-loop spans links n head low high sum₀ last₀ k₀ sum last k = length (places links n k)
 
+starts-within-requires : tie.Need-starts-within-requires Inv-loop μ-loop
+starts-within-requires c κs = search needs
+
+returns : tie.Need-returns Inv-loop μ-loop
+returns c = sum-bad _ _ _ (starts-bad _ _ _ _ (c .before .starts-within .ensures) (c .if1 .taken))
+
 loop-holds : tie.Need-loop-holds Inv-loop μ-loop
-loop-holds c = (c .before .before .pre, after-nan _ _ _ _ zero-nan, refl)
+loop-holds c = (c .before .before .before .before .pre, refl, refl, refl)
 
 sub-i : tie.Need-sub-i Inv-loop μ-loop
 sub-i c = let h = step (c .before .loop .inv .0) (c .loop-test .taken) .counted in let r = c .before .loop .inv .0 in search needs
 
-follows-within-requires : tie.Need-follows-within-requires Inv-loop μ-loop
-follows-within-requires c κs = let h = step (c .before .loop .inv .0) (c .loop-test .taken) .counted in let r = c .before .loop .inv .0 in search needs
+follows-requires : tie.Need-follows-requires Inv-loop μ-loop
+follows-requires c κs = let h = step (c .before .loop .inv .0) (c .loop-test .taken) .counted in let r = c .before .loop .inv .0 in search needs
 
-returns : tie.Need-returns Inv-loop μ-loop
-returns c = sum-bad _ _ _ (c .before .before .before .loop .inv .1 ∙ after-bad _ _ _ _ _ _ _ _ (step (c .before .before .before .loop .inv .0) (c .before .before .loop-test .taken)) (c .before .follows-within .ensures) (c .if1 .taken))
+returns-2 : tie.Need-returns-2 Inv-loop μ-loop
+returns-2 c = sum-bad _ _ _ (left-bad _ _ (sound-after _ _ zero-nan ∙ c .before .before .before .loop .inv .1 ∙ after-bad _ _ _ _ _ _ (step (c .before .before .before .loop .inv .0) (c .before .before .loop-test .taken)) (c .before .follows .ensures) (c .if2 .taken)))
 
 mul-last : tie.Need-mul-last Inv-loop μ-loop
 mul-last c = let h = step (c .before .before .before .loop .inv .0) (c .before .before .loop-test .taken) .counted in let r = c .before .before .before .loop .inv .0 in search needs
@@ -67,10 +70,13 @@ loop-less : tie.Need-loop-less Inv-loop μ-loop
 loop-less c = step (c .before .before .before .before .before .before .loop .inv .0) (c .before .before .before .before .before .loop-test .taken) .less
 
 loop-again : tie.Need-loop-again Inv-loop μ-loop
-loop-again c = let s = step (c .before .before .before .before .before .before .loop .inv .0) (c .before .before .before .before .before .loop-test .taken) in (s .next, c .before .before .before .before .before .before .loop .inv .1 ∙ after-good _ _ _ _ _ _ _ _ s (c .before .before .before .before .follows-within .ensures) (c .before .before .before .if1 .left), c .before .before .before .before .before .before .loop .inv .2 ∙ length-step s _)
+loop-again c = let s = step (c .before .before .before .before .before .before .loop .inv .0) (c .before .before .before .before .before .loop-test .taken) in (s .next, c .before .before .before .before .before .before .loop .inv .1 ∙ after-good _ _ _ _ _ _ s (c .before .before .before .before .follows .ensures) (c .before .before .before .if2 .left), c .before .before .before .before .before .before .loop .inv .2 ∙ last-step _ _ _ _ _ s, c .before .before .before .before .before .before .loop .inv .3 ∙ length-step s _)
 
-returns-2 : tie.Need-returns-2 Inv-loop μ-loop
-returns-2 c = sum-good _ _ _ (c .before .loop .inv .1 ∙ after-none _ _ _ _ _ _ _ (c .loop-test .left)) (c .before .loop .inv .2 ∙ length-end _ _ _ _ _ (c .loop-test .left))
+returns-3 : tie.Need-returns-3 Inv-loop μ-loop
+returns-3 c = sum-good _ _ _ _ (none-between _ _ _ _ _ _ (c .if3 .taken)) (c .before .before .loop .inv .3 ∙ length-end _ _ _ _ _ (c .before .loop-test .left))
+
+returns-4 : tie.Need-returns-4 Inv-loop μ-loop
+returns-4 c = sum-good _ _ _ _ (all-between _ _ _ _ _ _ _ _ _ zero-nan (step (c .before .before .before .before .before .before .before .pre) (c .if3 .left)) (c .before .before .before .before .starts-within .ensures) (c .before .before .before .if1 .left) (c .before .before .loop .inv .1 ∙ after-none _ _ _ _ _ (c .before .loop-test .left)) (c .before .before .loop .inv .2 ∙ last-none _ _ _ _ _ (c .before .loop-test .left))) (c .before .before .loop .inv .3 ∙ length-end _ _ _ _ _ (c .before .loop-test .left))
 
 pub sound-between-spec : {M : Type 1} → statement M
 sound-between-spec =
@@ -78,10 +84,12 @@ sound-between-spec =
     (tie.spec
     Inv-loop
     μ-loop
+    starts-within-requires
+    returns
     loop-holds
     sub-i
-    follows-within-requires
-    returns
+    follows-requires
+    returns-2
     mul-last
     add-last
     mul-last-2
@@ -94,4 +102,5 @@ sound-between-spec =
     shared-slice-read-k
     loop-less
     loop-again
-    returns-2)
+    returns-3
+    returns-4)
