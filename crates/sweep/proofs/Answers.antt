@@ -3,7 +3,7 @@ use mathlib.Core.Path.{_≡_, refl, sym, ap, subst, _∙_}
 use mathlib.Core.Bool.{Bool, true, false, not, cond, _||_}
 use mathlib.Core.List.{List, [], _∷_, _++_}
 use mathlib.Core.Logic.{_⊎_, inl, inr}
-use Prim.Native.Nat.{ℕ, _+_, _-_, _/_, _%_, _≤_}
+use Prim.Native.Nat.{ℕ, _+_, _-_, _%_, _≤_}
 use native.Mathlib.Omega.{arith}
 use lib.Dec.{eqb}
 use lib.Ieee.{Float}
@@ -29,16 +29,14 @@ use Rattle.stock.proofs.Answers.{accepted, refused}
 use Rattle.across.specs.declared.Kernel.{Kernel}
 use Rattle.across.specs.declared.Profile.{Profile}
 use Rattle.store.specs.Updates.{Cells}
-use Rattle.visits.specs.Entries.{joined}
-use Rattle.visits.specs.Walk.{Walks, Went, Halted, Done, Stop, walk}
+use Rattle.visits.specs.Walk.{Walks, Stop}
 use Rattle.visits.specs.declared.Cursor.{Cursor}
 use Rattle.visits.specs.declared.Progress.{Progress}
 use Rattle.visits.specs.declared.Progress.the-variants.{At, Stopped}
 use Rattle.visits.proofs.Walks.{walk-done, walk-stop, stop-is, done-no-stop}
 use Rattle.chords.specs.Limits.{chordsFit}
-use Rattle.sweep.specs.Entries.{Setting, setting, sweepEntries, logOf, visitTotal, Sweepable}
-use Rattle.sweep.specs.Answer.{Unsound, settingCauses, walkOf, visitCauses, causesIn, sweepCauses, refusedLog, Logs, Sweeps, Checks, endOf, loggedBy, endLog}
-use Rattle.sweep.specs.declared.Totals.{Totals}
+use Rattle.sweep.specs.Entries.{Setting, setting, sweepEntries, logOf, Sweepable}
+use Rattle.sweep.specs.Answer.{Unsound, settingCauses, walkOf, visitCauses, causesIn, sweepCauses, refusedLog, Sweeps, Checks, endOf, loggedBy, endLog}
 use Rattle.sweep.specs.declared.Swept.{Swept}
 use Rattle.sweep.specs.declared.Swept.the-variants.{Accepted, Refused}
 use Rattle.sweep.specs.declared.SweepCheck.{SweepCheck}

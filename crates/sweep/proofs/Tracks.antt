@@ -1,7 +1,7 @@
 -- The rays of an axis in a sound store, and the rectangle that a chord visits among them.
 use mathlib.Core.Path.{_≡_, refl, sym, ap, subst, _∙_}
 use mathlib.Core.Bool.{Bool, true, false, cond}
-use mathlib.Core.List.{List, []}
+use mathlib.Core.List.{List}
 use Prim.Native.Nat.{ℕ, zero, suc, _+_, _*_, _^_, _≤_, _<_}
 use native.Mathlib.Omega.{arith}
 use lib.Ieee.{Float, lt}
@@ -38,7 +38,7 @@ use Rattle.visits.specs.declared.Progress.{Progress}
 use Rattle.visits.specs.declared.Progress.the-variants.{At}
 use Rattle.visits.specs.declared.Track.{Track}
 use Rattle.visits.proofs.Walks.{went-none}
-use Rattle.sweep.specs.Entries.{trackOf, Setting, laneIn, rectangleIn, axisEntries, firstAxis, secondAxis, Sweepable}
+use Rattle.sweep.specs.Entries.{trackOf, Setting, laneIn, axisEntries, firstAxis, secondAxis, Sweepable}
 
 -- ---- a sound store can be read along every axis
 module _ (spec : DexelStockSpec) (g : DexelGrid) (c : Cells) (s : Sweepable spec g c) where

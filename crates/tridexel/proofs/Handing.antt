@@ -1,6 +1,5 @@
 -- The numbers that C gets stand for the entry's answer: no refusal has the number 0.
-use mathlib.Core.Path.{_≡_, refl, sym, ap, subst}
-use mathlib.Core.Bool.{Bool}
+use mathlib.Core.Path.{_≡_, sym, ap, subst}
 use mathlib.Core.List.{List, [], _∷_}
 use mathlib.Core.Logic.{inl, inr}
 use native.Mathlib.Omega.{arith}
@@ -21,7 +20,7 @@ use Rattle.stock.specs.Stock.{Stock, SoundStock}
 use Rattle.stock.specs.declared.Committed.{Committed}
 use Rattle.store.specs.Updates.{Cells}
 use Rattle.change_commit.specs.Commit.{commitCauses}
-use Rattle.commit.specs.Commit.{LogCommits, answerOf, commitOf}
+use Rattle.commit.specs.Commit.{LogCommits, commitOf}
 use Rattle.runs.specs.Logs.{Commit}
 use Rattle.runs.specs.Model.{Answer, changed, refused, causes, Judged}
 use Rattle.runs.specs.Lent.{LogCommit, lentStore}

@@ -1,6 +1,5 @@
 use borrow.Author.Needs.{needs}
-use native.Mathlib.Omega.{arith}
-use mathlib.Core.Path.{_≡_, refl, sym, ap, _∙_}
+use mathlib.Core.Path.{refl}
 use Rattle.sweep.proofs.Answers.{end-is, logged-at}
 use Rattle.sweep.proofs.end_log.Statement.{statement}
 use Rattle.sweep.proofs.end_log.Tie as tie

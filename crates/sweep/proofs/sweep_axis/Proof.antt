@@ -1,9 +1,6 @@
 use borrow.Author.Needs.{needs}
-use native.Mathlib.Omega.{arith}
-use mathlib.Core.Path.{_≡_, refl, sym, ap, _∙_}
 use Rattle.store.specs.Updates.{cells}
 use Rattle.sweep.specs.Entries.{setting}
-use Rattle.visits.proofs.Walks.{halted-of}
 use Rattle.sweep.proofs.Tracks.{few-rays, rect-ready, axis-none, axis-some}
 use Rattle.sweep.proofs.Answers.{logged-same}
 use Rattle.sweep.proofs.sweep_axis.Statement.{statement}

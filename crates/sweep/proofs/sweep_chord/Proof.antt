@@ -1,6 +1,5 @@
 use borrow.Author.Needs.{needs}
-use native.Mathlib.Omega.{arith}
-use mathlib.Core.Path.{_≡_, refl, sym, ap, _∙_}
+use mathlib.Core.Path.{_∙_}
 use Rattle.store.specs.Updates.{cells}
 use Rattle.sweep.specs.Entries.{setting}
 use Rattle.visits.proofs.Walks.{halted-of, went-of}

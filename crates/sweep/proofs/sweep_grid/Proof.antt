@@ -1,9 +1,7 @@
 use borrow.Author.Needs.{needs}
-use native.Mathlib.Omega.{arith}
-use mathlib.Core.Path.{_≡_, refl, sym, ap, _∙_}
 use Rattle.store.specs.Updates.{cells}
 use Rattle.sweep.specs.Entries.{setting}
-use Rattle.sweep.proofs.Answers.{logged-room, logged-same, grid-declined, admitted, grid-swept}
+use Rattle.sweep.proofs.Answers.{logged-room, grid-declined, admitted, grid-swept}
 use Rattle.sweep.proofs.sweep_grid.Statement.{statement}
 use Rattle.sweep.proofs.sweep_grid.Tie as tie
 
