@@ -23,7 +23,7 @@ fn options() -> Option<Options> {
     let mut words = std::env::args().skip(1);
     while let Some(w) = words.next() {
         match w.as_str() {
-            "--quick" => o.count = 300_000,
+            "--quick" => o.count = 50_000,
             "--meant" => o.meant = true,
             "--only" => o.only = Some(words.next()?),
             "--case" => o.case = Some(words.next()?.parse().ok()?),
