@@ -161,6 +161,13 @@ pub extern "C" fn tridexel_inner_radius_at(
 }
 
 #[no_mangle]
+pub extern "C" fn tridexel_inner_widest_height(c: PreparedCutter) -> f64
+    ensures { λ r. ⌜ r ≡ c .«tip_height» ⌝ }
+{
+    cutter::widest_height(c)
+}
+
+#[no_mangle]
 pub extern "C" fn tridexel_inner_cut_radius(
     kind: u64,
     m: f64,

@@ -23,6 +23,7 @@ pub struct RadiusNumbers {
 
 unsafe extern "C" {
     pub safe fn tridexel_inner_radius_at(kind: u64, m: f64, n: f64, c: PreparedCutter, z: f64) -> RadiusNumbers;
+    pub safe fn tridexel_inner_widest_height(c: PreparedCutter) -> f64;
     pub safe fn tridexel_inner_cut_radius(kind: u64, m: f64, n: f64, c: PreparedCutter, h: f64) -> f64;
     pub safe fn tridexel_inner_cut_max(kind: u64, m: f64, n: f64, c: PreparedCutter, h0: f64, h1: f64) -> RadiusNumbers;
     pub safe fn tridexel_inner_cut_min(kind: u64, m: f64, n: f64, c: PreparedCutter, h0: f64, h1: f64) -> RadiusNumbers;
@@ -165,6 +166,10 @@ pub fn rust_radius_at(t: &Tool) -> Answer {
     s.map_or((0, [0.; 2]), |s| (if s.cutting { 1 } else { 2 }, [s.radius_mm, 0.]))
 }
 
+pub fn rust_widest_height(t: &Tool) -> Answer {
+    (1, [assembly(t).cutter().widest_height(), 0.])
+}
+
 pub fn rust_cut_radius(t: &Tool) -> Answer {
     (1, [rust::cut_radius(&assembly(t), t.h[0]), 0.])
 }
@@ -239,6 +244,7 @@ pub fn functions() -> Vec<Function> {
         Function::new("radius_at", edges(), any, move |t| {
             answers(rust_radius_at(t), port(t, &|k, m, n, c| numbers(tridexel_inner_radius_at(k, m, n, c, t.h[0]))))
         }),
+        Function::new("widest_height", edges(), any, |t| answers(rust_widest_height(t), (1, [tridexel_inner_widest_height(t.c), 0.]))),
         Function::new("cut_radius", milling_edges(), milling, move |t| {
             answers(rust_cut_radius(t), port(t, &|k, m, n, c| (1, [tridexel_inner_cut_radius(k, m, n, c, t.h[0]), 0.])))
         }),
