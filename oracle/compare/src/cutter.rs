@@ -244,7 +244,9 @@ pub fn functions() -> Vec<Function> {
         Function::new("radius_at", edges(), any, move |t| {
             answers(rust_radius_at(t), port(t, &|k, m, n, c| numbers(tridexel_inner_radius_at(k, m, n, c, t.h[0]))))
         }),
-        Function::new("widest_height", edges(), any, |t| answers(rust_widest_height(t), (1, [tridexel_inner_widest_height(t.c), 0.]))),
+        Function::new("widest_height", edges(), any, |t| {
+            answers(rust_widest_height(t), (1, [tridexel_inner_widest_height(t.c), 0.]))
+        }),
         Function::new("cut_radius", milling_edges(), milling, move |t| {
             answers(rust_cut_radius(t), port(t, &|k, m, n, c| (1, [tridexel_inner_cut_radius(k, m, n, c, t.h[0]), 0.])))
         }),
