@@ -2,6 +2,7 @@
 use mathlib.Core.Path.{_≡_, refl, sym, ap, ap₂, _∙_, subst}
 use mathlib.Core.Bool.{Bool, true, false, cond, _||_}
 use mathlib.Core.List.{List, [], _∷_, _++_}
+use mathlib.Core.Logic.{_⊎_, inl, inr}
 use Prim.Native.Nat.{ℕ, zero, suc, _+_, _*_, _/_, _^_, _≤_, _<_}
 use native.Mathlib.Omega.{arith}
 use borrow.Author.Tests.{eq-eqb, ne-eqb}
@@ -31,6 +32,16 @@ use Rattle.counting.specs.Answer.{listsIn, Countable}
 use Rattle.counting.specs.Totals.{sum, pairsOf, leftOf, changesOf}
 use Rattle.counting.proofs.Sums.{sum-over, sum-le, sum-at, sum-one, sum-plus, sum-times, sum-none}
 use Rattle.counting.proofs.Alike.{pairs-of}
+
+-- no more rays are counted than there are
+at-most-all : (f : ℕ → Bool) (n : ℕ) → sum (λ ray. cond (f ray) 1 0) n ≤ n
+unfolding sum
+at-most-all f zero = omega arith
+at-most-all f (suc n) = go (f n) (at-most-all f n)
+  where
+    go : (b : Bool) → sum (λ ray. cond (f ray) 1 0) n ≤ n → sum (λ ray. cond (f ray) 1 0) n + cond b 1 0 ≤ suc n
+    go true h = omega arith
+    go false h = omega arith
 
 -- ---- how many entries a ray has
 
@@ -176,6 +187,11 @@ module _ (spec : DexelStockSpec) (g : DexelGrid) (c : Cells) (intervals : ℕ) (
 
   pub rays-le : raysChanged g (listsIn spec g c) (entries log) ≤ entryCount log
   rays-le = omega (arith, changed-is, all-entries, sum-le (λ ray. cond (changesOf spec g c log ray) 1 0) entriesOf (rayCount g) changed-le)
+
+  -- no log changes more rays than it has entries, or than there are
+  pub rays-allowed : {a : ℕ} → (entryCount log ≤ a) ⊎ (rayCount g ≤ a) → raysChanged g (listsIn spec g c) (entries log) ≤ a
+  rays-allowed (inl h) = omega (arith, rays-le)
+  rays-allowed (inr h) = omega (arith, changed-is, at-most-all (changesOf spec g c log) (rayCount g))
 
   pub thrice : sum (λ ray. pairsOf spec c ray + 3 * entriesOf ray) (rayCount g) ≡ intervals + 3 * entryCount log
   thrice = sum-plus (pairsOf spec c) (λ ray. 3 * entriesOf ray) (rayCount g) ∙ ap₂ _+_ (sym total-is) (sum-times 3 entriesOf (rayCount g) ∙ ap (λ (k : ℕ). 3 * k) all-entries)

@@ -1,6 +1,7 @@
 // Whether a log commit keeps its two budgets, found out before anything is written: the rays that would change, and the pairs that all lists would have.
 ghost use mathlib.Core.Path.{_≡_};
 ghost use mathlib.Core.Bool.{true, _||_};
+ghost use mathlib.Core.Logic.{_⊎_};
 ghost use Prim.Native.Nat.{_+_, _-_, _*_, _^_, _≤_, _<_};
 ghost use Rattle.grid.specs.Rays.{rayCount};
 ghost use Rattle.store.specs.Updates.{cells};
@@ -269,6 +270,21 @@ fn count_all(
     Budgets::Kept
 }
 
+// Whether no log with so many entries can change more rays than the allowance: it has no more entries, or the grid no more rays.
+fn allows_all(g: DexelGrid, entries: u64, allowance: u64) -> bool
+    requires { ⌜ rayCount g < 2 ^ 64 ⌝ }
+    ensures { λ r. ⌜ (r ≡ true → (entries ≤ allowance) ⊎ (rayCount g ≤ allowance)) ⌝ }
+{
+    if entries <= allowance {
+        return true;
+    }
+    let rays = grid_rays::total_rays(g);
+    if rays <= allowance {
+        return true;
+    }
+    false
+}
+
 // Whether a log commit keeps the allowance of changed rays and the interval budget. Where neither is within reach of the log, no ray is looked at.
 pub fn budget(
     spec: DexelStockSpec,
@@ -286,7 +302,7 @@ pub fn budget(
         (pairsLeft g (listsIn spec g (cells (now (spans .entry)) (now (links .entry)) (now (heads .entry)))) (entries (now (log .entry)))) ⌝ }
 {
     let entries = (log.len() / 6) as u64;
-    if entries <= allowance {
+    if allows_all(g, entries, allowance) {
         if intervals + 3 * entries <= spec.max_intervals {
             return Budgets::Kept;
         }

@@ -19,7 +19,7 @@ use Rattle.runs.specs.Counts.{losOf, hisOf, among, distinct, startsLeft}
 -- ---- counting distinct numbers
 
 -- equal numbers stand in the same lists
-among-eq : (x y : Float) (l : List Float) → eq x y ≡ true → among x l ≡ true → among y l ≡ true
+pub among-eq : (x y : Float) (l : List Float) → eq x y ≡ true → among x l ≡ true → among y l ≡ true
 unfolding among
 among-eq x y [] e h = h
 among-eq x y (z ∷ l) e h = elim (or-cases (eq x z) (among x l) h) [
@@ -28,7 +28,7 @@ among-eq x y (z ∷ l) e h = elim (or-cases (eq x z) (among x l) h) [
 ]
 
 -- the list without the numbers that are equal to x
-remove : Float → List Float → List Float
+pub remove : Float → List Float → List Float
 remove x [] = []
 remove x (y ∷ l) = cond (eq x y) (remove x l) (y ∷ remove x l)
 
@@ -41,7 +41,7 @@ remove-none x (y ∷ l) h = go (eq x y) refl (remove-none x l)
     go true e f = absurd (clash (eq x y || among x l) (or-left (eq x y) (among x l) e) h)
     go false e f = ap (λ (m : List Float). y ∷ m) (f (sym (ap (λ (b : Bool). b || among x l) e) ∙ h))
 
-removed : (x : Float) (l : List Float) → among x (remove x l) ≡ false
+pub removed : (x : Float) (l : List Float) → among x (remove x l) ≡ false
 unfolding remove among
 removed x [] = refl
 removed x (y ∷ l) = go (eq x y) refl (removed x l)
@@ -50,7 +50,7 @@ removed x (y ∷ l) = go (eq x y) refl (removed x l)
     go true e f = f
     go false e f = rw e f
 
-remove-other : (x z : Float) (l : List Float) → eq z x ≡ false → among z (remove x l) ≡ among z l
+pub remove-other : (x z : Float) (l : List Float) → eq z x ≡ false → among z (remove x l) ≡ among z l
 unfolding remove among
 remove-other x z [] n = refl
 remove-other x z (y ∷ l) n = go (eq x y) refl (remove-other x z l n)
@@ -63,7 +63,7 @@ remove-other x z (y ∷ l) n = go (eq x y) refl (remove-other x z l n)
     go false e f = ap (_||_ (eq z y)) f
 
 module _ (test : Float → Bool) (number : (x : Float) → test x ≡ true → Number x) (same : (x y : Float) → eq x y ≡ true → test x ≡ test y) where
-  distinct-remove : (x : Float) (l : List Float) → test x ≡ true → among x l ≡ true → distinct test l ≡ suc (distinct test (remove x l))
+  pub distinct-remove : (x : Float) (l : List Float) → test x ≡ true → among x l ≡ true → distinct test l ≡ suc (distinct test (remove x l))
   unfolding remove among distinct
   distinct-remove x [] t h = absurd (false≢true h)
   distinct-remove x (y ∷ l) t h = go (eq x y) refl (distinct-remove x l t)
@@ -92,7 +92,7 @@ module _ (test : Float → Bool) (number : (x : Float) → test x ≡ true → N
           one-more (test y && not (among y l)) (distinct test l) (distinct test (remove x l)) (f (sym (ap (λ (b : Bool). b || among x l) e) ∙ h))
           ∙ ap (λ (b : Bool). suc (cond (test y && not b) (suc (distinct test (remove x l))) (distinct test (remove x l)))) (sym (remove-other x y l (swapped e)))
 
-  none-left : (l : List Float) → ((z : Float) → among z l ≡ true → test z ≡ true → ⊥) → distinct test l ≡ 0
+  pub none-left : (l : List Float) → ((z : Float) → among z l ≡ true → test z ≡ true → ⊥) → distinct test l ≡ 0
   unfolding among distinct
   none-left [] f = refl
   none-left (y ∷ l) f = elim (by-cases (test y)) [
@@ -160,7 +160,7 @@ rest-of : (lo hi : Float) (l : List Float) (p : Float) → within lo hi p ≡ fa
 unfolding holds
 rest-of lo hi l p n h = elim (or-cases (within lo hi p) (holds l p) h) [ inl u ↦ absurd (clash (within lo hi p) u n) | inr u ↦ u ]
 
-number-of : (l : List Float) (p : Float) → holds l p ≡ true → Number p
+pub number-of : (l : List Float) (p : Float) → holds l p ≡ true → Number p
 unfolding holds
 number-of [] p h = absurd (false≢true h)
 number-of (lo ∷ []) p h = absurd (false≢true h)
@@ -170,7 +170,7 @@ number-of (lo ∷ hi ∷ l) p h = elim (or-cases (within lo hi p) (holds l p) h)
 ]
 
 -- equal numbers are one point
-holds-eq : (l : List Float) (x y : Float) → eq x y ≡ true → holds l x ≡ holds l y
+pub holds-eq : (l : List Float) (x y : Float) → eq x y ≡ true → holds l x ≡ holds l y
 unfolding holds
 holds-eq [] x y e = refl
 holds-eq (lo ∷ []) x y e = refl

@@ -218,7 +218,7 @@ fn count_list(
 {
     Part {
         moved: starts::list_changes(spans, links, n, head, log, first, end, certain),
-        pairs: starts::starts_left(spans, links, n, head, log, first, end, certain),
+        pairs: windows::starts_left(spans, links, n, head, log, first, end, certain),
     }
 }
 

@@ -1,19 +1,22 @@
 use borrow.Author.Needs.{needs}
 use native.Mathlib.Omega.{arith}
 use Rattle.store.specs.Updates.{cells}
-use Rattle.counting.proofs.Bounds.{total-fits, rays-le, pairs-le}
+use Rattle.counting.proofs.Bounds.{total-fits, few-rays, rays-allowed, pairs-le}
 use Rattle.counting.proofs.Answers.{both-kept}
 use Rattle.counting.proofs.budget.Statement.{statement}
 use Rattle.counting.proofs.budget.Tie as tie
+
+allows-all-requires : tie.Need-allows-all-requires
+allows-all-requires c κs = omega (arith, few-rays (c .before .before .before .before .args .spec) (c .before .before .before .before .args .g) (cells (c .before .before .before .before .args .spans .now) (c .before .before .before .before .args .links .now) (c .before .before .before .before .args .heads .now)) (c .before .before .before .before .args .intervals) (c .before .before .before .before .args .log .now) (c .before .before .before .before .pre))
 
 mul-if2 : tie.Need-mul-if2
 mul-if2 c = search needs
 
 add-if2 : tie.Need-add-if2
-add-if2 c = omega (arith, total-fits (c .before .before .before .before .before .args .spec) (c .before .before .before .before .before .args .g) (cells (c .before .before .before .before .before .args .spans .now) (c .before .before .before .before .before .args .links .now) (c .before .before .before .before .before .args .heads .now)) (c .before .before .before .before .before .args .intervals) (c .before .before .before .before .before .args .log .now) (c .before .before .before .before .before .pre), c .before .before .before .before .before .pre .room .in-spans)
+add-if2 c = omega (arith, total-fits (c .before .before .before .before .before .before .args .spec) (c .before .before .before .before .before .before .args .g) (cells (c .before .before .before .before .before .before .args .spans .now) (c .before .before .before .before .before .before .args .links .now) (c .before .before .before .before .before .before .args .heads .now)) (c .before .before .before .before .before .before .args .intervals) (c .before .before .before .before .before .before .args .log .now) (c .before .before .before .before .before .before .pre), c .before .before .before .before .before .before .pre .room .in-spans)
 
 returns : tie.Need-returns
-returns c = both-kept _ _ _ _ (omega (arith, rays-le (c .before .before .before .before .before .before .before .args .spec) (c .before .before .before .before .before .before .before .args .g) (cells (c .before .before .before .before .before .before .before .args .spans .now) (c .before .before .before .before .before .before .before .args .links .now) (c .before .before .before .before .before .before .before .args .heads .now)) (c .before .before .before .before .before .before .before .args .intervals) (c .before .before .before .before .before .before .before .args .log .now) (c .before .before .before .before .before .before .before .pre), c .before .before .if1 .taken)) (omega (arith, pairs-le (c .before .before .before .before .before .before .before .args .spec) (c .before .before .before .before .before .before .before .args .g) (cells (c .before .before .before .before .before .before .before .args .spans .now) (c .before .before .before .before .before .before .before .args .links .now) (c .before .before .before .before .before .before .before .args .heads .now)) (c .before .before .before .before .before .before .before .args .intervals) (c .before .before .before .before .before .before .before .args .log .now) (c .before .before .before .before .before .before .before .pre), c .if2 .taken))
+returns c = both-kept _ _ _ _ (rays-allowed (c .before .before .before .before .before .before .before .before .args .spec) (c .before .before .before .before .before .before .before .before .args .g) (cells (c .before .before .before .before .before .before .before .before .args .spans .now) (c .before .before .before .before .before .before .before .before .args .links .now) (c .before .before .before .before .before .before .before .before .args .heads .now)) (c .before .before .before .before .before .before .before .before .args .intervals) (c .before .before .before .before .before .before .before .before .args .log .now) (c .before .before .before .before .before .before .before .before .pre) (c .before .before .before .allows-all .ensures (c .before .before .if1 .taken))) (omega (arith, pairs-le (c .before .before .before .before .before .before .before .before .args .spec) (c .before .before .before .before .before .before .before .before .args .g) (cells (c .before .before .before .before .before .before .before .before .args .spans .now) (c .before .before .before .before .before .before .before .before .args .links .now) (c .before .before .before .before .before .before .before .before .args .heads .now)) (c .before .before .before .before .before .before .before .before .args .intervals) (c .before .before .before .before .before .before .before .before .args .log .now) (c .before .before .before .before .before .before .before .before .pre), c .if2 .taken))
 
 count-all-requires : tie.Need-count-all-requires
 count-all-requires c κs = search needs
@@ -22,4 +25,4 @@ returns-2 : tie.Need-returns-2
 returns-2 c = search needs
 
 pub budget-spec : {M : Type 1} → statement M
-budget-spec = tie.close (tie.spec mul-if2 add-if2 returns count-all-requires returns-2)
+budget-spec = tie.close (tie.spec allows-all-requires mul-if2 add-if2 returns count-all-requires returns-2)

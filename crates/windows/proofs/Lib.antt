@@ -1,0 +1,5 @@
+pub mod Distinct
+pub mod Gathering
+pub mod Cells
+pub mod Marking
+pub mod Totals
