@@ -33,6 +33,13 @@ fn apart(n: usize, ray: impl Fn(usize) -> usize) -> Vec<Entry> {
     (0..n).map(one).collect()
 }
 
+/// n cuts on one ray between the pairs of `comb`, so that nothing changes.
+fn between(n: usize) -> Vec<Entry> {
+    let at = |i: usize| 4. * i as f64 + 3.5;
+    let one = |i: usize| Entry { axis: 0, index: 0, outer: [at(i), at(i) + 0.25], inner: Some([at(i) + 0.25, at(i) + 0.5]) };
+    (0..n).map(one).collect()
+}
+
 /// The ray of this number, over a cube of so many cells, cut in its middle.
 fn middle(number: usize, cells: usize) -> Entry {
     let along = cells * cells;
@@ -65,6 +72,7 @@ fn cases(n: usize) -> Vec<Case> {
         few("100 rays in turn", 100),
         few("300 rays in turn", 300),
         Case { what: "one ray of as many pairs", max: [long; 3], cell: long, lists: Box::new(comb), log: apart(n, |_| 0), n },
+        Case { what: "one ray of as many pairs, hits between them", max: [long; 3], cell: long, lists: Box::new(comb), log: between(n), n },
         Case {
             what: "one entry, one ray of as many pairs",
             max: [long; 3],

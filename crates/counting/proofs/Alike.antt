@@ -22,7 +22,7 @@ use Rattle.runs.specs.Logs.{Entry, entryAt, entryCount, entries, isWhole, whole
 use Rattle.runs.proofs.Naming.{Named, named, whole-is}
 use Rattle.logs.specs.Named.{EachNamed, pairsNamed, namedFrom, pairsAt}
 use Rattle.logs.proofs.Places.{named-append, pairs-from}
-use Rattle.starts.specs.Hits.{alikeAt, hitsFrom}
+use Rattle.log_hits.specs.Hits.{alikeAt, hitsFrom}
 use Rattle.counting.specs.Totals.{seen, FirstOf, EndOf, RunOf}
 
 -- two doubles that are whole numbers are equal exactly when the whole numbers are

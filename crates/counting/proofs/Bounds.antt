@@ -27,7 +27,7 @@ use Rattle.runs.proofs.Lent.{lent-laws}
 use Rattle.runs.proofs.Starts.{pairs-left}
 use Rattle.logs.specs.Named.{pairsNamed, namedFrom, pairsAt}
 use Rattle.logs.proofs.Places.{pairs-named, each-below}
-use Rattle.starts.proofs.Taken.{starts-le}
+use Rattle.log_hits.proofs.Taken.{starts-le}
 use Rattle.counting.specs.Answer.{listsIn, Countable}
 use Rattle.counting.specs.Totals.{sum, pairsOf, leftOf, changesOf}
 use Rattle.counting.proofs.Sums.{sum-over, sum-le, sum-at, sum-one, sum-plus, sum-times, sum-none}

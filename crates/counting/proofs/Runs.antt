@@ -15,7 +15,7 @@ use Rattle.stock.specs.Stock.{possibleIn, certainIn}
 use Rattle.runs.specs.Logs.{entryAt, entryCount, rayOf}
 use Rattle.runs.specs.Counts.{hitBy, startsLeft}
 use Rattle.logs.specs.Named.{EachNamed}
-use Rattle.starts.specs.Hits.{alikeAt, takenFrom}
+use Rattle.log_hits.specs.Hits.{alikeAt, takenFrom}
 use Rattle.counting.specs.Totals.{leftOf, changesOf, RunOf, Ascending, FirstOf, EndOf}
 use Rattle.counting.proofs.Alike.{alike-ray}
 

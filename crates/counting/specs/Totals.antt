@@ -14,7 +14,7 @@ use Rattle.stock.specs.Stock.{possibleIn, certainIn}
 use Rattle.runs.specs.Logs.{entryAt, entries, entryCount, rayOf, outer, inner}
 use Rattle.runs.specs.Counts.{hitBy, startsLeft}
 use Rattle.logs.specs.Named.{pairsNamed}
-use Rattle.starts.specs.Hits.{alikeAt, hitsFrom, Places}
+use Rattle.log_hits.specs.Hits.{alikeAt, hitsFrom, Places}
 use Rattle.counting.specs.declared.RayCount.{RayCount}
 use Rattle.counting.specs.declared.Totals.{Totals}
 

@@ -61,7 +61,7 @@ fn first_in_run(g: DexelGrid, log: &[f64], i: usize) -> bool
     if i == 0 {
         return true;
     }
-    !starts::alike(log, i, i - 1)
+    !log_hits::alike(log, i, i - 1)
 }
 
 // The same of any log.
@@ -71,7 +71,7 @@ fn first_so_far(log: &[f64], i: usize) -> bool
 {
     let mut j: usize = 0;
     while j < i {
-        if starts::alike(log, i, j) {
+        if log_hits::alike(log, i, j) {
             return false;
         }
         j += 1;
@@ -87,7 +87,7 @@ fn end_of_run(g: DexelGrid, log: &[f64], i: usize) -> usize
     let n = log.len() / 6;
     let mut j = i + 1;
     while j < n {
-        if !starts::alike(log, i, j) {
+        if !log_hits::alike(log, i, j) {
             return j;
         }
         j += 1;
@@ -104,7 +104,7 @@ fn end_of_like(log: &[f64], i: usize) -> usize
     let mut end = i + 1;
     let mut j = i + 1;
     while j < n {
-        if starts::alike(log, i, j) {
+        if log_hits::alike(log, i, j) {
             end = j + 1;
         }
         j += 1;

@@ -8,9 +8,8 @@ use native.Mathlib.Omega.{arith}
 use native.Mathlib.Decide.{decLt}
 use borrow.Author.Tests.{eqb-true}
 use lib.Dec.{lit<, eqb}
-use lib.IntN.{pos}
 use lib.ListN.{length, getD, replicate}
-use lib.Ieee.{Float, nan, inf, binary64, lt, le, eq, neg, ofInt, ofBits, toUnsigned, isNan, sub, add, mul, div}
+use lib.Ieee.{Float, nan, inf, lt, le, eq, neg, ofInt, ofBits, toUnsigned, isNan, sub, add, mul, div}
 use Rattle.doubles.specs.Doubles.{ratio, largerOf, ceilOf, absOf}
 use Rattle.doubles.proofs.Bools.{or-cases, and-left, and-right, clash, not-true}
 use Rattle.spans.specs.Spans.{holds, sound, equal, ListOf}

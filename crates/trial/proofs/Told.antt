@@ -19,9 +19,9 @@ use Rattle.lists.specs.Reading.{Copied}
 use Rattle.runs.specs.Counts.{hitBy}
 use Rattle.runs.proofs.Meets.{kept-unhit}
 use Rattle.runs.proofs.Starts.{pairs-left}
-use Rattle.starts.specs.Hits.{alikeAt, hitsFrom, takenFrom}
-use Rattle.starts.proofs.Any.{holds-any}
-use Rattle.starts.proofs.Taken.{taken-any}
+use Rattle.log_hits.specs.Hits.{alikeAt, hitsFrom, takenFrom}
+use Rattle.log_hits.proofs.Any.{holds-any}
+use Rattle.log_hits.proofs.Taken.{taken-any}
 use Rattle.trial.specs.Trial.{likeFrom, Starts, Told, Tried, Holds}
 
 -- a list moves exactly when a hit has a point of it

@@ -10,7 +10,7 @@ use Rattle.merge.specs.declared.Part.{Part}
 use Rattle.merge.specs.declared.Parts.{Parts}
 use Rattle.lists.specs.Reading.{listFrom, Readable}
 use Rattle.runs.specs.Counts.{hitBy, startsLeft}
-use Rattle.starts.specs.Hits.{alikeAt, takenFrom}
+use Rattle.log_hits.specs.Hits.{alikeAt, takenFrom}
 
 -- how many of the k entries from place i on are like the first
 unfoldable pub likeFrom : List Float → (first i k : ℕ) → ℕ

@@ -8,7 +8,7 @@ ghost use lib.ListN.{length, take, set, getD};
 ghost use lib.Ieee.{nan};
 ghost use Rattle.lists.specs.Reading.{listFrom, Readable};
 ghost use Rattle.merge.specs.Steps.{Given, Lists};
-ghost use Rattle.starts.specs.Hits.{alikeAt, hitsFrom, takenFrom, Places};
+ghost use Rattle.log_hits.specs.Hits.{alikeAt, hitsFrom, takenFrom, Places};
 ghost use Rattle.trial.specs.Trial.{likeFrom, SoundList, Starts, Told, Tried, Holds};
 use merge::Part;
 use merge::Parts;
@@ -31,7 +31,7 @@ fn count_like(log: &[f64], first: usize, end: usize) -> usize
     let mut c: usize = 0;
     let mut j = first;
     while j < end {
-        if starts::alike(log, first, j) {
+        if log_hits::alike(log, first, j) {
             c += 1;
         }
         j += 1;
@@ -46,7 +46,7 @@ fn put_hit(log: &[f64], first: usize, j: usize, w: usize, out: &mut [f64], t: us
         × (now (out .exit) ≡ cond (alikeAt (now (log .entry)) first j)
         (set (set (now (out .entry)) t (getD (now (log .entry)) (6 * j + w) nan)) (t + 1) (getD (now (log .entry)) (6 * j + w + 1) nan)) (now (out .entry))) ⌝ }
 {
-    if starts::alike(log, first, j) {
+    if log_hits::alike(log, first, j) {
         out[t] = log[6 * j + w];
         out[t + 1] = log[6 * j + w + 1];
         return t + 2;
@@ -217,7 +217,7 @@ fn count_list(
     ensures { λ r. ⌜ Told (listFrom n (now (spans .entry)) (now (links .entry)) head) (takenFrom (now (log .entry)) first (end - first) certain) r ⌝ }
 {
     Part {
-        moved: starts::list_changes(spans, links, n, head, log, first, end, certain),
+        moved: log_hits::list_changes(spans, links, n, head, log, first, end, certain),
         pairs: windows::starts_left(spans, links, n, head, log, first, end, certain),
     }
 }

@@ -5,7 +5,7 @@ use mathlib.Core.List.{List, [], _∷_, _++_, append-nil}
 use Prim.Native.Nat.{ℕ, suc, _+_, _-_, _*_, _≤_, _<_}
 use native.Mathlib.Omega.{arith}
 use native.Mathlib.Numerals.{add-one}
-use lib.ListN.{length, getD}
+use lib.ListN.{getD}
 use lib.Ieee.{Float, nan, lt, le}
 use Rattle.doubles.specs.Doubles.{Number}
 use Rattle.doubles.proofs.Order.{le-refl, le-trans, lt→le, not-lt→le}
@@ -13,12 +13,12 @@ use Rattle.store.specs.Store.{loAt, nextAt}
 use Rattle.lists.specs.Reading.{listFrom}
 use Rattle.lists.proofs.Steps.{Step, no-ends}
 use Rattle.runs.specs.Counts.{losOf, hisOf}
-use Rattle.starts.specs.Hits.{alikeAt, hitsFrom, takenFrom, laterHis}
-use Rattle.starts.proofs.Taken.{taken-his}
+use Rattle.log_hits.specs.Hits.{alikeAt, hitsFrom, takenFrom}
+use Rattle.log_hits.proofs.Taken.{taken-his}
 use Rattle.windows.specs.declared.Window.{Window}
 use Rattle.windows.specs.Windows.{Gathered, Gathers, GathersAll, startsOf}
 use Rattle.windows.proofs.Distinct.{all-next, nowhere}
-use Rattle.windows.proofs.Gathering.{gathered-none, gathers-start, gathers-part}
+use Rattle.windows.proofs.Gathering.{gathered-none, gathers-part}
 
 -- ---- the largest
 
@@ -132,7 +132,7 @@ module _ (l log : List Float) (first k : ℕ) (b u : Float) where
   pub all-certain : {before one two three : List Float} {los outer inner : Window} (certain : Bool) → certain ≡ true → Gathers b u (losOf l) [] before 0 one los
       → Gathers b (los .end) (hisOf (hitsFrom log first 2 first k)) [] one (los .count) two outer
       → Gathers b (outer .end) (hisOf (hitsFrom log first 4 first k)) [] two (outer .count) three inner → GathersAll l (takenFrom log first k certain) b u before three inner
-  unfolding startsOf laterHis
+  unfolding startsOf
   all-certain {before} {one} {two} {three} {los} {outer} {inner} false e f g h = absurd (false≢true e)
   all-certain {before} {one} {two} {three} {los} {outer} {inner} true e f g h =
       let his = hisOf (hitsFrom log first 4 first k) in

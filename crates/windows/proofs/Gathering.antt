@@ -1,9 +1,9 @@
 -- Gathering the different numbers of a window, one number at a time.
 use mathlib.Core.Path.{_≡_, refl, sym, ap, ap₂, _∙_, subst}
-use mathlib.Core.Bool.{Bool, true, false, cond, not, _&&_, _||_}
+use mathlib.Core.Bool.{Bool, true, false, _&&_}
 use mathlib.Core.List.{List, [], _∷_, _++_, append-assoc}
 use mathlib.Core.Logic.{_⊎_, inl, inr}
-use Prim.Native.Nat.{ℕ, zero, suc, _+_, _≤_, _<_}
+use Prim.Native.Nat.{ℕ, _+_, _≤_, _<_}
 use native.Mathlib.Omega.{arith}
 use borrow.Author.Tests.{eqb-true, eqb-false, ltb-true, ltb-false}
 use lib.Dec.{eqb, ltb}
@@ -12,7 +12,7 @@ use lib.Seq.{getD-set-same, getD-set-other}
 use lib.Ieee.{Float, nan, lt, le, eq}
 use Rattle.doubles.specs.Doubles.{Number}
 use Rattle.doubles.proofs.Bools.{and-left, and-right, both, by-cases, clash, or-cases, or-left, or-right, and-true}
-use Rattle.doubles.proofs.Order.{lt-number, le-number, lt-trans, le-refl, le-cases, eq-sym, eq-trans, eq-refl, not-lt→le, lt→not-le, eq→le, lt-le-trans, le-lt-trans, lt-eq-left, le-eq-right, lt-irrefl, lt→le}
+use Rattle.doubles.proofs.Order.{lt-number, lt-trans, le-cases, eq-sym, eq-trans, eq-refl, not-lt→le, le-lt-trans, lt-eq-left, le-eq-right, lt-irrefl, lt→le}
 use Rattle.spans.specs.Spans.{within}
 use Rattle.runs.specs.Counts.{among, distinct}
 use Rattle.windows.specs.declared.Window.{Window}

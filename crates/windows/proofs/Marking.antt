@@ -1,7 +1,7 @@
 -- Marking the cells that are in a list, and taking the marks of those in a hit away.
-use mathlib.Core.Path.{_≡_, refl, sym, ap, ap₂, _∙_, subst}
+use mathlib.Core.Path.{_≡_, refl, sym, ap, _∙_}
 use mathlib.Core.Bool.{Bool, true, false, cond, not, _&&_, _||_, false≢true}
-use mathlib.Core.List.{List, [], _∷_}
+use mathlib.Core.List.{List, _∷_}
 use Prim.Native.Nat.{ℕ, suc, _+_, _-_, _*_, _≤_, _<_}
 use native.Mathlib.Omega.{arith}
 use native.Mathlib.Numerals.{add-one}
@@ -15,7 +15,7 @@ use Rattle.store.specs.Store.{loAt, hiAt, nextAt}
 use Rattle.lists.specs.Reading.{listFrom}
 use Rattle.lists.proofs.Steps.{Step, no-ends}
 use Rattle.spans.specs.Spans.{within, holds}
-use Rattle.starts.specs.Hits.{alikeAt, hitsFrom}
+use Rattle.log_hits.specs.Hits.{alikeAt, hitsFrom}
 use Rattle.windows.specs.Windows.{Within, Unmarked, Remarks, ListMarked, hitAt, HitCleared, HitsCleared}
 use Rattle.windows.proofs.Distinct.{all-next}
 

@@ -1,25 +1,23 @@
 -- The count of one window, and of all windows together.
 use mathlib.Core.Path.{_≡_, refl, sym, ap, ap₂, _∙_, subst}
-use mathlib.Core.Bool.{Bool, true, false, cond, not, _&&_, _||_, true≢false, false≢true}
+use mathlib.Core.Bool.{Bool, true, false, not, _&&_, _||_, true≢false, false≢true}
 use mathlib.Core.List.{List, [], _∷_}
 use mathlib.Core.Logic.{inl, inr}
-use Prim.Native.Nat.{ℕ, zero, suc, _+_, _-_, _≤_, _<_}
+use Prim.Native.Nat.{ℕ, zero, suc, _+_, _<_}
 use native.Mathlib.Omega.{arith}
 use lib.ListN.{length, getD}
-use lib.Ieee.{Float, nan, lt, le, eq, neg, ofBits}
-use Rattle.doubles.specs.Doubles.{Number}
+use lib.Ieee.{Float, nan, lt, le, neg, ofBits}
 use Rattle.doubles.proofs.Bools.{and-left, and-right, both, or-cases}
 use Rattle.doubles.proofs.Order.{lt-number, le-bottom, le-top, lt-le-trans}
 use Rattle.spans.specs.Spans.{within, holds}
-use Rattle.spans.proofs.Points.{or-assoc}
-use Rattle.runs.specs.Counts.{losOf, hisOf, distinct, startsLeft}
+use Rattle.runs.specs.Counts.{distinct, startsLeft}
 use Rattle.runs.proofs.Starts.{number-of, holds-eq}
-use Rattle.starts.specs.Hits.{hitsFrom, takenFrom, isLeft}
-use Rattle.starts.proofs.Any.{anyPair, holds-any}
-use Rattle.starts.proofs.Taken.{taken-any}
+use Rattle.log_hits.specs.Hits.{hitsFrom, takenFrom}
+use Rattle.log_hits.proofs.Any.{holds-any}
+use Rattle.log_hits.proofs.Taken.{taken-any}
 use Rattle.windows.specs.declared.Window.{Window}
 use Rattle.windows.specs.declared.Count.{Count}
-use Rattle.windows.specs.Windows.{Gathered, GathersAll, startsOf, passesIn, countTo, Within, Unmarked, ListMarked, HitsCleared, top, Counted}
+use Rattle.windows.specs.Windows.{Gathered, GathersAll, startsOf, isLeft, passesIn, countTo, Within, Unmarked, ListMarked, HitsCleared, top, Counted}
 use Rattle.windows.proofs.Distinct.{window-split, window-whole, count-same, count-le}
 use Rattle.windows.proofs.Gathering.{cells-starts, cells-left, cells-onward}
 

@@ -1,7 +1,7 @@
 -- Counting the starts of what is left window by window: of the numbers from b to below u at most so many are different, and those stand in a buffer.
 use mathlib.Core.Path.{_≡_}
 use mathlib.Core.Bool.{Bool, true, false, cond, not, _&&_}
-use mathlib.Core.List.{List, [], _∷_, _++_}
+use mathlib.Core.List.{List, [], _++_}
 use mathlib.Core.Logic.{_⊎_}
 use Prim.Native.Nat.{ℕ, zero, suc, _+_, _*_, _≤_, _<_}
 use lib.ListN.{length, getD}
@@ -9,9 +9,14 @@ use lib.Ieee.{Float, nan, le, eq, ofBits, binary64}
 use Rattle.doubles.specs.Doubles.{Number}
 use Rattle.spans.specs.Spans.{within, holds}
 use Rattle.runs.specs.Counts.{losOf, hisOf, among, distinct}
-use Rattle.starts.specs.Hits.{alikeAt, isLeft}
+use Rattle.log_hits.specs.Hits.{alikeAt}
 use Rattle.windows.specs.declared.Window.{Window}
 use Rattle.windows.specs.declared.Count.{Count}
+
+-- x is in the list and in no hit
+unfoldable pub isLeft : (l hits : List Float) → Float → Bool
+unfolding holds
+isLeft l hits x = holds l x && not (holds hits x)
 
 -- x passes the test and lies in the window from b to below u
 abbrev pub passesIn : (Float → Bool) → (b u : Float) → Float → Bool

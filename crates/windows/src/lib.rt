@@ -6,10 +6,10 @@ ghost use mathlib.Core.List.{[], _∷_};
 ghost use Prim.Native.Nat.{_+_, _-_, _≤_, _<_};
 ghost use lib.ListN.{length, getD};
 ghost use lib.Ieee.{le};
-ghost use Rattle.spans.specs.Spans.{within, holds};
+ghost use Rattle.spans.specs.Spans.{within};
 ghost use Rattle.lists.specs.Reading.{listFrom, Readable};
 ghost use Rattle.runs.specs.Counts.{losOf, hisOf, startsLeft};
-ghost use Rattle.starts.specs.Hits.{hitsFrom, takenFrom, Places};
+ghost use Rattle.log_hits.specs.Hits.{hitsFrom, takenFrom, Places};
 ghost use Rattle.windows.specs.Windows.{Found, Largest, Gathers, GathersAll, countTo, Remarks, Within, Unmarked, ListMarked, HitCleared, HitsCleared, top, Counted};
 
 // How many cells are in use, and where the window ends.
@@ -130,7 +130,7 @@ fn keep_hi(
     requires { ⌜ Places (now log) first j (j + 1) × (at ≤ 4) × (0 < length (now cells)) × (m ≤ length (now cells)) ⌝ }
     ensures { λ r. ⌜ Gathers b u (hisOf (hitsFrom (now (log .entry)) first at j 1)) [] (now (cells .entry)) m (now (cells .exit)) r ⌝ }
 {
-    if starts::alike(log, first, j) {
+    if log_hits::alike(log, first, j) {
         let hi = log[6 * j + at + 1];
         if log[6 * j + at] < hi {
             return keep(cells, m, b, u, hi);
@@ -279,7 +279,7 @@ fn clear_hit(
     requires { ⌜ Places (now log) first j (j + 1) × (at ≤ 4) × Within b u (now cells) m × (m ≤ length (now marks)) ⌝ }
     ensures { λ r. ⌜ HitCleared (now (log .entry)) first at j (now (cells .entry)) m (now (marks .entry)) (now (marks .exit)) r ⌝ }
 {
-    if starts::alike(log, first, j) {
+    if log_hits::alike(log, first, j) {
         let lo = log[6 * j + at];
         let hi = log[6 * j + at + 1];
         mark_in_window(b, u, cells, m, lo, hi, marks, false);

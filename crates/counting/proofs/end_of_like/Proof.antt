@@ -3,7 +3,7 @@ use mathlib.Core.Path.{_≡_, sym, _∙_}
 use mathlib.Core.Bool.{false}
 use mathlib.Core.Logic.{⊎-elim}
 use native.Mathlib.Omega.{arith}
-use Rattle.starts.specs.Hits.{alikeAt}
+use Rattle.log_hits.specs.Hits.{alikeAt}
 use Rattle.counting.proofs.Runs.{like-more}
 use Rattle.counting.proofs.end_of_like.Statement.{statement}
 use Rattle.counting.proofs.end_of_like.Tie as tie

@@ -4,7 +4,7 @@ use mathlib.Core.Bool.{false, true≢false, false≢true}
 use borrow.Author.Count.{below-more}
 use borrow.Author.Needs.{needs}
 use native.Mathlib.Omega.{arith}
-use Rattle.starts.specs.Hits.{alikeAt}
+use Rattle.log_hits.specs.Hits.{alikeAt}
 use Rattle.counting.proofs.first_so_far.Statement.{statement}
 use Rattle.counting.proofs.first_so_far.Tie as tie
 

@@ -3,7 +3,7 @@ use mathlib.Core.Path.{_≡_, refl, _∙_}
 use lib.ListN.{length}
 use lib.Seq.{sets}
 use native.Mathlib.Omega.{arith}
-use Rattle.starts.specs.Hits.{hitsFrom}
+use Rattle.log_hits.specs.Hits.{hitsFrom}
 use Rattle.trial.proofs.Told.{hit-copied, hit-sizes, hit-room, hits-copied, like-length}
 use Rattle.trial.proofs.copy_hits.Statement.{statement}
 use Rattle.trial.proofs.copy_hits.Tie as tie

@@ -2,7 +2,7 @@ use mathlib.Core.Path.{refl, _∙_}
 use Prim.Native.Nat.{_-_, _≤_}
 use native.Mathlib.Omega.{arith}
 use lib.ListN.{length}
-use Rattle.starts.specs.Hits.{hitsFrom}
+use Rattle.log_hits.specs.Hits.{hitsFrom}
 use Rattle.windows.proofs.Cells.{as-large}
 use Rattle.windows.proofs.Marking.{Clearing, clearing-next, clearing-all, clearing-done}
 use Rattle.windows.proofs.clear_hits.Statement.{statement}

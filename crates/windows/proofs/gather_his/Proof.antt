@@ -2,7 +2,7 @@ use Prim.Native.Nat.{_-_, _≤_, _<_}
 use native.Mathlib.Omega.{arith}
 use lib.ListN.{length}
 use Rattle.runs.specs.Counts.{hisOf}
-use Rattle.starts.specs.Hits.{hitsFrom}
+use Rattle.log_hits.specs.Hits.{hitsFrom}
 use Rattle.windows.specs.Windows.{Gathers}
 use Rattle.windows.proofs.Gathering.{gathers-start}
 use Rattle.windows.proofs.Cells.{as-large, his-next, his-done}

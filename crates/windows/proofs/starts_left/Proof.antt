@@ -4,8 +4,8 @@ use native.Mathlib.Omega.{arith}
 use borrow.Author.Needs.{needs}
 use Rattle.lists.specs.Reading.{listFrom}
 use Rattle.runs.specs.Counts.{startsLeft}
-use Rattle.starts.specs.Hits.{takenFrom}
-use Rattle.starts.proofs.Count.{starts-few}
+use Rattle.log_hits.specs.Hits.{takenFrom}
+use Rattle.log_hits.proofs.Taken.{starts-few}
 use Rattle.windows.specs.Windows.{top, Counted}
 use Rattle.windows.proofs.Totals.{leftFrom, startsFrom, from-lowest, left-next, fewer-starts, none-left-from}
 use Rattle.windows.proofs.starts_left.Statement.{statement}
