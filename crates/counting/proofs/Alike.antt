@@ -21,7 +21,7 @@ use Rattle.grid.proofs.Numbering.{axis-of-number, index-of-number, along-le}
 use Rattle.runs.specs.Logs.{Entry, entryAt, entryCount, entries, isWhole, wholeOf, rayOf, HitKind, outer, inner, loOf, hiOf}
 use Rattle.runs.proofs.Naming.{Named, named, whole-is}
 use Rattle.logs.specs.Named.{EachNamed, pairsNamed, namedFrom, pairsAt}
-use Rattle.logs.proofs.Places.{named-append, pairs-from}
+use Rattle.logs.proofs.Places.{AllFrom, all-first, all-rest, named-append, pairs-from}
 use Rattle.log_hits.specs.Hits.{alikeAt, hitsFrom}
 use Rattle.counting.specs.Totals.{seen, FirstOf, EndOf, RunOf}
 
@@ -88,10 +88,11 @@ module _ (g : DexelGrid) (log : List Float) (few : rayCount g ≤ 2 ^ 53) (all :
 
   -- the pairs of the entries like the first
   module _ (first : ℕ) (h : first < entryCount log) where
-    outer-from : (i k : ℕ) → i + k ≤ entryCount log → hitsFrom log first 2 i k ≡ pairsAt log (namedFrom g log (rayOf g (entryAt log first)) i k) outer
-    unfolding hitsFrom namedFrom pairsAt loOf hiOf entryAt
-    outer-from i zero l = refl
-    outer-from i (suc k) l = go (alikeAt log first i) (eqb (rayOf g (entryAt log i)) (rayOf g (entryAt log first))) (alike-ray first i h (below i k l)) (outer-from (suc i) k (later i k l))
+    hits-at : (w : HitKind) (at : ℕ) → ((i : ℕ) → getD log (6 * i + at) nan ≡ loOf w (entryAt log i)) → ((i : ℕ) → getD log (6 * i + at + 1) nan ≡ hiOf w (entryAt log i))
+        → (i k : ℕ) → i + k ≤ entryCount log → hitsFrom log first at i k ≡ pairsAt log (namedFrom g log (rayOf g (entryAt log first)) i k) w
+    unfolding hitsFrom namedFrom pairsAt
+    hits-at w at los his i zero l = refl
+    hits-at w at los his i (suc k) l = go (alikeAt log first i) (eqb (rayOf g (entryAt log i)) (rayOf g (entryAt log first))) (alike-ray first i h (below i k l)) (hits-at w at los his (suc i) k (later i k l))
       where
         below : (i k : ℕ) → i + suc k ≤ entryCount log → i < entryCount log
         below i k l = omega arith
@@ -99,44 +100,24 @@ module _ (g : DexelGrid) (log : List Float) (few : rayCount g ≤ 2 ^ 53) (all :
         later : (i k : ℕ) → i + suc k ≤ entryCount log → suc i + k ≤ entryCount log
         later i k l = omega arith
 
-        next : (i : ℕ) → 6 * i + 2 + 1 ≡ 6 * i + 3
-        next i = omega arith
-
         ray : ℕ
         ray = rayOf g (entryAt log first)
 
-        go : (a b : Bool) → a ≡ b → hitsFrom log first 2 (suc i) k ≡ pairsAt log (namedFrom g log ray (suc i) k) outer
-            → cond a (getD log (6 * i + 2) nan ∷ getD log (6 * i + 2 + 1) nan ∷ hitsFrom log first 2 (suc i) k) (hitsFrom log first 2 (suc i) k)
-            ≡ pairsAt log (cond b (i ∷ namedFrom g log ray (suc i) k) (namedFrom g log ray (suc i) k)) outer
-        go true true e q = ap₂ (λ (x : ℕ) (l : List Float). getD log (6 * i + 2) nan ∷ getD log x nan ∷ l) (next i) q
+        go : (a b : Bool) → a ≡ b → hitsFrom log first at (suc i) k ≡ pairsAt log (namedFrom g log ray (suc i) k) w
+            → cond a (getD log (6 * i + at) nan ∷ getD log (6 * i + at + 1) nan ∷ hitsFrom log first at (suc i) k) (hitsFrom log first at (suc i) k)
+            ≡ pairsAt log (cond b (i ∷ namedFrom g log ray (suc i) k) (namedFrom g log ray (suc i) k)) w
+        go true true e q = ap₂ (λ (x : Float) (l : List Float). x ∷ getD log (6 * i + at + 1) nan ∷ l) (los i) q ∙ ap (λ (x : Float). loOf w (entryAt log i) ∷ x ∷ pairsAt log (namedFrom g log ray (suc i) k) w) (his i)
         go true false e q = absurd (true≢false e)
         go false true e q = absurd (false≢true e)
         go false false e q = q
+
+    outer-from : (i k : ℕ) → i + k ≤ entryCount log → hitsFrom log first 2 i k ≡ pairsAt log (namedFrom g log (rayOf g (entryAt log first)) i k) outer
+    unfolding loOf hiOf entryAt
+    outer-from = hits-at outer 2 (λ i. refl) (λ i. ap (λ (x : ℕ). getD log x nan) (omega arith))
 
     inner-from : (i k : ℕ) → i + k ≤ entryCount log → hitsFrom log first 4 i k ≡ pairsAt log (namedFrom g log (rayOf g (entryAt log first)) i k) inner
-    unfolding hitsFrom namedFrom pairsAt loOf hiOf entryAt
-    inner-from i zero l = refl
-    inner-from i (suc k) l = go (alikeAt log first i) (eqb (rayOf g (entryAt log i)) (rayOf g (entryAt log first))) (alike-ray first i h (below i k l)) (inner-from (suc i) k (later i k l))
-      where
-        below : (i k : ℕ) → i + suc k ≤ entryCount log → i < entryCount log
-        below i k l = omega arith
-
-        later : (i k : ℕ) → i + suc k ≤ entryCount log → suc i + k ≤ entryCount log
-        later i k l = omega arith
-
-        next : (i : ℕ) → 6 * i + 4 + 1 ≡ 6 * i + 5
-        next i = omega arith
-
-        ray : ℕ
-        ray = rayOf g (entryAt log first)
-
-        go : (a b : Bool) → a ≡ b → hitsFrom log first 4 (suc i) k ≡ pairsAt log (namedFrom g log ray (suc i) k) inner
-            → cond a (getD log (6 * i + 4) nan ∷ getD log (6 * i + 4 + 1) nan ∷ hitsFrom log first 4 (suc i) k) (hitsFrom log first 4 (suc i) k)
-            ≡ pairsAt log (cond b (i ∷ namedFrom g log ray (suc i) k) (namedFrom g log ray (suc i) k)) inner
-        go true true e q = ap₂ (λ (x : ℕ) (l : List Float). getD log (6 * i + 4) nan ∷ getD log x nan ∷ l) (next i) q
-        go true false e q = absurd (true≢false e)
-        go false true e q = absurd (false≢true e)
-        go false false e q = q
+    unfolding loOf hiOf entryAt
+    inner-from = hits-at inner 4 (λ i. refl) (λ i. ap (λ (x : ℕ). getD log x nan) (omega arith))
 
   -- the pairs on a ray by its number, at the places of its entries
   pub pairs-of : (ray : ℕ) (w : HitKind) → pairsAt log (namedFrom g log ray 0 (entryCount log)) w ≡ pairsNamed g (entries log) ray w
@@ -146,22 +127,10 @@ module _ (g : DexelGrid) (log : List Float) (few : rayCount g ≤ 2 ^ 53) (all :
 -- ---- places without an entry of the ray
 
 module _ (g : DexelGrid) (log : List Float) (ray : ℕ) where
-  pub none-from : (i k : ℕ) → ((j : ℕ) → i ≤ j → j < i + k → eqb (rayOf g (entryAt log j)) ray ≡ false) → namedFrom g log ray i k ≡ []
+  pub none-from : (i k : ℕ) → AllFrom (λ j. eqb (rayOf g (entryAt log j)) ray ≡ false) i k → namedFrom g log ray i k ≡ []
   unfolding namedFrom
   none-from i zero f = refl
-  none-from i (suc k) f = ap (λ (b : Bool). cond b (i ∷ namedFrom g log ray (suc i) k) (namedFrom g log ray (suc i) k)) (f i (first i) (below i k)) ∙ none-from (suc i) k (λ j a b. f j (later i j a) (within i j k b))
-    where
-      first : (i : ℕ) → i ≤ i
-      first i = omega arith
-
-      below : (i k : ℕ) → i < i + suc k
-      below i k = omega arith
-
-      later : (i j : ℕ) → suc i ≤ j → i ≤ j
-      later i j a = omega arith
-
-      within : (i j k : ℕ) → j < suc i + k → j < i + suc k
-      within i j k b = omega arith
+  none-from i (suc k) f = ap (λ (b : Bool). cond b (i ∷ namedFrom g log ray (suc i) k) (namedFrom g log ray (suc i) k)) (all-first i k f) ∙ none-from (suc i) k (all-rest i k f)
 
   -- only the places from i to e - 1 can have one
   pub only-between : (n i e : ℕ) → i ≤ e → e ≤ n → ((j : ℕ) → j < i → eqb (rayOf g (entryAt log j)) ray ≡ false) → ((j : ℕ) → e ≤ j → j < n → eqb (rayOf g (entryAt log j)) ray ≡ false)

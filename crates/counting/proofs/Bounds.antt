@@ -26,7 +26,7 @@ use Rattle.runs.specs.Lent.{listNumber, listIn}
 use Rattle.runs.proofs.Lent.{lent-laws}
 use Rattle.runs.proofs.Starts.{pairs-left}
 use Rattle.logs.specs.Named.{pairsNamed, namedFrom, pairsAt}
-use Rattle.logs.proofs.Places.{pairs-named, each-below}
+use Rattle.logs.proofs.Places.{AllFrom, all-first, all-rest, pairs-named, each-below}
 use Rattle.log_hits.proofs.Taken.{starts-le}
 use Rattle.counting.specs.Answer.{listsIn, Countable}
 use Rattle.counting.specs.Totals.{sum, pairsOf, leftOf, changesOf}
@@ -51,11 +51,11 @@ places-length log [] w = refl
 places-length log (i ∷ ps) w = omega (arith, places-length log ps w)
 
 -- each entry names one ray, so that the rays share them out
-shared-out : (g : DexelGrid) (log : List Float) (i k : ℕ) → ((j : ℕ) → i ≤ j → j < i + k → rayOf g (entryAt log j) < rayCount g)
+shared-out : (g : DexelGrid) (log : List Float) (i k : ℕ) → AllFrom (λ j. rayOf g (entryAt log j) < rayCount g) i k
     → sum (λ ray. length (namedFrom g log ray i k)) (rayCount g) ≡ k
 unfolding namedFrom
 shared-out g log i zero f = sum-none (rayCount g)
-shared-out g log i (suc k) f = more (sum-one old new (rayCount g) ray (f i (first i) (below i k)) others) at (shared-out g log (suc i) k (λ j a b. f j (later i j a) (within i j k b)))
+shared-out g log i (suc k) f = more (sum-one old new (rayCount g) ray (all-first i k f) others) at (shared-out g log (suc i) k (all-rest i k f))
   where
     ray : ℕ
     ray = rayOf g (entryAt log i)
@@ -74,18 +74,6 @@ shared-out g log i (suc k) f = more (sum-one old new (rayCount g) ray (f i (firs
 
     more : {a b x y : ℕ} → a + x ≡ b + y → y ≡ suc x → b ≡ k → a ≡ suc k
     more p q r = omega arith
-
-    first : (i : ℕ) → i ≤ i
-    first i = omega arith
-
-    below : (i k : ℕ) → i < i + suc k
-    below i k = omega arith
-
-    later : (i j : ℕ) → suc i ≤ j → i ≤ j
-    later i j a = omega arith
-
-    within : (i j k : ℕ) → j < suc i + k → j < i + suc k
-    within i j k b = omega arith
 
 -- ---- nothing is taken
 

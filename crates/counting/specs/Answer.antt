@@ -10,7 +10,8 @@ use Rattle.grid.specs.declared.DexelStockSpec.{DexelStockSpec}
 use Rattle.grid.specs.declared.DexelGrid.{DexelGrid}
 use Rattle.store.specs.Updates.{Cells, Room, held}
 use Rattle.stock.specs.Stock.{SoundCells}
-use Rattle.runs.specs.Logs.{Ray, Kind}
+use Rattle.runs.specs.Logs.{Ray, Kind, entries}
+use Rattle.runs.specs.Counts.{raysChanged, pairsLeft}
 use Rattle.runs.specs.Lent.{listNumber}
 use Rattle.logs.specs.Named.{EachNamed}
 use Rattle.counting.specs.declared.Budgets.{Budgets}
@@ -23,6 +24,10 @@ listsIn spec g c r k = held (spec .«max_intervals») c (listNumber (r .0) k)
 -- `Rays` is document 01's 9, one more changed ray than allowed; `Intervals` its 10, intervals after the commit above `max_intervals`; 9 comes first
 unfoldable pub budgetOf : (allowance intervals changed left : ℕ) → Budgets
 budgetOf allowance intervals changed left = cond (ltb allowance changed) Rays (cond (ltb intervals left) Intervals Kept)
+
+-- the same of a log on a store: the rays that it would change, and the pairs of all lists as they would then be
+abbrev pub budgetIn : (spec : DexelStockSpec) (g : DexelGrid) → Cells → (log : List Float) (allowance : ℕ) → Budgets
+budgetIn spec g c log allowance = budgetOf allowance (spec .«max_intervals») (raysChanged g (listsIn spec g c) (entries log)) (pairsLeft g (listsIn spec g c) (entries log))
 
 -- a log whose entries each name a ray, on a sound store with room
 pub record Countable (spec : DexelStockSpec) (g : DexelGrid) (c : Cells) (intervals : ℕ) (log : List Float) : Type 0 where

@@ -7,9 +7,8 @@ ghost use Rattle.grid.specs.Rays.{rayCount};
 ghost use Rattle.store.specs.Updates.{cells};
 ghost use Rattle.stock.specs.Stock.{Tells};
 ghost use Rattle.runs.specs.Logs.{entries, entryCount};
-ghost use Rattle.runs.specs.Counts.{raysChanged, pairsLeft};
 ghost use Rattle.logs.specs.Named.{EachNamed};
-ghost use Rattle.counting.specs.Answer.{listsIn, budgetOf, Countable, Counting};
+ghost use Rattle.counting.specs.Answer.{budgetIn, Countable, Counting};
 ghost use Rattle.counting.specs.Totals.{pairsOf, RunOf, Counts, Ascending, FirstOf, EndOf, Totalled};
 use grid::DexelGrid;
 use grid::DexelStockSpec;
@@ -246,9 +245,7 @@ fn count_all(
     allowance: u64,
 ) -> Budgets
     requires { ⌜ Countable spec g (cells (now spans) (now links) (now heads)) intervals (now log) ⌝ }
-    ensures { λ r. ⌜ r ≡ budgetOf allowance (spec .«max_intervals»)
-        (raysChanged g (listsIn spec g (cells (now (spans .entry)) (now (links .entry)) (now (heads .entry)))) (entries (now (log .entry))))
-        (pairsLeft g (listsIn spec g (cells (now (spans .entry)) (now (links .entry)) (now (heads .entry)))) (entries (now (log .entry)))) ⌝ }
+    ensures { λ r. ⌜ r ≡ budgetIn spec g (cells (now (spans .entry)) (now (links .entry)) (now (heads .entry))) (now (log .entry)) allowance ⌝ }
 {
     let n = log.len() / 6;
     let ascending = ascends(g, log);
@@ -297,9 +294,7 @@ pub fn budget(
     allowance: u64,
 ) -> Budgets
     requires { ⌜ Countable spec g (cells (now spans) (now links) (now heads)) intervals (now log) ⌝ }
-    ensures { λ r. ⌜ r ≡ budgetOf allowance (spec .«max_intervals»)
-        (raysChanged g (listsIn spec g (cells (now (spans .entry)) (now (links .entry)) (now (heads .entry)))) (entries (now (log .entry))))
-        (pairsLeft g (listsIn spec g (cells (now (spans .entry)) (now (links .entry)) (now (heads .entry)))) (entries (now (log .entry)))) ⌝ }
+    ensures { λ r. ⌜ r ≡ budgetIn spec g (cells (now (spans .entry)) (now (links .entry)) (now (heads .entry))) (now (log .entry)) allowance ⌝ }
 {
     let entries = (log.len() / 6) as u64;
     if allows_all(g, entries, allowance) {

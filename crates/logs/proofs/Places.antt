@@ -15,6 +15,16 @@ use Rattle.runs.proofs.Entries.{entry-at}
 use Rattle.runs.proofs.Naming.{named-below}
 use Rattle.logs.specs.Named.{EachNamed, pairsNamed, namedFrom, pairsAt}
 
+-- the k places from i on have the property P
+abbrev pub AllFrom : (ℕ → Type 0) → (i k : ℕ) → Type 0
+AllFrom P i k = (j : ℕ) → i ≤ j → j < i + k → P j
+
+pub all-first : {P : ℕ → Type 0} (i k : ℕ) → AllFrom P i (suc k) → P i
+all-first i k f = f i (omega arith) (omega arith)
+
+pub all-rest : {P : ℕ → Type 0} (i k : ℕ) → AllFrom P i (suc k) → AllFrom P (suc i) k
+all-rest i k f j a b = f j (omega arith) (omega arith)
+
 -- the ray of an entry that names one is below the count of all rays
 pub each-below : (g : DexelGrid) (log : List Float) → EachNamed g log → (i : ℕ) → i < entryCount log → rayOf g (entryAt log i) < rayCount g
 unfolding EachNamed
@@ -62,24 +72,12 @@ module _ (g : DexelGrid) (log : List Float) (ray : ℕ) where
       go true q = ap (λ (l : List ℕ). i ∷ l) q
       go false q = q
 
-  pub pairs-from : (w : HitKind) (i k : ℕ) → ((j : ℕ) → i ≤ j → j < i + k → namesOne g (entryAt log j) ≡ true)
+  pub pairs-from : (w : HitKind) (i k : ℕ) → AllFrom (λ j. namesOne g (entryAt log j) ≡ true) i k
       → pairsAt log (namedFrom g log ray i k) w ≡ pairsNamed g (entriesFrom log i k) ray w
   unfolding pairsAt namedFrom pairsNamed entriesFrom
   pairs-from w i zero h = refl
-  pairs-from w i (suc k) h = go (eqb (rayOf g (entryAt log i)) ray) (namesOne g (entryAt log i)) (h i (first i) (below i k)) (pairs-from w (suc i) k (λ j a b. h j (later i j a) (within i j k b)))
+  pairs-from w i (suc k) h = go (eqb (rayOf g (entryAt log i)) ray) (namesOne g (entryAt log i)) (all-first i k h) (pairs-from w (suc i) k (all-rest i k h))
     where
-      first : (i : ℕ) → i ≤ i
-      first i = omega arith
-
-      below : (i k : ℕ) → i < i + suc k
-      below i k = omega arith
-
-      later : (i j : ℕ) → suc i ≤ j → i ≤ j
-      later i j a = omega arith
-
-      within : (i j k : ℕ) → j < suc i + k → j < i + suc k
-      within i j k b = omega arith
-
       lo : Float
       lo = loOf w (entryAt log i)
 

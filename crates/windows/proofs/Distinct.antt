@@ -6,15 +6,17 @@ use mathlib.Core.Logic.{_⊎_, inl, inr}
 use Prim.Native.Nat.{ℕ, zero, suc, _+_, _≤_, _<_}
 use native.Mathlib.Omega.{arith}
 use native.Mathlib.Numerals.{add-one}
+use native.Mathlib.Nat.{add-zero}
 use lib.ListN.{getD}
 use lib.Ieee.{Float, nan, lt, le, eq}
 use Rattle.doubles.specs.Doubles.{Number}
 use Rattle.doubles.proofs.Bools.{and-left, and-right, both, by-cases, clash, not-true, same-if}
 use Rattle.doubles.proofs.Order.{le-number, le-trans, not-lt→le, lt-le-trans, le→not-lt}
 use Rattle.spans.specs.Spans.{within}
+use Rattle.store.specs.Walks.{bit, countTo}
 use Rattle.runs.specs.Counts.{among, distinct}
 use Rattle.runs.proofs.Starts.{among-eq, remove, removed, remove-other, distinct-remove, none-left}
-use Rattle.windows.specs.Windows.{passesIn, countTo}
+use Rattle.windows.specs.Windows.{passesIn}
 
 -- ---- tests
 
@@ -89,14 +91,6 @@ all-next P i f p j h = elim (last-or j i (omega arith)) [ inl e ↦ subst P (sym
 pub nowhere : (i : ℕ) → i < 0 → ⊥
 nowhere i h = omega arith
 
-pub count-yes : (f : ℕ → Bool) (i n k : ℕ) → n ≡ countTo f i → f i ≡ true → k ≡ n + 1 → k ≡ countTo f (i + 1)
-unfolding countTo
-count-yes f i n k e t h = omega (arith, ap (λ (j : ℕ). countTo f j) (add-one i), ap (λ (b : Bool). cond b (suc (countTo f i)) (countTo f i)) t)
-
-pub count-no : (f : ℕ → Bool) (i n k : ℕ) → n ≡ countTo f i → f i ≡ false → k ≡ n → k ≡ countTo f (i + 1)
-unfolding countTo
-count-no f i n k e t h = omega (arith, ap (λ (j : ℕ). countTo f j) (add-one i), ap (λ (b : Bool). cond b (suc (countTo f i)) (countTo f i)) t)
-
 pub count-none : (f : ℕ → Bool) → 0 ≡ countTo f 0
 unfolding countTo
 count-none f = refl
@@ -110,21 +104,12 @@ at-end f i m h k = ap (countTo f) (meet i m h k)
 pub count-same : (f g : ℕ → Bool) (m : ℕ) → ((i : ℕ) → i < m → f i ≡ g i) → countTo f m ≡ countTo g m
 unfolding countTo
 count-same f g zero e = refl
-count-same f g (suc m) e = ap₂ (λ (b : Bool) (n : ℕ). cond b (suc n) n) (e m (omega arith)) (count-same f g m (λ i h. e i (omega arith)))
+count-same f g (suc m) e = ap₂ (λ (b : Bool) (n : ℕ). n + bit b) (e m (omega arith)) (count-same f g m (λ i h. e i (omega arith)))
 
 pub count-all : (f : ℕ → Bool) (m : ℕ) → ((i : ℕ) → i < m → f i ≡ true) → countTo f m ≡ m
 unfolding countTo
 count-all f zero e = refl
-count-all f (suc m) e = ap₂ (λ (b : Bool) (n : ℕ). cond b (suc n) n) (e m (omega arith)) (count-all f m (λ i h. e i (omega arith)))
-
-pub count-le : (f : ℕ → Bool) (m : ℕ) → countTo f m ≤ m
-unfolding countTo
-count-le f zero = omega arith
-count-le f (suc m) = go (f m) (count-le f m)
-  where
-    go : (b : Bool) → countTo f m ≤ m → cond b (suc (countTo f m)) (countTo f m) ≤ suc m
-    go true h = omega arith
-    go false h = omega arith
+count-all f (suc m) e = ap₂ (λ (b : Bool) (n : ℕ). n + bit b) (e m (omega arith)) (count-all f m (λ i h. e i (omega arith))) ∙ add-one m
 
 -- ---- the different numbers of a list that pass a test, each in a cell of its own
 
@@ -164,7 +149,7 @@ module _ (test : Float → Bool) (number : (x : Float) → test x ≡ true → N
       other : (z : Float) → test x ≡ false → test z ≡ true → eq z x ≡ false
       other z t k = elim (by-cases (eq z x)) [ inl e ↦ absurd (clash (test z) k (same z x e ∙ t)) | inr n ↦ n ]
 
-      go : Counts → (b : Bool) → test x ≡ b → distinct test l ≡ cond b (suc (countTo (λ i. test (getD c i nan)) m)) (countTo (λ i. test (getD c i nan)) m)
+      go : Counts → (b : Bool) → test x ≡ b → distinct test l ≡ countTo (λ i. test (getD c i nan)) m + bit b
       go fewer true t =
           distinct-remove test number same x l t (given m (omega arith) t)
           ∙ ap suc (fewer (remove x l) (λ i j h k. apart i j h (omega arith))
@@ -173,4 +158,5 @@ module _ (test : Float → Bool) (number : (x : Float) → test x ≡ true → N
             | inl e ↦ absurd (clash (among x (remove x l)) (among-eq z x (remove x l) e a) (removed x l))
             | inr n ↦ before z n (all z (sym (remove-other x z l n) ∙ a) k)
           ]))
-      go fewer false t = fewer l (λ i j h k. apart i j h (omega arith)) (λ i h k. given i (omega arith) k) (λ z a k. before z (other z t k) (all z a k))
+          ∙ sym (add-one (countTo (λ i. test (getD c i nan)) m))
+      go fewer false t = fewer l (λ i j h k. apart i j h (omega arith)) (λ i h k. given i (omega arith) k) (λ z a k. before z (other z t k) (all z a k)) ∙ sym (add-zero (countTo (λ i. test (getD c i nan)) m))

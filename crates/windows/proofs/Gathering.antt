@@ -14,9 +14,10 @@ use Rattle.doubles.specs.Doubles.{Number}
 use Rattle.doubles.proofs.Bools.{and-left, and-right, both, by-cases, clash, or-cases, or-left, or-right, and-true}
 use Rattle.doubles.proofs.Order.{lt-number, lt-trans, le-cases, eq-sym, eq-trans, eq-refl, not-lt→le, le-lt-trans, lt-eq-left, le-eq-right, lt-irrefl, lt→le}
 use Rattle.spans.specs.Spans.{within}
+use Rattle.store.specs.Walks.{countTo}
 use Rattle.runs.specs.Counts.{among, distinct}
 use Rattle.windows.specs.declared.Window.{Window}
-use Rattle.windows.specs.Windows.{Gathered, Gathers, Largest, passesIn, countTo}
+use Rattle.windows.specs.Windows.{Gathered, Gathers, Largest, passesIn}
 use Rattle.windows.proofs.Distinct.{last-or, cells-count, count-same, count-all}
 
 pub within-eq : (b u x y : Float) → eq x y ≡ true → within b u x ≡ within b u y

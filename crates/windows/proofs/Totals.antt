@@ -10,6 +10,7 @@ use lib.Ieee.{Float, nan, lt, le, neg, ofBits}
 use Rattle.doubles.proofs.Bools.{and-left, and-right, both, or-cases}
 use Rattle.doubles.proofs.Order.{lt-number, le-bottom, le-top, lt-le-trans}
 use Rattle.spans.specs.Spans.{within, holds}
+use Rattle.store.specs.Walks.{countTo}
 use Rattle.runs.specs.Counts.{distinct, startsLeft}
 use Rattle.runs.proofs.Starts.{number-of, holds-eq}
 use Rattle.log_hits.specs.Hits.{hitsFrom, takenFrom}
@@ -17,8 +18,9 @@ use Rattle.log_hits.proofs.Any.{holds-any}
 use Rattle.log_hits.proofs.Taken.{taken-any}
 use Rattle.windows.specs.declared.Window.{Window}
 use Rattle.windows.specs.declared.Count.{Count}
-use Rattle.windows.specs.Windows.{Gathered, GathersAll, startsOf, isLeft, passesIn, countTo, Within, Unmarked, ListMarked, HitsCleared, top, Counted}
-use Rattle.windows.proofs.Distinct.{window-split, window-whole, count-same, count-le}
+use Rattle.windows.specs.Windows.{Gathered, GathersAll, startsOf, isLeft, passesIn, Within, Unmarked, ListMarked, HitsCleared, top, Counted}
+use Rattle.store.proofs.Counting.{count-max}
+use Rattle.windows.proofs.Distinct.{window-split, window-whole, count-same}
 use Rattle.windows.proofs.Gathering.{cells-starts, cells-left, cells-onward}
 
 -- ---- the hits that are taken
@@ -61,7 +63,7 @@ window-counted {l} {hits} {b} {given} {u} {c} {m} {left} {before} {mid} {after} 
   starts = sym (cells-starts g);
   left = e ∙ count-same (λ i. getD after i false) (λ i. isLeft l hits (getD c i nan)) m (λ i k. h .marks i k ∙ ap (λ (x : Bool). x && not (holds hits (getD c i nan))) (f .marks i k))
       ∙ sym (cells-left g (isLeft l hits) (λ x y d. ap₂ (λ (p q : Bool). p && not q) (holds-eq l x y d) (holds-eq hits x y d)));
-  few = omega (arith, count-le (λ i. getD after i false) m);
+  few = omega (arith, count-max (λ i. getD after i false) m);
   free = g .free;
   onward = λ n. cells-onward g (some m n);
 }

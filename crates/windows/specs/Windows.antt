@@ -3,7 +3,7 @@ use mathlib.Core.Path.{_≡_}
 use mathlib.Core.Bool.{Bool, true, false, cond, not, _&&_}
 use mathlib.Core.List.{List, [], _++_}
 use mathlib.Core.Logic.{_⊎_}
-use Prim.Native.Nat.{ℕ, zero, suc, _+_, _*_, _≤_, _<_}
+use Prim.Native.Nat.{ℕ, _+_, _*_, _≤_, _<_}
 use lib.ListN.{length, getD}
 use lib.Ieee.{Float, nan, le, eq, ofBits, binary64}
 use Rattle.doubles.specs.Doubles.{Number}
@@ -21,11 +21,6 @@ isLeft l hits x = holds l x && not (holds hits x)
 -- x passes the test and lies in the window from b to below u
 abbrev pub passesIn : (Float → Bool) → (b u : Float) → Float → Bool
 passesIn t b u x = t x && within b u x
-
--- how many of the first m places pass
-unfoldable pub countTo : (ℕ → Bool) → ℕ → ℕ
-countTo t zero = 0
-countTo t (suc i) = cond (t i) (suc (countTo t i)) (countTo t i)
 
 -- where starts can be: at a lo of the list or a hi of a hit
 unfoldable pub startsOf : (l hits : List Float) → List Float

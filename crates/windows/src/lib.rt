@@ -7,10 +7,11 @@ ghost use Prim.Native.Nat.{_+_, _-_, _≤_, _<_};
 ghost use lib.ListN.{length, getD};
 ghost use lib.Ieee.{le};
 ghost use Rattle.spans.specs.Spans.{within};
+ghost use Rattle.store.specs.Walks.{countTo};
 ghost use Rattle.lists.specs.Reading.{listFrom, Readable};
 ghost use Rattle.runs.specs.Counts.{losOf, hisOf, startsLeft};
 ghost use Rattle.log_hits.specs.Hits.{hitsFrom, takenFrom, Places};
-ghost use Rattle.windows.specs.Windows.{Found, Largest, Gathers, GathersAll, countTo, Remarks, Within, Unmarked, ListMarked, HitCleared, HitsCleared, top, Counted};
+ghost use Rattle.windows.specs.Windows.{Found, Largest, Gathers, GathersAll, Remarks, Within, Unmarked, ListMarked, HitCleared, HitsCleared, top, Counted};
 
 // How many cells are in use, and where the window ends.
 pub struct Window {

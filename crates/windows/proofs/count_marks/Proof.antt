@@ -1,12 +1,13 @@
 use mathlib.Core.Path.{_≡_, _∙_}
-use mathlib.Core.Bool.{false}
+use mathlib.Core.Bool.{true, false}
 use mathlib.Core.Logic.{⊎-elim}
 use Prim.Native.Nat.{_-_, _≤_}
 use borrow.Author.Needs.{needs}
 use native.Mathlib.Omega.{arith}
 use lib.ListN.{getD}
-use Rattle.windows.specs.Windows.{countTo}
-use Rattle.windows.proofs.Distinct.{count-yes, count-no, count-none, at-end}
+use Rattle.store.specs.Walks.{countTo}
+use Rattle.store.proofs.InUse.{count-next}
+use Rattle.windows.proofs.Distinct.{count-none, at-end}
 use Rattle.windows.proofs.count_marks.Statement.{statement}
 use Rattle.windows.proofs.count_marks.Tie as tie
 
@@ -32,7 +33,7 @@ loop-less : tie.Need-loop-less Inv-loop μ-loop
 loop-less c = omega (arith, c .before .before .loop-test .taken)
 
 loop-again : tie.Need-loop-again Inv-loop μ-loop
-loop-again c = let i = c .before .before .before .loop .inv in let t = c .before .before .loop-test .taken in ⊎-elim (λ u. (omega (arith, u .1, i .0), omega arith, count-yes (λ j. getD (c .before .before .before .before .args .marks .now) j false) (c .before .before .before .loop .i) (c .before .before .before .loop .c) (c .if1 .c) (i .2) (u .0 .taken) (u .1))) (λ u. (omega (arith, u .1, i .0), omega arith, count-no (λ j. getD (c .before .before .before .before .args .marks .now) j false) (c .before .before .before .loop .i) (c .before .before .before .loop .c) (c .if1 .c) (i .2) (u .0 .left) (u .1))) (c .if1 .came)
+loop-again c = let i = c .before .before .before .loop .inv in let t = c .before .before .loop-test .taken in ⊎-elim (λ u. (omega (arith, u .1, i .0), omega arith, count-next (λ j. getD (c .before .before .before .before .args .marks .now) j false) _ _ _ true (i .2) (u .0 .taken) (u .1))) (λ u. (omega (arith, u .1, i .0), omega arith, count-next (λ j. getD (c .before .before .before .before .args .marks .now) j false) _ _ _ false (i .2) (u .0 .left) (omega (arith, u .1)))) (c .if1 .came)
 
 returns : tie.Need-returns Inv-loop μ-loop
 returns c = c .before .loop .inv .2 ∙ at-end (λ j. getD (c .before .before .args .marks .now) j false) (c .before .loop .i) (c .before .before .args .m) (c .before .loop .inv .1) (c .loop-test .left)
