@@ -115,24 +115,24 @@ module _ (l hits : List Float) where
   pub from-lowest : (x : Float) → x ≡ top → 0 + leftFrom (neg x) ≡ startsLeft l hits
   from-lowest x e = subst (λ (y : Float). 0 + leftFrom (neg y) ≡ startsLeft l hits) (sym e) (omega (arith, from-bottom))
 
-  module _ {b : Float} {r : Count} (f : Counted l hits b top r) where
-    module _ (n : r .starts ≡ 0 → ⊥) where
-      to-top : le (r .end) top ≡ true
-      unfolding ofBits
-      to-top = le-top (r .end) (f .onward n .1)
+module _ {l hits : List Float} {b : Float} {r : Count} (f : Counted l hits b top r) where
+  module _ (n : r .starts ≡ 0 → ⊥) where
+    to-top : le (r .end) top ≡ true
+    unfolding ofBits
+    to-top = le-top (r .end) (f .onward n .1)
 
-      pub left-next : leftFrom b ≡ r .left + leftFrom (r .end)
-      left-next = window-split (isLeft l hits) b (r .end) top (f .onward n .0) to-top (startsOf l hits) ∙ ap (λ (k : ℕ). k + leftFrom (r .end)) (sym (f .left))
+    pub left-next : leftFrom l hits b ≡ r .left + leftFrom l hits (r .end)
+    left-next = window-split (isLeft l hits) b (r .end) top (f .onward n .0) to-top (startsOf l hits) ∙ ap (λ (k : ℕ). k + leftFrom l hits (r .end)) (sym (f .left))
 
-      starts-next : startsFrom b ≡ r .starts + startsFrom (r .end)
-      starts-next = window-split (λ x. true) b (r .end) top (f .onward n .0) to-top (startsOf l hits) ∙ ap (λ (k : ℕ). k + startsFrom (r .end)) (sym (f .starts))
+    starts-next : startsFrom l hits b ≡ r .starts + startsFrom l hits (r .end)
+    starts-next = window-split (λ x. true) b (r .end) top (f .onward n .0) to-top (startsOf l hits) ∙ ap (λ (k : ℕ). k + startsFrom l hits (r .end)) (sym (f .starts))
 
-      pub fewer-starts : startsFrom (r .end) < startsFrom b
-      fewer-starts = less (r .starts) (startsFrom b) (startsFrom (r .end)) starts-next n
-        where
-          less : (s a k : ℕ) → a ≡ s + k → (s ≡ 0 → ⊥) → k < a
-          less zero a k e n = absurd (n refl)
-          less (suc s) a k e n = omega arith
+    pub fewer-starts : startsFrom l hits (r .end) < startsFrom l hits b
+    fewer-starts = less (r .starts) (startsFrom l hits b) (startsFrom l hits (r .end)) starts-next n
+      where
+        less : (s a k : ℕ) → a ≡ s + k → (s ≡ 0 → ⊥) → k < a
+        less zero a k e n = absurd (n refl)
+        less (suc s) a k e n = omega arith
 
-    pub none-left-from : r .starts ≡ 0 → leftFrom b ≡ 0
-    none-left-from e = subst (λ (u : Float). distinct (passesIn (isLeft l hits) b u) (startsOf l hits) ≡ 0) (f .free e) (omega (arith, f .left, f .few))
+  pub none-left-from : r .starts ≡ 0 → leftFrom l hits b ≡ 0
+  none-left-from e = subst (λ (u : Float). distinct (passesIn (isLeft l hits) b u) (startsOf l hits) ≡ 0) (f .free e) (omega (arith, f .left, f .few))
