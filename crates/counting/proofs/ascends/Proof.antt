@@ -23,7 +23,9 @@ unfolding EachNamed
 ray-at-requires c κs = (c .before .before .before .pre .0, omega arith, c .before .before .before .pre .1 (c .before .loop .i) (omega arith))
 
 returns : tie.Need-returns Inv-loop μ-loop
-returns c = ((λ h. absurd (false≢true h)), λ up. absurd (rising-not (c .before .before .before .before .before .args .g) (c .before .before .before .before .before .args .log .now) (c .before .before .before .loop .last) (c .before .before .before .loop .i) (c .before .before .before .loop .inv .1) (omega arith) (c .before .ray-at .result) (c .before .ray-at .ensures) (omega arith) up))
+returns c =
+    let given = c .before .before .before .before .before .args in
+    ((λ h. absurd (false≢true h)), λ up. absurd (rising-not (given .g) (given .log .now) (c .before .before .before .loop .last) (c .before .before .before .loop .i) (c .before .before .before .loop .inv .1) (omega arith) (c .before .ray-at .result) (c .before .ray-at .ensures) (omega arith) up))
 
 add-i : tie.Need-add-i Inv-loop μ-loop
 add-i c = omega arith
@@ -32,7 +34,10 @@ loop-less : tie.Need-loop-less Inv-loop μ-loop
 loop-less c = omega arith
 
 loop-again : tie.Need-loop-again Inv-loop μ-loop
-loop-again c = (c .before .before .before .loop .inv .0, rising-more (c .before .before .before .before .before .args .g) (c .before .before .before .before .before .args .log .now) (c .before .before .before .loop .last) (c .before .before .before .loop .i) (c .before .before .before .loop .inv .1) (omega arith) (c .before .ray-at .result) (c .before .ray-at .ensures) (omega arith))
+loop-again c =
+    let given = c .before .before .before .before .before .args in
+    let inv = c .before .before .before .loop .inv in
+    (inv .0, rising-more (given .g) (given .log .now) (c .before .before .before .loop .last) (c .before .before .before .loop .i) (inv .1) (omega arith) (c .before .ray-at .result) (c .before .ray-at .ensures) (omega arith))
 
 returns-2 : tie.Need-returns-2 Inv-loop μ-loop
 unfolding Ascending

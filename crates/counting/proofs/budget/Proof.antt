@@ -7,16 +7,24 @@ use Rattle.counting.proofs.budget.Statement.{statement}
 use Rattle.counting.proofs.budget.Tie as tie
 
 allows-all-requires : tie.Need-allows-all-requires
-allows-all-requires c κs = omega (arith, few-rays (c .before .before .before .before .args .spec) (c .before .before .before .before .args .g) (cells (c .before .before .before .before .args .spans .now) (c .before .before .before .before .args .links .now) (c .before .before .before .before .args .heads .now)) (c .before .before .before .before .args .intervals) (c .before .before .before .before .args .log .now) (c .before .before .before .before .pre))
+allows-all-requires c κs =
+    let given = c .before .before .before .before .args in
+    omega (arith, few-rays (given .spec) (given .g) (cells (given .spans .now) (given .links .now) (given .heads .now)) (given .intervals) (given .log .now) (c .before .before .before .before .pre))
 
 mul-if2 : tie.Need-mul-if2
 mul-if2 c = search needs
 
 add-if2 : tie.Need-add-if2
-add-if2 c = omega (arith, total-fits (c .before .before .before .before .before .before .args .spec) (c .before .before .before .before .before .before .args .g) (cells (c .before .before .before .before .before .before .args .spans .now) (c .before .before .before .before .before .before .args .links .now) (c .before .before .before .before .before .before .args .heads .now)) (c .before .before .before .before .before .before .args .intervals) (c .before .before .before .before .before .before .args .log .now) (c .before .before .before .before .before .before .pre), c .before .before .before .before .before .before .pre .room .in-spans)
+add-if2 c =
+    let given = c .before .before .before .before .before .before .args in
+    let pre = c .before .before .before .before .before .before .pre in
+    omega (arith, total-fits (given .spec) (given .g) (cells (given .spans .now) (given .links .now) (given .heads .now)) (given .intervals) (given .log .now) (pre), pre .room .in-spans)
 
 returns : tie.Need-returns
-returns c = both-kept _ _ _ _ (rays-allowed (c .before .before .before .before .before .before .before .before .args .spec) (c .before .before .before .before .before .before .before .before .args .g) (cells (c .before .before .before .before .before .before .before .before .args .spans .now) (c .before .before .before .before .before .before .before .before .args .links .now) (c .before .before .before .before .before .before .before .before .args .heads .now)) (c .before .before .before .before .before .before .before .before .args .intervals) (c .before .before .before .before .before .before .before .before .args .log .now) (c .before .before .before .before .before .before .before .before .pre) (c .before .before .before .allows-all .ensures (c .before .before .if1 .taken))) (omega (arith, pairs-le (c .before .before .before .before .before .before .before .before .args .spec) (c .before .before .before .before .before .before .before .before .args .g) (cells (c .before .before .before .before .before .before .before .before .args .spans .now) (c .before .before .before .before .before .before .before .before .args .links .now) (c .before .before .before .before .before .before .before .before .args .heads .now)) (c .before .before .before .before .before .before .before .before .args .intervals) (c .before .before .before .before .before .before .before .before .args .log .now) (c .before .before .before .before .before .before .before .before .pre), c .if2 .taken))
+returns c =
+    let given = c .before .before .before .before .before .before .before .before .args in
+    let pre = c .before .before .before .before .before .before .before .before .pre in
+    both-kept _ _ _ _ (rays-allowed (given .spec) (given .g) (cells (given .spans .now) (given .links .now) (given .heads .now)) (given .intervals) (given .log .now) (pre) (c .before .before .before .allows-all .ensures (c .before .before .if1 .taken))) (omega (arith, pairs-le (given .spec) (given .g) (cells (given .spans .now) (given .links .now) (given .heads .now)) (given .intervals) (given .log .now) (pre), c .if2 .taken))
 
 count-all-requires : tie.Need-count-all-requires
 count-all-requires c κs = search needs

@@ -11,35 +11,65 @@ use Rattle.counting.proofs.count_entry.Statement.{statement}
 use Rattle.counting.proofs.count_entry.Tie as tie
 
 first-of-ray-requires : tie.Need-first-of-ray-requires
-first-of-ray-requires c κs = (few-rays (c .before .before .before .before .args .spec) (c .before .before .before .before .args .g) (cells (c .before .before .before .before .args .spans .now) (c .before .before .before .before .args .links .now) (c .before .before .before .before .args .heads .now)) (c .before .before .before .before .pre .0 .intervals) (c .before .before .before .before .args .log .now) (c .before .before .before .before .pre .0 .countable), c .before .before .before .before .pre .0 .countable .named, c .before .before .before .before .pre .1, c .before .before .before .before .pre .2)
+first-of-ray-requires c κs =
+    let given = c .before .before .before .before .args in
+    let pre = c .before .before .before .before .pre in
+    (few-rays (given .spec) (given .g) (cells (given .spans .now) (given .links .now) (given .heads .now)) (pre .0 .intervals) (given .log .now) (pre .0 .countable), pre .0 .countable .named, pre .1, pre .2)
 
 returns : tie.Need-returns
-returns c = entry-old (c .before .before .before .before .before .before .args .spec) (c .before .before .before .before .before .before .args .g) (cells (c .before .before .before .before .before .before .args .spans .now) (c .before .before .before .before .before .before .args .links .now) (c .before .before .before .before .before .before .args .heads .now)) (c .before .before .before .before .before .before .args .log .now) (c .before .before .before .before .before .before .pre .0) (c .before .before .before .before .before .before .args .i) (c .before .before .before .before .before .before .pre .2) (c .before .before .before .before .before .before .args .t) (c .before .before .before .before .before .before .pre .3) (c .before .first-of-ray .result) (not-true _ (c .if1 .taken)) (c .before .first-of-ray .ensures)
+returns c =
+    let given = c .before .before .before .before .before .before .args in
+    let pre = c .before .before .before .before .before .before .pre in
+    entry-old (given .spec) (given .g) (cells (given .spans .now) (given .links .now) (given .heads .now)) (given .log .now) (pre .0) (given .i) (pre .2) (given .t) (pre .3) (c .before .first-of-ray .result) (not-true _ (c .if1 .taken)) (c .before .first-of-ray .ensures)
 
 end-of-ray-requires : tie.Need-end-of-ray-requires
-end-of-ray-requires c κs = (few-rays (c .before .before .before .before .before .before .args .spec) (c .before .before .before .before .before .before .args .g) (cells (c .before .before .before .before .before .before .args .spans .now) (c .before .before .before .before .before .before .args .links .now) (c .before .before .before .before .before .before .args .heads .now)) (c .before .before .before .before .before .before .pre .0 .intervals) (c .before .before .before .before .before .before .args .log .now) (c .before .before .before .before .before .before .pre .0 .countable), c .before .before .before .before .before .before .pre .0 .countable .named, c .before .before .before .before .before .before .pre .1, c .before .before .before .before .before .before .pre .2)
+end-of-ray-requires c κs =
+    let given = c .before .before .before .before .before .before .args in
+    let pre = c .before .before .before .before .before .before .pre in
+    (few-rays (given .spec) (given .g) (cells (given .spans .now) (given .links .now) (given .heads .now)) (pre .0 .intervals) (given .log .now) (pre .0 .countable), pre .0 .countable .named, pre .1, pre .2)
 
 ray-at-requires : tie.Need-ray-at-requires
 unfolding EachNamed
-ray-at-requires c κs = (omega (arith, few-rays (c .before .before .before .before .before .before .before .args .spec) (c .before .before .before .before .before .before .before .args .g) (cells (c .before .before .before .before .before .before .before .args .spans .now) (c .before .before .before .before .before .before .before .args .links .now) (c .before .before .before .before .before .before .before .args .heads .now)) (c .before .before .before .before .before .before .before .pre .0 .intervals) (c .before .before .before .before .before .before .before .args .log .now) (c .before .before .before .before .before .before .before .pre .0 .countable)), omega (arith, c .before .before .before .before .before .before .before .pre .2), c .before .before .before .before .before .before .before .pre .0 .countable .named (c .before .before .before .before .before .before .before .args .i) (c .before .before .before .before .before .before .before .pre .2))
+ray-at-requires c κs =
+    let given = c .before .before .before .before .before .before .before .args in
+    let pre = c .before .before .before .before .before .before .before .pre in
+    (omega (arith, few-rays (given .spec) (given .g) (cells (given .spans .now) (given .links .now) (given .heads .now)) (pre .0 .intervals) (given .log .now) (pre .0 .countable)), omega (arith, pre .2), pre .0 .countable .named (given .i) (pre .2))
 
 count-ray-requires : tie.Need-count-ray-requires
-count-ray-requires c κs = let z = entry-run (c .before .before .before .before .before .before .before .before .args .spec) (c .before .before .before .before .before .before .before .before .args .g) (cells (c .before .before .before .before .before .before .before .before .args .spans .now) (c .before .before .before .before .before .before .before .before .args .links .now) (c .before .before .before .before .before .before .before .before .args .heads .now)) (c .before .before .before .before .before .before .before .before .args .log .now) (c .before .before .before .before .before .before .before .before .pre .0) (c .before .before .before .before .before .before .before .before .args .i) (c .before .before .before .before .before .before .before .before .pre .2) (c .before .before .before .before .before .before .before .before .args .t) (c .before .before .before .before .before .before .before .before .pre .3) (c .before .before .before .first-of-ray .result) (not-false _ (c .before .before .if1 .left)) (c .before .before .before .first-of-ray .ensures) (c .ray-at .result) (c .before .end-of-ray .result) (c .ray-at .ensures) (c .before .end-of-ray .ensures) in (c .before .before .before .before .before .before .before .before .pre .0, z .0, z .1)
+count-ray-requires c κs =
+    let given = c .before .before .before .before .before .before .before .before .args in
+    let pre = c .before .before .before .before .before .before .before .before .pre in
+    let z = entry-run (given .spec) (given .g) (cells (given .spans .now) (given .links .now) (given .heads .now)) (given .log .now) (pre .0) (given .i) (pre .2) (given .t) (pre .3) (c .before .before .before .first-of-ray .result) (not-false _ (c .before .before .if1 .left)) (c .before .before .before .first-of-ray .ensures) (c .ray-at .result) (c .before .end-of-ray .result) (c .ray-at .ensures) (c .before .end-of-ray .ensures) in (pre .0, z .0, z .1)
 
 sub-pairs : tie.Need-sub-pairs
-sub-pairs c = omega (arith, entry-before (c .before .before .before .before .before .before .before .before .before .before .args .spec) (c .before .before .before .before .before .before .before .before .before .before .args .g) (cells (c .before .before .before .before .before .before .before .before .before .before .args .spans .now) (c .before .before .before .before .before .before .before .before .before .before .args .links .now) (c .before .before .before .before .before .before .before .before .before .before .args .heads .now)) (c .before .before .before .before .before .before .before .before .before .before .args .log .now) (c .before .before .before .before .before .before .before .before .before .before .pre .0) (c .before .before .before .before .before .before .before .before .before .before .args .i) (c .before .before .before .before .before .before .before .before .before .before .pre .2) (c .before .before .before .before .before .before .before .before .before .before .args .t) (c .before .before .before .before .before .before .before .before .before .before .pre .3) (c .before .before .before .before .before .first-of-ray .result) (not-false _ (c .before .before .before .before .if1 .left)) (c .before .before .before .before .before .first-of-ray .ensures) (c .before .before .ray-at .result) (c .before .before .ray-at .ensures) (c .before .count-ray .result) (c .before .count-ray .ensures))
+sub-pairs c =
+    let given = c .before .before .before .before .before .before .before .before .before .before .args in
+    let pre = c .before .before .before .before .before .before .before .before .before .before .pre in
+    omega (arith, entry-before (given .spec) (given .g) (cells (given .spans .now) (given .links .now) (given .heads .now)) (given .log .now) (pre .0) (given .i) (pre .2) (given .t) (pre .3) (c .before .before .before .before .before .first-of-ray .result) (not-false _ (c .before .before .before .before .if1 .left)) (c .before .before .before .before .before .first-of-ray .ensures) (c .before .before .ray-at .result) (c .before .before .ray-at .ensures) (c .before .count-ray .result) (c .before .count-ray .ensures))
 
 add-pairs : tie.Need-add-pairs
-add-pairs c = omega (arith, entry-before (c .before .before .before .before .before .before .before .before .before .before .args .spec) (c .before .before .before .before .before .before .before .before .before .before .args .g) (cells (c .before .before .before .before .before .before .before .before .before .before .args .spans .now) (c .before .before .before .before .before .before .before .before .before .before .args .links .now) (c .before .before .before .before .before .before .before .before .before .before .args .heads .now)) (c .before .before .before .before .before .before .before .before .before .before .args .log .now) (c .before .before .before .before .before .before .before .before .before .before .pre .0) (c .before .before .before .before .before .before .before .before .before .before .args .i) (c .before .before .before .before .before .before .before .before .before .before .pre .2) (c .before .before .before .before .before .before .before .before .before .before .args .t) (c .before .before .before .before .before .before .before .before .before .before .pre .3) (c .before .before .before .before .before .first-of-ray .result) (not-false _ (c .before .before .before .before .if1 .left)) (c .before .before .before .before .before .first-of-ray .ensures) (c .before .before .ray-at .result) (c .before .before .ray-at .ensures) (c .before .count-ray .result) (c .before .count-ray .ensures), entry-fits (c .before .before .before .before .before .before .before .before .before .before .args .spec) (c .before .before .before .before .before .before .before .before .before .before .args .g) (cells (c .before .before .before .before .before .before .before .before .before .before .args .spans .now) (c .before .before .before .before .before .before .before .before .before .before .args .links .now) (c .before .before .before .before .before .before .before .before .before .before .args .heads .now)) (c .before .before .before .before .before .before .before .before .before .before .args .log .now) (c .before .before .before .before .before .before .before .before .before .before .pre .0) (c .before .before .before .before .before .before .before .before .before .before .args .i) (c .before .before .before .before .before .before .before .before .before .before .pre .2) (c .before .before .before .before .before .before .before .before .before .before .args .t) (c .before .before .before .before .before .before .before .before .before .before .pre .3) (c .before .before .before .before .before .first-of-ray .result) (not-false _ (c .before .before .before .before .if1 .left)) (c .before .before .before .before .before .first-of-ray .ensures) (c .before .before .ray-at .result) (c .before .before .ray-at .ensures) (c .before .count-ray .result) (c .before .count-ray .ensures), total-fits (c .before .before .before .before .before .before .before .before .before .before .args .spec) (c .before .before .before .before .before .before .before .before .before .before .args .g) (cells (c .before .before .before .before .before .before .before .before .before .before .args .spans .now) (c .before .before .before .before .before .before .before .before .before .before .args .links .now) (c .before .before .before .before .before .before .before .before .before .before .args .heads .now)) (c .before .before .before .before .before .before .before .before .before .before .pre .0 .intervals) (c .before .before .before .before .before .before .before .before .before .before .args .log .now) (c .before .before .before .before .before .before .before .before .before .before .pre .0 .countable), c .before .before .before .before .before .before .before .before .before .before .pre .0 .countable .room .in-spans, c .before .before .before .before .before .before .before .before .before .before .good, c .before .before .before .before .before .before .before .before .before .before .fits)
+add-pairs c =
+    let given = c .before .before .before .before .before .before .before .before .before .before .args in
+    let pre = c .before .before .before .before .before .before .before .before .before .before .pre in
+    omega (arith, entry-before (given .spec) (given .g) (cells (given .spans .now) (given .links .now) (given .heads .now)) (given .log .now) (pre .0) (given .i) (pre .2) (given .t) (pre .3) (c .before .before .before .before .before .first-of-ray .result) (not-false _ (c .before .before .before .before .if1 .left)) (c .before .before .before .before .before .first-of-ray .ensures) (c .before .before .ray-at .result) (c .before .before .ray-at .ensures) (c .before .count-ray .result) (c .before .count-ray .ensures), entry-fits (given .spec) (given .g) (cells (given .spans .now) (given .links .now) (given .heads .now)) (given .log .now) (pre .0) (given .i) (pre .2) (given .t) (pre .3) (c .before .before .before .before .before .first-of-ray .result) (not-false _ (c .before .before .before .before .if1 .left)) (c .before .before .before .before .before .first-of-ray .ensures) (c .before .before .ray-at .result) (c .before .before .ray-at .ensures) (c .before .count-ray .result) (c .before .count-ray .ensures), total-fits (given .spec) (given .g) (cells (given .spans .now) (given .links .now) (given .heads .now)) (pre .0 .intervals) (given .log .now) (pre .0 .countable), pre .0 .countable .room .in-spans, c .before .before .before .before .before .before .before .before .before .before .good, c .before .before .before .before .before .before .before .before .before .before .fits)
 
 add-t19 : tie.Need-add-t19
-add-t19 c = omega (arith, changed-fits (c .before .before .before .before .before .before .before .before .before .before .before .before .args .spec) (c .before .before .before .before .before .before .before .before .before .before .before .before .args .g) (cells (c .before .before .before .before .before .before .before .before .before .before .before .before .args .spans .now) (c .before .before .before .before .before .before .before .before .before .before .before .before .args .links .now) (c .before .before .before .before .before .before .before .before .before .before .before .before .args .heads .now)) (c .before .before .before .before .before .before .before .before .before .before .before .before .pre .0 .intervals) (c .before .before .before .before .before .before .before .before .before .before .before .before .args .log .now) (c .before .before .before .before .before .before .before .before .before .before .before .before .pre .0 .countable) (c .before .before .before .before .before .before .before .before .before .before .before .before .args .i) (c .before .before .before .before .before .before .before .before .before .before .before .before .args .t) (c .before .before .before .before .before .before .before .before .before .before .before .before .pre .3), c .before .before .before .before .before .before .before .before .before .before .before .before .good, c .before .before .before .before .before .before .before .before .before .before .before .before .fits)
+add-t19 c =
+    let given = c .before .before .before .before .before .before .before .before .before .before .before .before .args in
+    let pre = c .before .before .before .before .before .before .before .before .before .before .before .before .pre in
+    omega (arith, changed-fits (given .spec) (given .g) (cells (given .spans .now) (given .links .now) (given .heads .now)) (pre .0 .intervals) (given .log .now) (pre .0 .countable) (given .i) (given .t) (pre .3), c .before .before .before .before .before .before .before .before .before .before .before .before .good, c .before .before .before .before .before .before .before .before .before .before .before .before .fits)
 
 returns-2 : tie.Need-returns-2
-returns-2 c = entry-new (c .before .before .before .before .before .before .before .before .before .before .before .before .args .spec) (c .before .before .before .before .before .before .before .before .before .before .before .before .args .g) (cells (c .before .before .before .before .before .before .before .before .before .before .before .before .args .spans .now) (c .before .before .before .before .before .before .before .before .before .before .before .before .args .links .now) (c .before .before .before .before .before .before .before .before .before .before .before .before .args .heads .now)) (c .before .before .before .before .before .before .before .before .before .before .before .before .args .log .now) (c .before .before .before .before .before .before .before .before .before .before .before .before .pre .0) (c .before .before .before .before .before .before .before .before .before .before .before .before .args .i) (c .before .before .before .before .before .before .before .before .before .before .before .before .pre .2) (c .before .before .before .before .before .before .before .before .before .before .before .before .args .t) (c .before .before .before .before .before .before .before .before .before .before .before .before .pre .3) (c .before .before .before .before .before .before .before .first-of-ray .result) (not-false _ (c .before .before .before .before .before .before .if1 .left)) (c .before .before .before .before .before .before .before .first-of-ray .ensures) (c .before .before .before .before .ray-at .result) (c .before .before .before .before .ray-at .ensures) (c .before .before .before .count-ray .result) (c .before .before .before .count-ray .ensures) _ (ap (λ (b : Bool). c .before .before .before .before .before .before .before .before .before .before .before .before .args .t .changed + cond b 1 0) (sym (c .before .if2 .taken))) refl
+returns-2 c =
+    let given = c .before .before .before .before .before .before .before .before .before .before .before .before .args in
+    let pre = c .before .before .before .before .before .before .before .before .before .before .before .before .pre in
+    entry-new (given .spec) (given .g) (cells (given .spans .now) (given .links .now) (given .heads .now)) (given .log .now) (pre .0) (given .i) (pre .2) (given .t) (pre .3) (c .before .before .before .before .before .before .before .first-of-ray .result) (not-false _ (c .before .before .before .before .before .before .if1 .left)) (c .before .before .before .before .before .before .before .first-of-ray .ensures) (c .before .before .before .before .ray-at .result) (c .before .before .before .before .ray-at .ensures) (c .before .before .before .count-ray .result) (c .before .before .before .count-ray .ensures) _ (ap (λ (b : Bool). given .t .changed + cond b 1 0) (sym (c .before .if2 .taken))) refl
 
 returns-3 : tie.Need-returns-3
-returns-3 c = entry-new (c .before .before .before .before .before .before .before .before .before .before .before .args .spec) (c .before .before .before .before .before .before .before .before .before .before .before .args .g) (cells (c .before .before .before .before .before .before .before .before .before .before .before .args .spans .now) (c .before .before .before .before .before .before .before .before .before .before .before .args .links .now) (c .before .before .before .before .before .before .before .before .before .before .before .args .heads .now)) (c .before .before .before .before .before .before .before .before .before .before .before .args .log .now) (c .before .before .before .before .before .before .before .before .before .before .before .pre .0) (c .before .before .before .before .before .before .before .before .before .before .before .args .i) (c .before .before .before .before .before .before .before .before .before .before .before .pre .2) (c .before .before .before .before .before .before .before .before .before .before .before .args .t) (c .before .before .before .before .before .before .before .before .before .before .before .pre .3) (c .before .before .before .before .before .before .first-of-ray .result) (not-false _ (c .before .before .before .before .before .if1 .left)) (c .before .before .before .before .before .before .first-of-ray .ensures) (c .before .before .before .ray-at .result) (c .before .before .before .ray-at .ensures) (c .before .before .count-ray .result) (c .before .before .count-ray .ensures) _ (omega (arith, ap (λ (b : Bool). c .before .before .before .before .before .before .before .before .before .before .before .args .t .changed + cond b 1 0) (c .if2 .left))) refl
+returns-3 c =
+    let given = c .before .before .before .before .before .before .before .before .before .before .before .args in
+    let pre = c .before .before .before .before .before .before .before .before .before .before .before .pre in
+    entry-new (given .spec) (given .g) (cells (given .spans .now) (given .links .now) (given .heads .now)) (given .log .now) (pre .0) (given .i) (pre .2) (given .t) (pre .3) (c .before .before .before .before .before .before .first-of-ray .result) (not-false _ (c .before .before .before .before .before .if1 .left)) (c .before .before .before .before .before .before .first-of-ray .ensures) (c .before .before .before .ray-at .result) (c .before .before .before .ray-at .ensures) (c .before .before .count-ray .result) (c .before .before .count-ray .ensures) _ (omega (arith, ap (λ (b : Bool). given .t .changed + cond b 1 0) (c .if2 .left))) refl
 
 pub count-entry-spec : {M : Type 1} → statement M
 count-entry-spec =

@@ -35,16 +35,25 @@ shared-slice-read-try-ray-2 : tie.Need-shared-slice-read-try-ray-2
 shared-slice-read-try-ray-2 c = let r = c .before .before .before .before .before .before .before .pre .0 .countable .room in let l = c .before .before .before .before .before .before .before .pre .1 in search needs
 
 try-ray-requires : tie.Need-try-ray-requires
-try-ray-requires c κs = let v = c .before .before .before .before .before .before .before .pre .0 .countable .isSound .valid (c .before .before .before .before .before .before .before .args .ray) (c .before .before .before .before .before .before .before .pre .1) in (record { readable = readable (c .before .before .before .before .before .before .before .pre .0 .countable .isSound .store) (c .before .before .before .before .before .before .before .pre .0 .countable .room .in-spans) (c .before .before .before .before .before .before .before .pre .0 .countable .room .in-links) (2 * c .before .before .before .before .before .before .before .args .ray) (omega (arith, c .before .before .before .before .before .before .before .pre .1)); isSound = v .possible-sound }, record { readable = readable (c .before .before .before .before .before .before .before .pre .0 .countable .isSound .store) (c .before .before .before .before .before .before .before .pre .0 .countable .room .in-spans) (c .before .before .before .before .before .before .before .pre .0 .countable .room .in-links) (2 * c .before .before .before .before .before .before .before .args .ray + 1) (omega (arith, c .before .before .before .before .before .before .before .pre .1)); isSound = v .certain-sound }, c .before .before .before .before .before .before .before .pre .2 .inside)
+try-ray-requires c κs =
+    let given = c .before .before .before .before .before .before .before .args in
+    let pre = c .before .before .before .before .before .before .before .pre in
+    let v = pre .0 .countable .isSound .valid (given .ray) (pre .1) in (record { readable = readable (pre .0 .countable .isSound .store) (pre .0 .countable .room .in-spans) (pre .0 .countable .room .in-links) (2 * given .ray) (omega (arith, pre .1)); isSound = v .possible-sound }, record { readable = readable (pre .0 .countable .isSound .store) (pre .0 .countable .room .in-spans) (pre .0 .countable .room .in-links) (2 * given .ray + 1) (omega (arith, pre .1)); isSound = v .certain-sound }, pre .2 .inside)
 
 either-requires : tie.Need-either-requires
 either-requires c κs = search needs
 
 add-t15 : tie.Need-add-t15
-add-t15 c = let f = left-fits (c .before .before .before .before .before .before .before .before .before .before .before .before .before .args .spec) (c .before .before .before .before .before .before .before .before .before .before .before .before .before .args .g) (cells (c .before .before .before .before .before .before .before .before .before .before .before .before .before .args .spans .now) (c .before .before .before .before .before .before .before .before .before .before .before .before .before .args .links .now) (c .before .before .before .before .before .before .before .before .before .before .before .before .before .args .heads .now)) (c .before .before .before .before .before .before .before .before .before .before .before .before .before .pre .0 .intervals) (c .before .before .before .before .before .before .before .before .before .before .before .before .before .args .log .now) (c .before .before .before .before .before .before .before .before .before .before .before .before .before .pre .0 .countable) (c .before .before .before .before .before .before .before .before .before .before .before .before .before .args .ray) (c .before .before .before .before .before .before .before .before .before .before .before .before .before .pre .1) in let l = left-by (c .before .before .before .before .before .before .before .before .before .before .before .before .before .args .spec) (c .before .before .before .before .before .before .before .before .before .before .before .before .before .args .g) (cells (c .before .before .before .before .before .before .before .before .before .before .before .before .before .args .spans .now) (c .before .before .before .before .before .before .before .before .before .before .before .before .before .args .links .now) (c .before .before .before .before .before .before .before .before .before .before .before .before .before .args .heads .now)) (c .before .before .before .before .before .before .before .before .before .before .before .before .before .args .log .now) (c .before .before .before .before .before .before .before .before .before .before .before .before .before .args .ray) (c .before .before .before .before .before .before .before .before .before .before .before .before .before .args .first) (c .before .before .before .before .before .before .before .before .before .before .before .before .before .args .end) (c .before .before .before .before .before .before .before .before .before .before .before .before .before .pre .2) in let r = c .before .before .before .before .before .before .before .before .before .before .before .before .before .pre .0 .countable .room in omega (arith, c .before .before .before .before .before .try-ray .ensures .possible .pairs, c .before .before .before .before .before .try-ray .ensures .certain .pairs, c .before .before .before .before .before .before .before .before .before .before .before .before .before .good, c .before .before .before .before .before .before .before .before .before .before .before .before .before .fits)
+add-t15 c =
+    let given = c .before .before .before .before .before .before .before .before .before .before .before .before .before .args in
+    let pre = c .before .before .before .before .before .before .before .before .before .before .before .before .before .pre in
+    let f = left-fits (given .spec) (given .g) (cells (given .spans .now) (given .links .now) (given .heads .now)) (pre .0 .intervals) (given .log .now) (pre .0 .countable) (given .ray) (pre .1) in let l = left-by (given .spec) (given .g) (cells (given .spans .now) (given .links .now) (given .heads .now)) (given .log .now) (given .ray) (given .first) (given .end) (pre .2) in let r = pre .0 .countable .room in omega (arith, c .before .before .before .before .before .try-ray .ensures .possible .pairs, c .before .before .before .before .before .try-ray .ensures .certain .pairs, c .before .before .before .before .before .before .before .before .before .before .before .before .before .good, c .before .before .before .before .before .before .before .before .before .before .before .before .before .fits)
 
 returns : tie.Need-returns
-returns c = record { changes = c .before .before .either .ensures ∙ ap₂ _||_ (c .before .before .before .before .before .try-ray .ensures .possible .moved) (c .before .before .before .before .before .try-ray .ensures .certain .moved) ∙ changes-by (c .before .before .before .before .before .before .before .before .before .before .before .before .before .args .spec) (c .before .before .before .before .before .before .before .before .before .before .before .before .before .args .g) (cells (c .before .before .before .before .before .before .before .before .before .before .before .before .before .args .spans .now) (c .before .before .before .before .before .before .before .before .before .before .before .before .before .args .links .now) (c .before .before .before .before .before .before .before .before .before .before .before .before .before .args .heads .now)) (c .before .before .before .before .before .before .before .before .before .before .before .before .before .args .log .now) (c .before .before .before .before .before .before .before .before .before .before .before .before .before .args .ray) (c .before .before .before .before .before .before .before .before .before .before .before .before .before .args .first) (c .before .before .before .before .before .before .before .before .before .before .before .before .before .args .end) (c .before .before .before .before .before .before .before .before .before .before .before .before .before .pre .2); before = c .before .before .before .before .before .before .before .before .ray-pairs .ensures; after = ap₂ _+_ (c .before .before .before .before .before .try-ray .ensures .possible .pairs) (c .before .before .before .before .before .try-ray .ensures .certain .pairs) ∙ left-by (c .before .before .before .before .before .before .before .before .before .before .before .before .before .args .spec) (c .before .before .before .before .before .before .before .before .before .before .before .before .before .args .g) (cells (c .before .before .before .before .before .before .before .before .before .before .before .before .before .args .spans .now) (c .before .before .before .before .before .before .before .before .before .before .before .before .before .args .links .now) (c .before .before .before .before .before .before .before .before .before .before .before .before .before .args .heads .now)) (c .before .before .before .before .before .before .before .before .before .before .before .before .before .args .log .now) (c .before .before .before .before .before .before .before .before .before .before .before .before .before .args .ray) (c .before .before .before .before .before .before .before .before .before .before .before .before .before .args .first) (c .before .before .before .before .before .before .before .before .before .before .before .before .before .args .end) (c .before .before .before .before .before .before .before .before .before .before .before .before .before .pre .2) }
+returns c =
+    let given = c .before .before .before .before .before .before .before .before .before .before .before .before .before .args in
+    let pre = c .before .before .before .before .before .before .before .before .before .before .before .before .before .pre in
+    record { changes = c .before .before .either .ensures ∙ ap₂ _||_ (c .before .before .before .before .before .try-ray .ensures .possible .moved) (c .before .before .before .before .before .try-ray .ensures .certain .moved) ∙ changes-by (given .spec) (given .g) (cells (given .spans .now) (given .links .now) (given .heads .now)) (given .log .now) (given .ray) (given .first) (given .end) (pre .2); before = c .before .before .before .before .before .before .before .before .ray-pairs .ensures; after = ap₂ _+_ (c .before .before .before .before .before .try-ray .ensures .possible .pairs) (c .before .before .before .before .before .try-ray .ensures .certain .pairs) ∙ left-by (given .spec) (given .g) (cells (given .spans .now) (given .links .now) (given .heads .now)) (given .log .now) (given .ray) (given .first) (given .end) (pre .2) }
 
 pub count-ray-spec : {M : Type 1} → statement M
 count-ray-spec =

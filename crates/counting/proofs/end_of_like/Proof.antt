@@ -36,7 +36,9 @@ loop-less : tie.Need-loop-less Inv-loop μ-loop
 loop-less c = omega arith
 
 loop-again : tie.Need-loop-again Inv-loop μ-loop
-loop-again c = ⊎-elim (λ u. (omega (arith, u .1), omega (arith, u .1), omega arith, λ k a b. absurd (omega (arith, u .1)))) (λ u. (omega (arith, u .1), omega (arith, u .1), omega arith, λ k a b. like-more (c .before .before .before .before .before .args .log .now) (c .before .before .before .before .before .args .i) (c .before .before .before .loop .end) (c .before .before .before .loop .j) (c .before .before .before .loop .inv .3) (sym (c .before .alike .ensures) ∙ u .0 .left) k (omega (arith, u .1)) b)) (c .if1 .came)
+loop-again c =
+    let given = c .before .before .before .before .before .args in
+    ⊎-elim (λ u. (omega (arith, u .1), omega (arith, u .1), omega arith, λ k a b. absurd (omega (arith, u .1)))) (λ u. (omega (arith, u .1), omega (arith, u .1), omega arith, λ k a b. like-more (given .log .now) (given .i) (c .before .before .before .loop .end) (c .before .before .before .loop .j) (c .before .before .before .loop .inv .3) (sym (c .before .alike .ensures) ∙ u .0 .left) k (omega (arith, u .1)) b)) (c .if1 .came)
 
 returns : tie.Need-returns Inv-loop μ-loop
 returns c = record { past = c .before .loop .inv .0; most = omega arith; none = λ k a b. c .before .loop .inv .3 k a (omega arith) }

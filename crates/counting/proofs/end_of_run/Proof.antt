@@ -23,7 +23,10 @@ alike-requires : tie.Need-alike-requires Inv-loop μ-loop
 alike-requires c κs = (omega (arith, c .before .before .before .pre .3), omega (arith, c .before .before .before .pre .3))
 
 returns : tie.Need-returns Inv-loop μ-loop
-returns c = run-ends (c .before .before .before .before .before .args .g) (c .before .before .before .before .before .args .log .now) (c .before .before .before .before .before .pre .0) (c .before .before .before .before .before .pre .1) (c .before .before .before .before .before .pre .2) (c .before .before .before .before .before .args .i) (c .before .before .before .before .before .pre .3) (c .before .before .before .loop .j) (c .before .before .before .loop .inv .0) (omega arith) (sym (c .before .alike .ensures) ∙ not-true _ (c .if1 .taken))
+returns c =
+    let given = c .before .before .before .before .before .args in
+    let pre = c .before .before .before .before .before .pre in
+    run-ends (given .g) (given .log .now) (pre .0) (pre .1) (pre .2) (given .i) (pre .3) (c .before .before .before .loop .j) (c .before .before .before .loop .inv .0) (omega arith) (sym (c .before .alike .ensures) ∙ not-true _ (c .if1 .taken))
 
 add-j-2 : tie.Need-add-j-2 Inv-loop μ-loop
 add-j-2 c = search needs

@@ -18,7 +18,10 @@ loop-holds : tie.Need-loop-holds Inv-loop μ-loop
 loop-holds c = (c .before .before .pre .0 .ahead, c .before .before .pre .0 .ordered, refl, omega arith, refl)
 
 put-hit-requires : tie.Need-put-hit-requires Inv-loop μ-loop
-put-hit-requires c κs = let p = c .before .before .before .before .before .pre .0 in let i = c .before .before .loop .inv in (record { ahead = i .0; ordered = omega arith; inside = omega (arith, p .inside) }, c .before .before .before .before .before .pre .1, λ a. hit-room (c .before .before .before .before .before .args .log .now) (c .before .before .before .before .before .args .first) (c .before .before .before .before .before .args .w) (c .before .before .loop .j) (c .before .before .before .before .before .args .end) (c .before .before .loop .t) _ (omega arith) (omega (arith, i .3, i .2, c .before .before .before .before .before .pre .2, like-length (c .before .before .before .before .before .args .log .now) (c .before .before .before .before .before .args .first) (c .before .before .before .before .before .args .w) (c .before .before .before .before .before .args .first) (c .before .before .before .before .before .args .end - c .before .before .before .before .before .args .first))) a)
+put-hit-requires c κs =
+    let given = c .before .before .before .before .before .args in
+    let pre = c .before .before .before .before .before .pre in
+    let p = pre .0 in let i = c .before .before .loop .inv in (record { ahead = i .0; ordered = omega arith; inside = omega (arith, p .inside) }, pre .1, λ a. hit-room (given .log .now) (given .first) (given .w) (c .before .before .loop .j) (given .end) (c .before .before .loop .t) _ (omega arith) (omega (arith, i .3, i .2, pre .2, like-length (given .log .now) (given .first) (given .w) (given .first) (given .end - given .first))) a)
 
 add-j : tie.Need-add-j Inv-loop μ-loop
 add-j c = let p = c .before .before .before .before .before .before .before .before .pre .0 in omega (arith, c .before .before .before .before .loop-test .taken, p .inside)
@@ -27,13 +30,19 @@ loop-less : tie.Need-loop-less Inv-loop μ-loop
 loop-less c = omega arith
 
 loop-again : tie.Need-loop-again Inv-loop μ-loop
-loop-again c = (omega (arith, c .before .before .before .before .before .loop .inv .0), omega (arith, c .before .before .before .before .loop-test .taken), hit-sizes (c .before .before .before .before .before .before .before .before .args .log .now) (c .before .before .before .before .before .before .before .before .args .first) (c .before .before .before .before .before .before .before .before .args .w) (c .before .before .before .before .before .loop .j) (c .before .before .before .before .before .before .before .before .args .end) (omega arith) (c .before .before .before .before .before .loop .out) (c .before .before .before .before .before .loop .t) _ (c .before .before .put-hit .result) (c .before .before .put-hit .ensures .0) (c .before .before .put-hit .ensures .1) .1 ∙ c .before .before .before .before .before .loop .inv .2, hit-sizes (c .before .before .before .before .before .before .before .before .args .log .now) (c .before .before .before .before .before .before .before .before .args .first) (c .before .before .before .before .before .before .before .before .args .w) (c .before .before .before .before .before .loop .j) (c .before .before .before .before .before .before .before .before .args .end) (omega arith) (c .before .before .before .before .before .loop .out) (c .before .before .before .before .before .loop .t) _ (c .before .before .put-hit .result) (c .before .before .put-hit .ensures .0) (c .before .before .put-hit .ensures .1) .0 ∙ c .before .before .before .before .before .loop .inv .3, c .before .before .before .before .before .loop .inv .4 ∙ hit-copied (c .before .before .before .before .before .before .before .before .args .log .now) (c .before .before .before .before .before .before .before .before .args .first) (c .before .before .before .before .before .before .before .before .args .w) (c .before .before .before .before .before .loop .j) (c .before .before .before .before .before .before .before .before .args .end) (omega arith) (c .before .before .before .before .before .loop .out) (c .before .before .before .before .before .loop .t) _ (c .before .before .put-hit .result) (c .before .before .put-hit .ensures .0) (c .before .before .put-hit .ensures .1))
+loop-again c =
+    let given = c .before .before .before .before .before .before .before .before .args in
+    let inv = c .before .before .before .before .before .loop .inv in
+    (omega (arith, inv .0), omega (arith, c .before .before .before .before .loop-test .taken), hit-sizes (given .log .now) (given .first) (given .w) (c .before .before .before .before .before .loop .j) (given .end) (omega arith) (c .before .before .before .before .before .loop .out) (c .before .before .before .before .before .loop .t) _ (c .before .before .put-hit .result) (c .before .before .put-hit .ensures .0) (c .before .before .put-hit .ensures .1) .1 ∙ inv .2, hit-sizes (given .log .now) (given .first) (given .w) (c .before .before .before .before .before .loop .j) (given .end) (omega arith) (c .before .before .before .before .before .loop .out) (c .before .before .before .before .before .loop .t) _ (c .before .before .put-hit .result) (c .before .before .put-hit .ensures .0) (c .before .before .put-hit .ensures .1) .0 ∙ inv .3, inv .4 ∙ hit-copied (given .log .now) (given .first) (given .w) (c .before .before .before .before .before .loop .j) (given .end) (omega arith) (c .before .before .before .before .before .loop .out) (c .before .before .before .before .before .loop .t) _ (c .before .before .put-hit .result) (c .before .before .put-hit .ensures .0) (c .before .before .put-hit .ensures .1))
 
 same-length : tie.Need-same-length Inv-loop μ-loop
 same-length c = c .before .loop .inv .2
 
 returns : tie.Need-returns Inv-loop μ-loop
-returns c = hits-copied (c .before .before .before .before .args .log .now) (c .before .before .before .before .args .first) (c .before .before .before .before .args .w) (c .before .loop .j) (c .before .before .before .before .args .end) _ _ (c .before .loop .t) _ (omega arith) (omega (arith, c .before .before .before .before .pre .2, like-length (c .before .before .before .before .args .log .now) (c .before .before .before .before .args .first) (c .before .before .before .before .args .w) (c .before .before .before .before .args .first) (c .before .before .before .before .args .end - c .before .before .before .before .args .first))) (c .before .loop .inv .3) (c .before .loop .inv .4)
+returns c =
+    let given = c .before .before .before .before .args in
+    let inv = c .before .loop .inv in
+    hits-copied (given .log .now) (given .first) (given .w) (c .before .loop .j) (given .end) _ _ (c .before .loop .t) _ (omega arith) (omega (arith, c .before .before .before .before .pre .2, like-length (given .log .now) (given .first) (given .w) (given .first) (given .end - given .first))) (inv .3) (inv .4)
 
 pub copy-hits-spec : {M : Type 1} → statement M
 copy-hits-spec =

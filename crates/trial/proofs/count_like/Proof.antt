@@ -21,7 +21,9 @@ alike-requires : tie.Need-alike-requires Inv-loop μ-loop
 alike-requires c κs = let p = c .before .before .before .pre in (omega arith, omega arith)
 
 add-c : tie.Need-add-c Inv-loop μ-loop
-add-c c = let p = c .before .before .before .before .before .pre in omega (arith, c .before .before .before .loop .inv .2, like-le (c .before .before .before .before .before .args .log .now) (c .before .before .before .before .before .args .first) (c .before .before .before .before .before .args .first) (c .before .before .before .before .before .args .end - c .before .before .before .before .before .args .first))
+add-c c =
+    let given = c .before .before .before .before .before .args in
+    let p = c .before .before .before .before .before .pre in omega (arith, c .before .before .before .loop .inv .2, like-le (given .log .now) (given .first) (given .first) (given .end - given .first))
 
 add-j : tie.Need-add-j Inv-loop μ-loop
 add-j c = search needs
@@ -30,7 +32,9 @@ loop-less : tie.Need-loop-less Inv-loop μ-loop
 loop-less c = omega arith
 
 loop-again : tie.Need-loop-again Inv-loop μ-loop
-loop-again c = (omega arith, omega arith, ⊎-elim (λ u. like-yes _ _ _ _ (omega arith) (c .before .before .before .loop .c) _ (u .1) (sym (c .before .alike .ensures) ∙ u .0 .taken) ∙ c .before .before .before .loop .inv .2) (λ u. like-no _ _ _ _ (omega arith) (c .before .before .before .loop .c) _ (u .1) (sym (c .before .alike .ensures) ∙ u .0 .left) ∙ c .before .before .before .loop .inv .2) (c .if1 .came))
+loop-again c =
+    let inv = c .before .before .before .loop .inv in
+    (omega arith, omega arith, ⊎-elim (λ u. like-yes _ _ _ _ (omega arith) (c .before .before .before .loop .c) _ (u .1) (sym (c .before .alike .ensures) ∙ u .0 .taken) ∙ inv .2) (λ u. like-no _ _ _ _ (omega arith) (c .before .before .before .loop .c) _ (u .1) (sym (c .before .alike .ensures) ∙ u .0 .left) ∙ inv .2) (c .if1 .came))
 
 returns : tie.Need-returns Inv-loop μ-loop
 returns c = omega (arith, c .before .loop .inv .2, like-end (c .before .before .before .args .log .now) (c .before .before .before .args .first) (c .before .loop .j) (c .before .before .before .args .end) (omega arith))

@@ -21,13 +21,19 @@ larger-requires-2 : tie.Need-larger-requires-2
 larger-requires-2 c κs = search needs
 
 try-small-requires : tie.Need-try-small-requires
-try-small-requires c κs = let a = ends-length (c .before .before .before .before .before .before .before .before .before .args .spans .now) (places (c .before .before .before .before .before .before .before .before .before .args .links .now) (c .before .before .before .before .before .before .before .before .before .args .n) (c .before .before .before .before .before .before .before .before .before .args .possible)) in let b = ends-length (c .before .before .before .before .before .before .before .before .before .args .spans .now) (places (c .before .before .before .before .before .before .before .before .before .args .links .now) (c .before .before .before .before .before .before .before .before .before .args .n) (c .before .before .before .before .before .before .before .before .before .args .certain)) in (c .before .before .before .before .before .before .before .before .before .pre .0, c .before .before .before .before .before .before .before .before .before .pre .1, c .before .before .before .before .before .before .before .before .before .pre .2, omega (arith, c .before .before .before .before .before .list-pairs .ensures, c .before .before .larger .ensures .0, c .before .larger2 .ensures .0, c .if1 .taken), omega (arith, c .before .before .before .before .list-pairs2 .ensures, c .before .before .larger .ensures .1, c .before .larger2 .ensures .0, c .if1 .taken), omega (arith, c .before .before .before .count-like .ensures, c .before .larger2 .ensures .1, c .if1 .taken))
+try-small-requires c κs =
+    let given = c .before .before .before .before .before .before .before .before .before .args in
+    let pre = c .before .before .before .before .before .before .before .before .before .pre in
+    let a = ends-length (given .spans .now) (places (given .links .now) (given .n) (given .possible)) in let b = ends-length (given .spans .now) (places (given .links .now) (given .n) (given .certain)) in (pre .0, pre .1, pre .2, omega (arith, c .before .before .before .before .before .list-pairs .ensures, c .before .before .larger .ensures .0, c .before .larger2 .ensures .0, c .if1 .taken), omega (arith, c .before .before .before .before .list-pairs2 .ensures, c .before .before .larger .ensures .1, c .before .larger2 .ensures .0, c .if1 .taken), omega (arith, c .before .before .before .count-like .ensures, c .before .larger2 .ensures .1, c .if1 .taken))
 
 returns : tie.Need-returns
 returns c = search needs
 
 try-large-requires : tie.Need-try-large-requires
-try-large-requires c κs = let a = ends-length (c .before .before .before .before .before .before .before .before .before .before .args .spans .now) (places (c .before .before .before .before .before .before .before .before .before .before .args .links .now) (c .before .before .before .before .before .before .before .before .before .before .args .n) (c .before .before .before .before .before .before .before .before .before .before .args .possible)) in let b = ends-length (c .before .before .before .before .before .before .before .before .before .before .args .spans .now) (places (c .before .before .before .before .before .before .before .before .before .before .args .links .now) (c .before .before .before .before .before .before .before .before .before .before .args .n) (c .before .before .before .before .before .before .before .before .before .before .args .certain)) in (c .before .before .before .before .before .before .before .before .before .before .pre .0, c .before .before .before .before .before .before .before .before .before .before .pre .1, c .before .before .before .before .before .before .before .before .before .before .pre .2, omega (arith, c .before .before .before .before .before .before .list-pairs .ensures, c .before .before .before .larger .ensures .0, c .before .before .larger2 .ensures .0, c .if2 .taken), omega (arith, c .before .before .before .before .before .list-pairs2 .ensures, c .before .before .before .larger .ensures .1, c .before .before .larger2 .ensures .0, c .if2 .taken), omega (arith, c .before .before .before .before .count-like .ensures, c .before .before .larger2 .ensures .1, c .if2 .taken))
+try-large-requires c κs =
+    let given = c .before .before .before .before .before .before .before .before .before .before .args in
+    let pre = c .before .before .before .before .before .before .before .before .before .before .pre in
+    let a = ends-length (given .spans .now) (places (given .links .now) (given .n) (given .possible)) in let b = ends-length (given .spans .now) (places (given .links .now) (given .n) (given .certain)) in (pre .0, pre .1, pre .2, omega (arith, c .before .before .before .before .before .before .list-pairs .ensures, c .before .before .before .larger .ensures .0, c .before .before .larger2 .ensures .0, c .if2 .taken), omega (arith, c .before .before .before .before .before .list-pairs2 .ensures, c .before .before .before .larger .ensures .1, c .before .before .larger2 .ensures .0, c .if2 .taken), omega (arith, c .before .before .before .before .count-like .ensures, c .before .before .larger2 .ensures .1, c .if2 .taken))
 
 returns-2 : tie.Need-returns-2
 returns-2 c = search needs

@@ -24,7 +24,9 @@ same-length : tie.Need-same-length Inv-loop μ-loop
 same-length c = c .before .before .before .clear-hit .ensures .size ∙ c .before .before .before .before .before .before .loop .inv .3 .size
 
 returns : tie.Need-returns Inv-loop μ-loop
-returns c = clearing-all (c .before .before .before .before .before .before .before .before .before .before .args .log .now) (c .before .before .before .before .before .before .before .before .before .before .args .first) (c .before .before .before .before .before .before .before .before .before .before .args .at) (c .before .before .before .before .before .before .loop .j) (c .before .before .before .before .before .before .before .before .before .before .args .end) (c .before .before .before .before .before .loop-test .taken) (c .before .before .before .before .before .before .loop .inv .3) (c .before .before .before .clear-hit .ensures) (c .if1 .taken)
+returns c =
+    let given = c .before .before .before .before .before .before .before .before .before .before .args in
+    clearing-all (given .log .now) (given .first) (given .at) (c .before .before .before .before .before .before .loop .j) (given .end) (c .before .before .before .before .before .loop-test .taken) (c .before .before .before .before .before .before .loop .inv .3) (c .before .before .before .clear-hit .ensures) (c .if1 .taken)
 
 add-j : tie.Need-add-j Inv-loop μ-loop
 add-j c = omega (arith, c .before .before .before .before .before .loop-test .taken, c .before .before .before .before .before .before .before .before .before .before .pre .0 .inside)
@@ -33,7 +35,9 @@ loop-less : tie.Need-loop-less Inv-loop μ-loop
 loop-less c = omega (arith, c .before .before .before .before .before .loop-test .taken)
 
 loop-again : tie.Need-loop-again Inv-loop μ-loop
-loop-again c = let i = c .before .before .before .before .before .before .loop .inv in let t = c .before .before .before .before .before .loop-test .taken in (omega (arith, i .0), omega arith, as-large _ _ (c .before .before .before .before .before .before .before .before .before .before .args .m) (c .before .before .before .clear-hit .ensures .size) (i .2), clearing-next (c .before .before .before .before .before .before .before .before .before .before .args .log .now) (c .before .before .before .before .before .before .before .before .before .before .args .first) (c .before .before .before .before .before .before .before .before .before .before .args .at) (c .before .before .before .before .before .before .loop .j) (c .before .before .before .before .before .before .before .before .before .before .args .end) t (i .3) (c .before .before .before .clear-hit .ensures))
+loop-again c =
+    let given = c .before .before .before .before .before .before .before .before .before .before .args in
+    let i = c .before .before .before .before .before .before .loop .inv in let t = c .before .before .before .before .before .loop-test .taken in (omega (arith, i .0), omega arith, as-large _ _ (given .m) (c .before .before .before .clear-hit .ensures .size) (i .2), clearing-next (given .log .now) (given .first) (given .at) (c .before .before .before .before .before .before .loop .j) (given .end) t (i .3) (c .before .before .before .clear-hit .ensures))
 
 same-length-2 : tie.Need-same-length-2 Inv-loop μ-loop
 same-length-2 c = c .before .loop .inv .3 .size

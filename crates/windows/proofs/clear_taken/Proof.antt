@@ -14,7 +14,9 @@ same-length : tie.Need-same-length
 same-length c = search needs
 
 returns : tie.Need-returns
-returns c = cleared-certain (c .before .before .before .before .before .before .before .before .before .before .before .before .args .log .now) (c .before .before .before .before .before .before .before .before .before .before .before .before .args .first) (c .before .before .before .before .before .before .before .before .before .before .before .before .args .end - c .before .before .before .before .before .before .before .before .before .before .before .before .args .first) (c .before .before .before .before .before .before .before .before .before .before .before .before .args .certain) (c .before .before .before .before .before .before .before .before .if1 .taken) (c .before .before .before .before .before .before .clear-hits .ensures) (c .before .before .clear-hits2 .ensures)
+returns c =
+    let given = c .before .before .before .before .before .before .before .before .before .before .before .before .args in
+    cleared-certain (given .log .now) (given .first) (given .end - given .first) (given .certain) (c .before .before .before .before .before .before .before .before .if1 .taken) (c .before .before .before .before .before .before .clear-hits .ensures) (c .before .before .clear-hits2 .ensures)
 
 clear-hits-requires-3 : tie.Need-clear-hits-requires-3
 clear-hits-requires-3 c κs = search needs
@@ -23,7 +25,9 @@ same-length-2 : tie.Need-same-length-2
 same-length-2 c = search needs
 
 returns-2 : tie.Need-returns-2
-returns-2 c = cleared-possible (c .before .before .before .before .before .before .before .before .args .log .now) (c .before .before .before .before .before .before .before .before .args .first) (c .before .before .before .before .before .before .before .before .args .end - c .before .before .before .before .before .before .before .before .args .first) (c .before .before .before .before .before .before .before .before .args .certain) (c .before .before .before .before .if1 .left) (c .before .before .clear-hits3 .ensures)
+returns-2 c =
+    let given = c .before .before .before .before .before .before .before .before .args in
+    cleared-possible (given .log .now) (given .first) (given .end - given .first) (given .certain) (c .before .before .before .before .if1 .left) (c .before .before .clear-hits3 .ensures)
 
 pub clear-taken-spec : {M : Type 1} → statement M
 clear-taken-spec = tie.close (tie.spec clear-hits-requires clear-hits-requires-2 same-length returns clear-hits-requires-3 same-length-2 returns-2)

@@ -8,10 +8,14 @@ gather-requires : tie.Need-gather-requires
 gather-requires c κs = (c .before .before .before .before .before .before .pre .0, c .before .before .before .before .before .before .pre .1, c .before .before .before .before .before .before .pre .2)
 
 mark-list-requires : tie.Need-mark-list-requires
-mark-list-requires c κs = (c .before .before .before .before .before .before .before .before .before .before .before .pre .0, in-window (c .before .before .before .before .gather .ensures .gathered), gathered-unmarked (c .before .before .before .before .gather .ensures) (c .before .before .before .before .before .before .before .before .before .before .before .pre .3))
+mark-list-requires c κs =
+    let pre = c .before .before .before .before .before .before .before .before .before .before .before .pre in
+    (pre .0, in-window (c .before .before .before .before .gather .ensures .gathered), gathered-unmarked (c .before .before .before .before .gather .ensures) (pre .3))
 
 clear-taken-requires : tie.Need-clear-taken-requires
-clear-taken-requires c κs = (c .before .before .before .before .before .before .before .before .before .before .before .before .before .before .before .before .pre .1, in-window (c .before .before .before .before .before .before .before .before .before .gather .ensures .gathered), as-large _ _ _ (c .before .before .before .before .mark-list .ensures .size) (gathered-unmarked (c .before .before .before .before .before .before .before .before .before .gather .ensures) (c .before .before .before .before .before .before .before .before .before .before .before .before .before .before .before .before .pre .3) .room))
+clear-taken-requires c κs =
+    let pre = c .before .before .before .before .before .before .before .before .before .before .before .before .before .before .before .before .pre in
+    (pre .1, in-window (c .before .before .before .before .before .before .before .before .before .gather .ensures .gathered), as-large _ _ _ (c .before .before .before .before .mark-list .ensures .size) (gathered-unmarked (c .before .before .before .before .before .before .before .before .before .gather .ensures) (pre .3) .room))
 
 count-marks-requires : tie.Need-count-marks-requires
 count-marks-requires c κs = as-large _ _ _ (c .before .before .before .clear-taken .ensures .size) (as-large _ _ _ (c .before .before .before .before .before .before .before .before .mark-list .ensures .size) (gathered-unmarked (c .before .before .before .before .before .before .before .before .before .before .before .before .before .gather .ensures) (c .before .before .before .before .before .before .before .before .before .before .before .before .before .before .before .before .before .before .before .before .pre .3) .room))

@@ -33,7 +33,9 @@ loop-less : tie.Need-loop-less Inv-loop μ-loop
 loop-less c = omega (arith, c .before .before .loop-test .taken)
 
 loop-again : tie.Need-loop-again Inv-loop μ-loop
-loop-again c = let i = c .before .before .before .loop .inv in let t = c .before .before .loop-test .taken in ⊎-elim (λ u. (omega (arith, u .1, i .0), omega arith, count-next (λ j. getD (c .before .before .before .before .args .marks .now) j false) _ _ _ true (i .2) (u .0 .taken) (u .1))) (λ u. (omega (arith, u .1, i .0), omega arith, count-next (λ j. getD (c .before .before .before .before .args .marks .now) j false) _ _ _ false (i .2) (u .0 .left) (omega (arith, u .1)))) (c .if1 .came)
+loop-again c =
+    let given = c .before .before .before .before .args in
+    let i = c .before .before .before .loop .inv in let t = c .before .before .loop-test .taken in ⊎-elim (λ u. (omega (arith, u .1, i .0), omega arith, count-next (λ j. getD (given .marks .now) j false) _ _ _ true (i .2) (u .0 .taken) (u .1))) (λ u. (omega (arith, u .1, i .0), omega arith, count-next (λ j. getD (given .marks .now) j false) _ _ _ false (i .2) (u .0 .left) (omega (arith, u .1)))) (c .if1 .came)
 
 returns : tie.Need-returns Inv-loop μ-loop
 returns c = c .before .loop .inv .2 ∙ at-end (λ j. getD (c .before .before .args .marks .now) j false) (c .before .loop .i) (c .before .before .args .m) (c .before .loop .inv .1) (c .loop-test .left)

@@ -18,7 +18,9 @@ same-length : tie.Need-same-length
 same-length c = search needs
 
 returns : tie.Need-returns
-returns c = all-certain (listFrom (c .before .before .before .before .before .before .before .before .before .before .before .before .before .before .before .before .before .args .n) (c .before .before .before .before .before .before .before .before .before .before .before .before .before .before .before .before .before .args .spans .now) (c .before .before .before .before .before .before .before .before .before .before .before .before .before .before .before .before .before .args .links .now) (c .before .before .before .before .before .before .before .before .before .before .before .before .before .before .before .before .before .args .head)) (c .before .before .before .before .before .before .before .before .before .before .before .before .before .before .before .before .before .args .log .now) (c .before .before .before .before .before .before .before .before .before .before .before .before .before .before .before .before .before .args .first) (c .before .before .before .before .before .before .before .before .before .before .before .before .before .before .before .before .before .args .end - c .before .before .before .before .before .before .before .before .before .before .before .before .before .before .before .before .before .args .first) (c .before .before .before .before .before .before .before .before .before .before .before .before .before .before .before .before .before .args .b) (c .before .before .before .before .before .before .before .before .before .before .before .before .before .before .before .before .before .args .u) (c .before .before .before .before .before .before .before .before .before .before .before .before .before .before .before .before .before .args .certain) (c .before .before .before .before .before .before .before .before .if1 .taken) (c .before .before .before .before .before .before .before .before .before .before .before .gather-los .ensures) (c .before .before .before .before .before .before .gather-his .ensures) (c .before .before .gather-his2 .ensures)
+returns c =
+    let given = c .before .before .before .before .before .before .before .before .before .before .before .before .before .before .before .before .before .args in
+    all-certain (listFrom (given .n) (given .spans .now) (given .links .now) (given .head)) (given .log .now) (given .first) (given .end - given .first) (given .b) (given .u) (given .certain) (c .before .before .before .before .before .before .before .before .if1 .taken) (c .before .before .before .before .before .before .before .before .before .before .before .gather-los .ensures) (c .before .before .before .before .before .before .gather-his .ensures) (c .before .before .gather-his2 .ensures)
 
 gather-his-requires-3 : tie.Need-gather-his-requires-3
 gather-his-requires-3 c κs = search needs
@@ -27,7 +29,9 @@ same-length-2 : tie.Need-same-length-2
 same-length-2 c = search needs
 
 returns-2 : tie.Need-returns-2
-returns-2 c = all-possible (listFrom (c .before .before .before .before .before .before .before .before .before .before .before .before .before .args .n) (c .before .before .before .before .before .before .before .before .before .before .before .before .before .args .spans .now) (c .before .before .before .before .before .before .before .before .before .before .before .before .before .args .links .now) (c .before .before .before .before .before .before .before .before .before .before .before .before .before .args .head)) (c .before .before .before .before .before .before .before .before .before .before .before .before .before .args .log .now) (c .before .before .before .before .before .before .before .before .before .before .before .before .before .args .first) (c .before .before .before .before .before .before .before .before .before .before .before .before .before .args .end - c .before .before .before .before .before .before .before .before .before .before .before .before .before .args .first) (c .before .before .before .before .before .before .before .before .before .before .before .before .before .args .b) (c .before .before .before .before .before .before .before .before .before .before .before .before .before .args .u) (c .before .before .before .before .before .before .before .before .before .before .before .before .before .args .certain) (c .before .before .before .before .if1 .left) (c .before .before .before .before .before .before .before .gather-los .ensures) (c .before .before .gather-his3 .ensures)
+returns-2 c =
+    let given = c .before .before .before .before .before .before .before .before .before .before .before .before .before .args in
+    all-possible (listFrom (given .n) (given .spans .now) (given .links .now) (given .head)) (given .log .now) (given .first) (given .end - given .first) (given .b) (given .u) (given .certain) (c .before .before .before .before .if1 .left) (c .before .before .before .before .before .before .before .gather-los .ensures) (c .before .before .gather-his3 .ensures)
 
 pub gather-spec : {M : Type 1} → statement M
 gather-spec = tie.close (tie.spec gather-los-requires gather-his-requires gather-his-requires-2 same-length returns gather-his-requires-3 same-length-2 returns-2)

@@ -16,7 +16,10 @@ abbrev μ-loop : tie.MeasureT-loop
 μ-loop log first end at b u cells₀ m w₀ j₀ cells w j = end - j
 
 loop-holds : tie.Need-loop-holds Inv-loop μ-loop
-loop-holds c = (c .before .before .pre .0 .ahead, c .before .before .pre .0 .ordered, c .before .before .pre .2, gathers-start (c .before .before .args .b) (c .before .before .args .u) (hisOf (hitsFrom (c .before .before .args .log .now) (c .before .before .args .first) (c .before .before .args .at) (c .before .before .args .first) (c .before .before .args .end - c .before .before .args .first))) (c .before .before .args .cells .now) (c .before .before .args .m) (c .before .before .pre .3))
+loop-holds c =
+    let given = c .before .before .args in
+    let pre = c .before .before .pre in
+    (pre .0 .ahead, pre .0 .ordered, pre .2, gathers-start (given .b) (given .u) (hisOf (hitsFrom (given .log .now) (given .first) (given .at) (given .first) (given .end - given .first))) (given .cells .now) (given .m) (pre .3))
 
 keep-hi-requires : tie.Need-keep-hi-requires Inv-loop μ-loop
 keep-hi-requires c κs = let p = c .before .before .before .before .before .pre in let i = c .before .before .loop .inv in (record { ahead = i .0; ordered = omega arith; inside = omega (arith, c .before .loop-test .taken, p .0 .inside) }, p .1, i .2, i .3 .room)
@@ -28,7 +31,9 @@ loop-less : tie.Need-loop-less Inv-loop μ-loop
 loop-less c = omega (arith, c .before .before .before .before .loop-test .taken)
 
 loop-again : tie.Need-loop-again Inv-loop μ-loop
-loop-again c = let i = c .before .before .before .before .before .loop .inv in let t = c .before .before .before .before .loop-test .taken in (omega (arith, i .0), omega arith, as-large _ _ 1 (c .before .before .keep-hi .ensures .size) (i .2), his-next (c .before .before .before .before .before .before .before .before .args .log .now) (c .before .before .before .before .before .before .before .before .args .first) (c .before .before .before .before .before .before .before .before .args .at) (c .before .before .before .before .before .loop .j) (c .before .before .before .before .before .before .before .before .args .end) t (i .3) (c .before .before .keep-hi .ensures))
+loop-again c =
+    let given = c .before .before .before .before .before .before .before .before .args in
+    let i = c .before .before .before .before .before .loop .inv in let t = c .before .before .before .before .loop-test .taken in (omega (arith, i .0), omega arith, as-large _ _ 1 (c .before .before .keep-hi .ensures .size) (i .2), his-next (given .log .now) (given .first) (given .at) (c .before .before .before .before .before .loop .j) (given .end) t (i .3) (c .before .before .keep-hi .ensures))
 
 same-length : tie.Need-same-length Inv-loop μ-loop
 same-length c = c .before .loop .inv .3 .size

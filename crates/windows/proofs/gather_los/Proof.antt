@@ -19,7 +19,10 @@ abbrev μ-loop : tie.MeasureT-loop
 μ-loop spans links n head b u cells₀ w₀ k₀ cells w k = length (places links n k)
 
 loop-holds : tie.Need-loop-holds Inv-loop μ-loop
-loop-holds c = (c .before .before .before .pre .0, c .before .before .before .pre .1, gathers-start (c .before .before .before .args .b) (c .before .before .before .args .u) (losOf (listFrom (c .before .before .before .args .n) (c .before .before .before .args .spans .now) (c .before .before .before .args .links .now) (c .before .before .before .args .head))) (c .before .before .before .args .cells .now) 0 (omega arith))
+loop-holds c =
+    let given = c .before .before .before .args in
+    let pre = c .before .before .before .pre in
+    (pre .0, pre .1, gathers-start (given .b) (given .u) (losOf (listFrom (given .n) (given .spans .now) (given .links .now) (given .head))) (given .cells .now) 0 (omega arith))
 
 sub-i : tie.Need-sub-i Inv-loop μ-loop
 sub-i c = let h = step (c .before .loop .inv .0) (c .loop-test .taken) .counted in search needs
@@ -49,7 +52,9 @@ loop-less : tie.Need-loop-less Inv-loop μ-loop
 loop-less c = step (c .before .before .before .before .before .before .before .loop .inv .0) (c .before .before .before .before .before .before .loop-test .taken) .less
 
 loop-again : tie.Need-loop-again Inv-loop μ-loop
-loop-again c = let s = step (c .before .before .before .before .before .before .before .loop .inv .0) (c .before .before .before .before .before .before .loop-test .taken) in (s .next, as-large _ _ 1 (c .before .before .before .keep .ensures .size) (c .before .before .before .before .before .before .before .loop .inv .1), los-next s (c .before .before .before .before .before .before .before .loop .inv .2) (c .before .before .before .keep .ensures))
+loop-again c =
+    let inv = c .before .before .before .before .before .before .before .loop .inv in
+    let s = step (inv .0) (c .before .before .before .before .before .before .loop-test .taken) in (s .next, as-large _ _ 1 (c .before .before .before .keep .ensures .size) (inv .1), los-next s (inv .2) (c .before .before .before .keep .ensures))
 
 same-length : tie.Need-same-length Inv-loop μ-loop
 same-length c = c .before .loop .inv .2 .size

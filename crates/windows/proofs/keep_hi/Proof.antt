@@ -43,13 +43,19 @@ same-length : tie.Need-same-length
 same-length c = search needs
 
 returns : tie.Need-returns
-returns c = gathers-of _ _ (hi-kept (c .before .before .before .before .before .before .before .before .before .before .before .args .log .now) (c .before .before .before .before .before .before .before .before .before .before .before .args .first) (c .before .before .before .before .before .before .before .before .before .before .before .args .at) (c .before .before .before .before .before .before .before .before .before .before .before .args .j) (sym (c .before .before .before .before .before .before .before .before .alike .ensures) ∙ c .before .before .before .before .before .before .before .if1 .taken) (c .before .before .before .before .if2 .taken)) (c .before .before .keep .ensures)
+returns c =
+    let given = c .before .before .before .before .before .before .before .before .before .before .before .args in
+    gathers-of _ _ (hi-kept (given .log .now) (given .first) (given .at) (given .j) (sym (c .before .before .before .before .before .before .before .before .alike .ensures) ∙ c .before .before .before .before .before .before .before .if1 .taken) (c .before .before .before .before .if2 .taken)) (c .before .before .keep .ensures)
 
 returns-2 : tie.Need-returns-2
-returns-2 c = gathers-of _ _ (hi-no-hit (c .before .before .before .before .before .before .before .args .log .now) (c .before .before .before .before .before .before .before .args .first) (c .before .before .before .before .before .before .before .args .at) (c .before .before .before .before .before .before .before .args .j) (sym (c .before .before .before .before .alike .ensures) ∙ c .before .before .before .if1 .taken) (c .if2 .left)) (gathers-start (c .before .before .before .before .before .before .before .args .b) (c .before .before .before .before .before .before .before .args .u) [] (c .before .before .before .before .before .before .before .args .cells .now) (c .before .before .before .before .before .before .before .args .m) (c .before .before .before .before .before .before .before .pre .3))
+returns-2 c =
+    let given = c .before .before .before .before .before .before .before .args in
+    gathers-of _ _ (hi-no-hit (given .log .now) (given .first) (given .at) (given .j) (sym (c .before .before .before .before .alike .ensures) ∙ c .before .before .before .if1 .taken) (c .if2 .left)) (gathers-start (given .b) (given .u) [] (given .cells .now) (given .m) (c .before .before .before .before .before .before .before .pre .3))
 
 returns-3 : tie.Need-returns-3
-returns-3 c = gathers-of _ _ (hi-other (c .before .before .before .before .args .log .now) (c .before .before .before .before .args .first) (c .before .before .before .before .args .at) (c .before .before .before .before .args .j) (sym (c .before .alike .ensures) ∙ c .if1 .left)) (gathers-start (c .before .before .before .before .args .b) (c .before .before .before .before .args .u) [] (c .before .before .before .before .args .cells .now) (c .before .before .before .before .args .m) (c .before .before .before .before .pre .3))
+returns-3 c =
+    let given = c .before .before .before .before .args in
+    gathers-of _ _ (hi-other (given .log .now) (given .first) (given .at) (given .j) (sym (c .before .alike .ensures) ∙ c .if1 .left)) (gathers-start (given .b) (given .u) [] (given .cells .now) (given .m) (c .before .before .before .before .pre .3))
 
 pub keep-hi-spec : {M : Type 1} → statement M
 keep-hi-spec = tie.close (tie.spec alike-requires mul-hi add-hi add-hi-2 mul-hi-2 shared-slice-read-hi mul-if2 add-if2 mul-if2-2 shared-slice-read-if2 keep-requires same-length returns returns-2 returns-3)

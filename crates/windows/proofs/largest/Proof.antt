@@ -34,7 +34,9 @@ loop-less : tie.Need-loop-less Inv-loop μ-loop
 loop-less c = omega (arith, c .before .before .before .loop-test .taken)
 
 loop-again : tie.Need-loop-again Inv-loop μ-loop
-loop-again c = let i = c .before .before .before .before .loop .inv in let t = c .before .before .before .loop-test .taken in ⊎-elim (λ u. (omega (arith, u .1), omega arith, highest-moves (c .before .before .before .before .before .args .cells .now) (c .before .before .before .before .before .args .m) (c .before .before .before .before .loop .p) (c .before .before .before .before .loop .i) (c .if1 .p) t (i .2) (u .0 .taken) (u .1))) (λ u. (omega (arith, u .1, i .0), omega arith, highest-stays (c .before .before .before .before .before .args .cells .now) (c .before .before .before .before .before .args .m) (c .before .before .before .before .loop .p) (c .before .before .before .before .loop .i) (c .if1 .p) (i .0) t (i .2) (u .0 .left) (u .1))) (c .if1 .came)
+loop-again c =
+    let given = c .before .before .before .before .before .args in
+    let i = c .before .before .before .before .loop .inv in let t = c .before .before .before .loop-test .taken in ⊎-elim (λ u. (omega (arith, u .1), omega arith, highest-moves (given .cells .now) (given .m) (c .before .before .before .before .loop .p) (c .before .before .before .before .loop .i) (c .if1 .p) t (i .2) (u .0 .taken) (u .1))) (λ u. (omega (arith, u .1, i .0), omega arith, highest-stays (given .cells .now) (given .m) (c .before .before .before .before .loop .p) (c .before .before .before .before .loop .i) (c .if1 .p) (i .0) t (i .2) (u .0 .left) (u .1))) (c .if1 .came)
 
 returns : tie.Need-returns Inv-loop μ-loop
 returns c = let i = c .before .loop .inv in let t = c .loop-test .left in record { below = omega (arith, i .0, i .1); largest = λ n j h. i .2 n j (omega arith) }

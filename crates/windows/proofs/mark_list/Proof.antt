@@ -16,7 +16,10 @@ abbrev μ-loop : tie.MeasureT-loop
 μ-loop spans links n head b u cells m marks₀ k₀ marks k = length (places links n k)
 
 loop-holds : tie.Need-loop-holds Inv-loop μ-loop
-loop-holds c = (c .before .before .before .before .pre .0, c .before .before .before .before .pre .2 .room, marking-start (listFrom (c .before .before .before .before .args .n) (c .before .before .before .before .args .spans .now) (c .before .before .before .before .args .links .now) (c .before .before .before .before .args .head)) (c .before .before .before .before .args .cells .now) (c .before .before .before .before .args .m) (c .before .before .before .before .args .marks .now) (c .before .before .before .before .pre .2))
+loop-holds c =
+    let given = c .before .before .before .before .args in
+    let pre = c .before .before .before .before .pre in
+    (pre .0, pre .2 .room, marking-start (listFrom (given .n) (given .spans .now) (given .links .now) (given .head)) (given .cells .now) (given .m) (given .marks .now) (pre .2))
 
 sub-i : tie.Need-sub-i Inv-loop μ-loop
 sub-i c = let h = step (c .before .loop .inv .0) (c .loop-test .taken) .counted in search needs
@@ -58,7 +61,9 @@ loop-less : tie.Need-loop-less Inv-loop μ-loop
 loop-less c = step (c .before .before .before .before .before .before .before .before .loop .inv .0) (c .before .before .before .before .before .before .before .loop-test .taken) .less
 
 loop-again : tie.Need-loop-again Inv-loop μ-loop
-loop-again c = let s = step (c .before .before .before .before .before .before .before .before .loop .inv .0) (c .before .before .before .before .before .before .before .loop-test .taken) in (s .next, as-large _ _ (c .before .before .before .before .before .before .before .before .before .before .before .before .before .args .m) (c .before .before .before .mark-in-window .ensures .size) (c .before .before .before .before .before .before .before .before .loop .inv .1), marking-next s (c .before .before .before .before .before .before .before .before .loop .inv .2) (c .before .before .before .mark-in-window .ensures))
+loop-again c =
+    let inv = c .before .before .before .before .before .before .before .before .loop .inv in
+    let s = step (inv .0) (c .before .before .before .before .before .before .before .loop-test .taken) in (s .next, as-large _ _ (c .before .before .before .before .before .before .before .before .before .before .before .before .before .args .m) (c .before .before .before .mark-in-window .ensures .size) (inv .1), marking-next s (inv .2) (c .before .before .before .mark-in-window .ensures))
 
 same-length : tie.Need-same-length Inv-loop μ-loop
 same-length c = c .before .loop .inv .2 .size
