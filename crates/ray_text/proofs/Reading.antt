@@ -1,6 +1,6 @@
 -- What the loops over digits and lines keep.
-use mathlib.Core.Path.{_≡_, refl, sym, _∙_, ap, subst}
-use mathlib.Core.Bool.{Bool, true, false, not, cond, _&&_, true≢false, false≢true}
+use mathlib.Core.Path.{_≡_, refl, _∙_, ap, subst}
+use mathlib.Core.Bool.{Bool, true, false, cond, _&&_}
 use mathlib.Core.List.{List, [], _∷_, _++_}
 use Prim.Native.Nat.{ℕ, zero, suc, _+_, _*_, _%_, _≤_, _<_}
 use native.Mathlib.Omega.{arith}
@@ -10,22 +10,8 @@ use borrow.Author.Tests.{lt-leb, le-leb, eq-eqb, ne-eqb, eqb-false}
 use lib.Dec.{leb, eqb}
 use lib.ListN.{length, getD, length-append}
 use lib.Ieee.{Float, binary64, ofBits}
+use Rattle.doubles.proofs.Bools.{and-left, and-right, and-false, both}
 use Rattle.ray_text.specs.Format.{space, newline, letterB, letterP, letterC, letterO, letterI, isLetter, eachBelow, isNumber, bitsAt, isLine, lines, letterOf, count, pairAt, pairs, few, total, readable}
-
-pub and-left : (a b : Bool) → (a && b) ≡ true → a ≡ true
-and-left true b h = refl
-and-left false b h = h
-
-pub and-right : (a b : Bool) → (a && b) ≡ true → b ≡ true
-and-right true b h = h
-and-right false b h = absurd (false≢true h)
-
-pub and-false : (a b : Bool) → b ≡ false → (a && b) ≡ false
-and-false true b h = h
-and-false false b h = refl
-
-pub both : (a b : Bool) → a ≡ true → b ≡ true → (a && b) ≡ true
-both a b h k = rw (h, k)
 
 module _ (test : ℕ → Bool) where
   pub each-none : eachBelow test 0 ≡ true
@@ -107,15 +93,6 @@ pairs-length c s (suc k) =
     two false x y = refl
 
 -- ---- the tests of a line, one after the other
--- a test r that a branch found false, or true
-pub found-not : (r x : Bool) → r ≡ x → not r ≡ true → x ≡ false
-found-not true x e h = absurd (false≢true h)
-found-not false x e h = sym e
-
-pub found : (r x : Bool) → r ≡ x → not r ≡ false → x ≡ true
-found true x e h = sym e
-found false x e h = absurd (true≢false h)
-
 module _ (s : List ℕ) (at : ℕ) where
   pub no-letter : isLetter (getD s at 0) ≡ false → false ≡ isLine s at
   unfolding isLine

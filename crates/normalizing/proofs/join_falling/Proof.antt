@@ -1,7 +1,6 @@
 -- `normalizing::join_falling` meets its contract.
 use borrow.Author.Needs.{needs}
 use native.Mathlib.Omega.{arith}
-use Prim.Native.Nat.{_-_}
 use Rattle.normalizing.specs.Steps.{BegunBack}
 use Rattle.normalizing.proofs.Join.{back-start, back-step, filled-even}
 use Rattle.normalizing.proofs.join_falling.Statement.{statement}

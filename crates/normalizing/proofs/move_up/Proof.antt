@@ -1,6 +1,5 @@
 -- `normalizing::move_up` meets its contract.
 use borrow.Author.Needs.{needs}
-use Prim.Native.Nat.{_-_}
 use Rattle.normalizing.proofs.Loops.{Up, up-start, up-step, up-done}
 use Rattle.normalizing.proofs.move_up.Statement.{statement}
 use Rattle.normalizing.proofs.move_up.Tie as tie

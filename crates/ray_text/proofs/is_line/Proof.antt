@@ -5,7 +5,8 @@ use Prim.Native.Nat.{_+_}
 use lib.ListN.{getD}
 use borrow.Author.Tests.{eq-eqb, ne-eqb}
 use Rattle.ray_text.specs.Format.{isLetter, isNumber}
-use Rattle.ray_text.proofs.Reading.{found, found-not, no-letter, no-space, no-lo, no-second, no-hi, last-byte}
+use Rattle.doubles.proofs.Bools.{found, found-not}
+use Rattle.ray_text.proofs.Reading.{no-letter, no-space, no-lo, no-second, no-hi, last-byte}
 use borrow.Author.Needs.{needs}
 use Rattle.ray_text.proofs.is_line.Statement.{statement}
 use Rattle.ray_text.proofs.is_line.Tie as tie

@@ -2,7 +2,8 @@
 use mathlib.Core.Path.{_≡_, sym, _∙_}
 use mathlib.Core.Bool.{true}
 use Rattle.ray_text.specs.Format.{lines, total}
-use Rattle.ray_text.proofs.Reading.{found, found-not, empty-first, no-whole-lines, bad-line, no-first, not-once, last-test}
+use Rattle.doubles.proofs.Bools.{found, found-not}
+use Rattle.ray_text.proofs.Reading.{empty-first, no-whole-lines, bad-line, no-first, not-once, last-test}
 use borrow.Author.Needs.{needs}
 use native.Mathlib.Omega.{arith}
 use Rattle.ray_text.proofs.is_readable.Statement.{statement}
