@@ -1,8 +1,8 @@
--- `normalizing::move_up` meets its contract.
+-- `inserting::move_up` meets its contract.
 use borrow.Author.Needs.{needs}
-use Rattle.normalizing.proofs.Loops.{Up, up-start, up-step, up-done}
-use Rattle.normalizing.proofs.move_up.Statement.{statement}
-use Rattle.normalizing.proofs.move_up.Tie as tie
+use Rattle.inserting.proofs.Loops.{Up, up-start, up-step, up-done}
+use Rattle.inserting.proofs.move_up.Statement.{statement}
+use Rattle.inserting.proofs.move_up.Tie as tie
 
 abbrev Inv-loop : tie.InvT-loop
 Inv-loop b₀ from to count k₀ b k = Up b₀ from to count k b

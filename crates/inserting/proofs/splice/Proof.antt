@@ -1,4 +1,4 @@
--- `normalizing::splice` meets its contract.
+-- `inserting::splice` meets its contract.
 use borrow.Author.Needs.{needs}
 use native.Mathlib.Omega.{arith}
 use native.Mathlib.Numerals.{add-one}
@@ -6,10 +6,10 @@ use mathlib.Core.Bool.{true, false}
 use borrow.Author.Tests.{eq-eqb, ne-eqb}
 use Prim.Native.Nat.{_+_, _%_}
 use lib.ListN.{length-set}
-use Rattle.normalizing.proofs.Loops.{splice-done}
+use Rattle.inserting.proofs.Loops.{splice-done}
 use borrow.Author.Needs.{needs}
-use Rattle.normalizing.proofs.splice.Statement.{statement}
-use Rattle.normalizing.proofs.splice.Tie as tie
+use Rattle.inserting.proofs.splice.Statement.{statement}
+use Rattle.inserting.proofs.splice.Tie as tie
 
 sub-tail : tie.Need-sub-tail
 sub-tail c = search needs

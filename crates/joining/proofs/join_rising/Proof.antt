@@ -1,12 +1,12 @@
--- `normalizing::join_rising` meets its contract.
+-- `joining::join_rising` meets its contract.
 use borrow.Author.Needs.{needs}
 use native.Mathlib.Omega.{arith}
 use Prim.Native.Nat.{_-_}
 use lib.ListN.{length}
-use Rattle.normalizing.specs.Steps.{Begun}
-use Rattle.normalizing.proofs.Join.{begun-start, begun-step, filled-even}
-use Rattle.normalizing.proofs.join_rising.Statement.{statement}
-use Rattle.normalizing.proofs.join_rising.Tie as tie
+use Rattle.joining.specs.Steps.{Begun}
+use Rattle.joining.proofs.Passes.{begun-start, begun-step, filled-even}
+use Rattle.joining.proofs.join_rising.Statement.{statement}
+use Rattle.joining.proofs.join_rising.Tie as tie
 
 abbrev Inv-loop : tie.InvT-loop
 Inv-loop spans out₀ n₀ k₀ out n k = Begun spans out₀ out (record { passed = k; end = n })

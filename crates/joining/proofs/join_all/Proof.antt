@@ -1,10 +1,10 @@
--- `normalizing::join_all` meets its contract.
+-- `joining::join_all` meets its contract.
 use borrow.Author.Needs.{needs}
 use native.Mathlib.Omega.{arith}
 use Prim.Native.Nat.{_-_, _≤_}
-use Rattle.normalizing.proofs.Join.{Joining, joining-start, joining-step, joining-done}
-use Rattle.normalizing.proofs.join_all.Statement.{statement}
-use Rattle.normalizing.proofs.join_all.Tie as tie
+use Rattle.joining.proofs.Passes.{Joining, joining-start, joining-step, joining-done}
+use Rattle.joining.proofs.join_all.Statement.{statement}
+use Rattle.joining.proofs.join_all.Tie as tie
 
 abbrev Inv-loop : tie.InvT-loop
 Inv-loop b₀ m n₀ k₀ b n k = Joining b₀ n k b × (k ≤ m)

@@ -1,11 +1,11 @@
--- `normalizing::gather` meets its contract.
+-- `joining::gather` meets its contract.
 use borrow.Author.Needs.{needs}
 use native.Mathlib.Omega.{arith}
 use Prim.Native.Nat.{_-_}
 use lib.ListN.{length}
-use Rattle.normalizing.proofs.Join.{Gathered, gather-start, gather-step, gather-done}
-use Rattle.normalizing.proofs.gather.Statement.{statement}
-use Rattle.normalizing.proofs.gather.Tie as tie
+use Rattle.joining.proofs.Passes.{Gathered, gather-start, gather-step, gather-done}
+use Rattle.joining.proofs.gather.Statement.{statement}
+use Rattle.joining.proofs.gather.Tie as tie
 
 abbrev Inv-loop : tie.InvT-loop
 Inv-loop spans out₀ n m₀ k₀ out m k = Gathered spans out₀ n m k out

@@ -1,4 +1,4 @@
--- What the inner steps of `normalize` leave.
+-- What the steps that work a pair into a sound list leave.
 use mathlib.Core.Path.{_≡_}
 use mathlib.Core.Bool.{Bool, true, false, _||_}
 use mathlib.Core.List.{List, [], _∷_, _++_}
@@ -7,8 +7,7 @@ use lib.Dec.{eqb}
 use lib.ListN.{length, getD, take, drop}
 use lib.Ieee.{Float, nan}
 use Rattle.spans.specs.Spans.{within, holds, ListOf}
-use Rattle.spans.specs.Steps.{SameFrom, Filled}
-use Rattle.spans.specs.declared.Place.{Place}
+use Rattle.spans.specs.Steps.{SameFrom}
 
 -- of the first n ends, those from r on fail the test, and the one before r passes it
 pub record Counted (test : Float → Bool) (l : List Float) (n r : ℕ) : Type 0 where
@@ -45,20 +44,3 @@ pub record Joined (before : List Float) (n : ℕ) (lo hi : Float) (after : List 
   pub most : r ≤ n + 2
   pub list : ListOf (λ p. holds (take n before) p || within lo hi p) (take r after)
   pub rest : SameFrom (n + 2) before after
-
--- the first r cells are the list
-pub record Front (list before after : List Float) (r : ℕ) : Type 0 where
-  pub size : length after ≡ length before
-  pub count : r ≡ length list
-  pub ends : take r after ≡ list
-
--- the first cells are the sound list of the first `passed` ends; of those from `passed` on
-pub record Begun (spans before after : List Float) (r : Place) : Type 0 where
-  pub passedMost : r .passed ≤ length spans
-  pub passedEven : r .passed % 2 ≡ 0
-  pub filled : Filled (holds (take (r .passed) spans)) before (r .passed) after (r .end)
-
-pub record BegunBack (spans before after : List Float) (r : Place) : Type 0 where
-  pub passedMost : r .passed ≤ length spans
-  pub passedEven : r .passed % 2 ≡ 0
-  pub filled : Filled (holds (drop (r .passed) spans)) before (length spans - r .passed) after (r .end)

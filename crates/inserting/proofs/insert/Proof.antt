@@ -1,4 +1,4 @@
--- `normalizing::insert` meets its contract.
+-- `inserting::insert` meets its contract.
 use native.Mathlib.Omega.{arith}
 use Prim.Native.Nat.{_-_}
 use lib.ListN.{getD, take}
@@ -9,10 +9,10 @@ use mathlib.Core.Path.{_≡_}
 use Rattle.doubles.proofs.Bools.{not-true, not-false, clash}
 use Rattle.spans.proofs.Sets.{sound-mod}
 use Rattle.spans.proofs.Points.{empty-pair}
-use Rattle.normalizing.proofs.Join.{insert-last, insert-inside, insert-extends, insert-none, insert-done, places-rise}
+use Rattle.inserting.proofs.Join.{insert-last, insert-inside, insert-extends, insert-none, insert-done, places-rise}
 use borrow.Author.Needs.{needs}
-use Rattle.normalizing.proofs.insert.Statement.{statement}
-use Rattle.normalizing.proofs.insert.Tie as tie
+use Rattle.inserting.proofs.insert.Statement.{statement}
+use Rattle.inserting.proofs.insert.Tie as tie
 
 put-pair-requires : tie.Need-put-pair-requires
 put-pair-requires c κs = search needs

@@ -10,7 +10,7 @@ use lib.ListN.{length, getD, take, drop, set, length-set, length-append, length-
 use lib.Seq.{getD-set-same, getD-set-other, getD-take, getD-drop, ext-getD, length-take-le, take-take, take-add, take-at, drop-at, sets, sets-eq, length-sets}
 use lib.Ieee.{Float, nan}
 use Rattle.spans.specs.Steps.{SameFrom}
-use Rattle.normalizing.specs.Steps.{Moved, Spliced, endIf}
+use Rattle.inserting.specs.Steps.{Moved, Spliced, endIf}
 
 -- ---- a search from the high end
 -- the ends from i to n fail the test

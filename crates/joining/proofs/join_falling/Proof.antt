@@ -1,10 +1,10 @@
--- `normalizing::join_falling` meets its contract.
+-- `joining::join_falling` meets its contract.
 use borrow.Author.Needs.{needs}
 use native.Mathlib.Omega.{arith}
-use Rattle.normalizing.specs.Steps.{BegunBack}
-use Rattle.normalizing.proofs.Join.{back-start, back-step, filled-even}
-use Rattle.normalizing.proofs.join_falling.Statement.{statement}
-use Rattle.normalizing.proofs.join_falling.Tie as tie
+use Rattle.joining.specs.Steps.{BegunBack}
+use Rattle.joining.proofs.Passes.{back-start, back-step, filled-even}
+use Rattle.joining.proofs.join_falling.Statement.{statement}
+use Rattle.joining.proofs.join_falling.Tie as tie
 
 abbrev Inv-loop : tie.InvT-loop
 Inv-loop spans out₀ n₀ k₀ out n k = BegunBack spans out₀ out (record { passed = k; end = n })

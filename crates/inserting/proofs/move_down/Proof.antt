@@ -1,9 +1,9 @@
--- `normalizing::move_down` meets its contract.
+-- `inserting::move_down` meets its contract.
 use borrow.Author.Needs.{needs}
 use Prim.Native.Nat.{_-_}
-use Rattle.normalizing.proofs.Loops.{Down, down-start, down-step, down-done}
-use Rattle.normalizing.proofs.move_down.Statement.{statement}
-use Rattle.normalizing.proofs.move_down.Tie as tie
+use Rattle.inserting.proofs.Loops.{Down, down-start, down-step, down-done}
+use Rattle.inserting.proofs.move_down.Statement.{statement}
+use Rattle.inserting.proofs.move_down.Tie as tie
 
 abbrev Inv-loop : tie.InvT-loop
 Inv-loop b₀ from to count k₀ b k = Down b₀ from to count k b
