@@ -12,8 +12,8 @@ use Rattle.spans.specs.Spans.{within, holds, retained, ListOf}
 use Rattle.spans.specs.Steps.{Filled}
 use Rattle.joining.specs.Steps.{Begun, BegunBack, Front}
 use Rattle.joining.proofs.Passes.{retained-most}
-use Rattle.sorting.specs.Pairs.{Rearranged, SamePairs, foldPairs}
-use Rattle.sorting.proofs.Rearranging.{fold-rearranged}
+use Rattle.rearranging.specs.Pairs.{Rearranged, SamePairs, foldPairs}
+use Rattle.rearranging.proofs.Laws.{fold-rearranged}
 use Rattle.spans.proofs.Ends.{oddN}
 use Rattle.spans.proofs.Points.{retained-holds, holds-append, holds-parts}
 use Rattle.spans.proofs.Sets.{oddN-mod}
