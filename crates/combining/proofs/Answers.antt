@@ -1,27 +1,22 @@
 -- How each case of an answer is shown.
 use mathlib.Core.Path.{_≡_, refl}
 use mathlib.Core.Bool.{Bool, true}
-use mathlib.Core.List.{List}
-use Prim.Native.Nat.{ℕ, _+_, _/_, _≤_, _<_}
-use lib.ListN.{length}
+use mathlib.Core.List.{List, _++_}
+use Prim.Native.Nat.{ℕ, _+_, _-_, _/_, _≤_, _<_}
+use lib.ListN.{length, take, replicate}
 use native.Mathlib.Omega.{arith}
 use lib.Ieee.{Float}
 use mathlib.Core.Logic.{inl, inr}
-use Rattle.refusal.specs.Refusal.{Cause, Due, NoneDue}
+use Rattle.refusal.specs.Refusal.{Due, NoneDue}
 use Rattle.spans.specs.Spans.{sound}
-use Rattle.spans.specs.Results.{Answer, Laid, listCauses}
+use Rattle.spans.specs.Results.{Answer, listCauses}
+use Rattle.spans.specs.Steps.{Filled}
+use Rattle.spans.proofs.Answers.{laid}
+use Rattle.doubles.specs.Constants.{plusZero}
 use Rattle.spans.specs.declared.Listed.the-variants.{Pairs, Refused}
 use Rattle.doubles.proofs.Bools.{and-false, by-cases}
 use Rattle.spans.proofs.Sets.{sound-mod}
 use Rattle.combining.specs.Combining.{Checked, combineCauses}
-
--- with the number that was found before anything is written
-module _ (want : Float → Bool) (causes : List Cause) (before : List Float) (k : ℕ) (c : Checked causes k) where
-  pub refuse-checked : (k ≡ 0 → ⊥) → Answer want causes before before (Refused k)
-  refuse-checked h = (c .1 h, refl)
-
-  pub accept-checked : k ≡ 0 → (after : List Float) (n : ℕ) → Laid want n after → Answer want causes before after (Pairs n)
-  accept-checked h after n l = (c .0 h, l)
 
 -- no cause: both lists are sound, and there is room for both
 pub good-lists : (a b : List Float) (room : ℕ) → NoneDue (combineCauses a b room) → (sound a ≡ true) × (sound b ≡ true) × (length a + length b ≤ room)
@@ -31,6 +26,23 @@ good-lists a b room h =
     let sb : sound b ≡ true = elim (by-cases (sound b)) [ inl k ↦ k | inr k ↦ absurd (h .1 .0 (and-false (sound a) (sound b) k)) ] in
     let fit : room / 2 < length a / 2 + length b / 2 → ⊥ = h .0 in
     (sa, sb, omega (arith, sound-mod a sa, sound-mod b sb))
+
+-- with the number k that was found before anything is written
+module _ (want : Float → Bool) (a b before : List Float) (k : ℕ) (c : Checked (combineCauses a b (length before)) k) where
+  pub refuse-checked : (k ≡ 0 → ⊥) → Answer want (combineCauses a b (length before)) before before (Refused k)
+  refuse-checked h = (c .1 h, refl)
+
+  module _ (e : k ≡ 0) where
+    pub checked-lists : (sound a ≡ true) × (sound b ≡ true) × (length a + length b ≤ length before)
+    checked-lists = good-lists a b (length before) (c .0 e)
+
+    -- the list that was filled in, and zero past it
+    module _ (mid : List Float) (n : ℕ) (f : Filled want before (length a + length b) mid n) where
+      pub filled-fits : n ≤ length mid
+      filled-fits = omega (arith, checked-lists .2, f .most, f .size)
+
+      pub accept-filled : (after : List Float) → after ≡ take n mid ++ replicate (length mid - n) plusZero → Answer want (combineCauses a b (length before)) before after (Pairs (n / 2))
+      accept-filled after z = (c .0 e, laid want mid after n filled-fits (f .list) z)
 
 -- the number of a refusal, found before anything is written
 module _ (short bad : Type 0) where

@@ -1,4 +1,2 @@
 -- Laws that belong to no one function.
-pub mod Cutting
-pub mod Common
 pub mod Answers

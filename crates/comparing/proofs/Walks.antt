@@ -13,10 +13,10 @@ use Rattle.spans.specs.Spans.{within, holds, sound, Within, Outside, Share, Apa
 use Rattle.spans.proofs.Ends.{rising-at}
 use Rattle.spans.proofs.Sets.{sound-rising, sound-mod}
 use Rattle.spans.proofs.Points.{holds-more, front-only, in-pair, in-gap, upTo-last, pair-rises, number-at}
-use Rattle.combining.proofs.Cutting.{top, top-first, top-second, top-both}
+use Rattle.overlay.proofs.Cutting.{top, top-first, top-second, top-both}
 use Rattle.doubles.specs.Doubles.{Number}
 use Rattle.doubles.proofs.Bools.{and-left, and-right, or-cases, by-cases, clash}
-use Rattle.doubles.proofs.Order.{lt-number, lt→le, not-lt→le, not-le→lt, le-refl, le-trans, lt-trans, lt-le-trans}
+use Rattle.doubles.proofs.Order.{lt-number, not-lt→le, not-le→lt, le-refl, le-trans, lt-trans, lt-le-trans}
 
 -- the points of a list's first pairs and one more
 one-more : (l : List Float) (k : ℕ) (p : Float) → k % 2 ≡ 0 → k + 2 ≤ length l → holds (take (k + 2) l) p ≡ true

@@ -16,6 +16,10 @@ pub or-right : (a b : Bool) → b ≡ true → (a || b) ≡ true
 or-right true b h = refl
 or-right false b h = h
 
+pub or-neither : (a b : Bool) → (a || b) ≡ false → (a ≡ false) × (b ≡ false)
+or-neither true b h = absurd (true≢false h)
+or-neither false b h = (refl, h)
+
 pub and-left : (a b : Bool) → (a && b) ≡ true → a ≡ true
 and-left true b h = refl
 and-left false b h = absurd (false≢true h)
@@ -36,6 +40,12 @@ pub and-false : (a b : Bool) → b ≡ false → (a && b) ≡ false
 and-false true b h = h
 and-false false b h = refl
 
+-- less b, then less c
+pub and-not-or : (a b c : Bool) → ((a && not b) && not c) ≡ (a && not (b || c))
+and-not-or true true c = refl
+and-not-or true false c = refl
+and-not-or false b c = refl
+
 pub not-true : (a : Bool) → not a ≡ true → a ≡ false
 not-true true h = absurd (false≢true h)
 not-true false h = refl
@@ -43,6 +53,13 @@ not-true false h = refl
 pub not-false : (a : Bool) → not a ≡ false → a ≡ true
 not-false true h = refl
 not-false false h = absurd (true≢false h)
+
+-- a test x that r tells, where a branch found r false, or true
+pub found-not : (r x : Bool) → r ≡ x → not r ≡ true → x ≡ false
+found-not r x e h = sym e ∙ not-true r h
+
+pub found : (r x : Bool) → r ≡ x → not r ≡ false → x ≡ true
+found r x e h = sym e ∙ not-false r h
 
 pub clash : (a : Bool) → a ≡ true → a ≡ false → ⊥
 clash a h k = true≢false (sym h ∙ k)

@@ -11,7 +11,7 @@ use lib.Ieee.{Float, nan, inf, fin, binary64, up, down, le, neg, fits}
 use lib.Ieee.Fits.{down-pos, round-fits, neg-fits}
 use lib.Ieee.Exact.{HasValue}
 use Rattle.doubles.specs.Doubles.{ceilDiv, floorOf, ceilOf, Whole, FloorOf, CeilOf}
-use Rattle.doubles.proofs.Order.{le→side, side→le, le-neg, fin-number}
+use Rattle.doubles.proofs.Order.{le→side, side→le, le-neg, neg-neg, fin-number}
 use Rattle.doubles.proofs.Whole.{exact-div, ceil-below, floor-exact, floor-le, ceil-is}
 
 -- ---- whole numbers c and q, with a and b the sizes of the doubles that hold them over the denominators d and j
@@ -122,14 +122,6 @@ unfolding neg
 neg-whole nan h = h
 neg-whole (inf s) h = h
 neg-whole (fin s m e) h = h
-
-neg-neg : (x : Float) → neg (neg x) ≡ x
-unfolding neg
-neg-neg nan = refl
-neg-neg (inf false) = refl
-neg-neg (inf true) = refl
-neg-neg (fin false m e) = refl
-neg-neg (fin true m e) = refl
 
 floored : (s : Bool) (m : ℕ) (e : ℤ) → T (fits binary64 (neg (fin s m e))) → FloorOf (neg (fin s m e)) (floorOf (neg (fin s m e)))
 unfolding neg

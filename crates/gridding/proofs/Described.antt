@@ -12,7 +12,7 @@ use lib.Ieee.{Float, nan, inf, fin, ofBits, neg, lt, le, eq, isNan}
 use lib.Ieee.Scale.{finite}
 use Rattle.doubles.specs.Constants.{million, millionth}
 use Rattle.doubles.specs.Doubles.{Number, absOf}
-use Rattle.doubles.proofs.Bools.{or-cases, not-true, not-false, and-true}
+use Rattle.doubles.proofs.Bools.{or-cases, or-neither, not-true, not-false, and-true}
 use Rattle.doubles.proofs.Order.{not-le→lt, lt→not-le, fin-number, nan-none, le-number, le-neg, side→le}
 use Rattle.grid.specs.Axes.{byDigit, byAxis, worldAxis, alongOf}
 use Rattle.grid.specs.Grid.{within, allWithin}
@@ -33,10 +33,6 @@ each P x y z p q r a = go (a .0)
     go (suc (suc n)) = r
 
 -- ---- tests taken apart
-
-pub or-neither : (a b : Bool) → (a || b) ≡ false → (a ≡ false) × (b ≡ false)
-or-neither true b h = absurd (true≢false h)
-or-neither false b h = (refl, h)
 
 and-split : (a b : Bool) → (a && b) ≡ false → (a ≡ false) ⊎ (b ≡ false)
 and-split true b h = inr h

@@ -259,9 +259,6 @@ out-bad x l m e = and-false (after x l) (contained m l) e
 pub both-same : (a b c d : Bool) → a ≡ b → c ≡ d → (a && c) ≡ (b && d)
 both-same a b c d e f = ap (λ (t : Bool). t && c) e ∙ ap (λ (t : Bool). b && t) f
 
-pub both-none : (a b : Bool) → a ≡ true → b ≡ true → (a && b) ≡ true
-both-none a b e f = both a b e f
-
 -- ---- the answers of `measure_ray`
 module _ (low high : Float) (possible certain : List Float) where
   pub possible-bad : (p : ListSum) → Sums (sound possible && bounded low high possible) possible p → not (p .good) ≡ true → (x y : Float) → Measures low high possible certain (record { valid = false; possible = x; certain = y })

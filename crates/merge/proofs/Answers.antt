@@ -10,7 +10,7 @@ use lib.Seq.{length-take-le, getD-take, drop-at}
 use lib.Ieee.{Float, nan}
 use Rattle.doubles.specs.Constants.{plusZero}
 use Rattle.refusal.specs.Refusal.{Due, NoneDue}
-use Rattle.doubles.proofs.Bools.{and-left, and-right, both, not-true, clash}
+use Rattle.doubles.proofs.Bools.{and-left, and-right, or-neither, both, not-true}
 use Rattle.spans.specs.Spans.{holds}
 use Rattle.spans.specs.Spans.{Within}
 use Rattle.validity.specs.Ray.{ValidRay}
@@ -110,11 +110,7 @@ module _ (lo hi : Float) (possible certain outer inner p′ c′ : List Float) (
   within-certain x h = and-left (holds certain x) (not (holds outer x || holds inner x)) (sym (t .list .points x) ∙ h)
 
   missed : (x : Float) → holds c′ x ≡ true → holds inner x ≡ false
-  missed x h = read (holds outer x) (holds inner x) (not-true (holds outer x || holds inner x) (and-right (holds certain x) (not (holds outer x || holds inner x)) (sym (t .list .points x) ∙ h)))
-    where
-      read : (a b : Bool) → (a || b) ≡ false → b ≡ false
-      read true b h = absurd (clash true refl h)
-      read false b h = h
+  missed x h = or-neither (holds outer x) (holds inner x) (not-true (holds outer x || holds inner x) (and-right (holds certain x) (not (holds outer x || holds inner x)) (sym (t .list .points x) ∙ h))) .1
 
   pub still-valid : ValidRay lo hi p′ c′
   still-valid = record {

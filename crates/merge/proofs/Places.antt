@@ -2,9 +2,9 @@
 use mathlib.Core.Path.{_≡_, refl, sym, _∙_, ap}
 use mathlib.Core.List.{List, _++_, append-nil}
 use borrow.Rule.Slice.PartMut.{putMid}
-use mathlib.Core.Bool.{Bool, true, false, cond, _&&_, true≢false, false≢true}
+use mathlib.Core.Bool.{Bool, true, false, true≢false, false≢true}
 use Prim.Native.Nat.{ℕ, _+_, _-_, _*_, _≤_, _<_}
-use borrow.Author.Tests.{lt-leb, le-leb}
+use borrow.Author.Tests.{le-leb}
 use native.Mathlib.Omega.{arith}
 use lib.ListN.{length, getD, take, drop, length-drop, length-append, drop-of-length-le, List·getD-append}
 use lib.Seq.{length-take-le, getD-take, getD-drop, drop-drop, drop-at, take-all, ext-getD}
@@ -153,13 +153,6 @@ module _ (at : ℕ) (w ys : List Float) (fit : at ≤ length w) (size : length y
 module _ (p : Part) (before work : List Float) (at : ℕ) where
   pub handed-still : p .moved ≡ false → before ≡ handed p before work at
   handed-still h = rw h
-
-  pub handed-short : length work < at + 2 * p .pairs → before ≡ handed p before work at
-  handed-short h = rw (lt-leb (at + 2 * p .pairs) (length work) h) (sym (either (p .moved)))
-    where
-      either : (b : Bool) → cond (b && false) (part at (2 * p .pairs) work) before ≡ before
-      either true = refl
-      either false = refl
 
   pub handed-new : p .moved ≡ true → at + 2 * p .pairs ≤ length work → part at (2 * p .pairs) work ≡ handed p before work at
   handed-new h k = rw (h, le-leb (at + 2 * p .pairs) (length work) k)

@@ -9,14 +9,10 @@ use lib.ListN.{length}
 use lib.Ieee.{Float, lt, le}
 use Rattle.doubles.proofs.Bools.{and-left, and-right, both, or-cases, or-left, or-right, by-cases, clash}
 use Rattle.doubles.proofs.Order.{lt-number, lt→le, le-refl, le-trans, lt-irrefl, lt-le-trans, not-le→lt}
-use Rattle.spans.specs.Spans.{within, holds, rising, sound, Within}
+use Rattle.spans.specs.Spans.{within, holds, sound, Within}
 use Rattle.spans.proofs.Sets.{sound-rising, sound-mod, make-sound}
-use Rattle.spans.proofs.Ends.{rising-tail}
+use Rattle.spans.proofs.Ends.{rising-first, rising-tail}
 use Rattle.validity.specs.Ray.{bounded}
-
-pair-up : (x y : Float) (l : List Float) → rising (x ∷ y ∷ l) ≡ true → lt x y ≡ true
-unfolding rising
-pair-up x y l h = and-left (lt x y) (rising (y ∷ l)) h
 
 tail-sound : (x y : Float) (l : List Float) → sound (x ∷ y ∷ l) ≡ true → sound l ≡ true
 tail-sound x y l h =
@@ -56,7 +52,7 @@ module _ (lo hi : Float) where
       odd : 1 % 2 ≡ 0 → ⊥
       odd h = omega arith
   bounded-within m (x ∷ y ∷ l) b s w =
-      let up : lt x y ≡ true = pair-up x y l (sound-rising (x ∷ y ∷ l) s) in
+      let up : lt x y ≡ true = rising-first x y l (sound-rising (x ∷ y ∷ l) s) in
       let at-lo : (le lo x ≡ true) × (lt x hi ≡ true) =
       point-bounds m x b (w x (or-left (within x y x) (holds l x) (both (le x x) (lt x y) (le-refl x (lt-number x y up .0)) up))) in
       let tail = bounded-within m l b (tail-sound x y l s) (λ p h. w p (or-right (within x y p) (holds l p) h)) in

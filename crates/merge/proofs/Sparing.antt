@@ -2,11 +2,12 @@
 use mathlib.Core.Path.{_≡_, refl, sym, _∙_, ap, ap₂, subst, fun-ext}
 use mathlib.Core.Bool.{Bool, true, false, not, _&&_, _||_, true≢false, false≢true}
 use mathlib.Core.List.{List}
-use Prim.Native.Nat.{ℕ, _+_, _-_, _*_, _/_, _%_, _≤_}
+use Prim.Native.Nat.{ℕ, _+_, _*_, _/_, _%_, _≤_}
 use native.Mathlib.Omega.{arith}
 use lib.ListN.{length}
 use lib.Ieee.{Float}
 use Rattle.spans.specs.Spans.{holds, sound, ListOf}
+use Rattle.doubles.proofs.Bools.{and-not-or}
 use Rattle.spans.proofs.Sets.{sound-mod}
 use Rattle.merge.specs.Merge.{Moves, eitherHit, spared, cellsOf, Spared}
 use Rattle.merge.specs.Steps.{part, Lies, Between, Subtracted, Shortened, newList, Reduced, Ready, Merging}
@@ -50,11 +51,6 @@ reduced-moved a hit to end limit before after r true h m x k f l =
     }
 
 -- less the outer hits, then less the inner ones
-both-less : (c o i : Bool) → ((c && not o) && not i) ≡ (c && not (o || i))
-both-less true true i = refl
-both-less true false i = refl
-both-less false o i = refl
-
 module _ (w w₁ w₂ : List Float) (to t c nc no ni m r : ℕ) (in-c : Lies c nc w) (in-o : Lies (c + nc) no w) (in-i : Lies (c + nc + no) ni w)
     (apart : to + ni ≤ t) (room : t + nc + no ≤ c)
     (first : Subtracted (part c nc w) (part (c + nc) no w) t nc no w w₁ m) where
@@ -79,7 +75,7 @@ module _ (w w₁ w₂ : List Float) (to t c nc no ni m r : ℕ) (in-c : Lies c n
       points = λ p.
           second .list .points p
           ∙ ap₂ (λ (x y : Bool). x && not y) (first .list .points p) (ap (λ (l : List Float). holds l p) inner-kept)
-          ∙ both-less (holds (part c nc w) p) (holds (part (c + nc) no w) p) (holds (part (c + nc + no) ni w) p);
+          ∙ and-not-or (holds (part c nc w) p) (holds (part (c + nc) no w) p) (holds (part (c + nc + no) ni w) p);
     };
   }
 

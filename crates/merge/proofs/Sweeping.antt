@@ -10,17 +10,18 @@ use native.Mathlib.Numerals.{add-one}
 use borrow.Author.Tests.{lt-ltb, le-ltb, ltb-true, eq-eqb, ne-eqb}
 use lib.Dec.{ltb, eqb}
 use lib.ListN.{length, getD, take, drop, set, take-append-drop, length-set, drop-of-length-le}
-use lib.Seq.{length-take-le, getD-take, take-suc, drop-cons, take-suc-set, take-all, getD-set-other}
+use lib.Seq.{length-take-le, take-suc, drop-cons, take-suc-set, take-all, getD-set-other}
 use lib.Ieee.{Float, nan, inf, lt, le}
 use Rattle.spans.specs.Spans.{holds, rising, sound, ListOf}
 use Rattle.doubles.specs.Doubles.{Number}
 use Rattle.doubles.proofs.Bools.{and-left, and-right, by-cases, clash}
-use Rattle.doubles.proofs.Order.{le-number, lt→le, not-lt→le, not-le→lt, lt-trans, le-refl, le-trans, le-bottom}
-use Rattle.spans.proofs.Ends.{flip, flip-false, oddN, oddN-rem, odd, odd-append, All, all-append, all-left, all-right, all-map, all-by-place, all-at, Over, Under, AtMost, Past, From, Above, Below, UpTo, odd-all, odd-past, upTo-more, below-upTo, rising-above, rising-cons, rising-append, rising-left, rising-right, rising-at}
+use Rattle.doubles.proofs.Order.{le-number, lt→le, not-lt→le, not-le→lt, le-refl, le-trans, le-bottom}
+use Rattle.spans.proofs.Ends.{flip, flip-false, oddN, oddN-rem, odd, odd-append, All, all-append, all-left, all-right, all-map, all-at, Over, Under, AtMost, Past, From, Above, Below, UpTo, odd-all, odd-past, upTo-more, below-upTo, rising-above, rising-cons, rising-append, rising-left, rising-right}
 use Rattle.merge.specs.Steps.{part, Lies, Subtracted}
 use Rattle.merge.specs.Sweep.{parityOf, Turn, stays, puts, takes}
 use Rattle.merge.proofs.Places.{part-length, part-cell}
-use Rattle.spans.proofs.Sets.{oddN-mod, oddN-mod-odd, mod-oddN, sound-rising, sound-even, sound-numbers, sound-holds, make-sound}
+use Rattle.spans.proofs.Points.{numbers-of, below-by-last}
+use Rattle.spans.proofs.Sets.{oddN-mod, oddN-mod-odd, mod-oddN, sound-rising, sound-even, sound-holds, make-sound}
 
 -- ---- a turn
 -- the first r ends rise up to e, are `want` in number modulo 2, and below e stand for the same points as the first n; no cell past the n-th changed
@@ -47,20 +48,6 @@ turn-put b n e want h w d ne r u = record {
   under = λ p k. ap (λ (l : List Float). odd l p) (one-more b n e h) ∙ odd-append (take n b) (e ∷ []) p ∙ rw k (flip-false (odd (take n b) p));
   rest = λ q k. getD-set-other b n q e nan (λ g. omega arith);
 }
-
--- all of a rising list lie below e where its last end does
-below-last : (b : List Float) (n : ℕ) (e : Float) → n ≤ length b → 0 < n → rising (take n b) ≡ true → lt (getD b (n - 1) nan) e ≡ true → Below e (take n b)
-below-last b n e fit pos r h =
-    all-by-place (Under e) (take n b) (λ k g.
-    let small : k < n = omega (arith, length-take-le n b fit) in
-    let last : getD (take n b) (n - 1) nan ≡ getD b (n - 1) nan = getD-take n b (n - 1) nan (omega arith) in
-    elim (decLt k (n - 1)) [
-      | yes a ↦ lt-trans (getD (take n b) k nan) (getD (take n b) (n - 1) nan) e (rising-at (take n b) k (n - 1) r a (omega (arith, length-take-le n b fit))) (rw last h)
-      | no a ↦ subst (λ (m : ℕ). lt (getD (take n b) m nan) e ≡ true) (same k n a small) (rw last h)
-    ])
-  where
-    same : (k n : ℕ) → (k < n - 1 → ⊥) → k < n → n - 1 ≡ k
-    same k n a g = omega arith
 
 turn-take : (b : List Float) (n : ℕ) (e : Float) (want : ℕ) → n < length b → 0 < n → want < 2 → (n % 2 ≡ want → ⊥) → Number e
     → rising (take n b) ≡ true → UpTo e (take n b) → lt (getD b (n - 1) nan) e ≡ false → Turned b n e want b (n - 1)
@@ -92,7 +79,7 @@ turned : (b : List Float) (n : ℕ) (e : Float) (want : ℕ) (b′ : List Float)
     → Turn b n e want b′ r → Turned b n e want b′ r
 turned b n e want b′ r h w ne up u (stays d) = record { size = refl; most = omega arith; parity = d; rises = up; upTo = u; under = λ p k. refl; rest = λ q k. refl }
 turned b n e want b′ r h w ne up u (puts d (inl z)) = turn-put b n e want h w d ne up (subst (λ (m : ℕ). Below e (take m b)) (sym z) tt)
-turned b n e want b′ r h w ne up u (puts d (inr l)) = turn-put b n e want h w d ne up (below-last b n e (omega arith) (l .0) up (l .1))
+turned b n e want b′ r h w ne up u (puts d (inr l)) = turn-put b n e want h w d ne up (below-by-last b n e (omega arith) up (λ _. l .1))
 turned b n e want b′ r h w ne up u (takes d z l) = turn-take b n e want h z w d ne up u l
 
 -- ---- a step
@@ -111,9 +98,6 @@ pub record Swept (a b : List Float) (out₀ : List Float) (i j n : ℕ) (out : L
   pub outPast : UpTo mark (take n out)
   pub aNext : All (From mark) (drop i a)
   pub bNext : All (From mark) (drop j b)
-
-numbers-of : (l : List Float) → sound l ≡ true → All Number l
-numbers-of l s = sound-numbers l (sound-rising l s) (sound-even l s)
 
 sweep-start : (a b : List Float) (out : List Float) → sound a ≡ true → sound b ≡ true → Swept a b out 0 0 0 out
 unfolding rising

@@ -70,12 +70,3 @@ MergeAnswer lo hi possible certain outer inner before after (Lists p c) =
     NoneDue (mergeCauses lo hi possible certain outer inner (length before)) × Left lo hi possible certain outer inner p c after
 MergeAnswer lo hi possible certain outer inner before after (Refused k) =
     Due (mergeCauses lo hi possible certain outer inner (length before)) k × (after ≡ before)
-
--- the lists that are handed back, by cases on the answer: a refused merge leaves both as they were
-abbrev pub possibleHanded : Merged → List Float → List Float → List Float
-possibleHanded (Lists p c) before work = handed p before work 0
-possibleHanded (Refused k) before work = before
-
-abbrev pub certainHanded : Merged → List Float → List Float → List Float
-certainHanded (Lists p c) before work = handed c before work (cellsOf p)
-certainHanded (Refused k) before work = before

@@ -6,7 +6,7 @@ ghost use lib.Ieee.{nan, le};
 ghost use Prim.Native.Nat.{_+_, _-_, _*_, _/_, _%_, _^_, _≤_, _<_};
 ghost use lib.ListN.{length, getD};
 ghost use Rattle.spans.specs.Spans.{holds};
-ghost use Rattle.merge.specs.Merge.{Moves, MergeAnswer, eitherHit, possibleHanded, certainHanded, handed, cellsOf};
+ghost use Rattle.merge.specs.Merge.{Moves, MergeAnswer, eitherHit, cellsOf};
 ghost use Rattle.merge.specs.Sweep.{parityOf, Turn};
 ghost use Rattle.merge.specs.Steps.{part, Lies, Subtracted, Shortened, Reduced, Ready, Merging, Placed, Normal, Given, Lists};
 
@@ -243,7 +243,7 @@ pub fn merge_lists(
 }
 
 // Merges the hits into a ray: possible loses the points of the inner hits, certain those of the outer and the inner ones. Where no boundary
-// of a list moves, the caller's own list stays the ray's, otherwise the new one stands in the work buffer (`possible_of`, `certain_of`).
+// of a list moves, the caller's own list stays the ray's, otherwise the new one stands in the work buffer.
 // 12: the work buffer has fewer than 4 pairs per pair of the ray and 8 per hit pair. 11: a list has part of a pair over, or the ray is not valid
 // within its bounds.
 pub fn merge(
@@ -277,51 +277,4 @@ pub fn merge(
     let c = parts.certain;
     spans::clear_from(work, cells(p) + cells(c));
     Merged::Lists(p, c)
-}
-
-// The new list at cell `at` of the work buffer, or the list from before where it did not move or the buffer ends too early.
-fn handed_back<'a>(before: &'a [f64], work: &'a [f64], p: Part, at: usize) -> &'a [f64]
-    ensures { λ r. ⌜ now r ≡ handed p (now (before .entry)) (now (work .entry)) at ⌝ }
-{
-    if !p.moved {
-        return before;
-    }
-    if work.len() < at {
-        return before;
-    }
-    let pairs = p.pairs;
-    if (work.len() - at) / 2 < pairs {
-        return before;
-    }
-    let end = at + 2 * pairs;
-    &work[at..end]
-}
-
-// The ray's possible list after a merge, with this answer, of the list `before`.
-pub fn possible_of<'a>(before: &'a [f64], work: &'a [f64], answer: Merged) -> &'a [f64]
-    ensures { λ r. ⌜ now r ≡ possibleHanded answer (now (before .entry)) (now (work .entry)) ⌝ }
-{
-    match answer {
-        Merged::Lists(p, _) => handed_back(before, work, p, 0),
-        Merged::Refused(_) => before,
-    }
-}
-
-// The ray's certain list after a merge, with this answer, of the list `before`.
-pub fn certain_of<'a>(before: &'a [f64], work: &'a [f64], answer: Merged) -> &'a [f64]
-    ensures { λ r. ⌜ now r ≡ certainHanded answer (now (before .entry)) (now (work .entry)) ⌝ }
-{
-    match answer {
-        Merged::Lists(p, c) => {
-            if p.moved {
-                let pairs = p.pairs;
-                if work.len() / 2 < pairs {
-                    return before;
-                }
-                return handed_back(before, work, c, 2 * pairs);
-            }
-            handed_back(before, work, c, 0)
-        }
-        Merged::Refused(_) => before,
-    }
 }

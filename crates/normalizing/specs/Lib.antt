@@ -1,3 +1,2 @@
 -- The definitions that the contracts of `normalizing` cite.
 pub mod Normalizing
-pub mod Steps

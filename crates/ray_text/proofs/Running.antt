@@ -13,13 +13,14 @@ use Rattle.refusal.specs.Refusal.{Due, NoneDue}
 use Rattle.spans.specs.Spans.{holds}
 use Rattle.merge.specs.Merge.{eitherHit, cellsOf, handed, Spared, Left, mergeCauses}
 use Rattle.merge.specs.declared.Part.{Part}
-use Rattle.ray_text.specs.Format.{letterB, letterP, letterC, letterO, letterI, lines, letterOf, count, pairs, few, total, readable}
-use Rattle.ray_text.specs.Output.{linesText, endText, refusedText}
+use Rattle.ray_input.specs.Format.{letterB, letterP, letterC, letterO, letterI, lines, letterOf, count, pairs, few, total, readable}
+use Rattle.ray_output.specs.Output.{linesText, endText, refusedText}
 use Rattle.ray_text.specs.Run.{loOf, hiOf, possibleIn, certainIn, outerIn, innerIn, rayCauses, runCauses, Result, refused, written, Printed, Ran, Small}
-use Rattle.ray_text.specs.Steps.{Appended}
-use Rattle.ray_text.proofs.Reading.{and-left, and-right, pairs-length}
-use Rattle.ray_text.proofs.Printing.{lines-length}
-use Rattle.ray_text.proofs.Writing.{front, put-then}
+use Rattle.ray_input.specs.Steps.{Appended}
+use Rattle.doubles.proofs.Bools.{and-left, and-right}
+use Rattle.ray_input.proofs.Reading.{pairs-length}
+use Rattle.ray_output.proofs.Printing.{lines-length}
+use Rattle.ray_input.proofs.Writing.{front, put-then}
 
 -- ---- what a readable text has
 pub record Reads (s : List ℕ) : Type 0 where

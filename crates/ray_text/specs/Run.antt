@@ -9,9 +9,9 @@ use Rattle.refusal.specs.Refusal.{Cause, cause, Due, NoneDue}
 use Rattle.spans.specs.Spans.{holds, ListOf}
 use Rattle.validity.specs.Ray.{ValidRay}
 use Rattle.merge.specs.Merge.{Moves, eitherHit, spared}
-use Rattle.ray_text.specs.Format.{letterP, letterC, letterO, letterI, bitsAt, pairs, total, readable}
-use Rattle.ray_text.specs.Output.{answerText, refusedText}
-use Rattle.ray_text.specs.Steps.{Appended}
+use Rattle.ray_input.specs.Format.{letterP, letterC, letterO, letterI, bitsAt, pairs, total, readable}
+use Rattle.ray_output.specs.Output.{answerText, refusedText}
+use Rattle.ray_input.specs.Steps.{Appended}
 
 -- the bounds, which the first line gives, the ray's lists and the hits
 abbrev pub loOf : List ℕ → Float

@@ -2,47 +2,10 @@
 // what reads the pairs afterwards is right for every order. With a NaN among the first numbers any order comes out.
 ghost use Prim.Native.Nat.{_+_, _*_, _/_, _≤_, _<_};
 ghost use lib.ListN.{length};
-ghost use Rattle.sorting.specs.Pairs.{SamePairs};
+ghost use Rattle.rearranging.specs.Pairs.{SamePairs};
 
 // A part of at most this many pairs is sorted by insertion.
 const SHORT: usize = 16;
-
-// Exchanges the pairs i and j.
-fn swap_pairs(s: &mut [f64], i: usize, j: usize)
-    requires { ⌜ (i ≤ j) × (2 * j + 2 ≤ length (now s)) ⌝ }
-    ensures { λ _. ⌜ SamePairs (now (s .entry)) (now (s .exit)) ⌝ }
-{
-    let a = s[2 * i];
-    let b = s[2 * i + 1];
-    let c = s[2 * j];
-    let d = s[2 * j + 1];
-    s[2 * i] = c;
-    s[2 * i + 1] = d;
-    s[2 * j] = a;
-    s[2 * j + 1] = b;
-}
-
-// Moves the pair k down past those in front of it, from l on, that are above it.
-fn place_pair(s: &mut [f64], l: usize, k: usize)
-    requires { ⌜ 2 * k + 2 ≤ length (now s) ⌝ }
-    ensures { λ _. ⌜ SamePairs (now (s .entry)) (now (s .exit)) ⌝ }
-{
-    let lo = s[2 * k];
-    let hi = s[2 * k + 1];
-    let mut j = k;
-    while l < j {
-        let x = s[2 * j - 2];
-        if !(lo < x) {
-            break;
-        }
-        let y = s[2 * j - 1];
-        s[2 * j] = x;
-        s[2 * j + 1] = y;
-        j -= 1;
-    }
-    s[2 * j] = lo;
-    s[2 * j + 1] = hi;
-}
 
 // Sorts the pairs from l to r by insertion.
 fn insertion(s: &mut [f64], l: usize, r: usize)
@@ -51,7 +14,7 @@ fn insertion(s: &mut [f64], l: usize, r: usize)
 {
     let mut k = l;
     while k < r {
-        place_pair(s, l, k);
+        rearranging::place_pair(s, l, k);
         k += 1;
     }
 }
@@ -81,7 +44,7 @@ fn sift(s: &mut [f64], l: usize, n: usize, at: usize)
         if !(s[2 * (l + i)] < s[2 * (l + c)]) {
             break;
         }
-        swap_pairs(s, l + i, l + c);
+        rearranging::swap_pairs(s, l + i, l + c);
         i = c;
     }
 }
@@ -106,7 +69,7 @@ fn heapsort(s: &mut [f64], l: usize, n: usize)
     let mut e = n;
     while 1 < e {
         e -= 1;
-        swap_pairs(s, l, l + e);
+        rearranging::swap_pairs(s, l, l + e);
         sift(s, l, e, 0);
     }
 }
@@ -172,7 +135,7 @@ fn partition(s: &mut [f64], l: usize, r: usize, x: f64, equal: bool) -> usize
     let mut k = l;
     while k < r {
         let y = s[2 * k];
-        swap_pairs(s, i, k);
+        rearranging::swap_pairs(s, i, k);
         if goes_front(y, x, equal) {
             i += 1;
         }
@@ -187,10 +150,10 @@ fn split(s: &mut [f64], l: usize, r: usize) -> usize
     ensures { λ p. ⌜ SamePairs (now (s .entry)) (now (s .exit)) × (l ≤ p) × (p < r) ⌝ }
 {
     let p = pivot(s, l, r);
-    swap_pairs(s, p, r - 1);
+    rearranging::swap_pairs(s, p, r - 1);
     let x = s[2 * (r - 1)];
     let i = partition(s, l, r - 1, x, false);
-    swap_pairs(s, i, r - 1);
+    rearranging::swap_pairs(s, i, r - 1);
     i
 }
 
@@ -261,7 +224,7 @@ fn reverse(s: &mut [f64], n: usize)
 {
     let mut k = 0;
     while k < n / 2 {
-        swap_pairs(s, k, n - 1 - k);
+        rearranging::swap_pairs(s, k, n - 1 - k);
         k += 1;
     }
 }

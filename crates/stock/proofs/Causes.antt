@@ -9,7 +9,7 @@ use lib.Dec.{ltb}
 use lib.ListN.{length}
 use borrow.Author.Tests.{ltb-false, lt-ltb, le-ltb}
 use Rattle.refusal.specs.Refusal.{Cause, Due, NoneDue}
-use Rattle.doubles.proofs.Bools.{or-left, or-right, clash}
+use Rattle.doubles.proofs.Bools.{or-left, or-right, or-neither}
 use Rattle.grid.specs.Rays.{rayCount}
 use Rattle.grid.specs.declared.DexelStockSpec.{DexelStockSpec}
 use Rattle.grid.specs.declared.DexelGrid.{DexelGrid}
@@ -31,10 +31,6 @@ pub none-in-both : (cs ds : List Cause) → NoneDue cs → NoneDue ds → NoneDu
 unfolding NoneDue
 none-in-both [] ds n m = m
 none-in-both (c ∷ cs) ds n m = (n .0, none-in-both cs ds (n .1) m)
-
-or-none : (a b : Bool) → (a || b) ≡ false → (a ≡ false) × (b ≡ false)
-or-none true b h = absurd (clash true refl h)
-or-none false b h = (refl, h)
 
 or-here : (a b : Bool) → a ≡ false → (a || b) ≡ b
 or-here a b h = ap (λ (x : Bool). x || b) h
@@ -61,8 +57,8 @@ module _ (spec : DexelStockSpec) (g : DexelGrid) (c : Cells) where
   pub room-of : short spec g c ≡ false → Room (spec .«max_intervals») (2 * rayCount g) c
   unfolding short
   room-of h =
-      let a = or-none (ltb (length (c .spans) / 2) (spec .«max_intervals»)) (ltb (length (c .links) / 2) (spec .«max_intervals») || ltb (length (c .heads)) (2 * rayCount g)) h in
-      let b = or-none (ltb (length (c .links) / 2) (spec .«max_intervals»)) (ltb (length (c .heads)) (2 * rayCount g)) (a .1) in
+      let a = or-neither (ltb (length (c .spans) / 2) (spec .«max_intervals»)) (ltb (length (c .links) / 2) (spec .«max_intervals») || ltb (length (c .heads)) (2 * rayCount g)) h in
+      let b = or-neither (ltb (length (c .links) / 2) (spec .«max_intervals»)) (ltb (length (c .heads)) (2 * rayCount g)) (a .1) in
       record {
         in-spans = omega (arith, ltb-false (length (c .spans) / 2) (spec .«max_intervals») (a .0));
         in-links = omega (arith, ltb-false (length (c .links) / 2) (spec .«max_intervals») (b .0));

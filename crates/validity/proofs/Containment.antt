@@ -7,23 +7,19 @@ use lib.Ieee.{Float, lt, le}
 use Rattle.doubles.proofs.Bools.{or-cases, or-left, or-right, and-left, and-right, both, clash, by-cases}
 use Rattle.doubles.proofs.Order.{lt-number, le-refl, le-trans, lt→le, lt-irrefl, lt-asym, le→not-lt, not-lt→le, lt-trans, lt-le-trans}
 use Rattle.spans.specs.Spans.{within, holds, rising, sound}
-use Rattle.spans.proofs.Ends.{rising-tail}
+use Rattle.spans.proofs.Ends.{rising-first, rising-tail}
 use Rattle.spans.proofs.Sets.{sound-rising}
 use Rattle.validity.specs.Ray.{bounded, ValidRay, from, covers, contained, valid}
 
 -- ---- rising lists
-first-lt : (a b : Float) (l : List Float) → rising (a ∷ b ∷ l) ≡ true → lt a b ≡ true
-unfolding rising
-first-lt a b l r = and-left (lt a b) (rising (b ∷ l)) r
-
 -- each point of a list is past what the list rises from
 past-first : (x : Float) (l : List Float) (p : Float) → rising (x ∷ l) ≡ true → holds l p ≡ true → lt x p ≡ true
 unfolding holds
 past-first x [] p r h = absurd (clash false h refl)
 past-first x (a ∷ []) p r h = absurd (clash false h refl)
 past-first x (a ∷ b ∷ l) p r h = ⊎-elim
-    (λ (w : within a b p ≡ true). lt-le-trans x a p (first-lt x a (b ∷ l) r) (and-left (le a p) (lt p b) w))
-    (λ (m : holds l p ≡ true). lt-trans x a p (first-lt x a (b ∷ l) r) (lt-trans a b p (first-lt a b l (rising-tail x (a ∷ b ∷ l) r)) (past-first b l p (rising-tail a (b ∷ l) (rising-tail x (a ∷ b ∷ l) r)) m)))
+    (λ (w : within a b p ≡ true). lt-le-trans x a p (rising-first x a (b ∷ l) r) (and-left (le a p) (lt p b) w))
+    (λ (m : holds l p ≡ true). lt-trans x a p (rising-first x a (b ∷ l) r) (lt-trans a b p (rising-first a b l (rising-tail x (a ∷ b ∷ l) r)) (past-first b l p (rising-tail a (b ∷ l) (rising-tail x (a ∷ b ∷ l) r)) m)))
     (or-cases (within a b p) (holds l p) h)
 
 -- ---- the list from its first pair that does not end below x
@@ -95,7 +91,7 @@ covered (a ∷ b ∷ l) lo hi r lh all = ⊎-elim
     (by-cases (lt b hi))
   where
     ab : lt a b ≡ true
-    ab = first-lt a b l r
+    ab = rising-first a b l r
 
     -- no pair holds its own upper end
     gap : holds (a ∷ b ∷ l) b ≡ true → ⊥
@@ -131,7 +127,7 @@ points-contained outer [] ro ri all = refl
 points-contained outer (lo ∷ []) ro ri all = refl
 points-contained outer (lo ∷ hi ∷ inner) ro ri all =
     both (covers (from hi outer) lo hi) (contained (from hi outer) inner)
-    (covered outer lo hi ro (first-lt lo hi inner ri) (λ p w. all p (or-left (within lo hi p) (holds inner p) w)))
+    (covered outer lo hi ro (rising-first lo hi inner ri) (λ p w. all p (or-left (within lo hi p) (holds inner p) w)))
     (points-contained (from hi outer) inner (from-rises hi outer ro) (rising-tail hi inner (rising-tail lo (hi ∷ inner) ri))
     (λ p m. from-keeps hi outer p (past-first hi inner p (rising-tail lo (hi ∷ inner) ri) m) (all p (or-right (within lo hi p) (holds inner p) m))))
 

@@ -6,7 +6,8 @@ use Prim.Native.Nat.{_+_, _/_, _<_}
 use lib.ListN.{length}
 use Rattle.spans.specs.Spans.{sound}
 use Rattle.combining.proofs.Answers.{checked-short, checked-bad, checked-none}
-use Rattle.spans.proofs.Answers.{bad-first, bad-second, good, good-both}
+use Rattle.spans.proofs.Answers.{bad-first, bad-second, good-both}
+use Rattle.doubles.proofs.Bools.{found}
 use borrow.Author.Needs.{needs}
 use Rattle.combining.proofs.checked.Statement.{statement}
 use Rattle.combining.proofs.checked.Tie as tie
@@ -46,8 +47,8 @@ returns-4 c =
     let s = c .before .before .before .before .before .before .before in
     checked-none (Short s) (Bad s) (λ h. omega (arith, c .before .before .before .before .if1 .left))
     (good-both (sound (s .args .a .now)) (sound (s .args .b .now))
-    (good (c .before .before .before .is-sound .result) (sound (s .args .a .now)) (c .before .before .before .is-sound .ensures) (c .before .before .if2 .left))
-    (good (c .before .is-sound2 .result) (sound (s .args .b .now)) (c .before .is-sound2 .ensures) (c .if3 .left)))
+    (found (c .before .before .before .is-sound .result) (sound (s .args .a .now)) (c .before .before .before .is-sound .ensures) (c .before .before .if2 .left))
+    (found (c .before .is-sound2 .result) (sound (s .args .b .now)) (c .before .is-sound2 .ensures) (c .if3 .left)))
 
 pub checked-spec : {M : Type 1} → statement M
 checked-spec =

@@ -1,11 +1,6 @@
 -- `combining::intersect` meets its contract.
-use native.Mathlib.Omega.{arith}
-use Prim.Native.Nat.{_/_}
-use lib.ListN.{length}
 use Rattle.spans.specs.Spans.{common}
-use Rattle.combining.specs.Combining.{combineCauses}
-use Rattle.combining.proofs.Answers.{refuse-checked, accept-checked, good-lists}
-use Rattle.spans.proofs.Answers.{laid}
+use Rattle.combining.proofs.Answers.{refuse-checked, checked-lists, filled-fits, accept-filled}
 use borrow.Author.Needs.{needs}
 use Rattle.combining.proofs.intersect.Statement.{statement}
 use Rattle.combining.proofs.intersect.Tie as tie
@@ -15,30 +10,28 @@ checked-requires c κs = search needs
 
 returns : tie.Need-returns
 returns c =
-    let s = c .before .before .before .before .before in
-    refuse-checked (common (s .args .a .now) (s .args .b .now)) (combineCauses (s .args .a .now) (s .args .b .now) (length (s .args .out .now))) (s .args .out .now) (c .before .checked .result) (c .before .checked .ensures) (c .if1 .taken)
+    let a = c .before .before .before .before .before .args in
+    refuse-checked (common (a .a .now) (a .b .now)) (a .a .now) (a .b .now) (a .out .now) _ (c .before .checked .ensures) (c .if1 .taken)
 
 intersect-into-requires : tie.Need-intersect-into-requires
 intersect-into-requires c κs =
-    let s = c .before .before .before .before .before .before in
-    good-lists (s .args .a .now) (s .args .b .now) (length (s .args .out .now)) (c .before .before .checked .ensures .0 (c .before .if1 .left))
+    let a = c .before .before .before .before .before .before .args in
+    checked-lists (common (a .a .now) (a .b .now)) (a .a .now) (a .b .now) (a .out .now) _ (c .before .before .checked .ensures) (c .before .if1 .left)
 
 clear-from-requires : tie.Need-clear-from-requires
 clear-from-requires c κs =
-    let s = c .before .before .before .before .before .before .before .before .before .before in
-    let g = good-lists (s .args .a .now) (s .args .b .now) (length (s .args .out .now)) (c .before .before .before .before .before .before .checked .ensures .0 (c .before .before .before .before .before .if1 .left)) in
-    omega (arith, g .2, c .before .before .before .intersect-into .ensures .most, c .before .before .before .intersect-into .ensures .size)
+    let d = c .before .before .before in
+    let a = d .before .before .before .before .before .before .before .args in
+    filled-fits (common (a .a .now) (a .b .now)) (a .a .now) (a .b .now) (a .out .now) _ (d .before .before .before .checked .ensures) (d .before .before .if1 .left) _ _ (d .intersect-into .ensures)
 
 same-length : tie.Need-same-length
 same-length c = search needs
 
 returns-2 : tie.Need-returns-2
 returns-2 c =
-    let s = c .before .before .before .before .before .before .before .before .before .before .before .before .before in
-    let g = good-lists (s .args .a .now) (s .args .b .now) (length (s .args .out .now)) (c .before .before .before .before .before .before .before .before .before .checked .ensures .0 (c .before .before .before .before .before .before .before .before .if1 .left)) in
-    let f = c .before .before .before .before .before .before .intersect-into in
-    accept-checked (common (s .args .a .now) (s .args .b .now)) (combineCauses (s .args .a .now) (s .args .b .now) (length (s .args .out .now))) (s .args .out .now) (c .before .before .before .before .before .before .before .before .before .checked .result) (c .before .before .before .before .before .before .before .before .before .checked .ensures) (c .before .before .before .before .before .before .before .before .if1 .left)
-    (c .before .before .clear-from .last .0) (f .result / 2) (laid (common (s .args .a .now) (s .args .b .now)) (f .last .1 .1 .0) (c .before .before .clear-from .last .0) (f .result) (omega (arith, g .2, f .ensures .most, f .ensures .size)) (f .ensures .list) (c .before .before .clear-from .ensures))
+    let d = c .before .before .before .before .before .before in
+    let a = d .before .before .before .before .before .before .before .args in
+    accept-filled (common (a .a .now) (a .b .now)) (a .a .now) (a .b .now) (a .out .now) _ (d .before .before .before .checked .ensures) (d .before .before .if1 .left) _ _ (d .intersect-into .ensures) _ (c .before .before .clear-from .ensures)
 
 pub intersect-spec : {M : Type 1} → statement M
 intersect-spec =

@@ -8,9 +8,10 @@ use Rattle.doubles.specs.Constants.{plusZero}
 use Rattle.store.specs.Store.{places}
 use Rattle.validity.specs.Ray.{contained}
 use Rattle.lists.specs.Reading.{Readable, listFrom, lengthFrom}
+use Rattle.doubles.proofs.Bools.{both}
 use Rattle.lists.proofs.Steps.{step}
 use Rattle.lists.proofs.Loops.{length-step, length-end, all-contained, lies-out, lies-in}
-use Rattle.lists.proofs.Bounds.{after, sound-after, zero-nan, after-none, after-bad, after-good, sum-bad, sum-good, left-bad, out-bad, both-same, both-none, left-same}
+use Rattle.lists.proofs.Bounds.{after, sound-after, zero-nan, after-none, after-bad, after-good, sum-bad, sum-good, left-bad, out-bad, both-same, left-same}
 use Rattle.lists.proofs.sound_within.Statement.{statement}
 use Rattle.lists.proofs.sound_within.Tie as tie
 
@@ -82,7 +83,7 @@ loop-again : tie.Need-loop-again Inv-loop μ-loop
 loop-again c = let s = step (c .before .before .before .before .before .before .before .before .before .loop .inv .1) (c .before .before .before .before .before .before .before .before .loop-test .taken) in (c .before .before .before .before .first-reaching .ensures .readable, s .next, c .before .before .before .before .before .before .before .before .before .loop .inv .2 ∙ both-same _ _ _ _ (after-good _ _ _ _ _ _ s (c .before .before .before .before .before .before .before .follows .ensures) (c .before .before .before .before .before .before .if1 .left)) (lies-in (c .before .before .before .before .first-reaching .ensures) s _ (c .before .before .before .reaches-over .ensures) (c .before .before .if2 .left)), c .before .before .before .before .before .before .before .before .before .loop .inv .3 ∙ length-step s _)
 
 returns-3 : tie.Need-returns-3 Inv-loop μ-loop
-returns-3 c = sum-good _ _ _ _ (c .before .loop .inv .2 ∙ both-none _ _ (after-none _ _ _ _ _ (c .loop-test .left)) (all-contained _ _ _ _ _ (c .loop-test .left))) (c .before .loop .inv .3 ∙ length-end _ _ _ _ _ (c .loop-test .left))
+returns-3 c = sum-good _ _ _ _ (c .before .loop .inv .2 ∙ both _ _ (after-none _ _ _ _ _ (c .loop-test .left)) (all-contained _ _ _ _ _ (c .loop-test .left))) (c .before .loop .inv .3 ∙ length-end _ _ _ _ _ (c .loop-test .left))
 
 pub sound-within-spec : {M : Type 1} → statement M
 sound-within-spec =

@@ -4,7 +4,8 @@ use mathlib.Core.Path.{_≡_, sym}
 use Prim.Native.Nat.{_-_}
 use lib.ListN.{length, take, drop, length-drop}
 use lib.Seq.{length-take-le, take-all}
-use Rattle.normalizing.proofs.Join.{begun-all, begun-more, back-all, back-more, filled-even}
+use Rattle.normalizing.proofs.Join.{begun-all, begun-more, back-all, back-more}
+use Rattle.joining.proofs.Passes.{filled-even}
 use borrow.Author.Needs.{needs}
 use Rattle.normalizing.proofs.normalize_into.Statement.{statement}
 use Rattle.normalizing.proofs.normalize_into.Tie as tie

@@ -7,9 +7,9 @@ use denote.Ref.{now}
 use Rattle.refusal.specs.Refusal.{Due, NoneDue}
 use Rattle.merge.specs.Merge.{mergeCauses, Left, handed, cellsOf}
 use Rattle.merge.specs.declared.Part.{Part}
-use Rattle.ray_text.specs.Format.{letterP, letterC}
-use Rattle.ray_text.specs.Output.{linesText}
-use Rattle.ray_text.specs.Steps.{Appended}
+use Rattle.ray_input.specs.Format.{letterP, letterC}
+use Rattle.ray_output.specs.Output.{linesText}
+use Rattle.ray_input.specs.Steps.{Appended}
 use Rattle.ray_text.proofs.Running.{due-ray, even-lists, lines-long, writes, refuses}
 use borrow.Author.Needs.{needs}
 use native.Mathlib.Omega.{arith}

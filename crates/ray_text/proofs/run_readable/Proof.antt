@@ -1,5 +1,5 @@
 -- `ray_text::run_readable` meets its contract.
-use Rattle.ray_text.specs.Format.{letterP, letterC, letterO, letterI}
+use Rattle.ray_input.specs.Format.{letterP, letterC, letterO, letterI}
 use Rattle.ray_text.proofs.Running.{reads, collects, collected, collected-size, small, run-merged}
 use borrow.Author.Needs.{needs}
 use native.Mathlib.Omega.{arith}

@@ -3,7 +3,7 @@ use mathlib.Core.Path.{sym}
 use Prim.Native.Nat.{_≤_}
 use lib.ListN.{length}
 use lib.Seq.{length-take-le}
-use Rattle.ray_text.proofs.Writing.{same-size}
+use Rattle.ray_input.proofs.Writing.{same-size}
 use borrow.Author.Needs.{needs}
 use native.Mathlib.Omega.{arith}
 use Rattle.ray_text_vectors.proofs.gives.Statement.{statement}

@@ -3,7 +3,7 @@ use borrow.Author.Needs.{needs}
 use Prim.Native.Nat.{ℕ, _<_}
 use borrow.Fn.Kinds.{In}
 use borrow.Fn.PlainCycle.{Measures, is, falls, and}
-use Rattle.sorting.proofs.Rearranging.{after}
+use Rattle.rearranging.proofs.Laws.{after}
 use Rattle.sorting.proofs.quicksort.Reads as quicksort
 use Rattle.sorting.proofs.quicksort.Kinds as quicksort-kinds
 use Rattle.sorting.proofs.+quicksort.Lts-quicksort as quicksort-lts

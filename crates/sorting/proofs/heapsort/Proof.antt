@@ -2,8 +2,8 @@
 use borrow.Author.Needs.{needs}
 use native.Mathlib.Omega.{arith}
 use Prim.Native.Nat.{_≤_}
-use Rattle.sorting.specs.Pairs.{SamePairs}
-use Rattle.sorting.proofs.Rearranging.{unchanged, after}
+use Rattle.rearranging.specs.Pairs.{SamePairs}
+use Rattle.rearranging.proofs.Laws.{unchanged, after}
 use Rattle.sorting.proofs.heapsort.Statement.{statement}
 use Rattle.sorting.proofs.heapsort.Tie as tie
 

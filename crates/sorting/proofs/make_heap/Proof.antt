@@ -1,7 +1,7 @@
 -- `sorting::make_heap` meets its contract.
 use borrow.Author.Needs.{needs}
-use Rattle.sorting.specs.Pairs.{SamePairs}
-use Rattle.sorting.proofs.Rearranging.{unchanged, after}
+use Rattle.rearranging.specs.Pairs.{SamePairs}
+use Rattle.rearranging.proofs.Laws.{unchanged, after}
 use Rattle.sorting.proofs.make_heap.Statement.{statement}
 use Rattle.sorting.proofs.make_heap.Tie as tie
 

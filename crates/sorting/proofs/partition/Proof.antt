@@ -3,8 +3,8 @@ use borrow.Author.Needs.{needs}
 use native.Mathlib.Omega.{arith}
 use Prim.Native.Nat.{_-_, _≤_}
 use mathlib.Core.Logic.{⊎-elim}
-use Rattle.sorting.specs.Pairs.{SamePairs}
-use Rattle.sorting.proofs.Rearranging.{unchanged, after}
+use Rattle.rearranging.specs.Pairs.{SamePairs}
+use Rattle.rearranging.proofs.Laws.{unchanged, after}
 use Rattle.sorting.proofs.partition.Statement.{statement}
 use Rattle.sorting.proofs.partition.Tie as tie
 

@@ -1,6 +1,6 @@
 -- `sorting::past_equal` meets its contract.
 use native.Mathlib.Omega.{arith}
-use Rattle.sorting.proofs.Rearranging.{unchanged}
+use Rattle.rearranging.proofs.Laws.{unchanged}
 use borrow.Author.Needs.{needs}
 use Rattle.sorting.proofs.past_equal.Statement.{statement}
 use Rattle.sorting.proofs.past_equal.Tie as tie

@@ -1,8 +1,8 @@
 -- `sorting::sift` meets its contract.
 use borrow.Author.Needs.{needs}
 use Prim.Native.Nat.{_-_}
-use Rattle.sorting.specs.Pairs.{SamePairs}
-use Rattle.sorting.proofs.Rearranging.{unchanged, after}
+use Rattle.rearranging.specs.Pairs.{SamePairs}
+use Rattle.rearranging.proofs.Laws.{unchanged, after}
 use Rattle.sorting.proofs.sift.Statement.{statement}
 use Rattle.sorting.proofs.sift.Tie as tie
 

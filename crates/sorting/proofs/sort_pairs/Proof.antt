@@ -1,5 +1,5 @@
 -- `sorting::sort_pairs` meets its contract.
-use Rattle.sorting.proofs.Rearranging.{unchanged}
+use Rattle.rearranging.proofs.Laws.{unchanged}
 use borrow.Author.Needs.{needs}
 use Rattle.sorting.proofs.sort_pairs.Statement.{statement}
 use Rattle.sorting.proofs.sort_pairs.Tie as tie

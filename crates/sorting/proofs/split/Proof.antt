@@ -1,6 +1,6 @@
 -- `sorting::split` meets its contract.
 use native.Mathlib.Omega.{arith}
-use Rattle.sorting.proofs.Rearranging.{after}
+use Rattle.rearranging.proofs.Laws.{after}
 use borrow.Author.Needs.{needs}
 use Rattle.sorting.proofs.split.Statement.{statement}
 use Rattle.sorting.proofs.split.Tie as tie

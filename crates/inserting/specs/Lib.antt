@@ -1,0 +1,2 @@
+-- The definitions that the contracts of `inserting` cite.
+pub mod Steps

@@ -1,0 +1,2 @@
+-- The definitions that the contracts of `joining` cite.
+pub mod Steps

@@ -1,0 +1,68 @@
+-- `merged_lists::handed_back` meets its contract.
+use mathlib.Core.Path.{_≡_}
+use Prim.Native.Nat.{_+_, _-_, _*_}
+use Rattle.doubles.proofs.Bools.{not-true, not-false}
+use Rattle.merge.proofs.Places.{handed-still, handed-new}
+use Rattle.merged_lists.proofs.Lists.{handed-short}
+use borrow.Author.Needs.{needs}
+use native.Mathlib.Omega.{arith}
+use Rattle.merged_lists.proofs.handed_back.Statement.{statement}
+use Rattle.merged_lists.proofs.handed_back.Tie as tie
+
+returns : tie.Need-returns
+returns c =
+    let a = c .before .before .args in
+    handed-still (a .p) (a .before .now) (a .work .now) (a .at) (not-true (a .p .moved) (c .if1 .taken))
+
+returns-2 : tie.Need-returns-2
+returns-2 c =
+    let a = c .before .before .before .args in
+    handed-short (a .p) (a .before .now) (a .work .now) (a .at) (omega (arith, c .if2 .taken))
+
+sub-if3 : tie.Need-sub-if3
+sub-if3 c = search needs
+
+returns-3 : tie.Need-returns-3
+returns-3 c =
+    let a = c .before .before .before .before .args in
+    handed-short (a .p) (a .before .now) (a .work .now) (a .at) (omega (arith, c .if3 .taken, c .before .if2 .left))
+
+mul-end : tie.Need-mul-end
+mul-end c = search needs
+
+add-end : tie.Need-add-end
+add-end c = search needs
+
+mul-result : tie.Need-mul-result
+mul-result c = search needs
+
+sub-result : tie.Need-sub-result
+sub-result c = search needs
+
+part-result-start : tie.Need-part-result-start
+part-result-start c = search needs
+
+part-result-end : tie.Need-part-result-end
+part-result-end c = search needs
+
+returns-4 : tie.Need-returns-4
+returns-4 c =
+    let a = c .before .before .before .before .before .args in
+    let n : a .at + 2 * a .p .pairs - a .at ≡ 2 * a .p .pairs = omega arith in
+    rw n (handed-new (a .p) (a .before .now) (a .work .now) (a .at) (not-false (a .p .moved) (c .before .before .before .if1 .left)) (omega (arith, c .before .if3 .left, c .before .before .if2 .left)))
+
+pub handed-back-spec : {M : Type 1} → statement M
+handed-back-spec =
+    tie.close
+    (tie.spec
+    returns
+    returns-2
+    sub-if3
+    returns-3
+    mul-end
+    add-end
+    mul-result
+    sub-result
+    part-result-start
+    part-result-end
+    returns-4)

@@ -1,0 +1,2 @@
+-- The definitions that the contracts of `merged_lists` cite.
+pub mod Handed

@@ -1,0 +1,2 @@
+-- The definitions that the contracts of `overlay` cite.
+pub mod Steps

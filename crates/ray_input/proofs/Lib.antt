@@ -1,0 +1,3 @@
+-- Laws that several proofs of `ray_input` cite.
+pub mod Reading
+pub mod Writing

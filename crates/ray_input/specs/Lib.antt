@@ -1,0 +1,3 @@
+-- The definitions that the contracts of `ray_input` cite.
+pub mod Format
+pub mod Steps

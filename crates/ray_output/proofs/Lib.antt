@@ -1,0 +1,2 @@
+-- Laws that several proofs of `ray_output` cite.
+pub mod Printing

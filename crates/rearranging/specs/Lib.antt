@@ -1,0 +1,2 @@
+-- The definitions that the contracts of `rearranging` cite.
+pub mod Pairs

@@ -1,2 +1,0 @@
--- The definitions that the contracts of `sorting` cite.
-pub mod Pairs
