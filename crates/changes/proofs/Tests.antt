@@ -20,7 +20,7 @@ use Rattle.comparing.specs.Verdicts.{Covers}
 use Rattle.validity.specs.Ray.{ValidRay}
 use Rattle.rays.proofs.Tests.{passes, covers-tells}
 use Rattle.stock.specs.Stock.{Tells, possibleIn, certainIn}
-use Rattle.changes.specs.Changes.{part, end4, rayOf, Names, Loses, Cuts, changeBy}
+use Rattle.changes.specs.Changes.{end4, rayOf, Names, Loses, Cuts, changeBy}
 use Rattle.changes.specs.Steps.{pairsIn, cursorOf, Lent, Checks}
 use Rattle.changes.specs.declared.ChangeHead.{ChangeHead}
 use Rattle.changes.specs.declared.Cursor.{Cursor}
@@ -162,12 +162,6 @@ module _ (spec : DexelStockSpec) (g : DexelGrid) (c : Cells) (pairs : List Float
   )
 
 -- ---- `cuts_at`: a part of the pairs that is lent
-pub part-is : (pairs : List Float) (at n : ℕ) → take (at + 2 * n - at) (drop at pairs) ≡ part pairs at n
-part-is pairs at n = ap (λ (k : ℕ). take k (drop at pairs)) (back at (2 * n))
-  where
-    back : (a b : ℕ) → a + b - a ≡ b
-    back a b = omega arith
-
 module _ (spec : DexelStockSpec) (g : DexelGrid) (c : Cells) (ray : ℕ) (r : Bool) where
   pub cuts-parts : (p q p′ q′ a b a′ b′ : List Float) → p ≡ a → q ≡ b → p′ ≡ a′ → q′ ≡ b′ → Tells (Cuts spec g c ray p q p′ q′) r → Tells (Cuts spec g c ray a b a′ b′) r
   cuts-parts p q p′ q′ a b a′ b′ e f e′ f′ t =

@@ -11,7 +11,7 @@ use Rattle.grid.specs.Axes.{worldAxis}
 use Rattle.grid.specs.Rays.{raysAlong, rayNumber, boundsOf}
 use Rattle.grid.specs.declared.DexelStockSpec.{DexelStockSpec}
 use Rattle.grid.specs.declared.DexelGrid.{DexelGrid}
-use Rattle.store.specs.Updates.{Cells, Update, update}
+use Rattle.store.specs.Updates.{Cells, Update, update, part}
 use Rattle.validity.specs.Ray.{ValidRay}
 use Rattle.stock.specs.Stock.{possibleIn, certainIn}
 use Rattle.changes.specs.declared.ChangeHead.{ChangeHead}
@@ -27,10 +27,6 @@ headAt changes k =
       «after_possible» = getD changes (6 * k + 4) 0;
       «after_certain» = getD changes (6 * k + 5) 0;
     }
-
--- so many pairs from cell `at` on
-abbrev pub part : List Float → ℕ → ℕ → List Float
-part pairs at n = take (2 * n) (drop at pairs)
 
 -- the cells where the lists end that begin at cell `at`
 abbrev pub end1 : ChangeHead → ℕ → ℕ

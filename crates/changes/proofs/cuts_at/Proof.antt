@@ -1,7 +1,8 @@
 use borrow.Author.Needs.{needs}
 use Prim.Native.Nat.{_+_, _*_}
 use Rattle.store.specs.Updates.{cells}
-use Rattle.changes.proofs.Tests.{part-is, cuts-parts}
+use Rattle.store.proofs.Laying.{part-is}
+use Rattle.changes.proofs.Tests.{cuts-parts}
 use Rattle.changes.proofs.cuts_at.Statement.{statement}
 use Rattle.changes.proofs.cuts_at.Tie as tie
 
