@@ -15,7 +15,8 @@ use Rattle.changes.specs.Changes.{headAt, end2, end3, end4, Change, changeBy, c
 use Rattle.changes.specs.declared.ChangeHead.{ChangeHead}
 use Rattle.changes.proofs.Sums.{rest-is}
 use Rattle.changes.proofs.Applying.{good-ascend}
-use Rattle.updating.specs.Rays.{FreeableRay, LayableRay, LaidRay}
+use Rattle.freeing.specs.Rays.{FreeableRay}
+use Rattle.storing.specs.Rays.{LayableRay, LaidRay}
 use Rattle.applying.specs.Passes.{updatesIn, Fitting}
 
 -- ---- one update of a list of updates that is split before it

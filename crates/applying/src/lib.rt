@@ -25,7 +25,7 @@ fn free_changes(
     while k < count {
         let h = changes::head(changes, k);
         let ray = changes::ray_named(g, h);
-        updating::free_ray(
+        freeing::free_ray(
             spans,
             links,
             heads,
@@ -66,7 +66,7 @@ fn lay_changes(
         let h = changes::head(changes, k);
         let ray = changes::ray_named(g, h);
         let after = past_lists(at, h.before_possible, h.before_certain);
-        from = updating::lay_ray(
+        from = storing::lay_ray(
             spans,
             links,
             heads,

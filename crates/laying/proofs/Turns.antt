@@ -8,7 +8,7 @@ use lib.Ieee.{Float}
 use borrow.Author.Tests.{eq-eqb, ne-eqb}
 use Rattle.numbers.specs.Numbers.{numberAt}
 use Rattle.store.specs.Updates.{Cells, Update, update, part, Layable, freedList, freedAll, laidList, laidAll}
-use Rattle.updating.specs.Rays.{LayableRay, LaidRay}
+use Rattle.storing.specs.Rays.{LayableRay, LaidRay}
 use Rattle.laying.specs.Updates.{firstSize, updatesFrom, listsEnd}
 use Rattle.laying.specs.Steps.{EachLayable, RaysLayable, RaysLaid}
 use Rattle.laying.specs.declared.Place.{Place}

@@ -6,7 +6,7 @@ use lib.ListN.{length}
 use lib.Ieee.{Float}
 use Rattle.store.specs.Fills.{Cursor}
 use Rattle.store.specs.Updates.{Cells, Update, Room, SoundStore, Layable, laidList, laidAll}
-use Rattle.updating.specs.Rays.{FreeableRay}
+use Rattle.freeing.specs.Rays.{FreeableRay}
 use Rattle.laying.specs.Updates.{updatesFrom, listsEnd}
 use Rattle.laying.specs.declared.Place.{Place}
 

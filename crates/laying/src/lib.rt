@@ -22,7 +22,7 @@ fn free_ray(
     if numbers::number_at(work, sizes + 2 * ray) == 0 {
         return;
     }
-    updating::free_ray(spans, links, heads, n, ray);
+    freeing::free_ray(spans, links, heads, n, ray);
 }
 
 // Frees the lists of all rays that change, wherever their new lists stand.
@@ -77,7 +77,7 @@ fn lay_ray(
     let certain = second as usize;
     let middle = at + 2 * possible;
     let end = middle + 2 * certain;
-    let from = updating::lay_ray(
+    let from = storing::lay_ray(
         spans,
         links,
         heads,

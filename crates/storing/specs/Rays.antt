@@ -1,15 +1,10 @@
--- Both lists of a ray: what the functions that free and lay them ask and leave.
+-- Both lists of a ray: what the function that lays them asks and leaves.
 use mathlib.Core.Path.{_≡_}
 use mathlib.Core.List.{List}
 use Prim.Native.Nat.{ℕ, _+_, _*_}
 use lib.Ieee.{Float}
 use Rattle.store.specs.Fills.{Cursor}
-use Rattle.store.specs.Updates.{Cells, update, Freeable, Layable, freedList, laidList}
-
--- both lists of a ray can be freed, one after the other
-pub record FreeableRay (n : ℕ) (c : Cells) (ray : ℕ) : Type 0 where
-  pub possible : Freeable n c (2 * ray)
-  pub certain : Freeable n (freedList n c (2 * ray)) (2 * ray + 1)
+use Rattle.store.specs.Updates.{Cells, update, Layable, laidList}
 
 -- there are free records for both lists of a ray
 pub record LayableRay (n : ℕ) (c : Cells) (ray : ℕ) (p q : List Float) : Type 0 where

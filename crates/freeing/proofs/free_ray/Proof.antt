@@ -2,8 +2,8 @@ use borrow.Author.Needs.{needs}
 use mathlib.Core.Path.{sym, ap, _∙_, subst}
 use Prim.Native.Nat.{_+_, _*_}
 use Rattle.store.specs.Updates.{Cells, Freeable, freedList}
-use Rattle.updating.proofs.free_ray.Statement.{statement}
-use Rattle.updating.proofs.free_ray.Tie as tie
+use Rattle.freeing.proofs.free_ray.Statement.{statement}
+use Rattle.freeing.proofs.free_ray.Tie as tie
 
 mul-j : tie.Need-mul-j
 mul-j c = search needs

@@ -1,7 +1,7 @@
 use borrow.Author.Needs.{needs}
 use Rattle.store.proofs.Laying.{laid-none, laid-some}
-use Rattle.updating.proofs.lay_list.Statement.{statement}
-use Rattle.updating.proofs.lay_list.Tie as tie
+use Rattle.storing.proofs.lay_list.Statement.{statement}
+use Rattle.storing.proofs.lay_list.Tie as tie
 
 mul-heads : tie.Need-mul-heads
 mul-heads c = search needs

@@ -3,9 +3,9 @@ use mathlib.Core.Path.{_∙_}
 use borrow.Author.Needs.{needs}
 use lib.ListN.{take}
 use Rattle.store.specs.Store.{freeFrom}
-use Rattle.updating.proofs.Filling.{Filling, fill-some, fill-start, fill-turn, fill-end, fill-onward, refill, first-head, cursor-same}
-use Rattle.updating.proofs.fill_list.Statement.{statement}
-use Rattle.updating.proofs.fill_list.Tie as tie
+use Rattle.storing.proofs.Filling.{Filling, fill-some, fill-start, fill-turn, fill-end, fill-onward, refill, first-head, cursor-same}
+use Rattle.storing.proofs.fill_list.Statement.{statement}
+use Rattle.storing.proofs.fill_list.Tie as tie
 
 abbrev Inv-loop : tie.InvT-loop
 Inv-loop spans₀ links₀ n from owner pairs count first at₀ t₀ spans links at t =

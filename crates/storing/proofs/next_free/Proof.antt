@@ -4,9 +4,9 @@ use native.Mathlib.Omega.{arith}
 use borrow.Author.Needs.{needs}
 use lib.ListN.{length}
 use Rattle.store.specs.Store.{freeFrom}
-use Rattle.updating.proofs.Filling.{free-some, free-skip, free-here}
-use Rattle.updating.proofs.next_free.Statement.{statement}
-use Rattle.updating.proofs.next_free.Tie as tie
+use Rattle.storing.proofs.Filling.{free-some, free-skip, free-here}
+use Rattle.storing.proofs.next_free.Statement.{statement}
+use Rattle.storing.proofs.next_free.Tie as tie
 
 abbrev Inv-loop : tie.InvT-loop
 Inv-loop spans links n from at₀ at = (from ≤ at) × (at < n) × (freeFrom spans links from (n - from) ≡ freeFrom spans links at (n - at))

@@ -6,7 +6,7 @@ use lib.Ieee.{Float}
 use lib.ListN.{take, drop}
 use Rattle.store.specs.Updates.{Cells, update, part, Layable, Laid, laidList}
 use Rattle.store.proofs.Laying.{part-is}
-use Rattle.updating.specs.Rays.{LayableRay, LaidRay}
+use Rattle.storing.specs.Rays.{LayableRay, LaidRay}
 
 module _ (n : ℕ) (c : Cells) (ray : ℕ) (pairs : List Float) (at possible certain : ℕ) where
   -- the parts as the calls lend them

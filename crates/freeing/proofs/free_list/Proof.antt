@@ -1,7 +1,7 @@
 use borrow.Author.Needs.{needs}
 use Rattle.store.proofs.Freeing.{free-chain-of, freed-cells}
-use Rattle.updating.proofs.free_list.Statement.{statement}
-use Rattle.updating.proofs.free_list.Tie as tie
+use Rattle.freeing.proofs.free_list.Statement.{statement}
+use Rattle.freeing.proofs.free_list.Tie as tie
 
 mul-head : tie.Need-mul-head
 mul-head c = search needs

@@ -5,10 +5,10 @@ use lib.ListN.{length, length-set}
 use Rattle.store.specs.Store.{Chain, places, freedSpans, freedLinks}
 use Rattle.store.proofs.Chains.{Step, chain-step}
 use Rattle.store.proofs.Freeing.{Turn, turn, freed-end}
-use Rattle.updating.proofs.free_chain.Statement.{statement}
-use Rattle.updating.proofs.free_chain.Tie as tie
-use Rattle.updating.proofs.free_chain.Reads as reads
-use Rattle.updating.proofs.free_chain.Lts as lts
+use Rattle.freeing.proofs.free_chain.Statement.{statement}
+use Rattle.freeing.proofs.free_chain.Tie as tie
+use Rattle.freeing.proofs.free_chain.Reads as reads
+use Rattle.freeing.proofs.free_chain.Lts as lts
 
 abbrev Inv-loop : tie.InvT-loop
 Inv-loop spans₀ links₀ n owner head k₀ spans links k =

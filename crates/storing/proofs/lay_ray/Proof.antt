@@ -1,8 +1,8 @@
 use borrow.Author.Needs.{needs}
 use Rattle.store.specs.Updates.{cells}
-use Rattle.updating.proofs.Rays.{possible-layable, certain-layable, ray-laid}
-use Rattle.updating.proofs.lay_ray.Statement.{statement}
-use Rattle.updating.proofs.lay_ray.Tie as tie
+use Rattle.storing.proofs.Rays.{possible-layable, certain-layable, ray-laid}
+use Rattle.storing.proofs.lay_ray.Statement.{statement}
+use Rattle.storing.proofs.lay_ray.Tie as tie
 
 mul-j : tie.Need-mul-j
 mul-j c = search needs
