@@ -1,3 +1,4 @@
 pub mod Rays
 pub mod Causes
 pub mod Answers
+pub mod Outcomes

@@ -1,9 +1,9 @@
 use native.Mathlib.Omega.{arith}
 use Rattle.store.specs.Updates.{cells}
-use Rattle.changes.proofs.Tests.{old-sound, cuts-no, cuts-rest}
+use Rattle.ray_changes.proofs.Tests.{old-sound, cuts-no, cuts-rest}
 use Rattle.stock.proofs.Rays.{sound-chained}
-use Rattle.changes.proofs.cuts.Statement.{statement}
-use Rattle.changes.proofs.cuts.Tie as tie
+use Rattle.ray_changes.proofs.cuts.Statement.{statement}
+use Rattle.ray_changes.proofs.cuts.Tie as tie
 
 had-requires : tie.Need-had-requires
 had-requires c κs = let a = c .before .before .before .before .before .before .before in let s = cells (a .args .spans .now) (a .args .links .now) (a .args .heads .now) in (sound-chained (a .args .spec) (a .args .g) s (a .pre .0 .total) (a .pre .0 .room) (a .pre .0 .isSound), a .pre .1)

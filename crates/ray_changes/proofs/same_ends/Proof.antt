@@ -4,9 +4,9 @@ use Prim.Native.Nat.{_-_, _≤_}
 use mathlib.Core.Path.{_≡_, refl}
 use lib.ListN.{length, drop}
 use Rattle.spans.specs.Spans.{equal}
-use Rattle.changes.proofs.Lists.{ends-differ, ends-agree, ends-all, sizes-differ}
-use Rattle.changes.proofs.same_ends.Statement.{statement}
-use Rattle.changes.proofs.same_ends.Tie as tie
+use Rattle.ray_changes.proofs.Lists.{ends-differ, ends-agree, ends-all, sizes-differ}
+use Rattle.ray_changes.proofs.same_ends.Statement.{statement}
+use Rattle.ray_changes.proofs.same_ends.Tie as tie
 
 abbrev Inv-loop : tie.InvT-loop
 Inv-loop a b k₀ k = (k ≤ length a) × (equal a b ≡ equal (drop k a) (drop k b))

@@ -1,8 +1,8 @@
 use borrow.Author.Needs.{needs}
 use Rattle.stock.proofs.Rays.{tells-good}
-use Rattle.changes.proofs.Tests.{covers-good, only-1, only-2, only-3, only-4, only-5}
-use Rattle.changes.proofs.only_loses.Statement.{statement}
-use Rattle.changes.proofs.only_loses.Tie as tie
+use Rattle.ray_changes.proofs.Tests.{covers-good, only-1, only-2, only-3, only-4, only-5}
+use Rattle.ray_changes.proofs.only_loses.Statement.{statement}
+use Rattle.ray_changes.proofs.only_loses.Tie as tie
 
 valid-ray-requires : tie.Need-valid-ray-requires
 valid-ray-requires c κs = search needs

@@ -3,9 +3,9 @@ use native.Mathlib.Omega.{arith}
 use Prim.Native.Nat.{_+_, _-_, _*_}
 use Rattle.store.specs.Updates.{cells}
 use Rattle.stock.proofs.Rays.{list-readable}
-use Rattle.changes.proofs.Tests.{had-no, had-second}
-use Rattle.changes.proofs.had.Statement.{statement}
-use Rattle.changes.proofs.had.Tie as tie
+use Rattle.ray_changes.proofs.Tests.{had-no, had-second}
+use Rattle.ray_changes.proofs.had.Statement.{statement}
+use Rattle.ray_changes.proofs.had.Tie as tie
 
 mul-j : tie.Need-mul-j
 mul-j c = search needs

@@ -2,9 +2,9 @@ use borrow.Author.Needs.{needs}
 use Prim.Native.Nat.{_+_, _*_}
 use Rattle.store.specs.Updates.{cells}
 use Rattle.store.proofs.Laying.{part-is}
-use Rattle.changes.proofs.Tests.{cuts-parts}
-use Rattle.changes.proofs.cuts_at.Statement.{statement}
-use Rattle.changes.proofs.cuts_at.Tie as tie
+use Rattle.ray_changes.proofs.Tests.{cuts-parts}
+use Rattle.ray_changes.proofs.cuts_at.Statement.{statement}
+use Rattle.ray_changes.proofs.cuts_at.Tie as tie
 
 mul-e : tie.Need-mul-e
 mul-e c = search needs
