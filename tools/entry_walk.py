@@ -9,7 +9,8 @@
 
 where OUT is a struct { answer: ANS, f1, .., fk }, and WORK ensures FACT f1..fk lists-at-entry OUT lists-at-exit.
 A parameter is ms:ELEM (&mut [ELEM]), ss:ELEM (&[ELEM]), int:WIDTH, or val:STRUCT (a struct of plain data by value). "homes" names the crate of each
-type that stands in another crate than the entry.
+type that stands in another crate than the entry, and "laws" the module with `left` (the REC that an OUT leaves), `mach` (the machine value of a REC), `ans` (that of an
+OUT's answer) and `made` (fields that fit make a REC), which the entries over one REC share.
 
     tools/entry_walk.py tools/ENTRY.json crates/CRATE/proofs/ENTRY/Proof.antt
 
@@ -114,6 +115,7 @@ use denote.Triple.Clauses.{ensured, lasts}
 use denote.Triple.Walked.{says, Stays, stay-ref, gave-slice, stay-dropped, walkOf, AllGo, goes-ref, goes-gave-slice, goes-dropped, Walks, ends-at, walked, walk-meets}
 use denote.Exit.{yes}''')
     for u in cfg.get('uses', []): w('use ' + u)
+    w('use %s.{left, mach, ans, made}' % cfg['laws'])
     w(f'use {specs_of(rec)}.{{{rec}}}')
     w(f'use {specs_of(outc)}.{{{outc}}}')
     w(f'use {proofs_of(rec)} as T')
@@ -160,13 +162,6 @@ use denote.Exit.{yes}''')
         w(f'  abbrev v-{ps[i][0]} : Val'); w(f'  v-{ps[i][0]} = {val(i)}'); w('')
     w('  abbrev vals : List Val × ' + ''.join('(List Val × ' for _ in range(n)) + 'Unit {0}' + ')' * n)
     w('  vals = ' + nest(['vptr b o ∷ []'] + [f'v-{p[0]} ∷ []' for p in ps])); w('')
-    mach = lambda x: 'vstruct (' + ''.join(f'vcons (vint w{fw} ({x} .{fn})) (' for fn, fw in fields) + 'vnil' + ')' * k + ')'
-    w(f'  -- the record that an outcome leaves, and its machine value')
-    w(f'  abbrev left : {outc} → {rec}')
-    w(f'  left r = record {{ ' + '; '.join(f'{fn} = r .{fn}' for fn, _ in fields) + ' }'); w('')
-    w(f'  abbrev mach : {rec} → Val'); w(f'  mach x = {mach("x")}'); w('')
-    w(f'  -- the machine value of the outcome\'s answer')
-    w(f'  abbrev ans : {outc} → Val'); w(f'  ans r = EL.val R.the-type R′.the-laws (r .answer)'); w('')
     ls = [f's{j}' for j in range(len(mss))]
     exl = {i: ls[j] for j, i in enumerate(mss)}
     # fact: cfg['fact'] is a template using {f:NAME} for record field, {p:NAME} now/at entry, {e:NAME} at exit, {out}
@@ -228,9 +223,6 @@ use denote.Exit.{yes}''')
         else:
             w('      nothing ! $ fjoin ! $')
     w('      move ! (1 ∷ 0 ∷ []) $ fjoin ! $ owned ! R.the-row (Is R.the-row) (EL.makes R.the-type R′.the-plain 𝓤 H A) (r .answer) _ is $ move ! (1 ∷ 0 ∷ []) $ done !'); w('')
-    # closing the record
-    w(f'  made : (r : {outc}) → ' + ' → '.join(f'r .{fn} < 2 ^ {fw}' for fn, fw in fields) + ' → Is T.the-row (left r) (mach (left r) ∷ [])')
-    w(f'  made r {" ".join(fnames)} = LL.owes T.the-type T′.the-laws (left r) ' + nest([f'(refl, {f})' for f in fnames])); w('')
     # walk
     rooms = [f'(room-{ps[i][0]} : Room {ps[i][2]} (length ({ps[i][0]} .now)))' for i in range(n) if ps[i][1] in ('ms', 'ss')]
     ints = [f'({ps[i][0]}-fits : {ps[i][0]} < 2 ^ {cfg["widths"][ps[i][2]]})' for i in range(n) if ps[i][1] == 'int']

@@ -19,8 +19,9 @@ use Rattle.stock.proofs.Causes.{due-first, due-second, none-in-both}
 use Rattle.stock.proofs.Answers.{accepted, refused}
 use Rattle.changes.specs.Changes.{changesOf, rayOf}
 use Rattle.changes.proofs.Applying.{changed-has, other-keeps, changes-update, changes-sound}
-use Rattle.change_commit.specs.Commit.{updatesIn, changed, changeCauses, commitCauses, Leaves, Commits}
-use Rattle.change_commit.specs.Passes.{Fitting, Judges}
+use Rattle.applying.specs.Passes.{updatesIn, Fitting}
+use Rattle.change_commit.specs.Commit.{changed, changeCauses, commitCauses, Leaves, Commits}
+use Rattle.change_commit.specs.Verdicts.{Judges}
 use Rattle.change_commit.specs.declared.Judged.{Judged}
 use Rattle.change_commit.specs.declared.Judged.the-variants.{Fits, Refused as No}
 

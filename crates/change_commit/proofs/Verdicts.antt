@@ -22,8 +22,9 @@ use Rattle.changes.specs.declared.Cursor.{Cursor}
 use Rattle.changes.specs.declared.Checked.{Checked}
 use Rattle.changes.specs.declared.Checked.the-variants.{Next, Bad}
 use Rattle.changes.proofs.Applying.{good-ascend}
-use Rattle.change_commit.specs.Commit.{updatesIn, intervalsAfter, Unsound, listCauses, changeCauses}
-use Rattle.change_commit.specs.Passes.{Judges}
+use Rattle.applying.specs.Passes.{updatesIn}
+use Rattle.change_commit.specs.Commit.{intervalsAfter, Unsound, listCauses, changeCauses}
+use Rattle.change_commit.specs.Verdicts.{Judges}
 use Rattle.change_commit.specs.declared.Judged.{Judged}
 use Rattle.change_commit.specs.declared.Judged.the-variants.{Fits, Refused}
 

@@ -11,15 +11,12 @@ use Rattle.gridding.specs.Causes.{gridCauses, gridIn}
 use Rattle.grid.specs.Rays.{rayCount}
 use Rattle.grid.specs.declared.DexelStockSpec.{DexelStockSpec}
 use Rattle.grid.specs.declared.DexelGrid.{DexelGrid}
-use Rattle.store.specs.Updates.{Update, pairsFreed, pairsLaid, applied, Kept}
+use Rattle.store.specs.Updates.{pairsFreed, pairsLaid, applied, Kept}
 use Rattle.stock.specs.Stock.{Stock, SoundStock, possibleIn, certainIn, short}
 use Rattle.stock.specs.declared.Committed.{Committed}
 use Rattle.stock.specs.declared.Committed.the-variants.{Changed, Refused}
-use Rattle.changes.specs.Changes.{Change, changesOf, rayOf, AllGood, updatesOf}
-
--- what a lent change list does to the store
-abbrev pub updatesIn : DexelGrid → List ℕ → List Float → List Update
-updatesIn g changes pairs = updatesOf g (changesOf changes pairs)
+use Rattle.changes.specs.Changes.{Change, changesOf, rayOf, AllGood}
+use Rattle.applying.specs.Passes.{updatesIn}
 
 -- the intervals after the changes
 abbrev pub intervalsAfter : DexelStockSpec → DexelGrid → Stock → List ℕ → List Float → ℕ

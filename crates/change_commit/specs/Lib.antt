@@ -1,2 +1,2 @@
 pub mod Commit
-pub mod Passes
+pub mod Verdicts

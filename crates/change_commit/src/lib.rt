@@ -1,18 +1,14 @@
 // The commit of a change list.
 ghost use mathlib.Core.Path.{_≡_};
-ghost use mathlib.Core.List.{List};
-ghost use Prim.Native.Nat.{ℕ, _+_, _*_, _%_, _^_, _≤_, _<_};
-ghost use lib.Ieee.{Float};
+ghost use Prim.Native.Nat.{_*_, _%_};
 ghost use lib.ListN.{length};
 ghost use Rattle.grid.specs.Rays.{rayCount};
 ghost use Rattle.gridding.specs.Causes.{GridFacts};
-ghost use Rattle.store.specs.Fills.{Cursor};
-ghost use Rattle.store.specs.Updates.{cells, Room, freedList, laidAll, applied};
+ghost use Rattle.store.specs.Updates.{cells, Room};
 ghost use Rattle.stock.specs.Stock.{SoundCells};
 ghost use Rattle.stock.specs.Outcomes.{stock};
-ghost use Rattle.changes.specs.Changes.{part};
-ghost use Rattle.change_commit.specs.Commit.{updatesIn, GridCommits, ChangeCommits};
-ghost use Rattle.change_commit.specs.Passes.{FreeableRay, LayableRay, LaidRay, Fitting, Frees, Emptied, ListJudges, GridJudges};
+ghost use Rattle.change_commit.specs.Commit.{GridCommits, ChangeCommits};
+ghost use Rattle.change_commit.specs.Verdicts.{ListJudges, GridJudges};
 use changes::Checked;
 use grid::DexelGrid;
 use grid::DexelStockSpec;
@@ -25,129 +21,6 @@ use stock::Tally;
 pub enum Judged {
     Fits(u64),
     Refused(u32),
-}
-
-// Frees both lists of a ray.
-fn free_ray(spans: &mut [f64], links: &mut [u64], heads: &mut [u64], n: usize, ray: u64)
-    requires { ⌜ FreeableRay n (cells (now spans) (now links) (now heads)) ray ⌝ }
-    ensures { λ _. ⌜ cells (now (spans .exit)) (now (links .exit)) (now (heads .exit))
-        ≡ freedList n (freedList n (cells (now (spans .entry)) (now (links .entry)) (now (heads .entry))) (2 * ray)) (2 * ray + 1) ⌝ }
-{
-    let j = 2 * (ray as usize);
-    store::free_list(spans, links, heads, n, j);
-    store::free_list(spans, links, heads, n, j + 1);
-}
-
-// Frees the lists of all changed rays.
-fn free_changes(
-    spec: DexelStockSpec,
-    g: DexelGrid,
-    spans: &mut [f64],
-    links: &mut [u64],
-    heads: &mut [u64],
-    changes: &[u64],
-)
-    requires { ⌜ ((total : ℕ) × (pairs : List Float) × Fitting spec g (cells (now spans) (now links) (now heads)) total (now changes) pairs) ⌝ }
-    ensures { λ _. ⌜ Frees spec g (now (changes .entry)) (cells (now (spans .entry)) (now (links .entry)) (now (heads .entry))) (cells (now (spans .exit)) (now (links .exit)) (now (heads .exit))) ⌝ }
-{
-    let count = changes.len() / 6;
-    let mut k: usize = 0;
-    while k < count {
-        let h = changes::head(changes, k);
-        let ray = changes::ray_named(g, h);
-        free_ray(spans, links, heads, spec.max_intervals as usize, ray);
-        k += 1;
-    }
-}
-
-// Lays both lists of a ray, which stand end to end in the pairs from cell `at` on. None before place `from` is free.
-fn lay_ray(
-    spans: &mut [f64],
-    links: &mut [u64],
-    heads: &mut [u64],
-    n: usize,
-    from: usize,
-    ray: u64,
-    pairs: &[f64],
-    at: usize,
-    possible: usize,
-    certain: usize,
-) -> usize
-    requires { ⌜ (at + 2 * possible + 2 * certain ≤ length (now pairs)) × Cursor n (now spans) (now links) from
-        × LayableRay n (cells (now spans) (now links) (now heads)) ray (part (now pairs) at possible) (part (now pairs) (at + 2 * possible) certain) ⌝ }
-    ensures { λ r. ⌜ LaidRay n (cells (now (spans .entry)) (now (links .entry)) (now (heads .entry))) ray (part (now (pairs .entry)) at possible) (part (now (pairs .entry)) (at + 2 * possible) certain)
-        r (cells (now (spans .exit)) (now (links .exit)) (now (heads .exit))) ⌝ }
-{
-    let j = 2 * (ray as usize);
-    let e = at + 2 * possible;
-    let f = e + 2 * certain;
-    let next = store::lay_list(spans, links, heads, n, from, j, &pairs[at..e]);
-    store::lay_list(spans, links, heads, n, next, j + 1, &pairs[e..f])
-}
-
-// The cell past two lists that begin at cell `at`.
-fn past_lists(at: usize, possible: usize, certain: usize) -> usize
-    requires { ⌜ at + 2 * possible + 2 * certain < 2 ^ 64 ⌝ }
-    ensures { λ r. ⌜ r ≡ at + 2 * possible + 2 * certain ⌝ }
-{
-    at + 2 * possible + 2 * certain
-}
-
-// Lays the new lists of all changed rays, with one rising place before which no record is free.
-fn lay_changes(
-    spec: DexelStockSpec,
-    g: DexelGrid,
-    spans: &mut [f64],
-    links: &mut [u64],
-    heads: &mut [u64],
-    changes: &[u64],
-    pairs: &[f64],
-)
-    requires { ⌜ Emptied spec g (now changes) (now pairs) (cells (now spans) (now links) (now heads)) ⌝ }
-    ensures { λ _. ⌜ cells (now (spans .exit)) (now (links .exit)) (now (heads .exit))
-        ≡ laidAll (spec .«max_intervals») (cells (now (spans .entry)) (now (links .entry)) (now (heads .entry))) (updatesIn g (now (changes .entry)) (now (pairs .entry))) ⌝ }
-{
-    let count = changes.len() / 6;
-    let mut at: usize = 0;
-    let mut from: usize = 0;
-    let mut k: usize = 0;
-    while k < count {
-        let h = changes::head(changes, k);
-        let ray = changes::ray_named(g, h);
-        let after = past_lists(at, h.before_possible, h.before_certain);
-        from = lay_ray(
-            spans,
-            links,
-            heads,
-            spec.max_intervals as usize,
-            from,
-            ray,
-            pairs,
-            after,
-            h.after_possible,
-            h.after_certain,
-        );
-        at = past_lists(after, h.after_possible, h.after_certain);
-        k += 1;
-    }
-}
-
-// Frees the lists of all changed rays, then lays the new ones.
-fn apply_changes(
-    spec: DexelStockSpec,
-    g: DexelGrid,
-    spans: &mut [f64],
-    links: &mut [u64],
-    heads: &mut [u64],
-    changes: &[u64],
-    pairs: &[f64],
-)
-    requires { ⌜ ((total : ℕ) × Fitting spec g (cells (now spans) (now links) (now heads)) total (now changes) (now pairs)) ⌝ }
-    ensures { λ _. ⌜ cells (now (spans .exit)) (now (links .exit)) (now (heads .exit))
-        ≡ applied (spec .«max_intervals») (cells (now (spans .entry)) (now (links .entry)) (now (heads .entry))) (updatesIn g (now (changes .entry)) (now (pairs .entry))) ⌝ }
-{
-    free_changes(spec, g, spans, links, heads, changes);
-    lay_changes(spec, g, spans, links, heads, changes, pairs);
 }
 
 // Finds whether changes of a sound store are refused: 13, 10, 15.
@@ -254,7 +127,7 @@ fn commit_grid(
         pairs,
     ) {
         Judged::Fits(total) => {
-            apply_changes(spec, g, spans, links, heads, changes, pairs);
+            applying::apply_changes(spec, g, spans, links, heads, changes, pairs);
             Outcome {
                 answer: Committed::Changed((changes.len() / 6) as u64),
                 generation: generation + 1,

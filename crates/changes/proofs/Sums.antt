@@ -12,15 +12,15 @@ use Rattle.spans.specs.Spans.{equal}
 use Rattle.grid.specs.declared.DexelStockSpec.{DexelStockSpec}
 use Rattle.grid.specs.declared.DexelGrid.{DexelGrid}
 use Rattle.store.specs.Store.{placesOf}
-use Rattle.store.specs.Updates.{Cells, pairsFreed, pairsLaid}
+use Rattle.store.specs.Updates.{Cells, part, pairsFreed, pairsLaid}
 use Rattle.lists.proofs.Steps.{ends-length}
 use Rattle.stock.specs.Stock.{possibleIn, certainIn}
-use Rattle.changes.specs.Changes.{headAt, part, end1, end2, end3, end4, Change, changeBy, changesFrom, changesOf, rayOf, Good, AllGood, updatesOf}
+use Rattle.changes.specs.Changes.{headAt, end1, end2, end3, end4, Change, changeBy, changesFrom, changesOf, rayOf, Good, AllGood, updatesOf}
 use Rattle.changes.specs.Steps.{onward, cursorOf, Stands, Checks, ChecksAll}
 use Rattle.changes.specs.declared.ChangeHead.{ChangeHead}
 use Rattle.changes.specs.declared.Cursor.{Cursor}
 use Rattle.changes.specs.declared.Checked.the-variants.{Next, Bad}
-use Rattle.changes.proofs.Lists.{equal-length}
+use Rattle.ray_changes.proofs.Lists.{equal-length}
 
 pub part-length : (pairs : List Float) (at n : ℕ) → at + 2 * n ≤ length pairs → length (part pairs at n) ≡ 2 * n
 part-length pairs at n h = length-take-le (2 * n) (drop at pairs) (omega (arith, length-drop at pairs))

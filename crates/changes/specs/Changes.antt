@@ -1,19 +1,15 @@
 -- A change list as a caller lends it, and what makes its changes good.
 -- Six numbers tell a change: its axis, its index, and how many pairs its four lists have: possible and certain before, possible and certain after. The lists stand end to end in the lent pairs, in that order.
-use mathlib.Core.Path.{_≡_}
-use mathlib.Core.Bool.{true, false, _&&_}
 use mathlib.Core.List.{List, [], _∷_}
 use Prim.Native.Nat.{ℕ, zero, suc, _+_, _*_, _/_, _≤_, _<_}
-use lib.ListN.{length, getD, take, drop}
+use lib.ListN.{length, getD}
 use lib.Ieee.{Float}
-use Rattle.spans.specs.Spans.{holds, equal}
 use Rattle.grid.specs.Axes.{worldAxis}
-use Rattle.grid.specs.Rays.{raysAlong, rayNumber, boundsOf}
+use Rattle.grid.specs.Rays.{raysAlong, rayNumber}
 use Rattle.grid.specs.declared.DexelStockSpec.{DexelStockSpec}
 use Rattle.grid.specs.declared.DexelGrid.{DexelGrid}
-use Rattle.store.specs.Updates.{Cells, Update, update}
-use Rattle.validity.specs.Ray.{ValidRay}
-use Rattle.stock.specs.Stock.{possibleIn, certainIn}
+use Rattle.store.specs.Updates.{Cells, Update, update, part}
+use Rattle.ray_changes.specs.Cuts.{Cuts}
 use Rattle.changes.specs.declared.ChangeHead.{ChangeHead}
 
 -- the six numbers of change k
@@ -27,10 +23,6 @@ headAt changes k =
       «after_possible» = getD changes (6 * k + 4) 0;
       «after_certain» = getD changes (6 * k + 5) 0;
     }
-
--- so many pairs from cell `at` on
-abbrev pub part : List Float → ℕ → ℕ → List Float
-part pairs at n = take (2 * n) (drop at pairs)
 
 -- the cells where the lists end that begin at cell `at`
 abbrev pub end1 : ChangeHead → ℕ → ℕ
@@ -87,18 +79,6 @@ pub record Names (g : DexelGrid) (axis index from : ℕ) : Type 0 where
   pub digit : axis ≤ 2
   pub below : index < raysAlong g (worldAxis axis)
   pub ascends : from ≤ rayOf g axis index
-
--- the new lists make a valid ray, gain no point of the old ones and differ from them
-pub record Loses (lo hi : Float) (p q p′ q′ : List Float) : Type 0 where
-  pub valid : ValidRay lo hi p′ q′
-  pub possible-loses : (x : Float) → holds p′ x ≡ true → holds p x ≡ true
-  pub certain-loses : (x : Float) → holds q′ x ≡ true → holds q x ≡ true
-  pub differs : (equal p′ p && equal q′ q) ≡ false
-
--- and the old ones are the ray's
-pub record Cuts (spec : DexelStockSpec) (g : DexelGrid) (c : Cells) (ray : ℕ) (p q p′ q′ : List Float) : Type 0 where
-  pub was : (equal (possibleIn spec c ray) p && equal (certainIn spec c ray) q) ≡ true
-  pub loses : Loses (boundsOf spec g ray .lo) (boundsOf spec g ray .hi) p q p′ q′
 
 -- a change that `validate` lets pass, and whose lists lie within the lent pairs; `from` is one more than the ray of the change before
 pub record Good (spec : DexelStockSpec) (g : DexelGrid) (c : Cells) (pairs : List Float) (from : ℕ) (d : Change) : Type 0 where

@@ -6,9 +6,7 @@ use lib.ListN.{length}
 use lib.Ieee.{Float}
 use Rattle.grid.specs.declared.DexelStockSpec.{DexelStockSpec}
 use Rattle.grid.specs.declared.DexelGrid.{DexelGrid}
-use Rattle.grid.specs.Rays.{rayCount}
-use Rattle.store.specs.Updates.{Cells, Room, pairsFreed, pairsLaid}
-use Rattle.stock.specs.Stock.{SoundCells}
+use Rattle.store.specs.Updates.{Cells, pairsFreed, pairsLaid}
 use Rattle.changes.specs.Changes.{Change, rayOf, end4, changeBy, Good, AllGood, updatesOf}
 use Rattle.changes.specs.declared.ChangeHead.{ChangeHead}
 use Rattle.changes.specs.declared.Cursor.{Cursor}
@@ -26,12 +24,6 @@ cursorOf at from before after = record { at = at; from = from; before = before; 
 abbrev pub onward : DexelGrid → ChangeHead → Cursor → Cursor
 onward g h cur =
     cursorOf (end4 h (cur .at)) (rayOf g (h .axis) (h .index) + 1) (cur .before + h .«before_possible» + h .«before_certain») (cur .after + h .«after_possible» + h .«after_certain»)
-
--- the store has room and is sound
-pub record Lent (spec : DexelStockSpec) (g : DexelGrid) (c : Cells) : Type 0 where
-  pub room : Room (spec .«max_intervals») (2 * rayCount g) c
-  pub total : ℕ
-  pub isSound : SoundCells spec g c total
 
 -- the cursor stands within whole pairs, and its sums are of pairs before it
 pub record Stands (pairs : List Float) (cur : Cursor) : Type 0 where

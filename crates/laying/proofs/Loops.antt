@@ -60,9 +60,11 @@ module _ (n : ℕ) (c : Cells) (w : List Float) (sizes rays ray : ℕ) (a : AllF
   pub turn-freeable : RayFreeable n c w sizes ray
   turn-freeable = record {
     in-sizes = omega (arith, a .in-sizes);
-    possible = one-freeable n (2 * rays) (a .total) c (a .store) (a .room) (2 * ray) in-first;
-    certain = one-freeable n (2 * rays) (one-total n (2 * rays) (a .total) c (a .store) (a .room) (2 * ray) in-first) (freedList n c (2 * ray))
-        (one-sound n (2 * rays) (a .total) c (a .store) (a .room) (2 * ray) in-first) (one-room n (2 * rays) (a .total) c (a .store) (a .room) (2 * ray) in-first) (2 * ray + 1) in-second;
+    lists = record {
+      possible = one-freeable n (2 * rays) (a .total) c (a .store) (a .room) (2 * ray) in-first;
+      certain = one-freeable n (2 * rays) (one-total n (2 * rays) (a .total) c (a .store) (a .room) (2 * ray) in-first) (freedList n c (2 * ray))
+          (one-sound n (2 * rays) (a .total) c (a .store) (a .room) (2 * ray) in-first) (one-room n (2 * rays) (a .total) c (a .store) (a .room) (2 * ray) in-first) (2 * ray + 1) in-second;
+    };
   }
 
   -- the store after the turn

@@ -3,13 +3,14 @@ use mathlib.Core.Path.{_≡_, refl, sym, ap, ap₂, _∙_, subst}
 use mathlib.Core.List.{List, [], _∷_}
 use Prim.Native.Nat.{ℕ, suc, _+_, _-_, _*_, _≤_}
 use native.Mathlib.Omega.{arith}
-use lib.ListN.{length, take, drop}
+use lib.ListN.{length}
 use lib.Ieee.{Float}
 use borrow.Author.Tests.{eq-eqb, ne-eqb}
 use Rattle.numbers.specs.Numbers.{numberAt}
-use Rattle.store.specs.Updates.{Cells, Update, update, Layable, Laid, freedList, freedAll, laidList, laidAll}
-use Rattle.laying.specs.Updates.{between, firstSize, possibleCells, certainCells, updatesFrom, listsEnd}
-use Rattle.laying.specs.Steps.{PartLayable, EachLayable, RaysLayable, RaysLaid}
+use Rattle.store.specs.Updates.{Cells, Update, update, part, Layable, freedList, freedAll, laidList, laidAll}
+use Rattle.storing.specs.Rays.{LayableRay, LaidRay}
+use Rattle.laying.specs.Updates.{firstSize, updatesFrom, listsEnd}
+use Rattle.laying.specs.Steps.{EachLayable, RaysLayable, RaysLaid}
 use Rattle.laying.specs.declared.Place.{Place}
 use Rattle.laying.proofs.Lists.{updates-none, end-none, pastRay, firstUpdate, secondUpdate, updates-same, updates-new, end-same, end-new}
 
@@ -58,17 +59,10 @@ module _ (n : ℕ) (c : Cells) (w : List Float) (sizes ray first : ℕ) (e : fir
   pub freed-same : first ≡ 0 → (q : ℕ) → c ≡ freedAll n c (updatesFrom w sizes q ray 1)
   freed-same z q = sym (ap (freedAll n c) (no-update w sizes ray (sym e ∙ z) q) ∙ freed-none n c)
 
-  pub freed-new : (first ≡ 0 → ⊥) → (d b : Cells) → d ≡ freedList n c (2 * ray) → b ≡ freedList n d (2 * ray + 1) → (q : ℕ) → b ≡ freedAll n c (updatesFrom w sizes q ray 1)
-  freed-new nz d b f g q =
-      g ∙ ap (λ (x : Cells). freedList n x (2 * ray + 1)) f ∙ sym (freed-ray-new n c w sizes ray (λ z. nz (e ∙ z)) q)
+  pub freed-new : (first ≡ 0 → ⊥) → (b : Cells) → b ≡ freedList n (freedList n c (2 * ray)) (2 * ray + 1) → (q : ℕ) → b ≡ freedAll n c (updatesFrom w sizes q ray 1)
+  freed-new nz b f q = f ∙ sym (freed-ray-new n c w sizes ray (λ z. nz (e ∙ z)) q)
 
 -- ---- laying
-part-is : (w : List Float) (at x y k : ℕ) → x ≡ at + k → y ≡ k → between at x w ≡ take y (drop at w)
-part-is w at x y k e f = ap (λ (m : ℕ). take m (drop at w)) size
-  where
-    size : x - at ≡ y
-    size = omega arith
-
 module _ (n : ℕ) (c : Cells) (w : List Float) (sizes ray : ℕ) (p : Place) (ready : RaysLayable n c w sizes ray 1 p) (first : ℕ) (e : first ≡ firstSize w sizes ray) where
   pub laid-same : first ≡ 0 → RaysLaid n c w sizes ray 1 p c p
   laid-same z = record {
@@ -92,44 +86,28 @@ module _ (n : ℕ) (c : Cells) (w : List Float) (sizes ray : ℕ) (p : Place) (r
     unfolding end middle
     lists-room = omega (arith, end-is, ready .in-lists)
 
-    first-is : update (2 * ray) (between (p .at) (p .at + 2 * (first - 1)) w) ≡ firstUpdate w sizes (p .at) ray 0
-    first-is = ap (update (2 * ray)) (part-is w (p .at) (p .at + 2 * (first - 1)) (possibleCells w sizes ray) (2 * (first - 1)) refl (ap (λ (x : ℕ). 2 * (x - 1)) (sym e)))
+    first-is : update (2 * ray) (part w (p .at) (first - 1)) ≡ firstUpdate w sizes (p .at) ray 0
+    first-is = ap (λ (x : ℕ). update (2 * ray) (part w (p .at) (x - 1))) e
 
-    second-is : update (2 * ray + 1) (between (p .at + 2 * (first - 1)) (p .at + 2 * (first - 1) + 2 * second) w) ≡ secondUpdate w sizes (p .at) ray 0
-    second-is =
-        ap (update (2 * ray + 1)) (part-is w (p .at + 2 * (first - 1)) (p .at + 2 * (first - 1) + 2 * second) (certainCells w sizes ray) (2 * second) refl (ap (λ (x : ℕ). 2 * x) (sym f))
-        ∙ ap (λ (x : ℕ). take (certainCells w sizes ray) (drop (p .at + 2 * (x - 1)) w)) e)
+    second-is : update (2 * ray + 1) (part w (p .at + 2 * (first - 1)) second) ≡ secondUpdate w sizes (p .at) ray 0
+    second-is = ap₂ (λ (x y : ℕ). update (2 * ray + 1) (part w (p .at + 2 * (x - 1)) y)) e f
 
     both : Layable n c (firstUpdate w sizes (p .at) ray 0) × Layable n (laidList n c (firstUpdate w sizes (p .at) ray 0)) (secondUpdate w sizes (p .at) ray 0)
     both = both-layable n c (firstUpdate w sizes (p .at) ray 0) (secondUpdate w sizes (p .at) ray 0) (subst (EachLayable n c) (two-updates w sizes ray (λ z. nz (e ∙ z)) (p .at)) (ready .each))
 
-    pub first-layable : PartLayable n c (p .from) (2 * ray) w (p .at) (p .at + 2 * (first - 1))
-    first-layable = record {
-      order = omega arith;
-      in-work = omega (arith, lists-room);
-      layable = subst (Layable n c) (sym first-is) (both .0);
-      cursor = ready .cursor;
+    pub ray-layable : LayableRay n c ray (part w (p .at) (first - 1)) (part w (p .at + 2 * (first - 1)) second)
+    ray-layable = record {
+      possible = subst (Layable n c) (sym first-is) (both .0);
+      certain = subst (λ (u : Update). Layable n (laidList n c u) (update (2 * ray + 1) (part w (p .at + 2 * (first - 1)) second))) (sym first-is)
+          (subst (Layable n (laidList n c (firstUpdate w sizes (p .at) ray 0))) (sym second-is) (both .1));
     }
 
-    module _ (d : Cells) (r : ℕ) (laid : Laid n c (update (2 * ray) (between (p .at) (p .at + 2 * (first - 1)) w)) r d) where
-      d-is : d ≡ laidList n c (firstUpdate w sizes (p .at) ray 0)
-      d-is = laid .left ∙ ap (laidList n c) first-is
-
-      pub second-layable : PartLayable n d r (2 * ray + 1) w (p .at + 2 * (first - 1)) (p .at + 2 * (first - 1) + 2 * second)
-      second-layable = record {
-        order = omega arith;
-        in-work = lists-room;
-        layable = subst (λ (x : Cells). Layable n x (update (2 * ray + 1) (between (p .at + 2 * (first - 1)) (p .at + 2 * (first - 1) + 2 * second) w))) (sym d-is)
-            (subst (Layable n (laidList n c (firstUpdate w sizes (p .at) ray 0))) (sym second-is) (both .1));
-        cursor = laid .onward;
-      }
-
-      pub laid-new : (b : Cells) (q : Place) → Laid n d (update (2 * ray + 1) (between (p .at + 2 * (first - 1)) (p .at + 2 * (first - 1) + 2 * second) w)) (q .from) b → q .at ≡ p .at + 2 * (first - 1) + 2 * second → RaysLaid n c w sizes ray 1 p b q
-      unfolding end middle
-      laid-new b q last at = record {
-        left =
-            last .left ∙ ap₂ (laidList n) d-is second-is
-            ∙ sym (ap (laidAll n c) (two-updates w sizes ray (λ z. nz (e ∙ z)) (p .at)) ∙ laid-two n c (firstUpdate w sizes (p .at) ray 0) (secondUpdate w sizes (p .at) ray 0));
-        at = at ∙ sym end-is;
-        cursor = last .onward;
-      }
+    pub laid-new : (b : Cells) (q : Place) → LaidRay n c ray (part w (p .at) (first - 1)) (part w (p .at + 2 * (first - 1)) second) (q .from) b → q .at ≡ p .at + 2 * (first - 1) + 2 * second → RaysLaid n c w sizes ray 1 p b q
+    unfolding end middle
+    laid-new b q laid at = record {
+      left =
+          laid .left ∙ ap₂ (λ (u v : Update). laidList n (laidList n c u) v) first-is second-is
+          ∙ sym (ap (laidAll n c) (two-updates w sizes ray (λ z. nz (e ∙ z)) (p .at)) ∙ laid-two n c (firstUpdate w sizes (p .at) ray 0) (secondUpdate w sizes (p .at) ray 0));
+      at = at ∙ sym end-is;
+      cursor = laid .onward;
+    }

@@ -5,15 +5,15 @@ use Prim.Native.Nat.{ℕ, _+_, _*_, _≤_, _<_}
 use lib.ListN.{length}
 use lib.Ieee.{Float}
 use Rattle.store.specs.Fills.{Cursor}
-use Rattle.store.specs.Updates.{Cells, Update, update, Room, SoundStore, Freeable, Layable, freedList, laidList, laidAll}
-use Rattle.laying.specs.Updates.{between, updatesFrom, listsEnd}
+use Rattle.store.specs.Updates.{Cells, Update, Room, SoundStore, Layable, laidList, laidAll}
+use Rattle.freeing.specs.Rays.{FreeableRay}
+use Rattle.laying.specs.Updates.{updatesFrom, listsEnd}
 use Rattle.laying.specs.declared.Place.{Place}
 
 -- both lists of a ray can be freed, and its first size can be read
 pub record RayFreeable (n : ℕ) (c : Cells) (w : List Float) (sizes ray : ℕ) : Type 0 where
   pub in-sizes : sizes + 2 * ray < length w
-  pub possible : Freeable n c (2 * ray)
-  pub certain : Freeable n (freedList n c (2 * ray)) (2 * ray + 1)
+  pub lists : FreeableRay n c ray
 
 -- a sound store of two lists for each ray, and the sizes of all rays in the work buffer
 pub record AllFreeable (n : ℕ) (c : Cells) (w : List Float) (sizes rays : ℕ) : Type 0 where
@@ -21,13 +21,6 @@ pub record AllFreeable (n : ℕ) (c : Cells) (w : List Float) (sizes rays : ℕ)
   pub room : Room n (2 * rays) c
   pub total : ℕ
   pub store : SoundStore n (2 * rays) total c
-
--- list j can be laid from the cells from `at` to `end` of the work buffer
-pub record PartLayable (n : ℕ) (c : Cells) (from j : ℕ) (w : List Float) (at end : ℕ) : Type 0 where
-  pub order : at ≤ end
-  pub in-work : end ≤ length w
-  pub layable : Layable n c (update j (between at end w))
-  pub cursor : Cursor n (c .spans) (c .links) from
 
 -- each update finds the room that it needs, after those before it
 unfoldable pub EachLayable : ℕ → Cells → List Update → Type 0

@@ -9,10 +9,6 @@ use lib.Ieee.{Float}
 use Rattle.store.specs.Updates.{Update, update}
 use Rattle.numbers.specs.Numbers.{numberAt}
 
--- the cells of a buffer from `at` to `end`
-abbrev pub between : ℕ → ℕ → List Float → List Float
-between at end w = take (end - at) (drop at w)
-
 -- the first size of a ray: 0 where it does not change, else one more than the pairs of its new possible list
 abbrev pub firstSize : List Float → ℕ → ℕ → ℕ
 firstSize w sizes ray = numberAt w (sizes + 2 * ray)

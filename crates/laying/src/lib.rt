@@ -1,9 +1,9 @@
 // Frees and lays the lists of the changed rays of a log commit. All are freed before the first is laid.
 ghost use mathlib.Core.Path.{_≡_};
 ghost use Prim.Native.Nat.{ℕ};
-ghost use Rattle.store.specs.Updates.{cells, update, Laid, freedAll, laidAll};
-ghost use Rattle.laying.specs.Updates.{between, updatesFrom};
-ghost use Rattle.laying.specs.Steps.{RayFreeable, AllFreeable, PartLayable, RaysLayable, RaysLaid};
+ghost use Rattle.store.specs.Updates.{cells, freedAll, laidAll};
+ghost use Rattle.laying.specs.Updates.{updatesFrom};
+ghost use Rattle.laying.specs.Steps.{RayFreeable, AllFreeable, RaysLayable, RaysLaid};
 
 // Frees both lists of a ray if it changes.
 fn free_ray(
@@ -22,8 +22,7 @@ fn free_ray(
     if numbers::number_at(work, sizes + 2 * ray) == 0 {
         return;
     }
-    store::free_list(spans, links, heads, n, 2 * ray);
-    store::free_list(spans, links, heads, n, 2 * ray + 1);
+    freeing::free_ray(spans, links, heads, n, ray);
 }
 
 // Frees the lists of all rays that change, wherever their new lists stand.
@@ -53,25 +52,6 @@ pub struct Place {
     pub at: usize,
 }
 
-// Lays list j, which is to hold the cells from `at` to `end` of the work buffer.
-fn lay_part(
-    spans: &mut [f64],
-    links: &mut [u64],
-    heads: &mut [u64],
-    n: usize,
-    from: usize,
-    j: usize,
-    work: &[f64],
-    at: usize,
-    end: usize,
-) -> usize
-    requires { ⌜ PartLayable n (cells (now spans) (now links) (now heads)) from j (now work) at end ⌝ }
-    ensures { λ r. ⌜ Laid n (cells (now (spans .entry)) (now (links .entry)) (now (heads .entry))) (update j (between at end (now (work .entry)))) r
-        (cells (now (spans .exit)) (now (links .exit)) (now (heads .exit))) ⌝ }
-{
-    store::lay_list(spans, links, heads, n, from, j, &work[at..end])
-}
-
 // Lays both lists of a ray if it changes, possible first.
 fn lay_ray(
     spans: &mut [f64],
@@ -93,24 +73,23 @@ fn lay_ray(
     }
     let second = numbers::number_at(work, sizes + 2 * ray + 1);
     let at = place.at;
-    let middle = at + 2 * ((first - 1) as usize);
-    let end = middle + 2 * (second as usize);
-    let from = lay_part(
+    let possible = (first - 1) as usize;
+    let certain = second as usize;
+    let middle = at + 2 * possible;
+    let end = middle + 2 * certain;
+    let from = storing::lay_ray(
         spans,
         links,
         heads,
         n,
         place.from,
-        2 * ray,
+        ray,
         work,
         at,
-        middle,
+        possible,
+        certain,
     );
-    let last = lay_part(spans, links, heads, n, from, 2 * ray + 1, work, middle, end);
-    Place {
-        from: last,
-        at: end,
-    }
+    Place { from, at: end }
 }
 
 // Lays the new lists of all rays that change, which stand from cell `at` of the work buffer on. One place before which no record is free goes

@@ -7,7 +7,7 @@ use native.Mathlib.Omega.{arith}
 use lib.Dec.{ltb}
 use lib.ListN.{length, getD, set}
 use lib.Ieee.{Float, nan, binary64, ofBits, toBits}
-use lib.Seq.{getD-set-same, getD-set-other}
+use lib.Seq.{getD-set-same}
 use lib.Ieee.Bits.{toBits-ofBits, nanBits-is, nanBits-above}
 use borrow.Author.Tests.{le-ltb}
 use Rattle.doubles.proofs.Bools.{of-false}
@@ -27,10 +27,6 @@ module _ (w : List Float) (at k : ℕ) where
   -- the cell that was written
   pub number-put : at < length w → k ≤ largestNumber → numberAt (set w at (numberCell k)) at ≡ k
   number-put h l = ap (toBits binary64) (getD-set-same w at (numberCell k) nan h) ∙ number-back k l
-
-  -- another cell
-  pub number-kept : (i : ℕ) → (i ≡ at → ⊥) → numberAt (set w at (numberCell k)) i ≡ numberAt w i
-  number-kept i ne = ap (toBits binary64) (getD-set-other w at i (numberCell k) nan ne)
 
 -- a cell of plus zero holds zero
 pub number-zero : toBits binary64 (ofBits binary64 0) ≡ 0

@@ -29,7 +29,7 @@ use Rattle.runs.specs.Runs.{points, Left, Committed, Run, done, next, Se
 use Rattle.runs.specs.Examples.{num, box, grid, filled, hit, commit, notAllowed, innerWider, threeLogs, threeAnswers, listAfter, AtEnd, RunRight}
 use Rattle.store.specs.Updates.{cells}
 use Rattle.stock.specs.Stock.{Stock, ValidAt, SoundStock}
-use Rattle.stock.specs.Uncut.{uncut as uncutCells, uncutSpans, uncutLinks, uncutHeads, recordAt}
+use Rattle.filling.specs.Uncut.{uncut as uncutCells, uncutSpans, uncutLinks, uncutHeads, recordAt}
 use Rattle.runs.specs.Lent.{listIn, lentStore}
 use Rattle.runs.proofs.Unique.{judged-unsound}
 use Rattle.runs.proofs.Less.{less}

@@ -15,7 +15,7 @@ use Rattle.grid.specs.declared.DexelGrid.{DexelGrid}
 use Rattle.grid.specs.declared.Gridded.the-variants.{Accepted}
 use Rattle.store.specs.Updates.{cells}
 use Rattle.stock.specs.Stock.{Stock}
-use Rattle.stock.specs.Uncut.{uncut, uncutTally}
+use Rattle.filling.specs.Uncut.{uncut, uncutTally}
 use Rattle.runs.specs.Logs.{Ray, Kind, possible, certain, Commit}
 use Rattle.runs.specs.Model.{Answer, changed, refused}
 use Rattle.runs.specs.Runs.{Run}

@@ -1,6 +1,4 @@
 pub mod Rays
 pub mod Causes
-pub mod Uncut
-pub mod Lengths
 pub mod Answers
-pub mod UncutSound
+pub mod Outcomes

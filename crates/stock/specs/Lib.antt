@@ -1,4 +1,2 @@
 pub mod Stock
-pub mod Uncut
-pub mod Volume
 pub mod Outcomes

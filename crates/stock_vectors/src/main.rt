@@ -4,15 +4,15 @@
 // records them, says what they are. Ends of merged lists and volumes are compared as numbers, all other cells bit for bit; every cell of a buffer
 // is 7 before the call.
 // For each function it writes how many rows agree and how many differ, then how many can't be read, and the number of the first row that differs.
+use filling::Filled;
 use grid::DexelStockSpec;
 use grid::Vec3;
+use measuring::DexelVolume;
+use measuring::Measured;
 use merge::Merged;
 use merge::Part;
 use replay::Outcome;
 use replay::Tally;
-use stock::DexelVolume;
-use stock::Filled;
-use stock::Measured;
 
 // The bits of 7.
 const SEVEN: u64 = 0x401c_0000_0000_0000;
@@ -188,9 +188,9 @@ fn spec_of(w: [u64; 87]) -> DexelStockSpec {
 // Word 2: 0 for the units "mm", else "cm".
 fn fill_on(w: [u64; 87], spans: &mut [f64], links: &mut [u64], heads: &mut [u64]) -> Filled {
     if w[2] == 0 {
-        return stock::fill(spec_of(w), b"mm", spans, links, heads);
+        return filling::fill(spec_of(w), b"mm", spans, links, heads);
     }
-    stock::fill(spec_of(w), b"cm", spans, links, heads)
+    filling::fill(spec_of(w), b"cm", spans, links, heads)
 }
 
 // Words 12 to 14: the cells of the spans, the links and the heads.
@@ -276,9 +276,9 @@ fn fill_agrees(w: [u64; 87]) -> bool {
 // Word 15: the interval total that goes in.
 fn volume_of(w: [u64; 87], spans: &[f64], links: &[u64], heads: &[u64]) -> Measured {
     if w[2] == 0 {
-        return stock::volume(spec_of(w), b"mm", spans, links, heads, w[15]);
+        return measuring::volume(spec_of(w), b"mm", spans, links, heads, w[15]);
     }
-    stock::volume(spec_of(w), b"cm", spans, links, heads, w[15])
+    measuring::volume(spec_of(w), b"cm", spans, links, heads, w[15])
 }
 
 fn measured(w: [u64; 87]) -> Measured {

@@ -129,8 +129,3 @@ pub places-zero : (links : List ℕ) (n k : ℕ) → k ≡ 0 → places links n 
 unfolding places
 places-zero links zero k e = refl
 places-zero links (suc n) k e = ap (places links (suc n)) e
-
-pub chain-zero : (links : List ℕ) (n o k : ℕ) → k ≡ 0 → Chain links n o k (places links n k)
-chain-zero links n o k e =
-    let none : Chain links n o 0 [] = ends in
-    subst (λ (ps : List ℕ). Chain links n o k ps) (sym (places-zero links n k e)) (subst (λ (x : ℕ). Chain links n o x []) (sym e) none)

@@ -2,7 +2,7 @@
 use mathlib.Core.Path.{_≡_, refl, sym, ap, _∙_, subst}
 use mathlib.Core.Bool.{true, false}
 use mathlib.Core.List.{List, [], _∷_, List·Memᴰ, List·Memᴰ·head, List·Memᴰ·tail, List·Memᴰ·not-nil}
-use Prim.Native.Nat.{ℕ, suc, _+_, _*_, _/_, _%_, _≤_, _<_}
+use Prim.Native.Nat.{ℕ, suc, _+_, _-_, _*_, _/_, _%_, _≤_, _<_}
 use native.Mathlib.Nat.{div-add-mod'}
 use native.Mathlib.Numerals.{add-one}
 use native.Mathlib.Omega.{arith}
@@ -10,7 +10,7 @@ use lib.Ieee.{Float, nan}
 use lib.ListN.{length, getD, set, take, drop, length-set, length-drop}
 use lib.Seq.{getD-set-other, getD-set-same, drop-set-lt}
 use Rattle.store.specs.Store.{usedAt, placesOf, Chain, ends, more, endsAt, freeFrom, headOf, filledLinks, filledSpans, putSpan, putLink}
-use Rattle.store.specs.Updates.{Cells, cells, Update, update, SoundStore, held, Room, Kept, taken, laidList, Laid}
+use Rattle.store.specs.Updates.{Cells, cells, Update, update, part, SoundStore, held, Room, Kept, taken, laidList, Laid}
 use Rattle.store.specs.Fills.{Cursor, Fills}
 use Rattle.store.proofs.Counting.{Distinct}
 use Rattle.store.proofs.Records.{Same, same-refl, same-trans, put-other, put-here, written-same, owned-used, Within, within-none, within-put, within-then}
@@ -152,3 +152,10 @@ module _ (n : ℕ) (spans : List Float) (links heads : List ℕ) (j : ℕ) (pair
           ap (λ (l : List Float). cells l links′ (set heads j head)) (f .spans-left)
           ∙ ap (λ (l : List ℕ). cells (filledSpans spans ps pairs) l (set heads j head)) (f .links-left ∙ ap (λ (o : ℕ). filledLinks links o ps) (add-one j))
           ∙ ap (λ (h : ℕ). cells (filledSpans spans ps pairs) (filledLinks links (suc j) ps) (set heads j h)) (f .at)
+
+-- a part of the pairs as a call lends it
+pub part-is : (pairs : List Float) (at n : ℕ) → take (at + 2 * n - at) (drop at pairs) ≡ part pairs at n
+part-is pairs at n = ap (λ (k : ℕ). take k (drop at pairs)) (back at (2 * n))
+  where
+    back : (a b : ℕ) → a + b - a ≡ b
+    back a b = omega arith

@@ -3,22 +3,19 @@
 --     laid-all     empty lists are laid
 --     updated      both, one after the other
 --     half-freed, half-laid    what the functions that do one update ask of the store half-way
---     blank-sound  a store with no record in use and no list is sound
 use mathlib.Core.Path.{_≡_, refl, sym, ap, _∙_, subst}
 use mathlib.Core.Bool.{Bool, false, cond}
 use mathlib.Core.List.{List, [], _∷_, _++_, List·Memᴰ, List·Memᴰ·head, List·Memᴰ·tail, List·Memᴰ·cases-cons, List·Memᴰ·not-nil, Memᴰ·append-left, Memᴰ·append-right}
 use mathlib.Core.Logic.{⊎-elim}
-use Prim.Native.Nat.{ℕ, zero, suc, _+_, _-_, _/_, _%_, _≤_, _<_}
+use Prim.Native.Nat.{ℕ, _+_, _-_, _/_, _%_, _≤_, _<_}
 use native.Mathlib.Decide.{ℕ-discrete}
 use native.Mathlib.Omega.{arith}
 use lib.Dec.{eqb}
 use lib.Ieee.{Float}
-use lib.ListN.{length, getD}
+use lib.ListN.{length}
 use borrow.Author.Tests.{eq-eqb, ne-eqb}
-use Rattle.doubles.proofs.Bools.{clash}
-use Rattle.store.specs.Store.{usedAt, placesOf, chained, endsAt, freeFrom}
+use Rattle.store.specs.Store.{placesOf, endsAt, freeFrom}
 use Rattle.store.specs.Updates.{Cells, Update, SoundStore, held, Room, Kept, Freeable, Layable, Ascending, none, next, pairsFreed, pairsLaid, listAfter, freedList, freedAll, taken, laidList, laidAll, applied, Updated}
-use Rattle.store.proofs.Chains.{places-zero, chain-zero}
 use Rattle.store.proofs.Replacing.{Replaced}
 use Rattle.store.proofs.Freeing.{freed-list, freed-kept}
 use Rattle.store.proofs.FreePlaces.{free-records}
@@ -272,17 +269,3 @@ module _ {n m total k : ℕ} {c : Cells} (s : SoundStore n m total c) (room : Ro
         whole = ascending-whole a u (Memᴰ·append-right vs (List·Memᴰ·head refl));
         enough = omega arith;
       }
-
--- ---- a store with nothing in it
-no-chains : (n : ℕ) (links heads : List ℕ) (r a : ℕ) → ((j : ℕ) → j < a + r → getD heads j 0 ≡ 0) → chained n links heads a r ≡ []
-unfolding chained
-no-chains n links heads zero a empty = refl
-no-chains n links heads (suc r) a empty =
-    ap (λ (l : List ℕ). l ++ chained n links heads (suc a) r) (places-zero links n (getD heads a 0) (empty a (omega arith))) ∙ no-chains n links heads r (suc a) (λ j h. empty j (omega arith))
-
-pub blank-sound : (n m : ℕ) (c : Cells) → ((i : ℕ) → i < n → usedAt (c .spans) (c .links) i ≡ false) → ((j : ℕ) → j < m → getD (c .heads) j 0 ≡ 0) → SoundStore n m 0 c
-blank-sound n m c free empty = record {
-  chains = λ j h. chain-zero (c .links) n (suc j) (getD (c .heads) j 0) (empty j h);
-  others = λ i h u. absurd (clash (usedAt (c .spans) (c .links) i) u (free i h));
-  counts = sym (ap length (no-chains n (c .links) (c .heads) m 0 (λ j h. empty j (omega arith))));
-}

@@ -26,6 +26,10 @@ pub record Update : Type 0 where
 abbrev pub update : ℕ → List Float → Update
 update list ends = record { list = list; ends = ends }
 
+-- so many pairs of a flat list, from cell `at` on
+abbrev pub part : List Float → ℕ → ℕ → List Float
+part pairs at n = take (2 * n) (drop at pairs)
+
 -- the store with the records of list j free and its head zero
 unfoldable pub freedList : ℕ → Cells → ℕ → Cells
 unfolding freedSpans freedLinks

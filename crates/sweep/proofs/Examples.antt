@@ -24,10 +24,10 @@ use Rattle.cutter.specs.declared.CutterShape.the-variants.{Flat}
 use Rattle.strips.specs.Strip.{bandDistance, halfChord, chordStrip, diskStrip, stadiumStrip, hull, sideStrip}
 use Rattle.store.specs.Store.{places, endsAt}
 use Rattle.stock.specs.Stock.{SoundCells, short}
-use Rattle.stock.specs.Uncut.{recordAt, uncutSpans, uncutLinks, uncutHeads, uncut}
+use Rattle.filling.specs.Uncut.{recordAt, uncutSpans, uncutLinks, uncutHeads, uncut}
 use Rattle.stock.proofs.Causes.{none-in-both, room-of}
 use Rattle.stock.proofs.Answers.{accepted}
-use Rattle.stock.proofs.UncutSound.{uncut-sound}
+use Rattle.filling.proofs.UncutSound.{uncut-sound}
 use Rattle.across.specs.Meets.{lastOf, spansMeet, overlapsOf}
 use Rattle.across.specs.Lane.{planPoint, reachOf, sideOf, laneOf, spanOver, cellsMet, cellsAcross, rectangleOf, centerOf, sectionWith, sectionOf}
 use Rattle.across.specs.Across.{outerFrom, outerOf, innerFrom, innerOf, hitOf}

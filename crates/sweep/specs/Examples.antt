@@ -15,7 +15,7 @@ use Rattle.cutter.specs.declared.PreparedCutter.{PreparedCutter}
 use Rattle.grid.specs.declared.DexelStockSpec.{DexelStockSpec}
 use Rattle.gridding.specs.Causes.{gridIn}
 use Rattle.store.specs.Updates.{Cells, cells}
-use Rattle.stock.specs.Uncut.{uncut}
+use Rattle.filling.specs.Uncut.{uncut}
 use Rattle.visits.specs.Walk.{Walked, Done, Stop}
 use Rattle.sweep.specs.Entries.{Setting}
 use Rattle.sweep.specs.Answer.{settingOf, walkOf}

@@ -14,8 +14,8 @@ use Rattle.grid.specs.declared.Gridded.the-variants.{Accepted, Refused}
 use Rattle.grid.specs.declared.DexelStockSpec.{DexelStockSpec}
 use Rattle.refusal.specs.Refusal.{Cause, Due}
 use Rattle.spans.specs.Results.{listCauses}
-use Rattle.stock.specs.Uncut.{fillCauses}
-use Rattle.stock.specs.Volume.{volumeCauses}
+use Rattle.filling.specs.Uncut.{fillCauses}
+use Rattle.measuring.specs.Volume.{volumeCauses}
 use Rattle.stock.specs.Stock.{Stock, SoundStock}
 use Rattle.stock.specs.declared.Committed.{Committed}
 use Rattle.store.specs.Updates.{Cells}

@@ -13,8 +13,8 @@ use Rattle.merge.specs.declared.Merged.the-variants.{Lists}
 use Rattle.spans.specs.declared.Listed.{Listed}
 use Rattle.spans.specs.declared.Listed.the-variants.{Pairs}
 use Rattle.stock.specs.declared.Tally.{Tally}
-use Rattle.stock.specs.declared.Filled.{Filled}
-use Rattle.stock.specs.declared.Measured.{Measured}
+use Rattle.filling.specs.declared.Filled.{Filled}
+use Rattle.measuring.specs.declared.Measured.{Measured}
 use Rattle.stock.specs.declared.Committed.{Committed}
 use Rattle.sweep.specs.declared.Swept.{Swept}
 use Rattle.sweep.specs.declared.Totals.{Totals}

@@ -4,15 +4,15 @@ ghost use Rattle.gridding.specs.Grid.{gridOf};
 ghost use Rattle.gridding.specs.Causes.{gridIn};
 ghost use Rattle.grid.specs.declared.Gridded.{Gridded};
 ghost use Rattle.store.specs.Updates.{cells};
-ghost use Rattle.stock.specs.Uncut.{Fills, fillCauses};
-ghost use Rattle.stock.specs.Volume.{volumeOf, Measures, volumeCauses};
-ghost use Rattle.stock.specs.declared.Filled.{Filled};
-ghost use Rattle.stock.specs.declared.Measured.{Measured};
+ghost use Rattle.filling.specs.Uncut.{Fills, fillCauses};
+ghost use Rattle.measuring.specs.Volume.{volumeOf, Measures, volumeCauses};
+ghost use Rattle.filling.specs.declared.Filled.{Filled};
+ghost use Rattle.measuring.specs.declared.Measured.{Measured};
 ghost use Rattle.tridexel.specs.Numbers.{AnsweredBy, HandedAs, gridNumbers, gridCells, filledNumbers, tally, volumeNumbers};
+use filling::Filled;
 use grid::DexelStockSpec;
 use grid::Gridded;
-use stock::Filled;
-use stock::Measured;
+use measuring::Measured;
 
 // Hands the grid back as numbers.
 fn hand_grid(g: Gridded, counts: &mut [u64; 3], steps: &mut [f64; 3]) -> u32
@@ -63,7 +63,7 @@ fn hand_filled(f: Filled, generation: &mut u64, intervals: &mut u64) -> u32
     }
 }
 
-// `stock::fill`; `generation` and `intervals` become the small record of the stock.
+// `filling::fill`; `generation` and `intervals` become the small record of the stock.
 #[no_mangle]
 pub extern "C" fn tridexel_fill(
     spec: DexelStockSpec,
@@ -79,7 +79,7 @@ pub extern "C" fn tridexel_fill(
         (cells (now (spans .entry)) (now (links .entry)) (now (heads .entry))) (cells (now (spans .exit)) (now (links .exit)) (now (heads .exit)))) r
         (tally (now (generation .entry)) (now (intervals .entry))) (tally (now (generation .exit)) (now (intervals .exit))) ⌝ }
 {
-    let f = stock::fill(spec, units, spans, links, heads);
+    let f = filling::fill(spec, units, spans, links, heads);
     hand_filled(f, generation, intervals)
 }
 
@@ -109,7 +109,7 @@ fn hand_measured(m: Measured, volume: &mut [f64; 10]) -> u32
     }
 }
 
-// `stock::volume`; `volume` becomes the ten numbers of the Rust's `DexelVolume`, in its order.
+// `measuring::volume`; `volume` becomes the ten numbers of the Rust's `DexelVolume`, in its order.
 #[no_mangle]
 pub extern "C" fn tridexel_volume(
     spec: DexelStockSpec,
@@ -125,6 +125,6 @@ pub extern "C" fn tridexel_volume(
         (volumeOf spec (gridIn spec) (cells (now (spans .entry)) (now (links .entry)) (now (heads .entry))))) r
         (now (volume .entry)) (now (volume .exit)) ⌝ }
 {
-    let m = stock::volume(spec, units, spans, links, heads, intervals);
+    let m = measuring::volume(spec, units, spans, links, heads, intervals);
     hand_measured(m, volume)
 }

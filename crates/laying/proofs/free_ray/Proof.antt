@@ -1,6 +1,3 @@
-use mathlib.Core.Path.{sym, subst}
-use Prim.Native.Nat.{_+_, _*_}
-use Rattle.store.specs.Updates.{Cells, Freeable}
 use Rattle.laying.proofs.Turns.{freed-same, freed-new}
 use borrow.Author.Needs.{needs}
 use Rattle.laying.proofs.free_ray.Statement.{statement}
@@ -18,20 +15,8 @@ number-at-requires c κs = search needs
 returns : tie.Need-returns
 returns c = freed-same _ _ _ _ _ _ (c .before .number-at .ensures) (c .if1 .taken)
 
-mul-free-list : tie.Need-mul-free-list
-mul-free-list c = search needs
-
-free-list-requires : tie.Need-free-list-requires
-free-list-requires c κs = search needs
-
-mul-free-list-2 : tie.Need-mul-free-list-2
-mul-free-list-2 c = search needs
-
-add-free-list : tie.Need-add-free-list
-add-free-list c = search needs
-
-free-list-requires-2 : tie.Need-free-list-requires-2
-free-list-requires-2 c κs = let a = c .before .before .before .before .before .before .before .before .before .before .before .before .before .before .before .before .before .before .before in subst (λ (x : Cells). Freeable (a .args .n) x (2 * a .args .ray + 1)) (sym (c .before .before .before .before .before .before .before .before .before .free-list .ensures)) (a .pre .certain)
+free-ray-requires : tie.Need-free-ray-requires
+free-ray-requires c κs = search needs
 
 same-length : tie.Need-same-length
 same-length c = search needs
@@ -43,7 +28,7 @@ same-length-3 : tie.Need-same-length-3
 same-length-3 c = search needs
 
 returns-2 : tie.Need-returns-2
-returns-2 c = freed-new _ _ _ _ _ _ (c .before .before .before .before .before .before .before .before .before .before .before .before .before .before .before .before .before .before .before .before .before .number-at .ensures) (c .before .before .before .before .before .before .before .before .before .before .before .before .before .before .before .before .before .before .before .before .if1 .left) _ _ (c .before .before .before .before .before .before .before .before .before .before .before .before .before .before .before .before .free-list .ensures) (c .before .before .before .before .before .before .free-list2 .ensures)
+returns-2 c = freed-new _ _ _ _ _ _ (c .before .before .before .before .before .before .before .before .before .before .before .number-at .ensures) (c .before .before .before .before .before .before .before .before .before .before .if1 .left) _ (c .before .before .before .before .before .before .free-ray .ensures)
 
 pub free-ray-spec : {M : Type 1} → statement M
 free-ray-spec =
@@ -53,11 +38,7 @@ free-ray-spec =
     add-number-at
     number-at-requires
     returns
-    mul-free-list
-    free-list-requires
-    mul-free-list-2
-    add-free-list
-    free-list-requires-2
+    free-ray-requires
     same-length
     same-length-2
     same-length-3

@@ -3,7 +3,7 @@ use native.Mathlib.Omega.{arith}
 use mathlib.Core.Path.{refl}
 use Prim.Native.Nat.{_+_, _-_, _*_, _≤_}
 use lib.ListN.{length}
-use Rattle.laying.proofs.Turns.{laid-same, lists-room, first-layable, second-layable, laid-new}
+use Rattle.laying.proofs.Turns.{laid-same, lists-room, ray-layable, laid-new}
 use Rattle.laying.proofs.lay_ray.Statement.{statement}
 use Rattle.laying.proofs.lay_ray.Tie as tie
 
@@ -35,8 +35,8 @@ add-number-at-3 c = search needs
 number-at-requires-2 : tie.Need-number-at-requires-2
 number-at-requires-2 c κs = search needs
 
-sub-middle : tie.Need-sub-middle
-sub-middle c = search needs
+sub-possible : tie.Need-sub-possible
+sub-possible c = search needs
 
 mul-middle : tie.Need-mul-middle
 mul-middle c = omega (arith, room c)
@@ -50,20 +50,8 @@ mul-end c = omega (arith, room c)
 add-end : tie.Need-add-end
 add-end c = omega (arith, room c)
 
-mul-lay-part : tie.Need-mul-lay-part
-mul-lay-part c = search needs
-
-lay-part-requires : tie.Need-lay-part-requires
-lay-part-requires c κs = first-layable _ _ _ _ _ _ (c .before .before .before .before .before .before .before .before .before .before .pre) _ (c .before .before .before .before .before .number-at .ensures) (c .before .before .before .before .if1 .left) _ (c .before .before .before .number-at2 .ensures)
-
-mul-lay-part-2 : tie.Need-mul-lay-part-2
-mul-lay-part-2 c = search needs
-
-add-lay-part : tie.Need-add-lay-part
-add-lay-part c = search needs
-
-lay-part-requires-2 : tie.Need-lay-part-requires-2
-lay-part-requires-2 c κs = second-layable _ _ _ _ _ _ (c .before .before .before .before .before .before .before .before .before .before .before .before .before .before .before .before .before .before .before .before .pre) _ (c .before .before .before .before .before .before .before .before .before .before .before .before .before .before .before .number-at .ensures) (c .before .before .before .before .before .before .before .before .before .before .before .before .before .before .if1 .left) _ (c .before .before .before .before .before .before .before .before .before .before .before .before .before .number-at2 .ensures) _ _ (c .before .before .before .before .before .before .before .before .before .lay-part .ensures)
+lay-ray-requires : tie.Need-lay-ray-requires
+lay-ray-requires c κs = (room (c .before .before .before), c .before .before .before .before .before .before .before .before .before .before .pre .cursor, ray-layable _ _ _ _ _ _ (c .before .before .before .before .before .before .before .before .before .before .pre) _ (c .before .before .before .before .before .number-at .ensures) (c .before .before .before .before .if1 .left) _ (c .before .before .before .number-at2 .ensures))
 
 same-length : tie.Need-same-length
 same-length c = search needs
@@ -75,7 +63,7 @@ same-length-3 : tie.Need-same-length-3
 same-length-3 c = search needs
 
 returns-2 : tie.Need-returns-2
-returns-2 c = laid-new _ _ _ _ _ _ (c .before .before .before .before .before .before .before .before .before .before .before .before .before .before .before .before .before .before .before .before .before .before .before .before .before .before .before .pre) _ (c .before .before .before .before .before .before .before .before .before .before .before .before .before .before .before .before .before .before .before .before .before .before .number-at .ensures) (c .before .before .before .before .before .before .before .before .before .before .before .before .before .before .before .before .before .before .before .before .before .if1 .left) _ (c .before .before .before .before .before .before .before .before .before .before .before .before .before .before .before .before .before .before .before .before .number-at2 .ensures) _ _ (c .before .before .before .before .before .before .before .before .before .before .before .before .before .before .before .before .lay-part .ensures) _ _ (c .before .before .before .before .before .before .lay-part2 .ensures) refl
+returns-2 c = laid-new _ _ _ _ _ _ (c .before .before .before .before .before .before .before .before .before .before .before .before .before .before .before .before .before .pre) _ (c .before .before .before .before .before .before .before .before .before .before .before .before .number-at .ensures) (c .before .before .before .before .before .before .before .before .before .before .before .if1 .left) _ (c .before .before .before .before .before .before .before .before .before .before .number-at2 .ensures) _ _ (c .before .before .before .before .before .before .lay-ray .ensures) refl
 
 pub lay-ray-spec : {M : Type 1} → statement M
 lay-ray-spec =
@@ -89,16 +77,12 @@ lay-ray-spec =
     add-number-at-2
     add-number-at-3
     number-at-requires-2
-    sub-middle
+    sub-possible
     mul-middle
     add-middle
     mul-end
     add-end
-    mul-lay-part
-    lay-part-requires
-    mul-lay-part-2
-    add-lay-part
-    lay-part-requires-2
+    lay-ray-requires
     same-length
     same-length-2
     same-length-3

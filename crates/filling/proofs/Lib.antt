@@ -1,0 +1,3 @@
+pub mod Uncut
+pub mod Answers
+pub mod UncutSound
