@@ -1,0 +1,222 @@
+// What the words of a recorded row say, and whether the cells of a buffer are the recorded ones. Past the row every word is 0.
+ghost use mathlib.Core.Path.{_≡_};
+ghost use lib.Ieee.{nan};
+ghost use lib.ListN.{length, take};
+ghost use Rattle.recorded.specs.Words.{wordOf, doubleOf, Filled, specOf, cutterOf, shapeOf};
+ghost use Rattle.recorded.specs.Agreement.{cellAgrees, numberAgrees, cellRight, numberRight, Every};
+use cutter::CutterShape;
+use cutter::PreparedCutter;
+use grid::DexelStockSpec;
+use grid::Vec3;
+
+// The bits of 7, which a cell holds that nothing wrote.
+const SEVEN: u64 = 0x401c_0000_0000_0000;
+
+// Word k of those from place `from` on.
+fn word_of(w: &[u64], from: usize, k: usize) -> u64
+    ensures { λ r. ⌜ r ≡ wordOf (now (w .entry)) from k ⌝ }
+{
+    if w.len() <= from {
+        return 0;
+    }
+    if w.len() - from <= k {
+        return 0;
+    }
+    w[from + k]
+}
+
+// The double whose bits that word is.
+fn double_of(w: &[u64], from: usize, k: usize) -> f64
+    ensures { λ r. ⌜ r ≡ doubleOf (now (w .entry)) from k ⌝ }
+{
+    doubles::of_bits(word_of(w, from, k))
+}
+
+// Fills `out` with the doubles from word `from` on.
+pub fn doubles_at(w: &[u64], from: usize, out: &mut [f64])
+    ensures { λ r. ⌜ Filled nan (doubleOf (now (w .entry)) from) (now (out .exit)) ⌝ }
+{
+    let mut k: usize = 0;
+    while k < out.len() {
+        out[k] = double_of(w, from, k);
+        k += 1;
+    }
+}
+
+// Fills `out` with the words from place `from` on.
+pub fn numbers_at(w: &[u64], from: usize, out: &mut [u64])
+    ensures { λ r. ⌜ Filled 0 (wordOf (now (w .entry)) from) (now (out .exit)) ⌝ }
+{
+    let mut k: usize = 0;
+    while k < out.len() {
+        out[k] = word_of(w, from, k);
+        k += 1;
+    }
+}
+
+// The description whose version is word `version`, and whose other words stand from place `from` on.
+pub fn spec_at(w: &[u64], version: usize, from: usize) -> DexelStockSpec
+    ensures { λ r. ⌜ r ≡ specOf (now (w .entry)) version from ⌝ }
+{
+    DexelStockSpec {
+        version: (word_of(w, version, 0) % 0x1_0000_0000) as u32,
+        min_mm: Vec3 {
+            x: double_of(w, from, 0),
+            y: double_of(w, from, 1),
+            z: double_of(w, from, 2),
+        },
+        max_mm: Vec3 {
+            x: double_of(w, from, 3),
+            y: double_of(w, from, 4),
+            z: double_of(w, from, 5),
+        },
+        cell_size_mm: double_of(w, from, 6),
+        max_rays: word_of(w, from, 7),
+        max_intervals: word_of(w, from, 8),
+    }
+}
+
+// The cutter whose words stand from place `from` on.
+pub fn cutter_at(w: &[u64], from: usize) -> PreparedCutter
+    ensures { λ r. ⌜ r ≡ cutterOf (now (w .entry)) from ⌝ }
+{
+    PreparedCutter {
+        diameter_mm: double_of(w, from, 0),
+        cutting_length_mm: double_of(w, from, 1),
+        overall_length_mm: double_of(w, from, 2),
+        neck_diameter_mm: double_of(w, from, 3),
+        shank_diameter_mm: double_of(w, from, 4),
+        radius: double_of(w, from, 5),
+        tip_height: double_of(w, from, 6),
+        slope: double_of(w, from, 7),
+        shoulder: double_of(w, from, 8),
+    }
+}
+
+// The shape of this number, in the order of the declarations from 0, with its own numbers.
+pub fn shape_of(kind: u64, m: f64, n: f64) -> CutterShape
+    ensures { λ r. ⌜ r ≡ shapeOf kind m n ⌝ }
+{
+    if kind == 0 {
+        return CutterShape::Flat;
+    }
+    if kind == 1 {
+        return CutterShape::Ball;
+    }
+    if kind == 2 {
+        return CutterShape::Bull(m);
+    }
+    if kind == 3 {
+        return CutterShape::Drill(m);
+    }
+    if kind == 4 {
+        return CutterShape::Chamfer(m, n);
+    }
+    if kind == 5 {
+        return CutterShape::Beam;
+    }
+    if kind == 6 {
+        return CutterShape::Probe;
+    }
+    if kind == 7 {
+        return CutterShape::Lollipop;
+    }
+    CutterShape::Dovetail(m)
+}
+
+// The first n cells, or all where there are fewer.
+pub fn first(s: &[f64], n: usize) -> &[f64]
+    ensures { λ r. ⌜ now r ≡ take n (now (s .entry)) ⌝ }
+{
+    if n < s.len() {
+        return &s[..n];
+    }
+    s
+}
+
+pub fn first_numbers(s: &[u64], n: usize) -> &[u64]
+    ensures { λ r. ⌜ now r ≡ take n (now (s .entry)) ⌝ }
+{
+    if n < s.len() {
+        return &s[..n];
+    }
+    s
+}
+
+pub fn first_bytes(s: &[u8], n: usize) -> &[u8]
+    ensures { λ r. ⌜ now r ≡ take n (now (s .entry)) ⌝ }
+{
+    if n < s.len() {
+        return &s[..n];
+    }
+    s
+}
+
+// The same, to be written.
+pub fn first_mut<'a>(s: &'a mut [f64], n: usize) -> &'a mut [f64]
+    ensures { λ r. ⌜ now r ≡ take n (now (s .entry)) ⌝ }
+{
+    if n < s.len() {
+        return &mut s[..n];
+    }
+    s
+}
+
+pub fn first_numbers_mut<'a>(s: &'a mut [u64], n: usize) -> &'a mut [u64]
+    ensures { λ r. ⌜ now r ≡ take n (now (s .entry)) ⌝ }
+{
+    if n < s.len() {
+        return &mut s[..n];
+    }
+    s
+}
+
+// Whether cell k is right: 7 from `room` on, in front of that the word, as a number where k is below `ends`.
+fn cell_agrees(x: f64, k: usize, ends: usize, room: usize, word: u64) -> bool
+    ensures { λ r. ⌜ r ≡ cellAgrees x k ends room word ⌝ }
+{
+    if room <= k {
+        return doubles::bits_of(x) == SEVEN;
+    }
+    if ends <= k {
+        return doubles::bits_of(x) == word;
+    }
+    x == doubles::of_bits(word)
+}
+
+// Whether each cell is right, the words standing from place `from` on.
+pub fn cells_agree(cells: &[f64], w: &[u64], from: usize, ends: usize, room: usize) -> bool
+    ensures { λ r. ⌜ Every (cellRight (now (cells .entry)) (now (w .entry)) from ends room) (length (now (cells .entry))) r ⌝ }
+{
+    let mut k: usize = 0;
+    while k < cells.len() {
+        if !cell_agrees(cells[k], k, ends, room, word_of(w, from, k)) {
+            return false;
+        }
+        k += 1;
+    }
+    true
+}
+
+fn number_agrees(n: u64, k: usize, room: usize, word: u64) -> bool
+    ensures { λ r. ⌜ r ≡ numberAgrees n k room word ⌝ }
+{
+    if room <= k {
+        return n == 7;
+    }
+    n == word
+}
+
+// The same of whole numbers.
+pub fn numbers_agree(cells: &[u64], w: &[u64], from: usize, room: usize) -> bool
+    ensures { λ r. ⌜ Every (numberRight (now (cells .entry)) (now (w .entry)) from room) (length (now (cells .entry))) r ⌝ }
+{
+    let mut k: usize = 0;
+    while k < cells.len() {
+        if !number_agrees(cells[k], k, room, word_of(w, from, k)) {
+            return false;
+        }
+        k += 1;
+    }
+    true
+}
