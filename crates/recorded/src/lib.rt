@@ -94,7 +94,7 @@ pub fn cutter_at(w: &[u64], from: usize) -> PreparedCutter
 }
 
 // The shape of this number, in the order of the declarations from 0, with its own numbers.
-pub fn shape_of(kind: u64, m: f64, n: f64) -> CutterShape
+fn shape_of(kind: u64, m: f64, n: f64) -> CutterShape
     ensures { λ r. ⌜ r ≡ shapeOf kind m n ⌝ }
 {
     if kind == 0 {
@@ -122,6 +122,17 @@ pub fn shape_of(kind: u64, m: f64, n: f64) -> CutterShape
         return CutterShape::Lollipop;
     }
     CutterShape::Dovetail(m)
+}
+
+// The shape whose number is word `from`, and whose own numbers are the two behind it.
+pub fn shape_at(w: &[u64], from: usize) -> CutterShape
+    ensures { λ r. ⌜ r ≡ shapeOf (wordOf (now (w .entry)) from 0) (doubleOf (now (w .entry)) from 1) (doubleOf (now (w .entry)) from 2) ⌝ }
+{
+    shape_of(
+        word_of(w, from, 0),
+        double_of(w, from, 1),
+        double_of(w, from, 2),
+    )
 }
 
 // The first n cells, or all where there are fewer.
