@@ -1,7 +1,7 @@
 -- What the words of a row say. Past the row every word is 0.
 use mathlib.Core.Path.{_≡_}
 use mathlib.Core.Bool.{cond}
-use mathlib.Core.List.{List}
+use mathlib.Core.List.{List, [], _∷_}
 use Prim.Native.Nat.{ℕ, _+_, _%_, _<_}
 use lib.Dec.{eqb}
 use lib.Ieee.{Float, ofBits, binary64}
@@ -33,6 +33,10 @@ specOf w version from =
       «max_rays» = wordOf w from 7;
       «max_intervals» = wordOf w from 8;
     }
+
+-- the bytes of "mm" for 0, else of "cm"
+unfoldable pub unitsOf : ℕ → List ℕ
+unitsOf word = cond (eqb word 0) (109 ∷ 109 ∷ []) (99 ∷ 109 ∷ [])
 
 -- a cutter's nine numbers
 abbrev pub cutterOf : List ℕ → (from : ℕ) → PreparedCutter

@@ -2,7 +2,7 @@
 ghost use mathlib.Core.Path.{_≡_};
 ghost use lib.Ieee.{nan};
 ghost use lib.ListN.{length, take};
-ghost use Rattle.recorded.specs.Words.{wordOf, doubleOf, Filled, specOf, cutterOf, shapeOf};
+ghost use Rattle.recorded.specs.Words.{wordOf, doubleOf, Filled, specOf, unitsOf, cutterOf, shapeOf};
 ghost use Rattle.recorded.specs.Agreement.{cellAgrees, numberAgrees, cellRight, numberRight, Every};
 use cutter::CutterShape;
 use cutter::PreparedCutter;
@@ -74,6 +74,16 @@ pub fn spec_at(w: &[u64], version: usize, from: usize) -> DexelStockSpec
         max_rays: word_of(w, from, 7),
         max_intervals: word_of(w, from, 8),
     }
+}
+
+// The units "mm" where the word is 0, else "cm".
+pub fn units_of(word: u64) -> [u8; 2]
+    ensures { λ r. ⌜ r ≡ unitsOf word ⌝ }
+{
+    if word == 0 {
+        return [b'm', b'm'];
+    }
+    [b'c', b'm']
 }
 
 // The cutter whose words stand from place `from` on.
@@ -164,6 +174,15 @@ pub fn first_bytes(s: &[u8], n: usize) -> &[u8]
 }
 
 // The same, to be written.
+pub fn first_bytes_mut<'a>(s: &'a mut [u8], n: usize) -> &'a mut [u8]
+    ensures { λ r. ⌜ now r ≡ take n (now (s .entry)) ⌝ }
+{
+    if n < s.len() {
+        return &mut s[..n];
+    }
+    s
+}
+
 pub fn first_mut<'a>(s: &'a mut [f64], n: usize) -> &'a mut [f64]
     ensures { λ r. ⌜ now r ≡ take n (now (s .entry)) ⌝ }
 {
