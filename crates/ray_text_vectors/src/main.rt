@@ -9,11 +9,16 @@ use replay::Tally;
 // The most bytes of an input or an output.
 const MOST: usize = 16384;
 
+// Whether the first n bytes of the buffer are these.
+fn wrote(out: &[u8; 65536], n: usize, wanted: &[u8]) -> bool {
+    check::same(recorded::first_bytes(out, n), wanted)
+}
+
 // Whether an input gives this output.
 fn gives(s: &[u8], wanted: &[u8]) -> bool {
     let mut out = io::large_buffer();
-    let r = ray_text::run(s, &mut out);
-    check::same(recorded::first_bytes(&out, r), wanted)
+    let n = ray_text::run(s, &mut out);
+    wrote(&out, n, wanted)
 }
 
 // Runs an input of n bytes, and compares with the m bytes that follow.
