@@ -146,59 +146,59 @@ pub fn shape_at(w: &[u64], from: usize) -> CutterShape
 }
 
 // The first n cells, or all where there are fewer.
-pub fn first(s: &[f64], n: usize) -> &[f64]
-    ensures { λ r. ⌜ now r ≡ take n (now (s .entry)) ⌝ }
+pub fn first(cells: &[f64], n: usize) -> &[f64]
+    ensures { λ r. ⌜ now r ≡ take n (now (cells .entry)) ⌝ }
 {
-    if n < s.len() {
-        return &s[..n];
+    if n < cells.len() {
+        return &cells[..n];
     }
-    s
+    cells
 }
 
-pub fn first_numbers(s: &[u64], n: usize) -> &[u64]
-    ensures { λ r. ⌜ now r ≡ take n (now (s .entry)) ⌝ }
+pub fn first_numbers(numbers: &[u64], n: usize) -> &[u64]
+    ensures { λ r. ⌜ now r ≡ take n (now (numbers .entry)) ⌝ }
 {
-    if n < s.len() {
-        return &s[..n];
+    if n < numbers.len() {
+        return &numbers[..n];
     }
-    s
+    numbers
 }
 
-pub fn first_bytes(s: &[u8], n: usize) -> &[u8]
-    ensures { λ r. ⌜ now r ≡ take n (now (s .entry)) ⌝ }
+pub fn first_bytes(bytes: &[u8], n: usize) -> &[u8]
+    ensures { λ r. ⌜ now r ≡ take n (now (bytes .entry)) ⌝ }
 {
-    if n < s.len() {
-        return &s[..n];
+    if n < bytes.len() {
+        return &bytes[..n];
     }
-    s
+    bytes
 }
 
 // The same, to be written.
-pub fn first_bytes_mut<'a>(s: &'a mut [u8], n: usize) -> &'a mut [u8]
-    ensures { λ r. ⌜ now r ≡ take n (now (s .entry)) ⌝ }
+pub fn first_bytes_mut<'a>(bytes: &'a mut [u8], n: usize) -> &'a mut [u8]
+    ensures { λ r. ⌜ now r ≡ take n (now (bytes .entry)) ⌝ }
 {
-    if n < s.len() {
-        return &mut s[..n];
+    if bytes.len() <= n {
+        return bytes;
     }
-    s
+    &mut bytes[..n]
 }
 
-pub fn first_mut<'a>(s: &'a mut [f64], n: usize) -> &'a mut [f64]
-    ensures { λ r. ⌜ now r ≡ take n (now (s .entry)) ⌝ }
+pub fn first_mut<'a>(cells: &'a mut [f64], n: usize) -> &'a mut [f64]
+    ensures { λ r. ⌜ now r ≡ take n (now (cells .entry)) ⌝ }
 {
-    if n < s.len() {
-        return &mut s[..n];
+    if cells.len() <= n {
+        return cells;
     }
-    s
+    &mut cells[..n]
 }
 
-pub fn first_numbers_mut<'a>(s: &'a mut [u64], n: usize) -> &'a mut [u64]
-    ensures { λ r. ⌜ now r ≡ take n (now (s .entry)) ⌝ }
+pub fn first_numbers_mut<'a>(numbers: &'a mut [u64], n: usize) -> &'a mut [u64]
+    ensures { λ r. ⌜ now r ≡ take n (now (numbers .entry)) ⌝ }
 {
-    if n < s.len() {
-        return &mut s[..n];
+    if numbers.len() <= n {
+        return numbers;
     }
-    s
+    &mut numbers[..n]
 }
 
 // Whether cell k is right: 7 from `room` on, in front of that the word, as a number where k is below `ends`.
