@@ -253,5 +253,5 @@ fn counted() -> Tally {
 }
 
 fn main() {
-    replay::print(b"commit_changes commit_log runs ", counted());
+    replay::print(b"commit_changes commit_log runs", counted());
 }

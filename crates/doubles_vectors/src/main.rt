@@ -93,7 +93,7 @@ fn counted() -> Tally {
 
 fn main() {
     replay::print(
-        b"larger smaller clamp floor ceil abs sqrt order_key total_cmp to_u64 bits_of of_bits ",
+        b"larger smaller clamp floor ceil abs sqrt order_key total_cmp to_u64 bits_of of_bits",
         counted(),
     );
 }

@@ -196,7 +196,7 @@ fn counted() -> Tally {
 
 fn main() {
     replay::print(
-        b"disk_strip polygon_strip stadium_strip radius_at cut_radius cut_max cut_min check_tool ",
+        b"disk_strip polygon_strip stadium_strip radius_at cut_radius cut_max cut_min check_tool",
         counted(),
     );
 }

@@ -127,5 +127,5 @@ fn counted() -> Tally {
 }
 
 fn main() {
-    replay::print(b"accepted 1 2 3 4 ", counted());
+    replay::print(b"accepted 1 2 3 4", counted());
 }

@@ -9,6 +9,11 @@ use replay::Tally;
 // The most bytes of an input or an output.
 const MOST: usize = 16384;
 
+// Reads n bytes to the front of a buffer, and answers whether they were there.
+fn read_text(buf: &mut [u8], n: usize) -> bool {
+    io::read_full(libc::STDIN_FILENO, recorded::first_bytes_mut(buf, n)) == n
+}
+
 // Whether the first n bytes of the buffer are these.
 fn wrote(out: &[u8; 65536], n: usize, wanted: &[u8]) -> bool {
     check::same(recorded::first_bytes(out, n), wanted)
@@ -24,26 +29,15 @@ fn gives(s: &[u8], wanted: &[u8]) -> bool {
 // Runs an input of n bytes, and compares with the m bytes that follow.
 fn ran(n: usize, m: usize) -> Outcome {
     let mut input = [0u8; MOST];
-    if io::read_full(libc::STDIN_FILENO, recorded::first_bytes_mut(&mut input, n)) != n {
+    if !read_text(&mut input, n) {
         return Outcome::Unread;
     }
     let mut wanted = [0u8; MOST];
-    if io::read_full(
-        libc::STDIN_FILENO,
-        recorded::first_bytes_mut(&mut wanted, m),
-    )
-        != m
-    {
+    if !read_text(&mut wanted, m) {
         return Outcome::Unread;
     }
-    replay::told(
-        0,
-        1,
-        gives(
-            recorded::first_bytes(&input, n),
-            recorded::first_bytes(&wanted, m),
-        ),
-    )
+    let s = recorded::first_bytes(&input, n);
+    replay::told(0, 1, gives(s, recorded::first_bytes(&wanted, m)))
 }
 
 // Where the head can't be read, a length is more than the most.
@@ -73,5 +67,5 @@ fn counted() -> Tally {
 }
 
 fn main() {
-    replay::print(b"cases ", counted());
+    replay::print(b"cases", counted());
 }

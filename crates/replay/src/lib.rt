@@ -180,7 +180,7 @@ fn print_end(t: Tally) {
     io::write_all(libc::STDOUT_FILENO, b"\n");
 }
 
-// Prints the counts of each function, and what is left of the tally. The functions' names stand in order, with a space behind each.
+// Prints the counts of each function, and what is left of the tally. The functions' names stand in order, with a space between two.
 pub fn print(names: &[u8], t: Tally) {
     let mut start = 0;
     let mut k = 0;
@@ -195,5 +195,6 @@ pub fn print(names: &[u8], t: Tally) {
         start = i;
         k += 1;
     }
+    print_counts(&names[start..], t, k);
     print_end(t);
 }

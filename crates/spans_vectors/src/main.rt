@@ -123,8 +123,5 @@ fn counted() -> Tally {
 }
 
 fn main() {
-    replay::print(
-        b"normalize subtract intersect contains overlaps ",
-        counted(),
-    );
+    replay::print(b"normalize subtract intersect contains overlaps", counted());
 }

@@ -88,7 +88,8 @@ fn store_agrees(
     recorded::numbers_agree(heads, w, 77, h)
 }
 
-// Words 1, 3 to 11: the description; 2: the units; 12 to 14: the cells of the spans, the links and the heads; 16 to 18: the refusal, the generation and the interval total.
+// Words 1, 3 to 11: the description; 2: the units; 12 to 14: the cells of the spans, the links and the heads; 16 to 18: the
+// refusal, the generation and the interval total.
 fn fill_agrees(w: &[u64; 87]) -> bool {
     let mut spans = [7.0; 24];
     let mut links = [7; 24];
@@ -215,5 +216,5 @@ fn counted() -> Tally {
 }
 
 fn main() {
-    replay::print(b"merge fill volume ", counted());
+    replay::print(b"merge fill volume", counted());
 }

@@ -214,5 +214,5 @@ fn counted() -> Tally {
 }
 
 fn main() {
-    replay::print(b"accepted refused ", counted());
+    replay::print(b"accepted refused", counted());
 }

@@ -5,13 +5,14 @@ use borrow.Author.Needs.{needs}
 use Rattle.replay.proofs.print.Statement.{statement}
 use Rattle.replay.proofs.print.Tie as tie
 
--- the name at hand starts before place i, and no more names than places are passed
-record Passed (start k i : ℕ) : Type 0 where
+-- the name at hand starts no later than place i, and no more names than places are passed
+record Passed (size start k i : ℕ) : Type 0 where
+  within : i ≤ size
   starts : start ≤ i
   names : k ≤ i
 
 abbrev Inv-loop : tie.InvT-loop
-Inv-loop names t start₀ k₀ i₀ start k i = Passed start k i
+Inv-loop names t start₀ k₀ i₀ start k i = Passed (length names) start k i
 
 abbrev μ-loop : tie.MeasureT-loop
 μ-loop names t start₀ k₀ i₀ start k i = length names - i
@@ -34,5 +35,9 @@ print-spec =
     (λ c. search needs)
     (λ c. search needs)
     (λ c. search needs)
+    (λ c. search needs)
+    (λ c. search needs)
+    (λ c. search needs)
+    (λ c κs. search needs)
     (λ c κs. search needs)
     (λ c. search needs))
