@@ -68,31 +68,12 @@ fn answer(op: u64, a: u64, b: u64, c: u64) -> u64 {
 }
 
 fn compared(text: &[u8]) -> Outcome {
-    let op = rows::hex_at(text, 0, 2);
-    if replay::is_missing(op) {
-        return Outcome::Unread;
-    }
-    let k = replay::value_of(op);
-    if k >= 12 {
-        return Outcome::Unread;
-    }
+    let k = replay::value_or(rows::hex_at(text, 0, 2), 256);
     let mut w = [0; 4];
     if !replay::read_words(text, 3, &mut w) {
         return Outcome::Unread;
     }
-    if answer(k, w[0], w[1], w[2]) == w[3] {
-        return Outcome::Agrees(k);
-    }
-    Outcome::Differs(k)
-}
-
-// Reads one row and counts it.
-fn step(t: Tally) -> Tally {
-    let mut text = [0u8; 71];
-    if io::read_full(libc::STDIN_FILENO, &mut text) == 0 {
-        return replay::end(t);
-    }
-    replay::count(t, compared(&text))
+    replay::told(k, 12, answer(k, w[0], w[1], w[2]) == w[3])
 }
 
 // The turns are counted down, since a proved loop has to end and nothing says that the input does.
@@ -100,28 +81,19 @@ fn counted() -> Tally {
     let mut t = replay::start();
     let mut turns = u64::MAX;
     while turns > 0 {
-        if t.done {
+        let mut text = [0u8; 71];
+        if !replay::read_row(&mut text) {
             break;
         }
-        t = step(t);
+        t = replay::count(t, compared(&text));
         turns -= 1;
     }
     t
 }
 
 fn main() {
-    let t = counted();
-    replay::print(b"larger", t, 0);
-    replay::print(b"smaller", t, 1);
-    replay::print(b"clamp", t, 2);
-    replay::print(b"floor", t, 3);
-    replay::print(b"ceil", t, 4);
-    replay::print(b"abs", t, 5);
-    replay::print(b"sqrt", t, 6);
-    replay::print(b"order_key", t, 7);
-    replay::print(b"total_cmp", t, 8);
-    replay::print(b"to_u64", t, 9);
-    replay::print(b"bits_of", t, 10);
-    replay::print(b"of_bits", t, 11);
-    replay::print_end(t);
+    replay::print(
+        b"larger smaller clamp floor ceil abs sqrt order_key total_cmp to_u64 bits_of of_bits",
+        counted(),
+    );
 }

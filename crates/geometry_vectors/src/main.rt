@@ -4,8 +4,6 @@
 // with a space before, and a newline. The answer is the number of its case and two doubles. What a function does not take or give is 0.
 // Doubles are compared as numbers, since Rust leaves the sign of a zero open. For each function it writes how many rows agree and how
 // many differ, then how many can't be read, and the number of the first row that differs.
-use cutter::CutterShape;
-use cutter::PreparedCutter;
 use cutter::ProfileSlice;
 use cutter::Radius;
 use cutter::ToolCheck;
@@ -92,7 +90,7 @@ fn point(x: u64, y: u64) -> Point {
     }
 }
 
-fn answer_strips(op: u64, w: [u64; 17]) -> Answer {
+fn answer_strips(op: u64, w: &[u64; 17]) -> Answer {
     if op == 0 {
         return strip_answer(strips::disk_strip(
             point(w[0], w[1]),
@@ -121,38 +119,9 @@ fn answer_strips(op: u64, w: [u64; 17]) -> Answer {
     ))
 }
 
-// The shapes in the order of their declaration, from 0.
-fn shape_of(kind: u64, m: f64, n: f64) -> CutterShape {
-    match kind {
-        0 => CutterShape::Flat,
-        1 => CutterShape::Ball,
-        2 => CutterShape::Bull(m),
-        3 => CutterShape::Drill(m),
-        4 => CutterShape::Chamfer(m, n),
-        5 => CutterShape::Beam,
-        6 => CutterShape::Probe,
-        7 => CutterShape::Lollipop,
-        _ => CutterShape::Dovetail(m),
-    }
-}
-
-fn cutter_of(w: [u64; 17]) -> PreparedCutter {
-    PreparedCutter {
-        diameter_mm: doubles::of_bits(w[3]),
-        cutting_length_mm: doubles::of_bits(w[4]),
-        overall_length_mm: doubles::of_bits(w[5]),
-        neck_diameter_mm: doubles::of_bits(w[6]),
-        shank_diameter_mm: doubles::of_bits(w[7]),
-        radius: doubles::of_bits(w[8]),
-        tip_height: doubles::of_bits(w[9]),
-        slope: doubles::of_bits(w[10]),
-        shoulder: doubles::of_bits(w[11]),
-    }
-}
-
-fn answer_cutter(op: u64, w: [u64; 17]) -> Answer {
-    let shape = shape_of(w[0], doubles::of_bits(w[1]), doubles::of_bits(w[2]));
-    let c = cutter_of(w);
+fn answer_cutter(op: u64, w: &[u64; 17]) -> Answer {
+    let shape = recorded::shape_at(w, 0);
+    let c = recorded::cutter_at(w, 3);
     let h0 = doubles::of_bits(w[12]);
     let h1 = doubles::of_bits(w[13]);
     if op == 3 {
@@ -185,7 +154,7 @@ fn same(a: f64, b: f64) -> bool {
     false
 }
 
-fn agrees(x: Answer, w: [u64; 17]) -> bool {
+fn agrees(x: Answer, w: &[u64; 17]) -> bool {
     if x.kind == w[14] {
         if same(x.a, doubles::of_bits(w[15])) {
             return same(x.b, doubles::of_bits(w[16]));
@@ -194,7 +163,7 @@ fn agrees(x: Answer, w: [u64; 17]) -> bool {
     false
 }
 
-fn answer_of(op: u64, w: [u64; 17]) -> Answer {
+fn answer_of(op: u64, w: &[u64; 17]) -> Answer {
     if op < 3 {
         return answer_strips(op, w);
     }
@@ -202,31 +171,12 @@ fn answer_of(op: u64, w: [u64; 17]) -> Answer {
 }
 
 fn compared(text: &[u8]) -> Outcome {
-    let op = rows::hex_at(text, 0, 2);
-    if replay::is_missing(op) {
-        return Outcome::Unread;
-    }
-    let k = replay::value_of(op);
-    if k >= 8 {
-        return Outcome::Unread;
-    }
+    let k = replay::value_or(rows::hex_at(text, 0, 2), 256);
     let mut w = [0; 17];
     if !replay::read_words(text, 3, &mut w) {
         return Outcome::Unread;
     }
-    if agrees(answer_of(k, w), w) {
-        return Outcome::Agrees(k);
-    }
-    Outcome::Differs(k)
-}
-
-// Reads one row and counts it.
-fn step(t: Tally) -> Tally {
-    let mut text = [0u8; 292];
-    if io::read_full(libc::STDIN_FILENO, &mut text) == 0 {
-        return replay::end(t);
-    }
-    replay::count(t, compared(&text))
+    replay::told(k, 8, agrees(answer_of(k, &w), &w))
 }
 
 // The turns are counted down, since a proved loop has to end and nothing says that the input does.
@@ -234,24 +184,19 @@ fn counted() -> Tally {
     let mut t = replay::start();
     let mut turns = u64::MAX;
     while turns > 0 {
-        if t.done {
+        let mut text = [0u8; 292];
+        if !replay::read_row(&mut text) {
             break;
         }
-        t = step(t);
+        t = replay::count(t, compared(&text));
         turns -= 1;
     }
     t
 }
 
 fn main() {
-    let t = counted();
-    replay::print(b"disk_strip", t, 0);
-    replay::print(b"polygon_strip", t, 1);
-    replay::print(b"stadium_strip", t, 2);
-    replay::print(b"radius_at", t, 3);
-    replay::print(b"cut_radius", t, 4);
-    replay::print(b"cut_max", t, 5);
-    replay::print(b"cut_min", t, 6);
-    replay::print(b"check_tool", t, 7);
-    replay::print_end(t);
+    replay::print(
+        b"disk_strip polygon_strip stadium_strip radius_at cut_radius cut_max cut_min check_tool",
+        counted(),
+    );
 }

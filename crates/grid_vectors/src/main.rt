@@ -9,7 +9,6 @@ ghost use Rattle.grid_vectors.specs.Facts.{FactsOf};
 use grid::DexelGrid;
 use grid::DexelStockSpec;
 use grid::Gridded;
-use grid::Vec3;
 use grid::WorldAxis;
 use replay::Outcome;
 use replay::Tally;
@@ -86,37 +85,21 @@ fn answer(
     }
 }
 
-fn answer_to(w: [u64; 29]) -> [u64; 14] {
-    let spec = DexelStockSpec {
-        version: (w[0] % 0x1_0000_0000) as u32,
-        min_mm: Vec3 {
-            x: doubles::of_bits(w[2]),
-            y: doubles::of_bits(w[3]),
-            z: doubles::of_bits(w[4]),
-        },
-        max_mm: Vec3 {
-            x: doubles::of_bits(w[5]),
-            y: doubles::of_bits(w[6]),
-            z: doubles::of_bits(w[7]),
-        },
-        cell_size_mm: doubles::of_bits(w[8]),
-        max_rays: w[9],
-        max_intervals: w[10],
-    };
+fn answer_to(w: &[u64; 29]) -> [u64; 14] {
     let axis = WorldAxis((w[11] % 3) as u8);
-    answer(spec, w[1], axis, w[12], w[13], doubles::of_bits(w[14]))
+    answer(
+        recorded::spec_at(w, 0, 2),
+        w[1],
+        axis,
+        w[12],
+        w[13],
+        doubles::of_bits(w[14]),
+    )
 }
 
-// Whether the row's answer is this one.
-fn agrees(w: [u64; 29], got: [u64; 14]) -> bool {
-    let mut k: usize = 0;
-    while k < 14 {
-        if w[15 + k] != got[k] {
-            return false;
-        }
-        k += 1;
-    }
-    true
+fn agrees(w: &[u64; 29]) -> bool {
+    let got = answer_to(w);
+    recorded::numbers_agree(&got, w, 15, 14)
 }
 
 // Rows are counted by the number of the refusal that they ask for, or 0.
@@ -125,19 +108,7 @@ fn compared(text: &[u8]) -> Outcome {
     if !replay::read_words(text, 0, &mut w) {
         return Outcome::Unread;
     }
-    if agrees(w, answer_to(w)) {
-        return Outcome::Agrees(w[15]);
-    }
-    Outcome::Differs(w[15])
-}
-
-// Reads one row and counts it.
-fn step(t: Tally) -> Tally {
-    let mut text = [0u8; 493];
-    if io::read_full(libc::STDIN_FILENO, &mut text) == 0 {
-        return replay::end(t);
-    }
-    replay::count(t, compared(&text))
+    replay::told(w[15], 5, agrees(&w))
 }
 
 // The turns are counted down, since a proved loop has to end and nothing says that the input does.
@@ -145,21 +116,16 @@ fn counted() -> Tally {
     let mut t = replay::start();
     let mut turns = u64::MAX;
     while turns > 0 {
-        if t.done {
+        let mut text = [0u8; 493];
+        if !replay::read_row(&mut text) {
             break;
         }
-        t = step(t);
+        t = replay::count(t, compared(&text));
         turns -= 1;
     }
     t
 }
 
 fn main() {
-    let t = counted();
-    replay::print(b"accepted", t, 0);
-    replay::print(b"1", t, 1);
-    replay::print(b"2", t, 2);
-    replay::print(b"3", t, 3);
-    replay::print(b"4", t, 4);
-    replay::print_end(t);
+    replay::print(b"accepted 1 2 3 4", counted());
 }

@@ -5,41 +5,29 @@
 // number of the first that differs.
 use replay::Outcome;
 use replay::Tally;
-use rows::Word;
 
 // The most bytes of an input or an output.
 const MOST: usize = 16384;
 
-fn length_of(w: Word) -> usize {
-    match w {
-        Word::Value(v) => v as usize,
-        Word::Missing => 65536,
-    }
-}
-
 // Reads n bytes to the front of a buffer, and answers whether they were there.
 fn read_text(buf: &mut [u8], n: usize) -> bool {
-    if buf.len() < n {
-        return false;
-    }
-    io::read_full(libc::STDIN_FILENO, &mut buf[..n]) == n
+    io::read_full(libc::STDIN_FILENO, recorded::first_bytes_mut(buf, n)) == n
+}
+
+// Whether the first n bytes of the buffer are these.
+fn wrote(out: &[u8; 65536], n: usize, wanted: &[u8]) -> bool {
+    check::same(recorded::first_bytes(out, n), wanted)
 }
 
 // Whether an input gives this output.
 fn gives(s: &[u8], wanted: &[u8]) -> bool {
     let mut out = io::large_buffer();
-    let r = ray_text::run(s, &mut out);
-    check::same(&out[..r], wanted)
+    let n = ray_text::run(s, &mut out);
+    wrote(&out, n, wanted)
 }
 
 // Runs an input of n bytes, and compares with the m bytes that follow.
-fn compared(n: usize, m: usize) -> Outcome {
-    if MOST < n {
-        return Outcome::Unread;
-    }
-    if MOST < m {
-        return Outcome::Unread;
-    }
+fn ran(n: usize, m: usize) -> Outcome {
     let mut input = [0u8; MOST];
     if !read_text(&mut input, n) {
         return Outcome::Unread;
@@ -48,43 +36,36 @@ fn compared(n: usize, m: usize) -> Outcome {
     if !read_text(&mut wanted, m) {
         return Outcome::Unread;
     }
-    if gives(&input[..n], &wanted[..m]) {
-        return Outcome::Agrees(0);
-    }
-    Outcome::Differs(0)
+    let s = recorded::first_bytes(&input, n);
+    replay::told(0, 1, gives(s, recorded::first_bytes(&wanted, m)))
 }
 
-// Reads one case and counts it. What follows one that can't be read is not looked at.
-fn step(t: Tally) -> Tally {
-    let mut head = [0u8; 10];
-    if io::read_full(libc::STDIN_FILENO, &mut head) == 0 {
-        return replay::end(t);
-    }
-    let a = length_of(rows::hex_at(&head, 0, 4));
-    let b = length_of(rows::hex_at(&head, 5, 4));
-    let o = compared(a, b);
-    match o {
-        Outcome::Unread => replay::end(replay::count(t, o)),
-        _ => replay::count(t, o),
-    }
+// Where the head can't be read, a length is more than the most.
+fn compared(head: &[u8]) -> Outcome {
+    let n = replay::value_or(rows::hex_at(head, 0, 4), 65536);
+    let m = replay::value_or(rows::hex_at(head, 5, 4), 65536);
+    ran(n as usize, m as usize)
 }
 
+// What follows a case that can't be read is not looked at.
 // The turns are counted down, since a proved loop has to end and nothing says that the input does.
 fn counted() -> Tally {
     let mut t = replay::start();
     let mut turns = u64::MAX;
     while turns > 0 {
-        if t.done {
+        let mut head = [0u8; 10];
+        if !replay::read_row(&mut head) {
             break;
         }
-        t = step(t);
+        t = replay::count(t, compared(&head));
+        if t.unread > 0 {
+            break;
+        }
         turns -= 1;
     }
     t
 }
 
 fn main() {
-    let t = counted();
-    replay::print(b"cases", t, 0);
-    replay::print_end(t);
+    replay::print(b"cases", counted());
 }

@@ -10,7 +10,7 @@ use lib.Seq.{getD-set-same, getD-set-other}
 use Rattle.rows.specs.Hex.{hexAt}
 use Rattle.rows.specs.declared.Word.{Word}
 use Rattle.rows.specs.declared.Word.the-variants.{Value, Missing}
-use Rattle.replay.specs.Words.{valueOf, isMissing, Reads, all-read, one-missing}
+use Rattle.replay.specs.Words.{valueOr, isMissing, Reads, all-read, one-missing}
 
 pub record ReadTo (text : List ℕ) (at size : ℕ) (out : List ℕ) (i : ℕ) : Type 0 where
   pub same : length out ≡ size
@@ -24,8 +24,8 @@ none-read text at out = record { same = refl; most = omega arith; read = λ j h.
     never j h = omega (arith, h)
 
 -- a word that is not missing is a number
-a-value : (w : Word) → isMissing w ≡ false → w ≡ Value (valueOf w)
-unfolding isMissing valueOf
+a-value : (w : Word) → isMissing w ≡ false → w ≡ Value (valueOr w 0)
+unfolding isMissing valueOr
 a-value (Value v) h = refl
 a-value Missing h = absurd (true≢false h)
 
@@ -35,7 +35,7 @@ no-value (Value v) h = absurd (false≢true h)
 no-value Missing h = refl
 
 pub one-read : (text : List ℕ) (at size : ℕ) (out : List ℕ) (i : ℕ) (w : Word) (v : ℕ) → ReadTo text at size out i → i < length out
-    → w ≡ hexAt text (at + 17 * i) 16 → isMissing w ≡ false → v ≡ valueOf w → ReadTo text at size (set out i v) (i + 1)
+    → w ≡ hexAt text (at + 17 * i) 16 → isMissing w ≡ false → v ≡ valueOr w 0 → ReadTo text at size (set out i v) (i + 1)
 one-read text at size out i w v s h e m f =
     record {
       same = length-set out i v ∙ s .same;

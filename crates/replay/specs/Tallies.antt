@@ -1,8 +1,8 @@
 -- What is counted of the rows of a replay.
-use mathlib.Core.Bool.{true, false, cond}
+use mathlib.Core.Bool.{Bool, cond}
 use mathlib.Core.List.{List}
 use Prim.Native.Nat.{ℕ, _+_}
-use lib.Dec.{eqb, ltb}
+use lib.Dec.{eqb, ltb, leb}
 use lib.ListN.{getD, set, replicate}
 use Rattle.replay.specs.declared.Tally.{Tally}
 use Rattle.replay.specs.declared.Outcome.{Outcome}
@@ -10,7 +10,7 @@ use Rattle.replay.specs.declared.Outcome.the-variants.{Agrees, Differs, 
 
 -- no row yet
 unfoldable pub none : Tally
-none = record { agree = replicate 16 0; differ = replicate 16 0; unread = 0; rows = 0; first = 0; done = false }
+none = record { agree = replicate 16 0; differ = replicate 16 0; unread = 0; rows = 0; first = 0 }
 
 -- one more, up to the largest count
 unfoldable pub up : ℕ → ℕ
@@ -28,7 +28,7 @@ firstOf first row = cond (eqb first 0) row first
 -- a row more of function k that agrees, that differs, and one that cannot be read
 unfoldable pub agreed : Tally → ℕ → Tally
 unfolding up upAt
-agreed t k = record { agree = upAt (t .agree) k; differ = t .differ; unread = t .unread; rows = up (t .rows); first = t .first; done = t .done }
+agreed t k = record { agree = upAt (t .agree) k; differ = t .differ; unread = t .unread; rows = up (t .rows); first = t .first }
 
 unfoldable pub differed : Tally → ℕ → Tally
 unfolding up upAt firstOf
@@ -39,12 +39,11 @@ differed t k =
       unread = t .unread;
       rows = up (t .rows);
       first = firstOf (t .first) (up (t .rows));
-      done = t .done;
     }
 
 unfoldable pub missed : Tally → Tally
 unfolding up
-missed t = record { agree = t .agree; differ = t .differ; unread = up (t .unread); rows = up (t .rows); first = t .first; done = t .done }
+missed t = record { agree = t .agree; differ = t .differ; unread = up (t .unread); rows = up (t .rows); first = t .first }
 
 -- a row more; one of a function that has no place cannot be read
 unfoldable pub counted : Tally → Outcome → Tally
@@ -53,6 +52,6 @@ counted t (Agrees k) = cond (ltb k 16) (agreed t k) (missed t)
 counted t (Differs k) = cond (ltb k 16) (differed t k) (missed t)
 counted t Unread = missed t
 
--- no row is left
-unfoldable pub ended : Tally → Tally
-ended t = record { agree = t .agree; differ = t .differ; unread = t .unread; rows = t .rows; first = t .first; done = true }
+-- what a row of function k of so many showed
+unfoldable pub outcomeOf : (k functions : ℕ) → Bool → Outcome
+outcomeOf k functions agrees = cond (leb functions k) Unread (cond agrees (Agrees k) (Differs k))

@@ -8,10 +8,10 @@ use Rattle.rows.specs.Hex.{hexAt}
 use Rattle.rows.specs.declared.Word.{Word}
 use Rattle.rows.specs.declared.Word.the-variants.{Value, Missing}
 
--- a word's number, 0 for none, and whether there is none
-unfoldable pub valueOf : Word → ℕ
-valueOf (Value v) = v
-valueOf Missing = 0
+-- a word's number, the other one for none, and whether there is none
+unfoldable pub valueOr : Word → (other : ℕ) → ℕ
+valueOr (Value v) other = v
+valueOr Missing other = other
 
 unfoldable pub isMissing : Word → Bool
 isMissing (Value v) = false

@@ -2,8 +2,8 @@
 ghost use mathlib.Core.Path.{_≡_};
 ghost use Prim.Native.Nat.{_+_, _*_, _^_, _<_};
 ghost use lib.ListN.{length};
-ghost use Rattle.replay.specs.Tallies.{none, up, firstOf, agreed, differed, missed, counted, ended};
-ghost use Rattle.replay.specs.Words.{valueOf, isMissing, Reads};
+ghost use Rattle.replay.specs.Tallies.{none, up, firstOf, agreed, differed, missed, counted, outcomeOf};
+ghost use Rattle.replay.specs.Words.{valueOr, isMissing, Reads};
 use rows::Word;
 
 // What a row showed of the function of this number, or that it can't be read.
@@ -13,15 +13,13 @@ pub enum Outcome {
     Unread,
 }
 
-// How many rows of each function agree and differ, how many can't be read, how many there were, the number of the first that differs, from 1, and
-// whether no row is left.
+// How many rows of each function agree and differ, how many can't be read, how many there were, and the number of the first that differs, from 1.
 pub struct Tally {
     pub agree: [u64; 16],
     pub differ: [u64; 16],
     pub unread: u64,
     pub rows: u64,
     pub first: u64,
-    pub done: bool,
 }
 
 pub fn start() -> Tally
@@ -33,7 +31,6 @@ pub fn start() -> Tally
         unread: 0,
         rows: 0,
         first: 0,
-        done: false,
     }
 }
 
@@ -107,26 +104,30 @@ pub fn count(t: Tally, o: Outcome) -> Tally
     }
 }
 
-// No row is left.
-pub fn end(t: Tally) -> Tally
-    ensures { λ r. ⌜ r ≡ ended t ⌝ }
+// What a row of function k of so many showed.
+pub fn told(k: u64, functions: u64, agrees: bool) -> Outcome
+    ensures { λ r. ⌜ r ≡ outcomeOf k functions agrees ⌝ }
 {
-    let mut last = t;
-    last.done = true;
-    last
+    if functions <= k {
+        return Outcome::Unread;
+    }
+    if agrees {
+        return Outcome::Agrees(k);
+    }
+    Outcome::Differs(k)
 }
 
-// A word's number, 0 for none.
-pub fn value_of(w: Word) -> u64
-    ensures { λ r. ⌜ r ≡ valueOf w ⌝ }
+// A word's number, and the other number for none.
+pub fn value_or(w: Word, other: u64) -> u64
+    ensures { λ r. ⌜ r ≡ valueOr w other ⌝ }
 {
     match w {
         Word::Value(v) => v,
-        Word::Missing => 0,
+        Word::Missing => other,
     }
 }
 
-pub fn is_missing(w: Word) -> bool
+fn is_missing(w: Word) -> bool
     ensures { λ r. ⌜ r ≡ isMissing w ⌝ }
 {
     match w {
@@ -146,10 +147,15 @@ pub fn read_words(text: &[u8], at: usize, out: &mut [u64]) -> bool
         if is_missing(w) {
             return false;
         }
-        out[i] = value_of(w);
+        out[i] = value_or(w, 0);
         i += 1;
     }
     true
+}
+
+// Reads the next row of standard input, and answers whether there was one. Where the input ends within it, the rest of `text` stays.
+pub fn read_row(text: &mut [u8]) -> bool {
+    io::read_full(libc::STDIN_FILENO, text) != 0
 }
 
 fn print_number(name: &[u8], n: u64) {
@@ -159,7 +165,7 @@ fn print_number(name: &[u8], n: u64) {
 }
 
 // Prints how many rows of function k agree and differ.
-pub fn print(name: &[u8], t: Tally, k: usize) {
+fn print_counts(name: &[u8], t: Tally, k: usize) {
     if k < 16 {
         print_number(name, t.agree[k]);
         print_number(b"", t.differ[k]);
@@ -168,8 +174,27 @@ pub fn print(name: &[u8], t: Tally, k: usize) {
 }
 
 // Prints how many rows can't be read, and the first that differs, 0 for none.
-pub fn print_end(t: Tally) {
+fn print_end(t: Tally) {
     print_number(b"unread", t.unread);
     print_number(b"\nfirst that differs", t.first);
     io::write_all(libc::STDOUT_FILENO, b"\n");
+}
+
+// Prints the counts of each function, and what is left of the tally. The functions' names stand in order, with a space between two.
+pub fn print(names: &[u8], t: Tally) {
+    let mut start = 0;
+    let mut k = 0;
+    let mut i = 0;
+    while i < names.len() {
+        let end = i;
+        i += 1;
+        if names[end] != b' ' {
+            continue;
+        }
+        print_counts(&names[start..end], t, k);
+        start = i;
+        k += 1;
+    }
+    print_counts(&names[start..], t, k);
+    print_end(t);
 }

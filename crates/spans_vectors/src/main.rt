@@ -15,33 +15,6 @@ struct Reply {
     count: u64,
 }
 
-// What a function answered and left in its buffer.
-struct Called {
-    reply: Reply,
-    out: [f64; 15],
-}
-
-// The seven cells of a list from word `from` on.
-fn cells(words: [u64; 35], from: usize) -> [f64; 7] {
-    let mut out = [0.0; 7];
-    let mut k: usize = 0;
-    while k < 7 {
-        if from < 29 - k {
-            out[k] = doubles::of_bits(words[from + k]);
-        }
-        k += 1;
-    }
-    out
-}
-
-// The first n cells, or all where there are fewer.
-fn first_of(s: &[f64], n: usize) -> &[f64] {
-    if n < s.len() {
-        return &s[..n];
-    }
-    s
-}
-
 fn listed(l: Listed) -> Reply {
     match l {
         Listed::Pairs(n) => Reply {
@@ -89,91 +62,49 @@ fn reply_of(op: u64, a: &[f64], b: &[f64], out: &mut [f64]) -> Reply {
     told(comparing::overlaps(a, b))
 }
 
-// The same, with the first n cells of the buffer.
-fn reply_within(op: u64, a: &[f64], b: &[f64], out: &mut [f64], n: usize) -> Reply {
-    if n < out.len() {
-        return reply_of(op, a, b, &mut out[..n]);
-    }
-    reply_of(op, a, b, out)
-}
-
-fn call_of(words: [u64; 35]) -> Called {
-    let a = cells(words, 4);
-    let b = cells(words, 11);
-    let mut out = [7.0; 15];
-    let reply = reply_within(
-        words[0],
-        first_of(&a, words[1] as usize),
-        first_of(&b, words[2] as usize),
-        &mut out,
-        words[3] as usize,
-    );
-    Called { reply, out }
-}
-
-// Whether the buffer is the recorded one: the first `ends` cells as numbers, the others bit for bit.
-fn same_cells(out: [f64; 15], words: [u64; 35], ends: u64) -> bool {
-    let mut k: usize = 0;
-    while k < 15 {
-        let w = words[20 + k];
-        if (k as u64) < ends {
-            if out[k] != doubles::of_bits(w) {
-                return false;
-            }
-        } else {
-            if doubles::bits_of(out[k]) != w {
-                return false;
-            }
-        }
-        k += 1;
-    }
-    true
+// Words 1 to 3: the cells of the two lists, which stand from 4 and 11 on, and of the buffer.
+fn reply_to(w: &[u64; 35], out: &mut [f64]) -> Reply {
+    let mut a = [0.0; 7];
+    recorded::doubles_at(w, 4, &mut a);
+    let mut b = [0.0; 7];
+    recorded::doubles_at(w, 11, &mut b);
+    reply_of(
+        w[0],
+        recorded::first(&a, w[1] as usize),
+        recorded::first(&b, w[2] as usize),
+        recorded::first_mut(out, w[3] as usize),
+    )
 }
 
 // How many cells of the buffer are a result.
-fn ends_of(op: u64, r: Reply) -> u64 {
+fn ends_of(op: u64, r: Reply) -> usize {
     if op < 3 {
         if r.count < 8 {
-            return 2 * r.count;
+            return (2 * r.count) as usize;
         }
     }
     0
 }
 
-fn agrees(words: [u64; 35]) -> bool {
-    let o = call_of(words);
-    let r = o.reply;
-    if r.refused != words[18] {
+// Words 18, 19: the refusal and the count; the buffer from 20 on.
+fn agrees(w: &[u64; 35]) -> bool {
+    let mut out = [7.0; 15];
+    let r = reply_to(w, &mut out);
+    if r.refused != w[18] {
         return false;
     }
-    if r.count != words[19] {
+    if r.count != w[19] {
         return false;
     }
-    let out = o.out;
-    same_cells(out, words, ends_of(words[0], r))
+    recorded::cells_agree(&out, w, 20, ends_of(w[0], r), 15)
 }
 
 fn compared(text: &[u8]) -> Outcome {
-    let mut words = [0; 35];
-    if !replay::read_words(text, 0, &mut words) {
+    let mut w = [0; 35];
+    if !replay::read_words(text, 0, &mut w) {
         return Outcome::Unread;
     }
-    if words[0] >= 5 {
-        return Outcome::Unread;
-    }
-    if agrees(words) {
-        return Outcome::Agrees(words[0]);
-    }
-    Outcome::Differs(words[0])
-}
-
-// Reads one row and counts it.
-fn step(t: Tally) -> Tally {
-    let mut text = [0u8; 595];
-    if io::read_full(libc::STDIN_FILENO, &mut text) == 0 {
-        return replay::end(t);
-    }
-    replay::count(t, compared(&text))
+    replay::told(w[0], 5, agrees(&w))
 }
 
 // The turns are counted down, since a proved loop has to end and nothing says that the input does.
@@ -181,21 +112,16 @@ fn counted() -> Tally {
     let mut t = replay::start();
     let mut turns = u64::MAX;
     while turns > 0 {
-        if t.done {
+        let mut text = [0u8; 595];
+        if !replay::read_row(&mut text) {
             break;
         }
-        t = step(t);
+        t = replay::count(t, compared(&text));
         turns -= 1;
     }
     t
 }
 
 fn main() {
-    let t = counted();
-    replay::print(b"normalize", t, 0);
-    replay::print(b"subtract", t, 1);
-    replay::print(b"intersect", t, 2);
-    replay::print(b"contains", t, 3);
-    replay::print(b"overlaps", t, 4);
-    replay::print_end(t);
+    replay::print(b"normalize subtract intersect contains overlaps", counted());
 }

@@ -34,8 +34,8 @@ same-length c = c .before .before .before .before .loop .inv .same
 returns : tie.Need-returns Inv-loop μ-loop
 returns c = read-stops _ _ _ _ _ (c .before .before .before .loop-test .taken) (c .before .before .word-at .ensures) (sym (c .before .is-missing .ensures) ∙ c .if1 .taken)
 
-value-of-requires : tie.Need-value-of-requires Inv-loop μ-loop
-value-of-requires c κs = search needs
+value-or-requires : tie.Need-value-or-requires Inv-loop μ-loop
+value-or-requires c κs = search needs
 
 mul-out : tie.Need-mul-out Inv-loop μ-loop
 mul-out c = search needs
@@ -50,7 +50,7 @@ loop-less : tie.Need-loop-less Inv-loop μ-loop
 loop-less c = search needs
 
 loop-again : tie.Need-loop-again Inv-loop μ-loop
-loop-again c = one-read _ _ _ _ _ _ _ (c .before .before .before .before .before .loop .inv) (c .before .before .before .before .loop-test .taken) (c .before .before .before .word-at .ensures) (sym (c .before .before .is-missing .ensures) ∙ c .before .if1 .left) (c .value-of .ensures)
+loop-again c = one-read _ _ _ _ _ _ _ (c .before .before .before .before .before .loop .inv) (c .before .before .before .before .loop-test .taken) (c .before .before .before .word-at .ensures) (sym (c .before .before .is-missing .ensures) ∙ c .before .if1 .left) (c .value-or .ensures)
 
 same-length-2 : tie.Need-same-length-2 Inv-loop μ-loop
 same-length-2 c = c .before .loop .inv .same
@@ -71,7 +71,7 @@ read-words-spec =
     is-missing-requires
     same-length
     returns
-    value-of-requires
+    value-or-requires
     mul-out
     slice-write-out
     add-i
