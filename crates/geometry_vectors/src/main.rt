@@ -8,11 +8,11 @@ use cutter::CutterShape;
 use cutter::PreparedCutter;
 use cutter::ProfileSlice;
 use cutter::Radius;
-use cutter::ToolCheck;
 use replay::Outcome;
 use replay::Tally;
 use strips::Point;
 use strips::Strip;
+use tool_check::ToolCheck;
 
 struct Answer {
     kind: u64,
@@ -171,7 +171,7 @@ fn answer_cutter(op: u64, w: [u64; 17]) -> Answer {
     if op == 6 {
         return radius_answer(cutter::cut_min(shape, c, h0, h1));
     }
-    check_answer(cutter::check_tool(shape, c))
+    check_answer(tool_check::check_tool(shape, c))
 }
 
 // Equal as numbers, or both NaN.

@@ -3,15 +3,15 @@ ghost use mathlib.Core.Path.{_≡_};
 ghost use Rattle.strips.specs.Strip.{diskStrip, stadiumStrip};
 ghost use Rattle.strips.specs.Polygon.{polygonStrip};
 ghost use Rattle.cutter.specs.Cutter.{radiusAt, cutRadius, cutMax, cutMin};
-ghost use Rattle.cutter.specs.Limits.{Checked};
+ghost use Rattle.tool_check.specs.Limits.{Checked};
 ghost use Rattle.inner_geometry.specs.Geometry.{stripAs, sliceAs, radiusAs, CheckedAs};
 ghost use Rattle.named.specs.Named.{namedShape};
 use cutter::PreparedCutter;
 use cutter::ProfileSlice;
 use cutter::Radius;
-use cutter::ToolCheck;
 use strips::Point;
 use strips::Strip;
+use tool_check::ToolCheck;
 
 #[repr(C)]
 pub struct StripNumbers {
@@ -172,7 +172,7 @@ pub extern "C" fn tridexel_inner_cut_min(
 pub extern "C" fn tridexel_inner_check_tool(kind: u64, m: f64, n: f64, c: PreparedCutter) -> u32
     ensures { λ r. ⌜ CheckedAs (Checked (namedShape kind m n) c) r ⌝ }
 {
-    let t = cutter::check_tool(named::named_shape(kind, m, n), c);
+    let t = tool_check::check_tool(named::named_shape(kind, m, n), c);
     match t {
         ToolCheck::Accepted => 0,
         ToolCheck::Refused(k) => k,

@@ -14,7 +14,6 @@ use across::Profile;
 use across::Rectangle;
 use cutter::CutterShape;
 use cutter::PreparedCutter;
-use cutter::ToolCheck;
 use frame::Axis;
 use frame::Frame;
 use frame::LocalAxis;
@@ -22,6 +21,7 @@ use grid::DexelGrid;
 use grid::DexelStockSpec;
 use grid::Gridded;
 use grid::WorldAxis;
+use tool_check::ToolCheck;
 use visits::Cursor;
 use visits::Progress;
 use visits::Track;
@@ -250,7 +250,7 @@ fn check_sweep(
         return SweepCheck::Declined(11);
     }
     let shape = p.shape;
-    let tool = cutter::check_tool(shape, p.cutter);
+    let tool = tool_check::check_tool(shape, p.cutter);
     match tool {
         ToolCheck::Refused(n) => {
             return SweepCheck::Declined(n);

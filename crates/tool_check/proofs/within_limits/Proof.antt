@@ -1,7 +1,7 @@
-use Rattle.cutter.specs.Limits.{withinLimits}
+use Rattle.tool_check.specs.Limits.{withinLimits}
 use borrow.Author.Needs.{needs}
-use Rattle.cutter.proofs.within_limits.Statement.{statement}
-use Rattle.cutter.proofs.within_limits.Tie as tie
+use Rattle.tool_check.proofs.within_limits.Statement.{statement}
+use Rattle.tool_check.proofs.within_limits.Tie as tie
 
 lengths-fit-requires : tie.Need-lengths-fit-requires
 lengths-fit-requires c κs = search needs

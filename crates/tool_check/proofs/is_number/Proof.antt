@@ -1,7 +1,7 @@
-use Rattle.cutter.specs.Limits.{number}
+use Rattle.tool_check.specs.Limits.{number}
 use Rattle.doubles.proofs.Order.{ne-self}
-use Rattle.cutter.proofs.is_number.Statement.{statement}
-use Rattle.cutter.proofs.is_number.Tie as tie
+use Rattle.tool_check.proofs.is_number.Statement.{statement}
+use Rattle.tool_check.proofs.is_number.Tie as tie
 
 returns : tie.Need-returns
 unfolding number

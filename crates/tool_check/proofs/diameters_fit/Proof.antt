@@ -1,7 +1,7 @@
-use Rattle.cutter.specs.Limits.{diametersFit}
+use Rattle.tool_check.specs.Limits.{diametersFit}
 use borrow.Author.Needs.{needs}
-use Rattle.cutter.proofs.diameters_fit.Statement.{statement}
-use Rattle.cutter.proofs.diameters_fit.Tie as tie
+use Rattle.tool_check.proofs.diameters_fit.Statement.{statement}
+use Rattle.tool_check.proofs.diameters_fit.Tie as tie
 
 is-number-requires : tie.Need-is-number-requires
 is-number-requires c κs = search needs

@@ -6,11 +6,11 @@ use Rattle.doubles.specs.Constants.{million, plusZero}
 use Rattle.doubles.specs.Doubles.{Number, clampOf}
 use Rattle.doubles.proofs.Bools.{and-left, and-right}
 use Rattle.doubles.proofs.Order.{le-refl, le-trans, lt→le, le-number, le→not-lt, not-lt→le}
 use Rattle.cutter.specs.declared.CutterShape.{CutterShape}
 use Rattle.cutter.specs.declared.PreparedCutter.{PreparedCutter}
 use Rattle.cutter.specs.declared.ProfileSlice.the-variants.{Cutting}
 use Rattle.cutter.specs.Cutter.{isFinite, offTool, cuttingRadius, radiusAt, radiusOf, cutRadius}
-use Rattle.cutter.specs.Limits.{aboveZero, sizesFit, heightsFit, lengthsFit, diametersFit, shapeFits, withinLimits}
+use Rattle.tool_check.specs.Limits.{aboveZero, sizesFit, heightsFit, lengthsFit, diametersFit, shapeFits, withinLimits}
 
 finite-between : (x : Float) → le plusZero x ≡ true → le x million ≡ true → isFinite x ≡ true
 unfolding isFinite lt eq le ofBits

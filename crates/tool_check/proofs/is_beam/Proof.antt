@@ -1,7 +1,7 @@
-use Rattle.cutter.specs.Limits.{isBeam}
+use Rattle.tool_check.specs.Limits.{isBeam}
 use borrow.Author.Needs.{needs}
-use Rattle.cutter.proofs.is_beam.Statement.{statement}
-use Rattle.cutter.proofs.is_beam.Tie as tie
+use Rattle.tool_check.proofs.is_beam.Statement.{statement}
+use Rattle.tool_check.proofs.is_beam.Tie as tie
 
 enum-told : tie.Need-enum-told
 enum-told c = search needs

@@ -1,7 +1,7 @@
-use Rattle.cutter.specs.Limits.{sizesFit}
+use Rattle.tool_check.specs.Limits.{sizesFit}
 use borrow.Author.Needs.{needs}
-use Rattle.cutter.proofs.sizes_fit.Statement.{statement}
-use Rattle.cutter.proofs.sizes_fit.Tie as tie
+use Rattle.tool_check.proofs.sizes_fit.Statement.{statement}
+use Rattle.tool_check.proofs.sizes_fit.Tie as tie
 
 is-above-zero-requires : tie.Need-is-above-zero-requires
 is-above-zero-requires c κs = search needs

@@ -1,6 +1,6 @@
-use Rattle.cutter.specs.Limits.{aboveZero}
-use Rattle.cutter.proofs.is_above_zero.Statement.{statement}
-use Rattle.cutter.proofs.is_above_zero.Tie as tie
+use Rattle.tool_check.specs.Limits.{aboveZero}
+use Rattle.tool_check.proofs.is_above_zero.Statement.{statement}
+use Rattle.tool_check.proofs.is_above_zero.Tie as tie
 
 returns : tie.Need-returns
 unfolding aboveZero

@@ -4,8 +4,8 @@ use Rattle.refusal.specs.Refusal.{NoneDue}
 use Rattle.refusal.proofs.Laws.{first, later}
 use Rattle.doubles.proofs.Bools.{clash}
 use borrow.Author.Needs.{needs}
-use Rattle.cutter.proofs.check_tool.Statement.{statement}
-use Rattle.cutter.proofs.check_tool.Tie as tie
+use Rattle.tool_check.proofs.check_tool.Statement.{statement}
+use Rattle.tool_check.proofs.check_tool.Tie as tie
 
 is-beam-requires : tie.Need-is-beam-requires
 is-beam-requires c κs = search needs

@@ -1,7 +1,7 @@
-use Rattle.cutter.specs.Limits.{shapeFits}
+use Rattle.tool_check.specs.Limits.{shapeFits}
 use borrow.Author.Needs.{needs}
-use Rattle.cutter.proofs.shape_fits.Statement.{statement}
-use Rattle.cutter.proofs.shape_fits.Tie as tie
+use Rattle.tool_check.proofs.shape_fits.Statement.{statement}
+use Rattle.tool_check.proofs.shape_fits.Tie as tie
 
 enum-told : tie.Need-enum-told
 enum-told c = search needs

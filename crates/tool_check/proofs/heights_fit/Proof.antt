@@ -1,7 +1,7 @@
-use Rattle.cutter.specs.Limits.{heightsFit}
+use Rattle.tool_check.specs.Limits.{heightsFit}
 use borrow.Author.Needs.{needs}
-use Rattle.cutter.proofs.heights_fit.Statement.{statement}
-use Rattle.cutter.proofs.heights_fit.Tie as tie
+use Rattle.tool_check.proofs.heights_fit.Statement.{statement}
+use Rattle.tool_check.proofs.heights_fit.Tie as tie
 
 is-from-zero-requires : tie.Need-is-from-zero-requires
 is-from-zero-requires c κs = search needs

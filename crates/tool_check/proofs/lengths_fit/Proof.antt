@@ -1,6 +1,6 @@
-use Rattle.cutter.specs.Limits.{lengthsFit}
-use Rattle.cutter.proofs.lengths_fit.Statement.{statement}
-use Rattle.cutter.proofs.lengths_fit.Tie as tie
+use Rattle.tool_check.specs.Limits.{lengthsFit}
+use Rattle.tool_check.proofs.lengths_fit.Statement.{statement}
+use Rattle.tool_check.proofs.lengths_fit.Tie as tie
 
 returns : tie.Need-returns
 unfolding lengthsFit

@@ -1,6 +1,6 @@
-use Rattle.cutter.specs.Limits.{fromZero}
-use Rattle.cutter.proofs.is_from_zero.Statement.{statement}
-use Rattle.cutter.proofs.is_from_zero.Tie as tie
+use Rattle.tool_check.specs.Limits.{fromZero}
+use Rattle.tool_check.proofs.is_from_zero.Statement.{statement}
+use Rattle.tool_check.proofs.is_from_zero.Tie as tie
 
 returns : tie.Need-returns
 unfolding fromZero
