@@ -8,10 +8,10 @@ use cutter::CutterShape;
 use cutter::PreparedCutter;
 use cutter::ProfileSlice;
 use cutter::Radius;
+use polygons::Point;
+use polygons::Strip;
 use replay::Outcome;
 use replay::Tally;
-use strips::Point;
-use strips::Strip;
 use tool_check::ToolCheck;
 
 struct Answer {
@@ -102,7 +102,7 @@ fn answer_strips(op: u64, w: [u64; 17]) -> Answer {
         ));
     }
     if op == 1 {
-        return strip_answer(strips::polygon_strip(
+        return strip_answer(polygons::polygon_strip(
             point(w[0], w[1]),
             point(w[2], w[3]),
             point(w[4], w[5]),

@@ -1,7 +1,7 @@
 // The strips and the cutter under C names, for the oracle and the benchmark only. An answer that is an enum comes back as a struct of numbers; a shape goes in as a number and its own numbers.
 ghost use mathlib.Core.Path.{_≡_};
 ghost use Rattle.strips.specs.Strip.{diskStrip, stadiumStrip};
-ghost use Rattle.strips.specs.Polygon.{polygonStrip};
+ghost use Rattle.polygons.specs.Polygon.{polygonStrip};
 ghost use Rattle.cutter.specs.Cutter.{radiusAt, cutRadius, cutMax, cutMin};
 ghost use Rattle.tool_check.specs.Limits.{Checked};
 ghost use Rattle.inner_geometry.specs.Geometry.{stripAs, sliceAs, radiusAs, CheckedAs};
@@ -9,8 +9,8 @@ ghost use Rattle.named.specs.Named.{namedShape};
 use cutter::PreparedCutter;
 use cutter::ProfileSlice;
 use cutter::Radius;
-use strips::Point;
-use strips::Strip;
+use polygons::Point;
+use polygons::Strip;
 use tool_check::ToolCheck;
 
 #[repr(C)]
@@ -61,7 +61,7 @@ pub extern "C" fn tridexel_inner_polygon_strip(
 ) -> StripNumbers
     ensures { λ x. ⌜ x ≡ stripAs (polygonStrip p q r s y0 y1) ⌝ }
 {
-    strip_numbers(strips::polygon_strip(p, q, r, s, y0, y1))
+    strip_numbers(polygons::polygon_strip(p, q, r, s, y0, y1))
 }
 
 #[no_mangle]

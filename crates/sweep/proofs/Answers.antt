@@ -26,8 +26,8 @@ use Rattle.stock.specs.Stock.{SoundCells, Tells, short}
 use Rattle.stock.proofs.Causes.{due-first, due-second, none-in-both, room-of}
 use Rattle.stock.proofs.Rays.{sound-chained}
 use Rattle.stock.proofs.Answers.{accepted, refused}
-use Rattle.across.specs.declared.Kernel.{Kernel}
-use Rattle.across.specs.declared.Profile.{Profile}
+use Rattle.lanes.specs.declared.Kernel.{Kernel}
+use Rattle.lanes.specs.declared.Profile.{Profile}
 use Rattle.store.specs.Updates.{Cells}
 use Rattle.visits.specs.Walk.{Walks, Stop}
 use Rattle.visits.specs.declared.Cursor.{Cursor}

@@ -28,8 +28,9 @@ use Rattle.stock.specs.Uncut.{recordAt, uncutSpans, uncutLinks, uncutHeads, unc
 use Rattle.stock.proofs.Causes.{none-in-both, room-of}
 use Rattle.stock.proofs.Answers.{accepted}
 use Rattle.stock.proofs.UncutSound.{uncut-sound}
-use Rattle.across.specs.Meets.{lastOf, spansMeet, overlapsOf}
-use Rattle.across.specs.Lane.{planPoint, reachOf, sideOf, laneOf, spanOver, cellsMet, cellsAcross, rectangleOf, centerOf, sectionWith, sectionOf}
+use Rattle.meeting.specs.Meets.{lastOf, spansMeet, overlapsOf}
+use Rattle.lanes.specs.Lane.{planPoint, reachOf, sideOf, laneOf, spanOver, cellsMet, cellsAcross, rectangleOf}
+use Rattle.across.specs.Section.{centerOf, sectionWith, sectionOf}
 use Rattle.across.specs.Across.{outerFrom, outerOf, innerFrom, innerOf, hitOf}
 use Rattle.visits.specs.Entries.{entryOf, entryFor, rayEntry, each, rowEntries, rectEntries, raysIn, sum}
 use Rattle.visits.specs.Walk.{walk}

@@ -18,7 +18,7 @@ use Rattle.cutter.specs.declared.CutterShape.{CutterShape}
 use Rattle.cutter.specs.declared.PreparedCutter.{PreparedCutter}
 use Rattle.store.specs.Updates.{Cells}
 use Rattle.stock.specs.Stock.{SoundCells, short}
-use Rattle.across.specs.Lane.{profileOf}
+use Rattle.lanes.specs.Lane.{profileOf}
 use Rattle.visits.specs.Entries.{entryCount}
 use Rattle.visits.specs.Walk.{Walked, Stop, walk}
 use Rattle.visits.specs.declared.Progress.{Progress}
