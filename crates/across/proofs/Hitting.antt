@@ -3,12 +3,12 @@ use mathlib.Core.Path.{_≡_}
 use mathlib.Core.Bool.{true, false}
 use mathlib.Core.List.{List}
 use lib.Ieee.{Float}
-use Rattle.strips.specs.declared.Strip.the-variants.{Hit, Miss}
-use Rattle.across.specs.declared.Profile.{Profile}
-use Rattle.across.specs.declared.Lane.{Lane}
+use Rattle.polygons.specs.declared.Strip.the-variants.{Hit, Miss}
+use Rattle.lanes.specs.declared.Profile.{Profile}
+use Rattle.lanes.specs.declared.Lane.{Lane}
 use Rattle.across.specs.declared.Section.{Section}
 use Rattle.across.specs.declared.RayHit.the-variants.{On, Off}
-use Rattle.across.specs.Meets.{spansMeet, overlapsOf}
+use Rattle.meeting.specs.Meets.{spansMeet, overlapsOf}
 use Rattle.across.specs.Across.{pair, outerOf, innerOf, hitOf}
 
 module _ (p : Profile) (l : Lane) (s : Section) (possible : List Float) where

@@ -10,14 +10,14 @@ use Rattle.cutter.specs.declared.Radius.the-variants.{Is}
 use Rattle.frame.specs.Frame.{worldOf}
 use Rattle.frame.specs.declared.Pair.{Pair}
 use Rattle.strips.specs.Strip.{stadiumStrip}
-use Rattle.strips.specs.declared.Strip.{Strip}
-use Rattle.strips.specs.declared.Strip.the-variants.{Hit, Miss}
-use Rattle.across.specs.declared.Profile.{Profile}
-use Rattle.across.specs.declared.Lane.{Lane}
+use Rattle.polygons.specs.declared.Strip.{Strip}
+use Rattle.polygons.specs.declared.Strip.the-variants.{Hit, Miss}
+use Rattle.lanes.specs.declared.Profile.{Profile}
+use Rattle.lanes.specs.declared.Lane.{Lane}
 use Rattle.across.specs.declared.Section.{Section}
 use Rattle.across.specs.declared.RayHit.{RayHit}
 use Rattle.across.specs.declared.RayHit.the-variants.{On, Off}
-use Rattle.across.specs.Meets.{spansMeet, overlapsOf}
+use Rattle.meeting.specs.Meets.{spansMeet, overlapsOf}
 
 -- document 01's "no inner is [0, 0]"
 abbrev pub noPair : Pair

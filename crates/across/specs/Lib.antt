@@ -1,3 +1,2 @@
-pub mod Meets
-pub mod Lane
+pub mod Section
 pub mod Across

@@ -4,9 +4,9 @@ ghost use Prim.Native.Nat.{_+_, _*_, _≤_};
 ghost use lib.ListN.{length};
 ghost use Rattle.chords.specs.Chords.{pointAt, chordOf};
 ghost use Rattle.chords.specs.Limits.{guardFits, endsFit, planSize, lengthFits, numbersFit, chordFits, chordsFit};
-use across::Chord;
 use frame::Frame;
 use grid::Vec3;
+use lanes::Chord;
 
 fn point_at(chords: &[f64], i: usize) -> Vec3
     requires { ⌜ i + 3 ≤ length (now chords) ⌝ }

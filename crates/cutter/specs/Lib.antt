@@ -1,3 +1,2 @@
 pub mod Cutter
-pub mod Limits
 pub mod Examples

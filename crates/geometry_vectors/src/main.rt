@@ -6,11 +6,11 @@
 // many differ, then how many can't be read, and the number of the first row that differs.
 use cutter::ProfileSlice;
 use cutter::Radius;
-use cutter::ToolCheck;
+use polygons::Point;
+use polygons::Strip;
 use replay::Outcome;
 use replay::Tally;
-use strips::Point;
-use strips::Strip;
+use tool_check::ToolCheck;
 
 struct Answer {
     kind: u64,
@@ -100,7 +100,7 @@ fn answer_strips(op: u64, w: &[u64; 17]) -> Answer {
         ));
     }
     if op == 1 {
-        return strip_answer(strips::polygon_strip(
+        return strip_answer(polygons::polygon_strip(
             point(w[0], w[1]),
             point(w[2], w[3]),
             point(w[4], w[5]),
@@ -140,7 +140,7 @@ fn answer_cutter(op: u64, w: &[u64; 17]) -> Answer {
     if op == 6 {
         return radius_answer(cutter::cut_min(shape, c, h0, h1));
     }
-    check_answer(cutter::check_tool(shape, c))
+    check_answer(tool_check::check_tool(shape, c))
 }
 
 // Equal as numbers, or both NaN.

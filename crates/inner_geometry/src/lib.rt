@@ -1,17 +1,17 @@
 // The strips and the cutter under C names, for the oracle and the benchmark only. An answer that is an enum comes back as a struct of numbers; a shape goes in as a number and its own numbers.
 ghost use mathlib.Core.Path.{_≡_};
 ghost use Rattle.strips.specs.Strip.{diskStrip, stadiumStrip};
-ghost use Rattle.strips.specs.Polygon.{polygonStrip};
+ghost use Rattle.polygons.specs.Polygon.{polygonStrip};
 ghost use Rattle.cutter.specs.Cutter.{radiusAt, cutRadius, cutMax, cutMin};
-ghost use Rattle.cutter.specs.Limits.{Checked};
-ghost use Rattle.inner_geometry.specs.Geometry.{stripAs, sliceAs, radiusAs, lowShape, highShape, shapeOf, CheckedAs};
-use cutter::CutterShape;
+ghost use Rattle.tool_check.specs.Limits.{Checked};
+ghost use Rattle.inner_geometry.specs.Geometry.{stripAs, sliceAs, radiusAs, CheckedAs};
+ghost use Rattle.named.specs.Named.{namedShape};
 use cutter::PreparedCutter;
 use cutter::ProfileSlice;
 use cutter::Radius;
-use cutter::ToolCheck;
-use strips::Point;
-use strips::Strip;
+use polygons::Point;
+use polygons::Strip;
+use tool_check::ToolCheck;
 
 #[repr(C)]
 pub struct StripNumbers {
@@ -61,7 +61,7 @@ pub extern "C" fn tridexel_inner_polygon_strip(
 ) -> StripNumbers
     ensures { λ x. ⌜ x ≡ stripAs (polygonStrip p q r s y0 y1) ⌝ }
 {
-    strip_numbers(strips::polygon_strip(p, q, r, s, y0, y1))
+    strip_numbers(polygons::polygon_strip(p, q, r, s, y0, y1))
 }
 
 #[no_mangle]
@@ -103,49 +103,6 @@ fn radius_numbers(s: Radius) -> RadiusNumbers
     }
 }
 
-fn low_shape(kind: u64, m: f64) -> CutterShape
-    ensures { λ r. ⌜ r ≡ lowShape kind m ⌝ }
-{
-    if kind == 0 {
-        return CutterShape::Flat;
-    }
-    if kind == 1 {
-        return CutterShape::Ball;
-    }
-    if kind == 2 {
-        return CutterShape::Bull(m);
-    }
-    CutterShape::Drill(m)
-}
-
-fn high_shape(kind: u64, m: f64, n: f64) -> CutterShape
-    ensures { λ r. ⌜ r ≡ highShape kind m n ⌝ }
-{
-    if kind == 4 {
-        return CutterShape::Chamfer(m, n);
-    }
-    if kind == 5 {
-        return CutterShape::Beam;
-    }
-    if kind == 6 {
-        return CutterShape::Probe;
-    }
-    if kind == 7 {
-        return CutterShape::Lollipop;
-    }
-    CutterShape::Dovetail(m)
-}
-
-// The shapes in the order of their declaration, from 0; every number above 7 is a dovetail.
-fn shape_of(kind: u64, m: f64, n: f64) -> CutterShape
-    ensures { λ r. ⌜ r ≡ shapeOf kind m n ⌝ }
-{
-    if kind < 4 {
-        return low_shape(kind, m);
-    }
-    high_shape(kind, m, n)
-}
-
 // 0 no section, 1 a cutting one, 2 one that does not cut.
 #[no_mangle]
 pub extern "C" fn tridexel_inner_radius_at(
@@ -155,9 +112,9 @@ pub extern "C" fn tridexel_inner_radius_at(
     c: PreparedCutter,
     z: f64,
 ) -> RadiusNumbers
-    ensures { λ r. ⌜ r ≡ sliceAs (radiusAt (shapeOf kind m n) c z) ⌝ }
+    ensures { λ r. ⌜ r ≡ sliceAs (radiusAt (namedShape kind m n) c z) ⌝ }
 {
-    slice_numbers(cutter::radius_at(shape_of(kind, m, n), c, z))
+    slice_numbers(cutter::radius_at(named::named_shape(kind, m, n), c, z))
 }
 
 #[no_mangle]
@@ -175,9 +132,9 @@ pub extern "C" fn tridexel_inner_cut_radius(
     c: PreparedCutter,
     h: f64,
 ) -> f64
-    ensures { λ r. ⌜ r ≡ cutRadius (shapeOf kind m n) c h ⌝ }
+    ensures { λ r. ⌜ r ≡ cutRadius (namedShape kind m n) c h ⌝ }
 {
-    cutter::cut_radius(shape_of(kind, m, n), c, h)
+    cutter::cut_radius(named::named_shape(kind, m, n), c, h)
 }
 
 // 0 none, 1 a radius.
@@ -190,9 +147,9 @@ pub extern "C" fn tridexel_inner_cut_max(
     h0: f64,
     h1: f64,
 ) -> RadiusNumbers
-    ensures { λ r. ⌜ r ≡ radiusAs (cutMax (shapeOf kind m n) c h0 h1) ⌝ }
+    ensures { λ r. ⌜ r ≡ radiusAs (cutMax (namedShape kind m n) c h0 h1) ⌝ }
 {
-    radius_numbers(cutter::cut_max(shape_of(kind, m, n), c, h0, h1))
+    radius_numbers(cutter::cut_max(named::named_shape(kind, m, n), c, h0, h1))
 }
 
 // 0 none, 1 a radius.
@@ -205,17 +162,17 @@ pub extern "C" fn tridexel_inner_cut_min(
     h0: f64,
     h1: f64,
 ) -> RadiusNumbers
-    ensures { λ r. ⌜ r ≡ radiusAs (cutMin (shapeOf kind m n) c h0 h1) ⌝ }
+    ensures { λ r. ⌜ r ≡ radiusAs (cutMin (namedShape kind m n) c h0 h1) ⌝ }
 {
-    radius_numbers(cutter::cut_min(shape_of(kind, m, n), c, h0, h1))
+    radius_numbers(cutter::cut_min(named::named_shape(kind, m, n), c, h0, h1))
 }
 
 // Document 01's refusal number, or 0.
 #[no_mangle]
 pub extern "C" fn tridexel_inner_check_tool(kind: u64, m: f64, n: f64, c: PreparedCutter) -> u32
-    ensures { λ r. ⌜ CheckedAs (Checked (shapeOf kind m n) c) r ⌝ }
+    ensures { λ r. ⌜ CheckedAs (Checked (namedShape kind m n) c) r ⌝ }
 {
-    let t = cutter::check_tool(shape_of(kind, m, n), c);
+    let t = tool_check::check_tool(named::named_shape(kind, m, n), c);
     match t {
         ToolCheck::Accepted => 0,
         ToolCheck::Refused(k) => k,

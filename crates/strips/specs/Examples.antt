@@ -3,8 +3,8 @@ use mathlib.Core.Path.{_≡_}
 use mathlib.Core.List.{List, [], _∷_}
 use lib.Ieee.{Float, neg}
 use Rattle.doubles.specs.Doubles.{ratio}
-use Rattle.strips.specs.declared.Strip.{Strip}
-use Rattle.strips.specs.declared.Strip.the-variants.{Hit, Miss}
+use Rattle.polygons.specs.declared.Strip.{Strip}
+use Rattle.polygons.specs.declared.Strip.the-variants.{Hit, Miss}
 use Rattle.strips.specs.Strip.{diskStrip}
 
 -- what is worked out, and what it must be

@@ -1,3 +1,2 @@
-pub mod Polygon
 pub mod Strip
 pub mod Examples

@@ -19,15 +19,15 @@ use Rattle.grid.specs.declared.DexelStockSpec.{DexelStockSpec}
 use Rattle.grid.specs.declared.DexelGrid.{DexelGrid}
 use Rattle.grid.specs.declared.Gridded.the-variants.{Accepted as Griddable, Refused as NoGrid}
 use Rattle.frame.specs.declared.Frame.{Frame}
-use Rattle.cutter.specs.Limits.{toolCauses, Checked}
-use Rattle.cutter.specs.declared.ToolCheck.{ToolCheck}
-use Rattle.cutter.specs.declared.ToolCheck.the-variants.{Accepted as Usable, Refused as Unusable}
+use Rattle.tool_check.specs.Limits.{toolCauses, Checked}
+use Rattle.tool_check.specs.declared.ToolCheck.{ToolCheck}
+use Rattle.tool_check.specs.declared.ToolCheck.the-variants.{Accepted as Usable, Refused as Unusable}
 use Rattle.stock.specs.Stock.{SoundCells, Tells, short}
 use Rattle.stock.proofs.Causes.{due-first, due-second, none-in-both, room-of}
 use Rattle.stock.proofs.Rays.{sound-chained}
 use Rattle.stock.proofs.Answers.{accepted, refused}
-use Rattle.across.specs.declared.Kernel.{Kernel}
-use Rattle.across.specs.declared.Profile.{Profile}
+use Rattle.lanes.specs.declared.Kernel.{Kernel}
+use Rattle.lanes.specs.declared.Profile.{Profile}
 use Rattle.store.specs.Updates.{Cells}
 use Rattle.visits.specs.Walk.{Walks, Stop}
 use Rattle.visits.specs.declared.Cursor.{Cursor}

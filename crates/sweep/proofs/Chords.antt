@@ -6,7 +6,7 @@ use native.Mathlib.Omega.{arith}
 use lib.Ieee.{Float}
 use lib.ListN.{length, length-append}
 use Rattle.grid.specs.declared.WorldAxis.{WorldAxis}
-use Rattle.across.specs.declared.Chord.{Chord}
+use Rattle.lanes.specs.declared.Chord.{Chord}
 use Rattle.visits.specs.Entries.{each, rayEntry, raysIn, entryCount}
 use Rattle.visits.specs.Walk.{Walks, Went, Halted}
 use Rattle.visits.specs.declared.Cursor.{Cursor}

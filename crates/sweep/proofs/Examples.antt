@@ -19,7 +19,7 @@ use Rattle.grid.specs.Rays.{rayCount, raysAlong, offset, rayAxis, boundsOf, cel
 use Rattle.frame.specs.declared.Axis.the-variants.{PosZ}
 use Rattle.frame.specs.Frame.{frameOf, digitOf, worldAxisOf, localAxisOf, signAlong, localAt, localOf, turned, worldOf}
 use Rattle.cutter.specs.Cutter.{isFinite, cuttingRadius, offTool, radiusAt, cutRadius, cutMax, cutMin}
-use Rattle.cutter.specs.Limits.{aboveZero, fromZero, number, sizesFit, heightsFit, lengthsFit, diametersFit, shapeFits, withinLimits, isBeam}
+use Rattle.tool_check.specs.Limits.{aboveZero, fromZero, number, sizesFit, heightsFit, lengthsFit, diametersFit, shapeFits, withinLimits, isBeam}
 use Rattle.cutter.specs.declared.CutterShape.the-variants.{Flat}
 use Rattle.strips.specs.Strip.{bandDistance, halfChord, chordStrip, diskStrip, stadiumStrip, hull, sideStrip}
 use Rattle.store.specs.Store.{places, endsAt}
@@ -28,8 +28,9 @@ use Rattle.filling.specs.Uncut.{recordAt, uncutSpans, uncutLinks, uncutHeads, u
 use Rattle.stock.proofs.Causes.{none-in-both, room-of}
 use Rattle.stock.proofs.Answers.{accepted}
 use Rattle.filling.proofs.UncutSound.{uncut-sound}
-use Rattle.across.specs.Meets.{lastOf, spansMeet, overlapsOf}
-use Rattle.across.specs.Lane.{planPoint, reachOf, sideOf, laneOf, spanOver, cellsMet, cellsAcross, rectangleOf, centerOf, sectionWith, sectionOf}
+use Rattle.meeting.specs.Meets.{lastOf, spansMeet, overlapsOf}
+use Rattle.lanes.specs.Lane.{planPoint, reachOf, sideOf, laneOf, spanOver, cellsMet, cellsAcross, rectangleOf}
+use Rattle.across.specs.Section.{centerOf, sectionWith, sectionOf}
 use Rattle.across.specs.Across.{outerFrom, outerOf, innerFrom, innerOf, hitOf}
 use Rattle.visits.specs.Entries.{entryOf, entryFor, rayEntry, each, rowEntries, rectEntries, raysIn, sum}
 use Rattle.visits.specs.Walk.{walk}

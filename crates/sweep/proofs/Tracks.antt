@@ -22,15 +22,15 @@ use Rattle.frame.specs.declared.Frame.{Frame}
 use Rattle.frame.specs.declared.Pair.{Pair}
 use Rattle.store.specs.Updates.{Cells}
 use Rattle.stock.proofs.Rays.{list-readable}
-use Rattle.across.specs.Lane.{cellsMet, cellsAcross, rectangle, rectangleOf}
-use Rattle.across.specs.declared.Cells.{Cells as Range}
-use Rattle.across.specs.declared.Cells.the-variants.{Met, Missed}
-use Rattle.across.specs.declared.Profile.{Profile}
-use Rattle.across.specs.declared.Chord.{Chord}
-use Rattle.across.specs.declared.Lane.{Lane}
-use Rattle.across.specs.declared.Rect.{Rect}
-use Rattle.across.specs.declared.Rectangle.{Rectangle}
-use Rattle.across.specs.declared.Rectangle.the-variants.{Rays, NoRays}
+use Rattle.lanes.specs.Lane.{cellsMet, cellsAcross, rectangle, rectangleOf}
+use Rattle.lanes.specs.declared.Cells.{Cells as Range}
+use Rattle.lanes.specs.declared.Cells.the-variants.{Met, Missed}
+use Rattle.lanes.specs.declared.Profile.{Profile}
+use Rattle.lanes.specs.declared.Chord.{Chord}
+use Rattle.lanes.specs.declared.Lane.{Lane}
+use Rattle.lanes.specs.declared.Rect.{Rect}
+use Rattle.lanes.specs.declared.Rectangle.{Rectangle}
+use Rattle.lanes.specs.declared.Rectangle.the-variants.{Rays, NoRays}
 use Rattle.visits.specs.Entries.{rayEntry, rectEntries, rectangleEntries}
 use Rattle.visits.specs.Walk.{Walks, Went, Ready}
 use Rattle.visits.specs.declared.Cursor.{Cursor}

@@ -13,12 +13,12 @@ use Rattle.gridding.specs.Causes.{gridCauses, gridIn}
 use Rattle.grid.specs.declared.DexelStockSpec.{DexelStockSpec}
 use Rattle.frame.specs.Frame.{frameOf}
 use Rattle.frame.specs.declared.Axis.{Axis}
-use Rattle.cutter.specs.Limits.{toolCauses}
+use Rattle.tool_check.specs.Limits.{toolCauses}
 use Rattle.cutter.specs.declared.CutterShape.{CutterShape}
 use Rattle.cutter.specs.declared.PreparedCutter.{PreparedCutter}
 use Rattle.store.specs.Updates.{Cells}
 use Rattle.stock.specs.Stock.{SoundCells, short}
-use Rattle.across.specs.Lane.{profileOf}
+use Rattle.lanes.specs.Lane.{profileOf}
 use Rattle.visits.specs.Entries.{entryCount}
 use Rattle.visits.specs.Walk.{Walked, Stop, walk}
 use Rattle.visits.specs.declared.Progress.{Progress}

@@ -13,12 +13,12 @@ use Rattle.frame.specs.Frame.{localAxis, worldAxisOf}
 use Rattle.frame.specs.declared.Frame.{Frame}
 use Rattle.store.specs.Updates.{Cells}
 use Rattle.stock.specs.Stock.{Chained, ValidTo}
-use Rattle.across.specs.Lane.{laneOf, rectangleOf}
-use Rattle.across.specs.declared.Profile.{Profile}
-use Rattle.across.specs.declared.Kernel.{Kernel}
-use Rattle.across.specs.declared.Chord.{Chord}
-use Rattle.across.specs.declared.Lane.{Lane}
-use Rattle.across.specs.declared.Rectangle.{Rectangle}
+use Rattle.lanes.specs.Lane.{laneOf, rectangleOf}
+use Rattle.lanes.specs.declared.Profile.{Profile}
+use Rattle.lanes.specs.declared.Kernel.{Kernel}
+use Rattle.lanes.specs.declared.Chord.{Chord}
+use Rattle.lanes.specs.declared.Lane.{Lane}
+use Rattle.lanes.specs.declared.Rectangle.{Rectangle}
 use Rattle.visits.specs.Entries.{each, sum, rayEntry, rectangleEntries, raysIn, joined}
 use Rattle.visits.specs.declared.Track.{Track}
 use Rattle.chords.specs.Chords.{chordOf}

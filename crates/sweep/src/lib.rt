@@ -8,13 +8,8 @@ ghost use Rattle.store.specs.Updates.{cells};
 ghost use Rattle.visits.specs.Walk.{Walks};
 ghost use Rattle.sweep.specs.Entries.{trackOf, setting, axisEntries, firstAxis, secondAxis, chordEntries, sweepEntries, Sweepable};
 ghost use Rattle.sweep.specs.Answer.{settingOf, causesIn, sweepCauses, Sweeps, Checks, endOf, loggedBy, endLog};
-use across::Chord;
-use across::Kernel;
-use across::Profile;
-use across::Rectangle;
 use cutter::CutterShape;
 use cutter::PreparedCutter;
-use cutter::ToolCheck;
 use frame::Axis;
 use frame::Frame;
 use frame::LocalAxis;
@@ -22,6 +17,11 @@ use grid::DexelGrid;
 use grid::DexelStockSpec;
 use grid::Gridded;
 use grid::WorldAxis;
+use lanes::Chord;
+use lanes::Kernel;
+use lanes::Profile;
+use lanes::Rectangle;
+use tool_check::ToolCheck;
 use visits::Cursor;
 use visits::Progress;
 use visits::Track;
@@ -74,10 +74,10 @@ fn sweep_axis(
     requires { ⌜ Sweepable spec g (cells (now spans) (now links) (now heads)) × (start .at ≤ length (now log)) ⌝ }
     ensures { λ x. ⌜ Walks budget (axisEntries (setting spec g k p (cells (now (spans .entry)) (now (links .entry)) (now (heads .entry)))) chord axis) start (now (log .entry)) x (now (log .exit)) ⌝ }
 {
-    let l = across::lane_of(spec, g, k, p, chord, axis);
+    let l = lanes::lane_of(spec, g, k, p, chord, axis);
     let n = spec.max_intervals as usize;
     let t = track_of(g, axis);
-    let rect = across::rectangle_of(spec, g, p, l, axis);
+    let rect = lanes::rectangle_of(spec, g, p, l, axis);
     match rect {
         Rectangle::NoRays => {
             return Progress::At(start);
@@ -250,7 +250,7 @@ fn check_sweep(
         return SweepCheck::Declined(11);
     }
     let shape = p.shape;
-    let tool = cutter::check_tool(shape, p.cutter);
+    let tool = tool_check::check_tool(shape, p.cutter);
     match tool {
         ToolCheck::Refused(n) => {
             return SweepCheck::Declined(n);
@@ -322,7 +322,7 @@ pub fn sweep(
                 frame: axis.frame(),
                 guard: guard,
             };
-            let p = across::profile_of(shape, cutter);
+            let p = lanes::profile_of(shape, cutter);
             return sweep_grid(
                 spec,
                 g,

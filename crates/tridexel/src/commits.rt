@@ -3,24 +3,8 @@ ghost use Rattle.change_commit.specs.Commit.{ChangeCommits};
 ghost use Rattle.commit.specs.Commit.{LogCommits};
 ghost use Rattle.stock.specs.Outcomes.{stock};
 ghost use Rattle.stock.specs.declared.Committed.{Committed};
-ghost use Rattle.tridexel.specs.Numbers.{AnsweredBy, HandedAs, committedNumbers};
+ghost use Rattle.handing.specs.Numbers.{AnsweredBy, committedNumbers};
 use grid::DexelStockSpec;
-use stock::Committed;
-
-// Hands the number of changed rays back.
-fn hand_committed(a: Committed, changed: &mut u64) -> u32
-    ensures { λ r. ⌜ HandedAs committedNumbers Committed.Refused a r (now (changed .entry)) (now (changed .exit)) ⌝ }
-{
-    match a {
-        Committed::Changed(n) => {
-            *changed = n;
-            return 0;
-        }
-        Committed::Refused(k) => {
-            return k;
-        }
-    }
-}
 
 // `change_commit::commit_changes`; `changed` becomes the number of changed rays.
 #[no_mangle]
@@ -57,7 +41,7 @@ pub extern "C" fn tridexel_commit_changes(
     *generation = done.generation;
     *intervals = done.intervals;
     let a = done.answer;
-    hand_committed(a, changed)
+    handing::hand_committed(a, changed)
 }
 
 // `commit::commit_log`; `changed` becomes the number of changed rays.
@@ -95,5 +79,5 @@ pub extern "C" fn tridexel_commit_log(
     *generation = done.generation;
     *intervals = done.intervals;
     let a = done.answer;
-    hand_committed(a, changed)
+    handing::hand_committed(a, changed)
 }

@@ -4,7 +4,6 @@ mod commits;
 mod stocks;
 mod sweeps;
 
-ghost use mathlib.Core.Path.{_≡_};
 ghost use mathlib.Core.Bool.{not, _&&_};
 ghost use Rattle.spans.specs.Spans.{holds};
 ghost use lib.ListN.{length};
@@ -16,44 +15,7 @@ ghost use Rattle.comparing.specs.declared.Told.{Told};
 ghost use Rattle.merge.specs.Merge.{MergeAnswer};
 ghost use Rattle.merge.specs.declared.Merged.{Merged};
 ghost use Rattle.spans.specs.declared.Listed.{Listed};
-ghost use Rattle.tridexel.specs.Numbers.{AnsweredBy, HandedAs, listedNumbers, toldNumbers, mergedNumbers, partCells, digit};
-use comparing::Told;
-use merge::Merged;
-use spans::Listed;
-
-// Hands the answer of a list function back as numbers.
-fn hand_listed(l: Listed, pairs: &mut usize) -> u32
-    ensures { λ r. ⌜ HandedAs listedNumbers Listed.Refused l r (now (pairs .entry)) (now (pairs .exit)) ⌝ }
-{
-    match l {
-        Listed::Pairs(n) => {
-            *pairs = n;
-            return 0;
-        }
-        Listed::Refused(k) => {
-            return k;
-        }
-    }
-}
-
-// Hands a yes or a no back as numbers.
-fn hand_told(t: Told, yes: &mut u32) -> u32
-    ensures { λ r. ⌜ HandedAs toldNumbers Told.Refused t r (now (yes .entry)) (now (yes .exit)) ⌝ }
-{
-    match t {
-        Told::Yes => {
-            *yes = 1;
-            return 0;
-        }
-        Told::No => {
-            *yes = 0;
-            return 0;
-        }
-        Told::Refused(k) => {
-            return k;
-        }
-    }
-}
+ghost use Rattle.handing.specs.Numbers.{AnsweredBy, listedNumbers, toldNumbers, mergedNumbers, partCells};
 
 // `normalizing::normalize`; `pairs` becomes the number of pairs.
 #[no_mangle]
@@ -62,7 +24,7 @@ pub extern "C" fn tridexel_normalize(spans: &[f64], out: &mut [f64], pairs: &mut
         r (now (pairs .entry)) (now (pairs .exit)) ⌝ }
 {
     let l = normalizing::normalize(spans, out);
-    hand_listed(l, pairs)
+    handing::hand_listed(l, pairs)
 }
 
 // `combining::subtract`; `pairs` becomes the number of pairs.
@@ -73,7 +35,7 @@ pub extern "C" fn tridexel_subtract(a: &[f64], b: &[f64], out: &mut [f64], pairs
         r (now (pairs .entry)) (now (pairs .exit)) ⌝ }
 {
     let l = combining::subtract(a, b, out);
-    hand_listed(l, pairs)
+    handing::hand_listed(l, pairs)
 }
 
 // `combining::intersect`; `pairs` becomes the number of pairs.
@@ -89,7 +51,7 @@ pub extern "C" fn tridexel_intersect(
         r (now (pairs .entry)) (now (pairs .exit)) ⌝ }
 {
     let l = combining::intersect(a, b, out);
-    hand_listed(l, pairs)
+    handing::hand_listed(l, pairs)
 }
 
 // `comparing::contains`; `yes` becomes 1 or 0.
@@ -100,7 +62,7 @@ pub extern "C" fn tridexel_contains(outer: &[f64], inner: &[f64], yes: &mut u32)
         r (now (yes .entry)) (now (yes .exit)) ⌝ }
 {
     let t = comparing::contains(outer, inner);
-    hand_told(t, yes)
+    handing::hand_told(t, yes)
 }
 
 // `comparing::overlaps`; `yes` becomes 1 or 0.
@@ -111,31 +73,7 @@ pub extern "C" fn tridexel_overlaps(a: &[f64], b: &[f64], yes: &mut u32) -> u32
         r (now (yes .entry)) (now (yes .exit)) ⌝ }
 {
     let t = comparing::overlaps(a, b);
-    hand_told(t, yes)
-}
-
-// A flag as a number.
-fn digit_of(b: bool) -> u32
-    ensures { λ r. ⌜ r ≡ digit b ⌝ }
-{
-    if b { 1 } else { 0 }
-}
-
-// Hands what became of both lists back as numbers.
-fn hand_merged(m: Merged, moved: &mut [u32; 2], pairs: &mut [usize; 2]) -> u32
-    ensures { λ r. ⌜ HandedAs mergedNumbers Merged.Refused m r
-        (partCells (now (moved .entry)) (now (pairs .entry))) (partCells (now (moved .exit)) (now (pairs .exit))) ⌝ }
-{
-    match m {
-        Merged::Lists(p, c) => {
-            *moved = [digit_of(p.moved), digit_of(c.moved)];
-            *pairs = [p.pairs, c.pairs];
-            return 0;
-        }
-        Merged::Refused(k) => {
-            return k;
-        }
-    }
+    handing::hand_told(t, yes)
 }
 
 // `merge::merge`; for possible and certain, in this order, `moved` becomes 1 where the list is a new one in the work buffer and 0 where it is the
@@ -157,5 +95,5 @@ pub extern "C" fn tridexel_merge(
         (partCells (now (moved .entry)) (now (pairs .entry))) (partCells (now (moved .exit)) (now (pairs .exit))) ⌝ }
 {
     let m = merge::merge(possible, certain, lo, hi, outer, inner, work);
-    hand_merged(m, moved, pairs)
+    handing::hand_merged(m, moved, pairs)
 }

@@ -8,28 +8,8 @@ ghost use Rattle.filling.specs.Uncut.{Fills, fillCauses};
 ghost use Rattle.measuring.specs.Volume.{volumeOf, Measures, volumeCauses};
 ghost use Rattle.filling.specs.declared.Filled.{Filled};
 ghost use Rattle.measuring.specs.declared.Measured.{Measured};
-ghost use Rattle.tridexel.specs.Numbers.{AnsweredBy, HandedAs, gridNumbers, gridCells, filledNumbers, tally, volumeNumbers};
-use filling::Filled;
+ghost use Rattle.handing.specs.Numbers.{AnsweredBy, gridNumbers, gridCells, filledNumbers, tally, volumeNumbers};
 use grid::DexelStockSpec;
-use grid::Gridded;
-use measuring::Measured;
-
-// Hands the grid back as numbers.
-fn hand_grid(g: Gridded, counts: &mut [u64; 3], steps: &mut [f64; 3]) -> u32
-    ensures { λ r. ⌜ HandedAs gridNumbers Gridded.Refused g r
-        (gridCells (now (counts .entry)) (now (steps .entry))) (gridCells (now (counts .exit)) (now (steps .exit))) ⌝ }
-{
-    match g {
-        Gridded::Accepted(a) => {
-            *counts = [a.c0, a.c1, a.c2];
-            *steps = [a.s0, a.s1, a.s2];
-            return 0;
-        }
-        Gridded::Refused(k) => {
-            return k;
-        }
-    }
-}
 
 // `gridding::grid`; `counts` and `steps` become the cells along x, y and z and their widths.
 #[no_mangle]
@@ -43,24 +23,7 @@ pub extern "C" fn tridexel_grid(
         (gridCells (now (counts .entry)) (now (steps .entry))) (gridCells (now (counts .exit)) (now (steps .exit))) ⌝ }
 {
     let g = gridding::grid(spec, units);
-    hand_grid(g, counts, steps)
-}
-
-// Hands the small record of a stock back as numbers.
-fn hand_filled(f: Filled, generation: &mut u64, intervals: &mut u64) -> u32
-    ensures { λ r. ⌜ HandedAs filledNumbers Filled.Refused f r
-        (tally (now (generation .entry)) (now (intervals .entry))) (tally (now (generation .exit)) (now (intervals .exit))) ⌝ }
-{
-    match f {
-        Filled::Accepted(t) => {
-            *generation = t.generation;
-            *intervals = t.intervals;
-            return 0;
-        }
-        Filled::Refused(k) => {
-            return k;
-        }
-    }
+    handing::hand_grid(g, counts, steps)
 }
 
 // `filling::fill`; `generation` and `intervals` become the small record of the stock.
@@ -80,33 +43,7 @@ pub extern "C" fn tridexel_fill(
         (tally (now (generation .entry)) (now (intervals .entry))) (tally (now (generation .exit)) (now (intervals .exit))) ⌝ }
 {
     let f = filling::fill(spec, units, spans, links, heads);
-    hand_filled(f, generation, intervals)
-}
-
-// Hands a volume back as its ten numbers.
-fn hand_measured(m: Measured, volume: &mut [f64; 10]) -> u32
-    ensures { λ r. ⌜ HandedAs volumeNumbers Measured.Refused m r (now (volume .entry)) (now (volume .exit)) ⌝ }
-{
-    match m {
-        Measured::Accepted(v) => {
-            *volume = [
-                v.x_certain_mm3,
-                v.x_possible_mm3,
-                v.y_certain_mm3,
-                v.y_possible_mm3,
-                v.z_certain_mm3,
-                v.z_possible_mm3,
-                v.remaining_lower_mm3,
-                v.remaining_upper_mm3,
-                v.removed_lower_mm3,
-                v.removed_upper_mm3,
-            ];
-            return 0;
-        }
-        Measured::Refused(k) => {
-            return k;
-        }
-    }
+    handing::hand_filled(f, generation, intervals)
 }
 
 // `measuring::volume`; `volume` becomes the ten numbers of the Rust's `DexelVolume`, in its order.
@@ -126,5 +63,5 @@ pub extern "C" fn tridexel_volume(
         (now (volume .entry)) (now (volume .exit)) ⌝ }
 {
     let m = measuring::volume(spec, units, spans, links, heads, intervals);
-    hand_measured(m, volume)
+    handing::hand_measured(m, volume)
 }

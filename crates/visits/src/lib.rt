@@ -6,10 +6,10 @@ ghost use lib.ListN.{length, take, drop};
 ghost use Rattle.visits.specs.Entries.{entryOf, rayEntry, rowEntries, rectEntries};
 ghost use Rattle.visits.specs.Walk.{Walks, RayReady, Ready};
 use across::Hits;
-use across::Lane;
-use across::Profile;
 use across::RayHit;
-use across::Rect;
+use lanes::Lane;
+use lanes::Profile;
+use lanes::Rect;
 
 // The place of a walk: the rays visited, and where the next entry goes in the log.
 pub struct Cursor {

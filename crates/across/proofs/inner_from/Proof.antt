@@ -2,56 +2,40 @@ use Rattle.across.specs.Across.{innerFrom}
 use borrow.Author.Needs.{needs}
 use Rattle.across.proofs.inner_from.Statement.{statement}
 use Rattle.across.proofs.inner_from.Tie as tie
-use Rattle.across.proofs.inner_from.Reads as reads
-use Rattle.across.proofs.inner_from.Lts as lts
-use Rattle.doubles.proofs.larger.Reads as larger-reads
-use Rattle.doubles.proofs.smaller.Reads as smaller-reads
-use Rattle.frame.proofs.world.Reads as world-reads
 
--- src/lib.rt:372:24
 enum-told : tie.Need-enum-told
 enum-told c = search needs
 
--- src/lib.rt:373:20
 enum-known-s : tie.Need-enum-known-s
 enum-known-s c = search needs
 
--- src/lib.rt:374:28
 enum-told-2 : tie.Need-enum-told-2
 enum-told-2 c = search needs
 
--- src/lib.rt:375:24
 enum-known-t : tie.Need-enum-known-t
 enum-known-t c = search needs
 
--- src/lib.rt:377:25
 larger-requires : tie.Need-larger-requires
 larger-requires c κs = search needs
 
--- src/lib.rt:378:25
 smaller-requires : tie.Need-smaller-requires
 smaller-requires c κs = search needs
 
--- src/lib.rt:381:21
 world-requires : tie.Need-world-requires
 world-requires c κs = search needs
 
--- src/lib.rt:381:21
 returns : tie.Need-returns
 unfolding innerFrom
 returns c = simp (← c .world .ensures, c .before .if1 .taken, ← c .before .before .before .before .smaller .ensures, ← c .before .before .before .before .before .before .larger .ensures, c .before .before .before .before .before .before .before .before .t .given .1, c .before .before .before .before .before .before .before .before .before .before .before .s .given .1)
 
--- src/lib.rt:367:1
 returns-2 : tie.Need-returns-2
 unfolding innerFrom
 returns-2 c = simp (c .enum-told .given .1)
 
--- src/lib.rt:367:1
 returns-3 : tie.Need-returns-3
 unfolding innerFrom
 returns-3 c = simp (c .enum-told2 .given .1, c .before .before .before .s .given .1)
 
--- src/lib.rt:367:1
 returns-4 : tie.Need-returns-4
 unfolding innerFrom
 returns-4 c = simp (c .if1 .left, ← c .before .before .before .smaller .ensures, ← c .before .before .before .before .before .larger .ensures, c .before .before .before .before .before .before .before .t .given .1, c .before .before .before .before .before .before .before .before .before .before .s .given .1)

@@ -2,47 +2,33 @@ use Rattle.across.specs.Across.{innerOf}
 use borrow.Author.Needs.{needs}
 use Rattle.across.proofs.inner_of.Statement.{statement}
 use Rattle.across.proofs.inner_of.Tie as tie
-use Rattle.across.proofs.inner_of.Reads as reads
-use Rattle.across.proofs.inner_of.Lts as lts
-use Rattle.across.proofs.inner_from.Reads as inner-from-reads
-use Rattle.cutter.proofs.cut_min.Reads as cut-min-reads
-use Rattle.strips.proofs.stadium_strip.Reads as stadium-strip-reads
 
--- src/lib.rt:394:9
 cut-min-requires : tie.Need-cut-min-requires
 cut-min-requires c κs = search needs
 
--- src/lib.rt:397:28
 enum-told : tie.Need-enum-told
 enum-told c = search needs
 
--- src/lib.rt:398:20
 enum-known-least : tie.Need-enum-known-least
 enum-known-least c = search needs
 
--- src/lib.rt:403:21
 stadium-strip-requires : tie.Need-stadium-strip-requires
 stadium-strip-requires c κs = search needs
 
--- src/lib.rt:404:21
 stadium-strip-requires-2 : tie.Need-stadium-strip-requires-2
 stadium-strip-requires-2 c κs = search needs
 
--- src/lib.rt:401:17
 inner-from-requires : tie.Need-inner-from-requires
 inner-from-requires c κs = search needs
 
--- src/lib.rt:401:17
 returns : tie.Need-returns
 unfolding innerOf
 returns c = simp (← c .inner-from .ensures, ← c .before .stadium-strip2 .ensures, ← c .before .before .stadium-strip .ensures, c .before .before .before .if1 .taken, c .before .before .before .before .before .before .least .given .1, ← c .before .before .before .before .before .before .before .before .cut-min .ensures)
 
--- src/lib.rt:390:1
 returns-2 : tie.Need-returns-2
 unfolding innerOf
 returns-2 c = simp (c .enum-told .given .1, ← c .before .before .cut-min .ensures)
 
--- src/lib.rt:390:1
 returns-3 : tie.Need-returns-3
 unfolding innerOf
 returns-3 c = simp (c .if1 .left, c .before .before .before .least .given .1, ← c .before .before .before .before .before .cut-min .ensures)

@@ -2,28 +2,20 @@ use Rattle.across.specs.Across.{outerFrom}
 use borrow.Author.Needs.{needs}
 use Rattle.across.proofs.outer_from.Statement.{statement}
 use Rattle.across.proofs.outer_from.Tie as tie
-use Rattle.across.proofs.outer_from.Reads as reads
-use Rattle.across.proofs.outer_from.Lts as lts
-use Rattle.frame.proofs.world.Reads as world-reads
 
--- src/lib.rt:337:24
 enum-told : tie.Need-enum-told
 enum-told c = search needs
 
--- src/lib.rt:338:20
 enum-known-s : tie.Need-enum-known-s
 enum-known-s c = search needs
 
--- src/lib.rt:339:17
 world-requires : tie.Need-world-requires
 world-requires c κs = search needs
 
--- src/lib.rt:333:1
 returns : tie.Need-returns
 unfolding outerFrom
 returns c = simp (c .enum-told .given .1)
 
--- src/lib.rt:333:1
 returns-2 : tie.Need-returns-2
 unfolding outerFrom
 returns-2 c = simp (← c .world .ensures, c .before .before .before .before .s .given .1)

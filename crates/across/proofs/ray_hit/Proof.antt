@@ -4,55 +4,37 @@ use Rattle.doubles.proofs.Bools.{not-true, not-false}
 use borrow.Author.Needs.{needs}
 use Rattle.across.proofs.ray_hit.Statement.{statement}
 use Rattle.across.proofs.ray_hit.Tie as tie
-use Rattle.across.proofs.ray_hit.Reads as reads
-use Rattle.across.proofs.ray_hit.Lts as lts
-use Rattle.across.proofs.inner_of.Reads as inner-of-reads
-use Rattle.across.proofs.outer_of.Reads as outer-of-reads
-use Rattle.across.proofs.overlaps_at.Reads as overlaps-at-reads
-use Rattle.across.proofs.section_of.Reads as section-of-reads
-use Rattle.across.proofs.spans_meet.Reads as spans-meet-reads
 
--- src/lib.rt:426:9
 spans-meet-requires : tie.Need-spans-meet-requires
 spans-meet-requires c κs = c .before .before .pre
 
--- src/lib.rt:427:9
 returns : tie.Need-returns
 returns c = hit-off _ _ _ _ (sym (c .before .spans-meet .ensures) ∙ not-true (c .before .spans-meet .result) (c .if1 .taken))
 
--- src/lib.rt:429:9
 section-of-requires : tie.Need-section-of-requires
 section-of-requires c κs = search needs
 
--- src/lib.rt:430:9
 outer-of-requires : tie.Need-outer-of-requires
 outer-of-requires c κs = search needs
 
--- src/lib.rt:432:24
 enum-told : tie.Need-enum-told
 enum-told c = search needs
 
--- src/lib.rt:433:20
 enum-known-o : tie.Need-enum-known-o
 enum-known-o c = search needs
 
--- src/lib.rt:435:16
 overlaps-at-requires : tie.Need-overlaps-at-requires
 overlaps-at-requires c κs = c .before .before .before .before .before .before .before .before .before .pre .0
 
--- src/lib.rt:438:28
 inner-of-requires : tie.Need-inner-of-requires
 inner-of-requires c κs = search needs
 
--- src/lib.rt:436:17
 returns-2 : tie.Need-returns-2
 returns-2 c = rw (← c .before .before .before .before .before .before .before .section-of .ensures, c .inner-of .ensures) (hit-on _ _ _ _ _ _ (sym (c .before .before .before .before .before .before .before .before .before .spans-meet .ensures) ∙ not-false (c .before .before .before .before .before .before .before .before .before .spans-meet .result) (c .before .before .before .before .before .before .before .before .if1 .left)) (sym (c .before .before .before .before .before .before .outer-of .ensures) ∙ c .before .before .before .before .o .given .1) (sym (c .before .before .overlaps-at .ensures) ∙ c .before .if2 .taken))
 
--- src/lib.rt:413:1
 returns-3 : tie.Need-returns-3
 returns-3 c = rw (← c .before .before .before .section-of .ensures) (hit-miss _ _ _ _ (sym (c .before .before .before .before .before .spans-meet .ensures) ∙ not-false (c .before .before .before .before .before .spans-meet .result) (c .before .before .before .before .if1 .left)) (sym (c .before .before .outer-of .ensures) ∙ c .enum-told .given .1))
 
--- src/lib.rt:413:1
 returns-4 : tie.Need-returns-4
 returns-4 c = rw (← c .before .before .before .before .before .before .section-of .ensures) (hit-clear _ _ _ _ _ _ (sym (c .before .before .before .before .before .before .before .before .spans-meet .ensures) ∙ not-false (c .before .before .before .before .before .before .before .before .spans-meet .result) (c .before .before .before .before .before .before .before .if1 .left)) (sym (c .before .before .before .before .before .outer-of .ensures) ∙ c .before .before .before .o .given .1) (sym (c .before .overlaps-at .ensures) ∙ c .if2 .left))
 

@@ -2,60 +2,43 @@ use Rattle.chords.specs.Chords.{chordOf}
 use borrow.Author.Needs.{needs}
 use Rattle.chords.proofs.chord_at.Statement.{statement}
 use Rattle.chords.proofs.chord_at.Tie as tie
-use Rattle.chords.proofs.chord_at.Reads as reads
-use Rattle.chords.proofs.chord_at.Lts as lts
-use Rattle.chords.proofs.point_at.Reads as point-at-reads
-use Rattle.frame.proofs.local.Reads as local-reads
 
--- src/lib.rt:27:13
 mul-k : tie.Need-mul-k
 mul-k c = search needs
 
--- src/lib.rt:29:28
 point-at-requires : tie.Need-point-at-requires
 point-at-requires c κs = search needs
 
--- src/lib.rt:29:12
 local-requires : tie.Need-local-requires
 local-requires c κs = search needs
 
--- src/lib.rt:30:45
 add-point-at : tie.Need-add-point-at
 add-point-at c = search needs
 
--- src/lib.rt:30:28
 point-at-requires-2 : tie.Need-point-at-requires-2
 point-at-requires-2 c κs = search needs
 
--- src/lib.rt:30:12
 local-requires-2 : tie.Need-local-requires-2
 local-requires-2 c κs = search needs
 
--- src/lib.rt:31:19
 add-t10 : tie.Need-add-t10
 add-t10 c = search needs
 
--- src/lib.rt:31:12
 mul-t11 : tie.Need-mul-t11
 mul-t11 c = search needs
 
--- src/lib.rt:31:12
 shared-slice-read-t13 : tie.Need-shared-slice-read-t13
 shared-slice-read-t13 c = search needs
 
--- src/lib.rt:32:24
 add-t14 : tie.Need-add-t14
 add-t14 c = search needs
 
--- src/lib.rt:32:17
 mul-t15 : tie.Need-mul-t15
 mul-t15 c = search needs
 
--- src/lib.rt:32:17
 shared-slice-read-t17 : tie.Need-shared-slice-read-t17
 shared-slice-read-t17 c = search needs
 
--- src/lib.rt:23:1
 returns : tie.Need-returns
 unfolding chordOf
 returns c = simp (← c .before .before .local2 .ensures, ← c .before .before .before .point-at2 .ensures, ← c .before .before .before .before .local .ensures, ← c .before .before .before .before .before .point-at .ensures)

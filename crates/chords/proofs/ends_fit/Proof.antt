@@ -2,41 +2,29 @@ use Rattle.chords.specs.Limits.{endsFit}
 use borrow.Author.Needs.{needs}
 use Rattle.chords.proofs.ends_fit.Statement.{statement}
 use Rattle.chords.proofs.ends_fit.Tie as tie
-use Rattle.chords.proofs.ends_fit.Reads as reads
-use Rattle.chords.proofs.ends_fit.Lts as lts
-use Rattle.chords.proofs.point_at.Reads as point-at-reads
-use Rattle.grid.proofs.all_within.Reads as all-within-reads
 
--- src/lib.rt:49:13
 mul-k : tie.Need-mul-k
 mul-k c = search needs
 
--- src/lib.rt:50:25
 point-at-requires : tie.Need-point-at-requires
 point-at-requires c κs = search needs
 
--- src/lib.rt:50:8
 all-within-requires : tie.Need-all-within-requires
 all-within-requires c κs = search needs
 
--- src/lib.rt:51:50
 add-point-at : tie.Need-add-point-at
 add-point-at c = search needs
 
--- src/lib.rt:51:33
 point-at-requires-2 : tie.Need-point-at-requires-2
 point-at-requires-2 c κs = search needs
 
--- src/lib.rt:51:9
 all-within-requires-2 : tie.Need-all-within-requires-2
 all-within-requires-2 c κs = search needs
 
--- src/lib.rt:51:9
 returns : tie.Need-returns
 unfolding endsFit
 returns c = simp (← c .all-within2 .ensures, ← c .before .point-at2 .ensures, c .before .before .if1 .taken, ← c .before .before .before .all-within .ensures, ← c .before .before .before .before .point-at .ensures)
 
--- src/lib.rt:45:1
 returns-2 : tie.Need-returns-2
 unfolding endsFit
 returns-2 c = simp (c .if1 .left, ← c .before .all-within .ensures, ← c .before .before .point-at .ensures)

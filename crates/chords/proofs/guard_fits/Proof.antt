@@ -1,15 +1,11 @@
 use Rattle.chords.specs.Limits.{guardFits}
 use Rattle.chords.proofs.guard_fits.Statement.{statement}
 use Rattle.chords.proofs.guard_fits.Tie as tie
-use Rattle.chords.proofs.guard_fits.Reads as reads
-use Rattle.chords.proofs.guard_fits.Lts as lts
 
--- src/lib.rt:40:9
 returns : tie.Need-returns
 unfolding guardFits
 returns c = simp (c .if1 .taken)
 
--- src/lib.rt:36:1
 returns-2 : tie.Need-returns-2
 unfolding guardFits
 returns-2 c = simp (c .if1 .left)

@@ -2,24 +2,16 @@ use Rattle.chords.specs.Limits.{planSize}
 use borrow.Author.Needs.{needs}
 use Rattle.chords.proofs.plan_size.Statement.{statement}
 use Rattle.chords.proofs.plan_size.Tie as tie
-use Rattle.chords.proofs.plan_size.Reads as reads
-use Rattle.chords.proofs.plan_size.Lts as lts
-use Rattle.doubles.proofs.abs.Reads as abs-reads
-use Rattle.doubles.proofs.larger.Reads as larger-reads
 
--- src/lib.rt:62:21
 abs-requires : tie.Need-abs-requires
 abs-requires c κs = search needs
 
--- src/lib.rt:62:46
 abs-requires-2 : tie.Need-abs-requires-2
 abs-requires-2 c κs = search needs
 
--- src/lib.rt:62:5
 larger-requires : tie.Need-larger-requires
 larger-requires c κs = search needs
 
--- src/lib.rt:57:1
 returns : tie.Need-returns
 unfolding planSize
 returns c = simp (← c .larger .ensures, ← c .before .abs2 .ensures, ← c .before .before .before .before .abs .ensures)

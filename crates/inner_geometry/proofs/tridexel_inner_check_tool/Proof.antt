@@ -3,8 +3,8 @@ use borrow.Author.Needs.{needs}
 use Rattle.inner_geometry.proofs.tridexel_inner_check_tool.Statement.{statement}
 use Rattle.inner_geometry.proofs.tridexel_inner_check_tool.Tie as tie
 
-shape-of-requires : tie.Need-shape-of-requires
-shape-of-requires c κs = search needs
+named-shape-requires : tie.Need-named-shape-requires
+named-shape-requires c κs = search needs
 
 check-tool-requires : tie.Need-check-tool-requires
 check-tool-requires c κs = search needs
@@ -16,14 +16,14 @@ enum-known-t : tie.Need-enum-known-t
 enum-known-t c = search needs
 
 returns : tie.Need-returns
-returns c = rw (← c .before .before .before .shape-of .ensures) (accepted (c .before .before .before .shape-of .result) (c .before .before .before .before .args .c) _ (c .enum-told .given .1) (c .before .before .check-tool .ensures))
+returns c = rw (← c .before .before .before .named-shape .ensures) (accepted (c .before .before .before .named-shape .result) (c .before .before .before .before .args .c) _ (c .enum-told .given .1) (c .before .before .check-tool .ensures))
 
 returns-2 : tie.Need-returns-2
 returns-2 c =
-    rw (← c .before .before .before .before .shape-of .ensures)
-    (refused (c .before .before .before .before .shape-of .result) (c .before .before .before .before .before .args .c) _ _ (c .before .t .given .1) (c .before .before .before .check-tool .ensures))
+    rw (← c .before .before .before .before .named-shape .ensures)
+    (refused (c .before .before .before .before .named-shape .result) (c .before .before .before .before .before .args .c) _ _ (c .before .t .given .1) (c .before .before .before .check-tool .ensures))
 
 pub tridexel-inner-check-tool-spec : {M : Type 1} → statement M
 tridexel-inner-check-tool-spec =
     tie.close
-    (tie.spec shape-of-requires check-tool-requires enum-told enum-known-t returns returns-2)
+    (tie.spec named-shape-requires check-tool-requires enum-told enum-known-t returns returns-2)

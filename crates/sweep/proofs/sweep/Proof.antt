@@ -2,8 +2,8 @@ use borrow.Author.Needs.{needs}
 use mathlib.Core.Path.{sym, _∙_}
 use Rattle.store.specs.Updates.{cells}
 use Rattle.frame.specs.Frame.{frameOf}
-use Rattle.across.specs.Lane.{profileOf}
-use Rattle.across.specs.declared.Kernel.{Kernel}
+use Rattle.lanes.specs.Lane.{profileOf}
+use Rattle.lanes.specs.declared.Kernel.{Kernel}
 use Rattle.gridding.proofs.Facts.{grid-facts}
 use Rattle.sweep.proofs.Answers.{sweep-refused, sweep-accepted, same-tool}
 use Rattle.sweep.proofs.sweep.Statement.{statement}

@@ -5,12 +5,8 @@ use mathlib.Core.Path.{_∙_}
 use mathlib.Core.List.{[], _∷_}
 use Prim.Native.Nat.{ℕ, _+_, _-_}
 use Rattle.visits.specs.Entries.{rayEntry, rowEntries}
-use Rattle.visits.proofs.Walks.{Sweeping, sweeping-start, sweeping-next, sweeping-halt, sweeping-all, ray-ready}
 use Rattle.visits.proofs.sweep_row.Statement.{statement}
 use Rattle.visits.proofs.sweep_row.Tie as tie
-use Rattle.visits.proofs.sweep_row.Reads as reads
-use Rattle.visits.proofs.sweep_row.Lts as lts
-use Rattle.visits.proofs.visit_ray.Reads as visit-ray-reads
 
 abbrev Inv-loop : tie.InvT-loop
 Inv-loop n t r v p l budget spans links heads log₀ c₀ u₀ log c u = Sweeping budget (λ (w : ℕ). rayEntry n t p l spans links heads w v ∷ []) (r .u0) (r .u1 + 1) c₀ log₀ c log u
@@ -18,48 +14,37 @@ Inv-loop n t r v p l budget spans links heads log₀ c₀ u₀ log c u = Sweepin
 abbrev μ-loop : tie.MeasureT-loop
 μ-loop n t r v p l budget spans links heads log₀ c₀ u₀ log c u = r .u1 + 1 - u
 
--- src/lib.rt:137:5
 loop-holds : tie.Need-loop-holds Inv-loop μ-loop
 loop-holds c = sweeping-start _ _ _ (c .before .before .before .before .pre .3)
 
--- src/lib.rt:138:13
 visit-ray-requires : tie.Need-visit-ray-requires Inv-loop μ-loop
 visit-ray-requires c κs = (ray-ready (c .before .before .before .before .before .before .before .before .pre .0) _ _ (omega (arith, c .before .if1 .taken, c .before .before .before .before .before .before .before .before .pre .1)) (c .before .before .before .before .before .before .before .before .pre .2), c .before .before .before .loop .inv .went .room)
 
--- src/lib.rt:140:31
 enum-known-x : tie.Need-enum-known-x Inv-loop μ-loop
 enum-known-x c = search needs
 
--- src/lib.rt:141:17
 same-length : tie.Need-same-length Inv-loop μ-loop
 same-length c = halted-of _ _ (c .before .x .given .1) (c .before .before .before .before .before .visit-ray .ensures) .same ∙ c .before .before .before .before .before .before .before .before .before .loop .inv .went .same
 
--- src/lib.rt:141:17
 returns : tie.Need-returns Inv-loop μ-loop
 unfolding rowEntries
 returns c = sweeping-halt _ _ _ _ (c .before .before .before .before .before .before .before .before .before .loop .inv) (omega (arith, c .before .before .before .before .before .before .before .if1 .taken)) (halted-of _ _ (c .before .x .given .1) (c .before .before .before .before .before .visit-ray .ensures))
 
--- src/lib.rt:143:26
 enum-known-x-2 : tie.Need-enum-known-x-2 Inv-loop μ-loop
 enum-known-x-2 c = search needs
 
--- src/lib.rt:147:9
 add-u : tie.Need-add-u Inv-loop μ-loop
 add-u c = let h = c .before .before .before .before .before .before .before .if1 .taken in let k = c .before .before .before .before .before .before .before .before .before .before .before .before .before .before .pre .1 in let w = c .before .before .before .before .before .before .before .before .before .before .before .before .before .before .pre .0 .wide in search needs
 
--- src/lib.rt:137:5
 loop-less : tie.Need-loop-less Inv-loop μ-loop
 loop-less c = omega (arith, c .before .before .before .before .before .before .before .if1 .taken)
 
--- src/lib.rt:137:5
 loop-again : tie.Need-loop-again Inv-loop μ-loop
 loop-again c = sweeping-next _ _ _ _ (c .before .before .before .before .before .before .before .before .before .loop .inv) (omega (arith, c .before .before .before .before .before .before .before .if1 .taken)) (went-of _ _ (c .before .x2 .given .1) (c .before .before .before .before .before .visit-ray .ensures))
 
--- src/lib.rt:118:1
 same-length-2 : tie.Need-same-length-2 Inv-loop μ-loop
 same-length-2 c = c .before .before .loop .inv .went .same
 
--- src/lib.rt:118:1
 returns-2 : tie.Need-returns-2 Inv-loop μ-loop
 unfolding rowEntries
 returns-2 c = sweeping-all _ _ _ _ (c .before .before .loop .inv) (omega (arith, c .if1 .left))

@@ -5,80 +5,58 @@ use lib.ListN.{length}
 use borrow.Author.Needs.{needs}
 use Rattle.visits.proofs.visit_ray.Statement.{statement}
 use Rattle.visits.proofs.visit_ray.Tie as tie
-use Rattle.visits.proofs.visit_ray.Reads as reads
-use Rattle.visits.proofs.visit_ray.Lts as lts
-use Rattle.across.proofs.ray_hit.Reads as ray-hit-reads
-use Rattle.visits.proofs.put.Reads as put-reads
 
--- src/lib.rt:91:9
 returns : tie.Need-returns
 returns c = halt-8 (c .before .before .before .before .before .before .pre .1) (c .if1 .taken)
 
--- src/lib.rt:93:16
 add-next : tie.Need-add-next
 add-next c = let h = c .before .if1 .left in let g = c .before .before .before .before .before .before .before .good in search needs
 
--- src/lib.rt:94:17
 mul-index : tie.Need-mul-index
 mul-index c = let h = c .before .before .before .before .before .before .before .before .pre .0 .few in search needs
 
--- src/lib.rt:94:17
 add-index : tie.Need-add-index
 add-index c = let h = c .before .before .before .before .before .before .before .before .pre .0 .few in search needs
 
--- src/lib.rt:95:16
 add-ray : tie.Need-add-ray
 add-ray c = let h = c .before .before .before .before .before .before .before .before .before .pre .0 .few in search needs
 
--- src/lib.rt:96:22
 mul-head : tie.Need-mul-head
 mul-head c = let h = c .before .before .before .before .before .before .before .before .before .pre .0 .few in search needs
 
--- src/lib.rt:96:16
 mul-head-2 : tie.Need-mul-head-2
 mul-head-2 c = let h = c .before .before .before .before .before .before .before .before .before .pre .0 .few in search needs
 
--- src/lib.rt:96:16
 shared-slice-read-head : tie.Need-shared-slice-read-head
 shared-slice-read-head c = c .before .before .before .before .before .before .before .before .before .before .pre .0 .ray .in-heads
 
--- src/lib.rt:97:9
 ray-hit-requires : tie.Need-ray-hit-requires
 ray-hit-requires c κs = (c .before .before .before .before .before .before .before .before .before .before .pre .0 .ray .readable, c .before .before .before .before .before .before .before .before .before .before .pre .0 .ray .isSound)
 
--- src/lib.rt:100:33
 enum-told : tie.Need-enum-told
 enum-told c = search needs
 
--- src/lib.rt:100:13
 returns-2 : tie.Need-returns-2
 returns-2 c = went-off (c .before .before .before .before .before .before .before .before .before .before .before .before .before .pre .1) (entry-off _ _ _ _ _ _ _ _ _ (sym (c .before .before .ray-hit .ensures) ∙ c .enum-told .given .1)) (c .before .before .before .before .before .before .before .if1 .left)
 
--- src/lib.rt:105:20
 enum-known-h : tie.Need-enum-known-h
 enum-known-h c = search needs
 
--- src/lib.rt:106:16
 sub-if2 : tie.Need-sub-if2
 sub-if2 c = search needs
 
--- src/lib.rt:107:17
 returns-3 : tie.Need-returns-3
 returns-3 c = halt-full (c .before .before .before .before .before .before .before .before .before .before .before .before .before .before .before .before .pre .1) _ (entry-on _ _ _ _ _ _ _ _ _ _ (sym (c .before .before .before .before .before .ray-hit .ensures) ∙ c .before .before .before .h .given .1)) (entry-length _ _ _) (c .before .before .before .before .before .before .before .before .before .before .if1 .left) (c .if2 .taken)
 
--- src/lib.rt:109:23
 add-end : tie.Need-add-end
 add-end c = let g = c .before .before .before .before .before .before .before .before .before .before .before .before .before .before .before .before .before .good .1 .1 .1 .1 .1 .1 .1 .1 .1 .1 .1 .0 .1 in let h = c .before .if2 .left in let a = c .before .before .before .before .before .before .before .before .before .before .before .before .before .before .before .before .before .pre .1 in search needs
 
--- src/lib.rt:110:13
 put-requires : tie.Need-put-requires
 put-requires c κs = search needs
 
--- src/lib.rt:111:13
 same-length : tie.Need-same-length
 same-length c = search needs
 
--- src/lib.rt:111:13
 returns-4 : tie.Need-returns-4
 returns-4 c = let e = entry-on _ _ _ _ _ _ _ _ _ _ (sym (c .before .before .before .before .before .before .before .before .before .before .ray-hit .ensures) ∙ c .before .before .before .before .before .before .before .before .h .given .1) in went-on (c .before .before .before .before .before .before .before .before .before .before .before .before .before .before .before .before .before .before .before .before .before .pre .1) 6 (ap length e ∙ entry-length _ _ _) _ (c .before .before .before .before .before .before .before .before .before .before .before .before .before .before .before .if1 .left) (omega (arith, c .before .before .before .before .before .before .before .before .before .before .before .before .before .before .before .before .before .before .before .before .before .pre .1, c .before .before .before .before .before .if2 .left)) (rw e (c .before .before .put .ensures))
 

@@ -2,7 +2,7 @@
 use mathlib.Core.Path.{sym, subst}
 use Rattle.gridding.specs.Causes.{ByCauses}
 use Rattle.gridding.proofs.Causes.{grid-by-causes}
-use Rattle.tridexel.proofs.Handing.{answered, grid-above}
+use Rattle.handing.proofs.Handing.{answered, grid-above}
 use borrow.Author.Needs.{needs}
 use Rattle.tridexel.proofs.stocks.tridexel_grid.Statement.{statement}
 use Rattle.tridexel.proofs.stocks.tridexel_grid.Tie as tie

@@ -1,0 +1,2 @@
+-- The definitions that the contracts of `handing` cite.
+pub mod Numbers

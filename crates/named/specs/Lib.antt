@@ -1,0 +1,2 @@
+-- The definitions that the contracts of `named` cite.
+pub mod Named

@@ -1,3 +1,0 @@
--- Laws of the C interface.
-pub mod Handing
-pub mod Sweeping

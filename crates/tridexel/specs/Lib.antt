@@ -1,3 +1,0 @@
--- The definitions that the contracts of `tridexel` cite.
-pub mod Named
-pub mod Numbers
