@@ -1,6 +1,6 @@
 -- The loops over cells: what is known of the first k.
 use mathlib.Core.Path.{_≡_, refl, sym, subst, _∙_}
-use mathlib.Core.Bool.{Bool, true, false}
+use mathlib.Core.Bool.{Bool, true}
 use mathlib.Core.List.{List}
 use native.Mathlib.Decide.{decLt}
 use native.Mathlib.Omega.{arith}
@@ -8,7 +8,7 @@ use Prim.Native.Nat.{ℕ, _+_, _-_, _≤_, _<_}
 use lib.ListN.{length, length-set, getD, set, List·getD-eq-default}
 use lib.Seq.{getD-set-same, getD-set-other}
 use Rattle.recorded.specs.Words.{wordOf, Filled}
-use Rattle.recorded.specs.Agreement.{Every, each-right, one-wrong}
+use Rattle.recorded.specs.Agreement.{Every, each-right}
 
 -- a word of the row, and one past it, which is 0
 pub in-row : (w : List ℕ) (from k : ℕ) → getD w (from + k) 0 ≡ wordOf w from k

@@ -8,8 +8,6 @@ use lib.Ieee.{Float, ofBits, binary64}
 use lib.ListN.{length, getD}
 use Rattle.grid.specs.declared.DexelStockSpec.{DexelStockSpec}
 use Rattle.cutter.specs.declared.PreparedCutter.{PreparedCutter}
-use Rattle.cutter.specs.declared.CutterShape.{CutterShape}
-use Rattle.cutter.specs.declared.CutterShape.the-variants.{Flat, Ball, Bull, Drill, Chamfer, Beam, Probe, Lollipop, Dovetail}
 
 -- word k of those from place `from` on, and the double whose bits it is
 unfoldable pub wordOf : List ℕ → (from k : ℕ) → ℕ
@@ -52,16 +50,3 @@ cutterOf w from =
       slope = doubleOf w from 7;
       shoulder = doubleOf w from 8;
     }
-
--- the shape of a number, with its own numbers
-unfoldable pub shapeOf : ℕ → (m n : Float) → CutterShape
-shapeOf kind m n =
-    cond (eqb kind 0) Flat
-    (cond (eqb kind 1) Ball
-    (cond (eqb kind 2) (Bull m)
-    (cond (eqb kind 3) (Drill m)
-    (cond (eqb kind 4) (Chamfer m n)
-    (cond (eqb kind 5) Beam
-    (cond (eqb kind 6) Probe
-    (cond (eqb kind 7) Lollipop
-    (Dovetail m))))))))

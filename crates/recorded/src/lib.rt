@@ -2,7 +2,8 @@
 ghost use mathlib.Core.Path.{_≡_};
 ghost use lib.Ieee.{nan};
 ghost use lib.ListN.{length, take};
-ghost use Rattle.recorded.specs.Words.{wordOf, doubleOf, Filled, specOf, unitsOf, cutterOf, shapeOf};
+ghost use Rattle.named.specs.Named.{namedShape};
+ghost use Rattle.recorded.specs.Words.{wordOf, doubleOf, Filled, specOf, unitsOf, cutterOf};
 ghost use Rattle.recorded.specs.Agreement.{cellAgrees, numberAgrees, cellRight, numberRight, Every};
 use cutter::CutterShape;
 use cutter::PreparedCutter;
@@ -103,42 +104,11 @@ pub fn cutter_at(w: &[u64], from: usize) -> PreparedCutter
     }
 }
 
-// The shape of this number, in the order of the declarations from 0, with its own numbers.
-fn shape_of(kind: u64, m: f64, n: f64) -> CutterShape
-    ensures { λ r. ⌜ r ≡ shapeOf kind m n ⌝ }
-{
-    if kind == 0 {
-        return CutterShape::Flat;
-    }
-    if kind == 1 {
-        return CutterShape::Ball;
-    }
-    if kind == 2 {
-        return CutterShape::Bull(m);
-    }
-    if kind == 3 {
-        return CutterShape::Drill(m);
-    }
-    if kind == 4 {
-        return CutterShape::Chamfer(m, n);
-    }
-    if kind == 5 {
-        return CutterShape::Beam;
-    }
-    if kind == 6 {
-        return CutterShape::Probe;
-    }
-    if kind == 7 {
-        return CutterShape::Lollipop;
-    }
-    CutterShape::Dovetail(m)
-}
-
 // The shape whose number is word `from`, and whose own numbers are the two behind it.
 pub fn shape_at(w: &[u64], from: usize) -> CutterShape
-    ensures { λ r. ⌜ r ≡ shapeOf (wordOf (now (w .entry)) from 0) (doubleOf (now (w .entry)) from 1) (doubleOf (now (w .entry)) from 2) ⌝ }
+    ensures { λ r. ⌜ r ≡ namedShape (wordOf (now (w .entry)) from 0) (doubleOf (now (w .entry)) from 1) (doubleOf (now (w .entry)) from 2) ⌝ }
 {
-    shape_of(
+    named::named_shape(
         word_of(w, from, 0),
         double_of(w, from, 1),
         double_of(w, from, 2),
