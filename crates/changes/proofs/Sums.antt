@@ -20,7 +20,7 @@ use Rattle.changes.specs.Steps.{onward, cursorOf, Stands, Checks, Checks
 use Rattle.changes.specs.declared.ChangeHead.{ChangeHead}
 use Rattle.changes.specs.declared.Cursor.{Cursor}
 use Rattle.changes.specs.declared.Checked.the-variants.{Next, Bad}
-use Rattle.ray_changes.proofs.Lists.{equal-length}
+use Rattle.spans.proofs.Sets.{equal-length}
 
 pub part-length : (pairs : List Float) (at n : ℕ) → at + 2 * n ≤ length pairs → length (part pairs at n) ≡ 2 * n
 part-length pairs at n h = length-take-le (2 * n) (drop at pairs) (omega (arith, length-drop at pairs))

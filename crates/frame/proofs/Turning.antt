@@ -1,20 +1,12 @@
 -- A turned interval holds a point exactly when the interval holds the turned point, whatever the sign, the interval and the point, a NaN too.
 use mathlib.Core.Path.{_≡_, refl, sym, ap, _∙_}
 use mathlib.Core.Bool.{Bool, true, false, _&&_}
-use lib.Ieee.{Float, nan, inf, fin, neg, lt, le}
+use lib.Ieee.{Float, neg, lt, le}
 use Rattle.doubles.specs.Constants.{plusZero}
-use Rattle.doubles.proofs.Order.{lt-neg, le-neg}
+use Rattle.doubles.proofs.Order.{lt-neg, le-neg, neg-neg}
 use Rattle.frame.specs.declared.Pair.{Pair}
 use Rattle.frame.specs.Frame.{turned}
 use Rattle.frame.specs.Turns.{turnedPoint, Turned}
-
-neg-neg : (x : Float) → neg (neg x) ≡ x
-unfolding neg
-neg-neg nan = refl
-neg-neg (inf false) = refl
-neg-neg (inf true) = refl
-neg-neg (fin false m e) = refl
-neg-neg (fin true m e) = refl
 
 both : (a b : Bool) → (a && b) ≡ (b && a)
 both true true = refl

@@ -12,15 +12,9 @@ use lib.Seq.{drop-cons}
 use Rattle.doubles.proofs.Bools.{and-left, and-right, both, not-true, not-false, clash}
 use Rattle.doubles.proofs.Order.{lt-eq-left, lt-eq-right}
 use Rattle.spans.specs.Spans.{leads, rising, sound, equal}
+use Rattle.spans.proofs.Sets.{equal-length}
 
 -- ---- equal lists
-pub equal-length : (a b : List Float) → equal a b ≡ true → length a ≡ length b
-unfolding equal
-equal-length [] [] h = refl
-equal-length [] (y ∷ b) h = absurd (clash false h refl)
-equal-length (x ∷ a) [] h = absurd (clash false h refl)
-equal-length (x ∷ a) (y ∷ b) h = ap suc (equal-length a b (and-right (eq x y) (equal a b) h))
-
 leads-equal : (x y : Float) (a b : List Float) → eq x y ≡ true → equal a b ≡ true → leads x a ≡ true → leads y b ≡ true
 unfolding equal
 leads-equal x y [] [] e h l = refl

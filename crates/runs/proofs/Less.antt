@@ -6,7 +6,7 @@ use mathlib.Core.Logic.{inl, inr}
 use lib.ListN.{length}
 use lib.Ieee.{Float, lt, le}
 use Rattle.doubles.specs.Doubles.{Number}
-use Rattle.doubles.proofs.Bools.{or-cases, or-left, or-right, and-left, and-right, both, by-cases, clash, same-if}
+use Rattle.doubles.proofs.Bools.{or-cases, or-left, or-right, and-left, and-right, both, by-cases, clash, same-if, and-not-or}
 use Rattle.doubles.proofs.Order.{lt-number, le-number, le-refl, le-trans, lt→le, not-lt→le, le-lt-trans, lt-le-trans, lt→not-le, le→not-lt}
 use Rattle.spans.specs.Spans.{within, holds, rising, ListOf}
 use Rattle.spans.proofs.Ends.{oddN, Above}
@@ -259,18 +259,13 @@ less-list s l (lo ∷ hi ∷ hits) x = go (lt lo hi) refl (λ t m. less-list t m
     More : Type 0
     More = (t : Float → Bool) (m : List Float) → ListOf t m → ListOf (λ p. t p && not (holds hits p)) (less m hits)
 
-    both-less : (b u v : Bool) → ((b && not u) && not v) ≡ (b && not (u || v))
-    both-less true true v = refl
-    both-less true false v = refl
-    both-less false u v = refl
-
     no-pair : lt lo hi ≡ false → (p : Float) → within lo hi p ≡ false
     no-pair h p = elim (by-cases (within lo hi p)) [ inl u ↦ absurd (clash (lt lo hi) (within-proper lo hi p u) h) | inr u ↦ u ]
 
     go : (b : Bool) → lt lo hi ≡ b → More → ListOf (λ p. s p && not (within lo hi p || holds hits p)) (less (cond b (lessPair lo hi l) l) hits)
     go true h more =
         same-list (λ p. (s p && not (within lo hi p)) && not (holds hits p)) (λ p. s p && not (within lo hi p || holds hits p)) (less (lessPair lo hi l) hits)
-        (λ p. both-less (s p) (within lo hi p) (holds hits p)) (more (λ p. s p && not (within lo hi p)) (lessPair lo hi l) (pair-list lo hi h s l x))
+        (λ p. and-not-or (s p) (within lo hi p) (holds hits p)) (more (λ p. s p && not (within lo hi p)) (lessPair lo hi l) (pair-list lo hi h s l x))
     go false h more =
         same-list (λ p. s p && not (holds hits p)) (λ p. s p && not (within lo hi p || holds hits p)) (less l hits)
         (λ p. ap (λ (b : Bool). s p && not (b || holds hits p)) (sym (no-pair h p))) (more s l x)

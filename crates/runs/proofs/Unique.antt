@@ -1,16 +1,14 @@
 -- What is counted is counted in one way, and document 01's order gives one answer.
 use mathlib.Core.Path.{_≡_, refl, sym, ap, ap₂, _∙_, subst, fun-ext}
-use mathlib.Core.Bool.{Bool, true, false≢true}
+use mathlib.Core.Bool.{Bool, true}
 use mathlib.Core.List.{List, [], _∷_}
 use mathlib.Core.Logic.{_⊎_, inl, inr}
 use Prim.Native.Nat.{ℕ, suc, _+_, _/_, _<_}
 use native.Mathlib.Bridge.{le-prop}
-use lib.ListN.{length}
-use lib.Ieee.{Float, eq}
-use Rattle.doubles.proofs.Bools.{and-right}
+use lib.Ieee.{Float}
 use Rattle.refusal.proofs.Laws.{due-unique, none-due}
 use Rattle.spans.specs.Spans.{equal, ListOf}
-use Rattle.spans.proofs.Sets.{same-set}
+use Rattle.spans.proofs.Sets.{same-set, equal-length}
 use Rattle.grid.specs.Rays.{rayCount}
 use Rattle.grid.specs.declared.DexelStockSpec.{DexelStockSpec}
 use Rattle.grid.specs.declared.DexelGrid.{DexelGrid}
@@ -20,14 +18,6 @@ use Rattle.runs.specs.Model.{Sets, Count, none, counted, skipped, sumOve
 -- the one sound list of a set, as numbers
 pub one-list : (s : Float → Bool) (l m : List Float) → ListOf s l → ListOf s m → equal l m ≡ true
 one-list s l m a b = same-set l m (a .isSound) (b .isSound) (λ p _. a .points p ∙ sym (b .points p))
-
--- equal lists have as many pairs
-pub equal-length : (l m : List Float) → equal l m ≡ true → length l ≡ length m
-unfolding equal
-equal-length [] [] h = refl
-equal-length [] (y ∷ m) h = absurd (false≢true h)
-equal-length (x ∷ l) [] h = absurd (false≢true h)
-equal-length (x ∷ l) (y ∷ m) h = ap suc (equal-length l m (and-right (eq x y) (equal l m) h))
 
 -- a ray is its number
 same-ray : (g : DexelGrid) (P : Ray g → Type 0) (i : ℕ) (h k : i < rayCount g) → P (i, h) → P (i, k)

@@ -9,7 +9,7 @@ use lib.ListN.{length, getD, set, length-set}
 use lib.Seq.{getD-set-same, getD-set-other}
 use lib.Ieee.{Float, nan, lt, le}
 use mathlib.Core.Logic.{inl, inr}
-use Rattle.doubles.proofs.Bools.{and-left, and-right, both, by-cases, clash, and-true}
+use Rattle.doubles.proofs.Bools.{and-left, and-right, both, by-cases, clash, and-true, and-not-or}
 use Rattle.doubles.proofs.Order.{le-trans, le-lt-trans, lt-le-trans}
 use Rattle.store.specs.Store.{loAt, hiAt, nextAt}
 use Rattle.lists.specs.Reading.{listFrom}
@@ -73,7 +73,7 @@ unfolding holds
 marking-next {l} {c} {m} {before} {mid} {after} {n} {spans} {links} {k} s f g = record {
   size = g .size ∙ f .size;
   marks = λ i h. ap (λ (x : Bool). x || holds (listFrom n spans links (nextAt links (k - 1))) (getD c i nan)) (g .marks i h)
-      ∙ one (within (loAt spans (k - 1)) (hiAt spans (k - 1)) (getD c i nan)) (getD mid i false) (holds (listFrom n spans links (nextAt links (k - 1))) (getD c i nan))
+      ∙ and-not-or (within (loAt spans (k - 1)) (hiAt spans (k - 1)) (getD c i nan)) (getD mid i false) (holds (listFrom n spans links (nextAt links (k - 1))) (getD c i nan))
       ∙ ap (λ (x : List Float). getD mid i false || holds x (getD c i nan)) (sym (s .read)) ∙ f .marks i h;
 }
   where
@@ -138,13 +138,8 @@ module _ (log : List Float) (first at j end : ℕ) (h : j < end) where
     clearing-next = record {
       size = g .size ∙ f .size;
       marks = λ i k. ap (λ (x : Bool). x && not (holds (hitsFrom log first at (j + 1) (end - (j + 1))) (getD c i nan))) (g .marks i k)
-          ∙ one (getD mid i false) (hitAt log first at j (getD c i nan)) (holds (hitsFrom log first at (j + 1) (end - (j + 1))) (getD c i nan)) ∙ told i k;
+          ∙ and-not-or (getD mid i false) (hitAt log first at j (getD c i nan)) (holds (hitsFrom log first at (j + 1) (end - (j + 1))) (getD c i nan)) ∙ told i k;
     }
-      where
-        one : (old w rest : Bool) → ((old && not w) && not rest) ≡ (old && not (w || rest))
-        one true true rest = refl
-        one true false rest = refl
-        one false w rest = refl
 
     -- a hit over the whole window leaves no mark
     pub clearing-all : r ≡ true → HitsCleared hits c m before after

@@ -7,7 +7,7 @@ use Prim.Native.Nat.{ℕ, zero, suc, _+_, _<_}
 use native.Mathlib.Omega.{arith}
 use lib.ListN.{length, getD}
 use lib.Ieee.{Float, nan, lt, le, neg, ofBits}
-use Rattle.doubles.proofs.Bools.{and-left, and-right, both, or-cases}
+use Rattle.doubles.proofs.Bools.{and-left, and-right, both, or-cases, and-not-or}
 use Rattle.doubles.proofs.Order.{lt-number, le-bottom, le-top, lt-le-trans}
 use Rattle.spans.specs.Spans.{within, holds}
 use Rattle.store.specs.Walks.{countTo}
@@ -36,14 +36,9 @@ module _ (log : List Float) (first k : ℕ) {c : List Float} {m : ℕ} {before m
   cleared-certain true e f g = record {
     size = g .size ∙ f .size;
     marks = λ i h. g .marks i h ∙ ap (λ (x : Bool). x && not (holds (hitsFrom log first 4 first k) (getD c i nan))) (f .marks i h)
-        ∙ one (getD before i false) (holds (hitsFrom log first 2 first k) (getD c i nan)) (holds (hitsFrom log first 4 first k) (getD c i nan))
+        ∙ and-not-or (getD before i false) (holds (hitsFrom log first 2 first k) (getD c i nan)) (holds (hitsFrom log first 4 first k) (getD c i nan))
         ∙ ap (λ (x : Bool). getD before i false && not x) (sym (taken-holds log first k (getD c i nan)));
   }
-    where
-      one : (old w rest : Bool) → ((old && not w) && not rest) ≡ (old && not (w || rest))
-      one true true rest = refl
-      one true false rest = refl
-      one false w rest = refl
 
 pub cleared-possible : (log : List Float) (first k : ℕ) {c : List Float} {m : ℕ} {before after : List Bool} (certain : Bool) → certain ≡ false → HitsCleared (hitsFrom log first 4 first k) c m before after
     → HitsCleared (takenFrom log first k certain) c m before after

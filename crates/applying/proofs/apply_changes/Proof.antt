@@ -10,7 +10,9 @@ free-changes-requires : tie.Need-free-changes-requires
 free-changes-requires c κs = (c .before .before .before .before .before .before .before .before .pre .0, c .before .before .before .before .before .before .before .before .args .pairs .now, c .before .before .before .before .before .before .before .before .pre .1)
 
 lay-changes-requires : tie.Need-lay-changes-requires
-lay-changes-requires c κs = let a = c .before .before .before .before .before .before .before .before .before .before .before .before .before .before .before .before .before .before .args in record { before = cells (a .spans .now) (a .links .now) (a .heads .now); total = c .before .before .before .before .before .before .before .before .before .before .before .before .before .before .before .before .before .before .pre .0; fitting = c .before .before .before .before .before .before .before .before .before .before .before .before .before .before .before .before .before .before .pre .1; is = c .before .before .before .before .before .before .before .before .before .free-changes .ensures (c .before .before .before .before .before .before .before .before .before .before .before .before .before .before .before .before .before .before .pre .0) (a .pairs .now) (c .before .before .before .before .before .before .before .before .before .before .before .before .before .before .before .before .before .before .pre .1) }
+lay-changes-requires c κs =
+    let pre = c .before .before .before .before .before .before .before .before .before .before .before .before .before .before .before .before .before .before .pre in
+    let a = c .before .before .before .before .before .before .before .before .before .before .before .before .before .before .before .before .before .before .args in record { before = cells (a .spans .now) (a .links .now) (a .heads .now); total = pre .0; fitting = pre .1; is = c .before .before .before .before .before .before .before .before .before .free-changes .ensures (pre .0) (a .pairs .now) (pre .1) }
 
 same-length : tie.Need-same-length
 same-length c = search needs
@@ -22,7 +24,9 @@ same-length-3 : tie.Need-same-length-3
 same-length-3 c = search needs
 
 returns : tie.Need-returns
-returns c = let a = c .before .before .before .before .before .before .before .before .before .before .before .before .before .before .before .before .before .before .before .before .before .before .before .before .before .args in let us = updatesIn (a .g) (a .changes .now) (a .pairs .now) in c .before .before .before .before .before .before .lay-changes .ensures ∙ ap (λ (x : Cells). laidAll (a .spec .«max_intervals») x us) (c .before .before .before .before .before .before .before .before .before .before .before .before .before .before .before .before .free-changes .ensures (c .before .before .before .before .before .before .before .before .before .before .before .before .before .before .before .before .before .before .before .before .before .before .before .before .before .pre .0) (a .pairs .now) (c .before .before .before .before .before .before .before .before .before .before .before .before .before .before .before .before .before .before .before .before .before .before .before .before .before .pre .1)) ∙ applied-is (a .spec .«max_intervals») (cells (a .spans .now) (a .links .now) (a .heads .now)) us
+returns c =
+    let pre = c .before .before .before .before .before .before .before .before .before .before .before .before .before .before .before .before .before .before .before .before .before .before .before .before .before .pre in
+    let a = c .before .before .before .before .before .before .before .before .before .before .before .before .before .before .before .before .before .before .before .before .before .before .before .before .before .args in let us = updatesIn (a .g) (a .changes .now) (a .pairs .now) in c .before .before .before .before .before .before .lay-changes .ensures ∙ ap (λ (x : Cells). laidAll (a .spec .«max_intervals») x us) (c .before .before .before .before .before .before .before .before .before .before .before .before .before .before .before .before .free-changes .ensures (pre .0) (a .pairs .now) (pre .1)) ∙ applied-is (a .spec .«max_intervals») (cells (a .spans .now) (a .links .now) (a .heads .now)) us
 
 pub apply-changes-spec : {M : Type 1} → statement M
 apply-changes-spec =

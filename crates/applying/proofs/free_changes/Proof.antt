@@ -29,7 +29,9 @@ ray-named-requires : tie.Need-ray-named-requires Inv-loop μ-loop
 ray-named-requires c κs = let f = c .before .before .before .before .before .before .before .pre in let m = freed-names _ _ _ _ _ (f .0) (f .2) _ _ (c .before .before .loop .inv .3 (f .0) (f .1) (f .2)) (omega (arith, c .before .before .loop .inv .0)) (c .head .result) (c .head .ensures) in (omega (arith, f .2 .room .in-heads), m .digit, m .below)
 
 free-ray-requires : tie.Need-free-ray-requires Inv-loop μ-loop
-free-ray-requires c κs = let f = c .before .before .before .before .before .before .before .before .before .before .before .pre in ray-freeable _ _ _ _ _ (f .0) (f .2) _ _ (c .before .before .before .before .before .before .loop .inv .3 (f .0) (f .1) (f .2)) (omega (arith, c .before .before .before .before .before .before .loop .inv .0)) (c .before .before .before .before .head .result) (c .before .before .before .before .head .ensures) _ (c .before .before .before .ray-named .ensures)
+free-ray-requires c κs =
+    let inv = c .before .before .before .before .before .before .loop .inv in
+    let f = c .before .before .before .before .before .before .before .before .before .before .before .pre in ray-freeable _ _ _ _ _ (f .0) (f .2) _ _ (inv .3 (f .0) (f .1) (f .2)) (omega (arith, inv .0)) (c .before .before .before .before .head .result) (c .before .before .before .before .head .ensures) _ (c .before .before .before .ray-named .ensures)
 
 add-k : tie.Need-add-k Inv-loop μ-loop
 add-k c = search needs
@@ -38,7 +40,9 @@ loop-less : tie.Need-loop-less Inv-loop μ-loop
 loop-less c = search needs
 
 loop-again : tie.Need-loop-again Inv-loop μ-loop
-loop-again c = (c .before .before .before .before .before .before .before .before .before .before .before .before .before .loop .inv .0, c .before .before .before .before .before .before .before .before .before .before .before .before .before .loop .inv .1, omega arith, λ total pairs f. freed-next _ _ _ _ _ total f _ _ (c .before .before .before .before .before .before .before .before .before .before .before .before .before .loop .inv .3 total pairs f) (omega (arith, c .before .before .before .before .before .before .before .before .before .before .before .before .before .loop .inv .0)) (c .before .before .before .before .before .before .before .before .before .before .before .head .result) (c .before .before .before .before .before .before .before .before .before .before .before .head .ensures) _ (c .before .before .before .before .before .before .before .before .before .before .ray-named .ensures) _ (c .before .before .before .before .before .before .free-ray .ensures))
+loop-again c =
+    let inv = c .before .before .before .before .before .before .before .before .before .before .before .before .before .loop .inv in
+    (inv .0, inv .1, omega arith, λ total pairs f. freed-next _ _ _ _ _ total f _ _ (inv .3 total pairs f) (omega (arith, inv .0)) (c .before .before .before .before .before .before .before .before .before .before .before .head .result) (c .before .before .before .before .before .before .before .before .before .before .before .head .ensures) _ (c .before .before .before .before .before .before .before .before .before .before .ray-named .ensures) _ (c .before .before .before .before .before .before .free-ray .ensures))
 
 same-length : tie.Need-same-length Inv-loop μ-loop
 same-length c = let f = c .before .before .before .before .before .before .pre in ap (λ (x : Cells). length (x .spans)) (freed-whole _ _ _ _ _ (f .0) (f .2) _ _ (c .before .loop .inv .3 (f .0) (f .1) (f .2)) (omega (arith, c .before .loop .inv .0))) ∙ all-freed _ _ _ _ _ (f .0) (f .2) .kept .spans-size

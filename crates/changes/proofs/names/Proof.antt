@@ -1,6 +1,5 @@
 use borrow.Author.Needs.{needs}
 use native.Mathlib.Omega.{arith}
-use Prim.Native.Nat.{_-_}
 use Rattle.changes.proofs.Tests.{no-axis, no-ray, a-ray}
 use Rattle.changes.proofs.names.Statement.{statement}
 use Rattle.changes.proofs.names.Tie as tie

@@ -40,10 +40,14 @@ free-all-requires : tie.Need-free-all-requires
 free-all-requires c κs = freeable _ _ _ _ _ (c .before .before .before .before .before .before .before .before .before .before .before .before .before .before .before .before .before .before .before .before .before .pre) _ _ _ (c .before .before .before .before .before .before .before .before .before .before .before .before .before .before .group .ensures) (c .before .before .before .before .before .before .before .merge-all .ensures) _ (c .before .before .before .before .total-rays .ensures)
 
 mul-lay-all : tie.Need-mul-lay-all
-mul-lay-all c = twice-fits (c .before .before .before .before .before .before .before .before .before .before .before .before .before .before .before .total-rays .result) (length (c .before .before .before .before .before .before .before .before .before .before .before .before .before .before .before .before .before .before .before .before .before .before .before .before .before .before .before .before .before .before .before .before .args .log .now) / 6) (length (c .before .before .before .before .before .before .before .before .before .before .before .before .before .before .before .before .before .before .before .before .before .before .before .before .before .before .before .before .before .before .before .before .args .work .now)) (room (c .before .before .before .before .before .before .before .before .before .before .before .before .before .before .before)) (bound (c .before .before .before .before .before .before .before .before .before .before .before .before .before .before .before))
+mul-lay-all c =
+    let given = c .before .before .before .before .before .before .before .before .before .before .before .before .before .before .before .before .before .before .before .before .before .before .before .before .before .before .before .before .before .before .before .before .args in
+    twice-fits (c .before .before .before .before .before .before .before .before .before .before .before .before .before .before .before .total-rays .result) (length (given .log .now) / 6) (length (given .work .now)) (room (c .before .before .before .before .before .before .before .before .before .before .before .before .before .before .before)) (bound (c .before .before .before .before .before .before .before .before .before .before .before .before .before .before .before))
 
 add-lay-all : tie.Need-add-lay-all
-add-lay-all c = past-fits (c .before .before .before .before .before .before .before .before .before .before .before .before .before .before .before .total-rays .result) (length (c .before .before .before .before .before .before .before .before .before .before .before .before .before .before .before .before .before .before .before .before .before .before .before .before .before .before .before .before .before .before .before .before .args .log .now) / 6) (length (c .before .before .before .before .before .before .before .before .before .before .before .before .before .before .before .before .before .before .before .before .before .before .before .before .before .before .before .before .before .before .before .before .args .work .now)) (room (c .before .before .before .before .before .before .before .before .before .before .before .before .before .before .before)) (bound (c .before .before .before .before .before .before .before .before .before .before .before .before .before .before .before))
+add-lay-all c =
+    let given = c .before .before .before .before .before .before .before .before .before .before .before .before .before .before .before .before .before .before .before .before .before .before .before .before .before .before .before .before .before .before .before .before .args in
+    past-fits (c .before .before .before .before .before .before .before .before .before .before .before .before .before .before .before .total-rays .result) (length (given .log .now) / 6) (length (given .work .now)) (room (c .before .before .before .before .before .before .before .before .before .before .before .before .before .before .before)) (bound (c .before .before .before .before .before .before .before .before .before .before .before .before .before .before .before))
 
 lay-all-requires : tie.Need-lay-all-requires
 lay-all-requires c κs = layable _ _ _ _ _ (c .before .before .before .before .before .before .before .before .before .before .before .before .before .before .before .before .before .before .before .before .before .before .before .before .before .before .before .before .before .before .before .before .pre) _ _ _ (c .before .before .before .before .before .before .before .before .before .before .before .before .before .before .before .before .before .before .before .before .before .before .before .before .before .group .ensures) (c .before .before .before .before .before .before .before .before .before .before .before .before .before .before .before .before .before .before .merge-all .ensures) _ (c .before .before .before .before .before .before .before .before .before .before .before .before .before .before .before .total-rays .ensures) _ (c .before .before .before .before .before .before .before .before .before .before .free-all .ensures)

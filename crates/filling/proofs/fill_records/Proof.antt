@@ -29,7 +29,9 @@ loop-less : tie.Need-loop-less Inv-loop μ-loop
 loop-less c = search needs
 
 loop-again : tie.Need-loop-again Inv-loop μ-loop
-loop-again c = (omega arith, spans-next _ _ _ _ _ _ _ (c .before .before .before .before .before .before .before .uncut-record .ensures) (c .before .before .before .before .before .before .before .before .before .loop .inv .1) (c .before .before .before .before .put-record .ensures .0), links-next _ _ _ _ _ _ _ (c .before .before .before .before .before .before .before .uncut-record .ensures) (c .before .before .before .before .before .before .before .before .before .loop .inv .2) (c .before .before .before .before .put-record .ensures .1))
+loop-again c =
+    let inv = c .before .before .before .before .before .before .before .before .before .loop .inv in
+    (omega arith, spans-next _ _ _ _ _ _ _ (c .before .before .before .before .before .before .before .uncut-record .ensures) (inv .1) (c .before .before .before .before .put-record .ensures .0), links-next _ _ _ _ _ _ _ (c .before .before .before .before .before .before .before .uncut-record .ensures) (inv .2) (c .before .before .before .before .put-record .ensures .1))
 
 same-length : tie.Need-same-length Inv-loop μ-loop
 same-length c = spans-size _ _ _ _ _ (c .before .loop .inv .1)

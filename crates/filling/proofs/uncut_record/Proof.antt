@@ -1,6 +1,5 @@
 use borrow.Author.Needs.{needs}
 use native.Mathlib.Omega.{arith}
-use Prim.Native.Nat.{_-_}
 use Rattle.filling.proofs.Uncut.{record-listed, record-free}
 use Rattle.filling.proofs.uncut_record.Statement.{statement}
 use Rattle.filling.proofs.uncut_record.Tie as tie

@@ -15,7 +15,9 @@ add-free-list : tie.Need-add-free-list
 add-free-list c = search needs
 
 free-list-requires-2 : tie.Need-free-list-requires-2
-free-list-requires-2 c κs = subst (λ (x : Cells). Freeable (c .before .before .before .before .before .before .before .before .before .before .before .before .before .before .before .before .args .n) x (2 * c .before .before .before .before .before .before .before .before .before .before .before .before .before .before .before .before .args .ray + 1)) (sym (c .before .before .before .before .before .before .before .before .before .free-list .ensures)) (c .before .before .before .before .before .before .before .before .before .before .before .before .before .before .before .before .pre .certain)
+free-list-requires-2 c κs =
+    let given = c .before .before .before .before .before .before .before .before .before .before .before .before .before .before .before .before .args in
+    subst (λ (x : Cells). Freeable (given .n) x (2 * given .ray + 1)) (sym (c .before .before .before .before .before .before .before .before .before .free-list .ensures)) (c .before .before .before .before .before .before .before .before .before .before .before .before .before .before .before .before .pre .certain)
 
 same-length : tie.Need-same-length
 same-length c = search needs
@@ -27,7 +29,9 @@ same-length-3 : tie.Need-same-length-3
 same-length-3 c = search needs
 
 returns : tie.Need-returns
-returns c = c .before .before .before .before .before .before .free-list2 .ensures ∙ ap (λ (x : Cells). freedList (c .before .before .before .before .before .before .before .before .before .before .before .before .before .before .before .before .before .before .before .before .before .before .before .args .n) x (2 * c .before .before .before .before .before .before .before .before .before .before .before .before .before .before .before .before .before .before .before .before .before .before .before .args .ray + 1)) (c .before .before .before .before .before .before .before .before .before .before .before .before .before .before .before .before .free-list .ensures)
+returns c =
+    let given = c .before .before .before .before .before .before .before .before .before .before .before .before .before .before .before .before .before .before .before .before .before .before .before .args in
+    c .before .before .before .before .before .before .free-list2 .ensures ∙ ap (λ (x : Cells). freedList (given .n) x (2 * given .ray + 1)) (c .before .before .before .before .before .before .before .before .before .before .before .before .before .before .before .before .free-list .ensures)
 
 pub free-ray-spec : {M : Type 1} → statement M
 free-ray-spec =

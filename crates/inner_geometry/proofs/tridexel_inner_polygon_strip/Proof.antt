@@ -1,7 +1,5 @@
 use borrow.Author.Needs.{needs}
-use Rattle.inner_geometry.proofs.tridexel_inner_polygon_strip.Statement.{
-  statement,
-}
+use Rattle.inner_geometry.proofs.tridexel_inner_polygon_strip.Statement.{statement}
 use Rattle.inner_geometry.proofs.tridexel_inner_polygon_strip.Tie as tie
 
 polygon-strip-requires : tie.Need-polygon-strip-requires

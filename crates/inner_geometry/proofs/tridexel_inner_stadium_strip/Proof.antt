@@ -1,7 +1,5 @@
 use borrow.Author.Needs.{needs}
-use Rattle.inner_geometry.proofs.tridexel_inner_stadium_strip.Statement.{
-  statement,
-}
+use Rattle.inner_geometry.proofs.tridexel_inner_stadium_strip.Statement.{statement}
 use Rattle.inner_geometry.proofs.tridexel_inner_stadium_strip.Tie as tie
 
 stadium-strip-requires : tie.Need-stadium-strip-requires

@@ -70,7 +70,9 @@ shared-slice-read-if3-2 : tie.Need-shared-slice-read-if3-2 Inv-loop μ-loop
 shared-slice-read-if3-2 c = let h = step (c .before .before .before .before .before .before .before .loop .inv .0) (c .before .before .before .before .before .before .loop-test .taken) .counted in search needs
 
 returns-3 : tie.Need-returns-3 Inv-loop μ-loop
-returns-3 c = sym (c .before .before .before .before .before .before .before .before .loop .inv .2 ∙ is-other-hi (c .before .before .before .before .before .before .before .before .before .args .pairs .now) (c .before .before .before .before .before .before .before .before .loop .t) (step (c .before .before .before .before .before .before .before .before .loop .inv .0) (c .before .before .before .before .before .before .before .loop-test .taken)) (c .before .before .before .before .before .before .if1 .left) (not-true _ (c .if3 .taken)))
+returns-3 c =
+    let inv = c .before .before .before .before .before .before .before .before .loop .inv in
+    sym (inv .2 ∙ is-other-hi (c .before .before .before .before .before .before .before .before .before .args .pairs .now) (c .before .before .before .before .before .before .before .before .loop .t) (step (inv .0) (c .before .before .before .before .before .before .before .loop-test .taken)) (c .before .before .before .before .before .before .if1 .left) (not-true _ (c .if3 .taken)))
 
 mul-k : tie.Need-mul-k Inv-loop μ-loop
 mul-k c = let h = step (c .before .before .before .before .before .before .before .before .loop .inv .0) (c .before .before .before .before .before .before .before .loop-test .taken) .counted in search needs
@@ -88,7 +90,9 @@ loop-less : tie.Need-loop-less Inv-loop μ-loop
 loop-less c = step (c .before .before .before .before .before .before .before .before .before .loop .inv .0) (c .before .before .before .before .before .before .before .before .loop-test .taken) .less
 
 loop-again : tie.Need-loop-again Inv-loop μ-loop
-loop-again c = let s = step (c .before .before .before .before .before .before .before .before .before .loop .inv .0) (c .before .before .before .before .before .before .before .before .loop-test .taken) in (s .next, omega arith, c .before .before .before .before .before .before .before .before .before .loop .inv .2 ∙ is-same (c .before .before .before .before .before .before .before .before .before .before .args .pairs .now) (c .before .before .before .before .before .before .before .before .before .loop .t) s (c .before .before .before .before .before .before .before .if1 .left) (not-false _ (c .before .before .before .before .if2 .left)) (not-false _ (c .before .if3 .left)))
+loop-again c =
+    let inv = c .before .before .before .before .before .before .before .before .before .loop .inv in
+    let s = step (inv .0) (c .before .before .before .before .before .before .before .before .loop-test .taken) in (s .next, omega arith, inv .2 ∙ is-same (c .before .before .before .before .before .before .before .before .before .before .args .pairs .now) (c .before .before .before .before .before .before .before .before .before .loop .t) s (c .before .before .before .before .before .before .before .if1 .left) (not-false _ (c .before .before .before .before .if2 .left)) (not-false _ (c .before .if3 .left)))
 
 returns-4 : tie.Need-returns-4 Inv-loop μ-loop
 returns-4 c = sym (c .before .loop .inv .2 ∙ is-end _ _ _ _ _ _ (c .loop-test .left) (c .before .loop .inv .1))

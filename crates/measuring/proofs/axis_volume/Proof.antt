@@ -52,10 +52,14 @@ loop-less : tie.Need-loop-less Inv-loop μ-loop
 loop-less c = search needs
 
 loop-again : tie.Need-loop-again Inv-loop μ-loop
-loop-again c = let a = c .before .before .before .before .before .before .before .before .before .before .before .before .before .before in let s = cells (a .args .spans .now) (a .args .links .now) (a .args .heads .now) in (omega arith, c .before .before .before .before .before .loop .inv .1, volume-next _ _ _ _ _ _ _ (c .before .before .before .before .before .loop .inv .2) (c .before .before .before .add-ray .ensures .added (not-false _ (c .before .if1 .left))), along-more (a .args .spec) (a .args .g) s _ _ _ _ (c .before .before .before .add-ray .result) (c .before .before .before .add-ray .ensures) (c .before .if1 .left) (c .before .before .before .before .before .loop .inv .3))
+loop-again c =
+    let inv = c .before .before .before .before .before .loop .inv in
+    let a = c .before .before .before .before .before .before .before .before .before .before .before .before .before .before in let s = cells (a .args .spans .now) (a .args .links .now) (a .args .heads .now) in (omega arith, inv .1, volume-next _ _ _ _ _ _ _ (inv .2) (c .before .before .before .add-ray .ensures .added (not-false _ (c .before .if1 .left))), along-more (a .args .spec) (a .args .g) s _ _ _ _ (c .before .before .before .add-ray .result) (c .before .before .before .add-ray .ensures) (c .before .if1 .left) (inv .3))
 
 returns-2 : tie.Need-returns-2 Inv-loop μ-loop
-returns-2 c = let a = c .before .before .before .before .before .before .before .before .before .before in let s = cells (a .args .spans .now) (a .args .links .now) (a .args .heads .now) in along-good (a .args .spec) (a .args .g) s (a .args .axis) _ (c .before .before .before .ray-offset .result) (c .before .before .rays .result) (c .before .loop .k) _ (area-is (a .args .g) (a .args .axis) (c .before .before .before .before .before .before .cross .result) (c .before .before .before .before .before .step-along .result) (c .before .before .before .before .step-along2 .result) (c .before .before .before .before .before .before .cross .ensures) (c .before .before .before .before .before .step-along .ensures) (c .before .before .before .before .step-along2 .ensures)) (c .before .before .before .ray-offset .ensures) (c .before .before .rays .ensures) (omega arith) (c .before .loop .inv .2) (c .before .loop .inv .3)
+returns-2 c =
+    let inv = c .before .loop .inv in
+    let a = c .before .before .before .before .before .before .before .before .before .before in let s = cells (a .args .spans .now) (a .args .links .now) (a .args .heads .now) in along-good (a .args .spec) (a .args .g) s (a .args .axis) _ (c .before .before .before .ray-offset .result) (c .before .before .rays .result) (c .before .loop .k) _ (area-is (a .args .g) (a .args .axis) (c .before .before .before .before .before .before .cross .result) (c .before .before .before .before .before .step-along .result) (c .before .before .before .before .step-along2 .result) (c .before .before .before .before .before .before .cross .ensures) (c .before .before .before .before .before .step-along .ensures) (c .before .before .before .before .step-along2 .ensures)) (c .before .before .before .ray-offset .ensures) (c .before .before .rays .ensures) (omega arith) (inv .2) (inv .3)
 
 pub axis-volume-spec : {M : Type 1} → statement M
 axis-volume-spec =

@@ -1,4 +1,3 @@
-use Prim.Native.Nat.{_-_}
 use Rattle.measuring.specs.Volume.{boxVolume}
 use mathlib.Core.Path.{refl}
 use Rattle.measuring.proofs.box_volume.Statement.{statement}

@@ -1,5 +1,4 @@
 use borrow.Author.Needs.{needs}
-use Prim.Native.Nat.{_-_}
 use mathlib.Core.Path.{sym, _∙_}
 use Rattle.store.specs.Updates.{cells}
 use Rattle.stock.proofs.Causes.{room-of}

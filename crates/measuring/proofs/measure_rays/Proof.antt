@@ -1,5 +1,4 @@
 use borrow.Author.Needs.{needs}
-use Prim.Native.Nat.{_-_}
 use mathlib.Core.Path.{refl}
 use Rattle.store.specs.Updates.{cells}
 use Rattle.doubles.proofs.Bools.{not-false}

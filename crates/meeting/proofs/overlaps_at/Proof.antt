@@ -68,7 +68,9 @@ loop-less : tie.Need-loop-less Inv-loop μ-loop
 loop-less c = step (c .before .before .before .before .before .before .before .before .before .loop .inv .0) (c .before .before .before .before .before .before .before .before .loop-test .taken) .less
 
 loop-again : tie.Need-loop-again Inv-loop μ-loop
-loop-again c = let s = step (c .before .before .before .before .before .before .before .before .before .loop .inv .0) (c .before .before .before .before .before .before .before .before .loop-test .taken) in (s .next, c .before .before .before .before .before .before .before .before .before .loop .inv .1 ∙ overlaps-later _ s (rw (← c .before .before .before .before .before .larger .ensures, ← c .before .before .before .before .smaller .ensures) (c .before .before .before .if1 .left)) (not-false _ (c .before .if2 .left)))
+loop-again c =
+    let inv = c .before .before .before .before .before .before .before .before .before .loop .inv in
+    let s = step (inv .0) (c .before .before .before .before .before .before .before .before .loop-test .taken) in (s .next, inv .1 ∙ overlaps-later _ s (rw (← c .before .before .before .before .before .larger .ensures, ← c .before .before .before .before .smaller .ensures) (c .before .before .before .if1 .left)) (not-false _ (c .before .if2 .left)))
 
 returns-3 : tie.Need-returns-3 Inv-loop μ-loop
 returns-3 c = sym (c .before .loop .inv .1 ∙ overlaps-none _ _ _ _ _ (c .loop-test .left))

@@ -1,6 +1,6 @@
 use borrow.Author.Needs.{needs}
 use native.Mathlib.Omega.{arith}
-use Prim.Native.Nat.{_+_, _-_, _*_}
+use Prim.Native.Nat.{_+_, _*_}
 use Rattle.store.specs.Updates.{cells}
 use Rattle.stock.proofs.Rays.{list-readable}
 use Rattle.ray_changes.proofs.Tests.{had-no, had-second}

@@ -1,5 +1,4 @@
 use borrow.Author.Needs.{needs}
-use Prim.Native.Nat.{_-_}
 use Rattle.store.specs.Updates.{cells}
 use Rattle.stock.proofs.Rays.{store-bad, chained-of, stock-tells}
 use Rattle.stock.proofs.check_stock.Statement.{statement}

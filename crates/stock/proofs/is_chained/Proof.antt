@@ -1,6 +1,5 @@
 use borrow.Author.Needs.{needs}
 use native.Mathlib.Omega.{arith}
-use Prim.Native.Nat.{_-_}
 use Rattle.store.specs.Updates.{cells}
 use Rattle.stock.proofs.Rays.{lists-counted}
 use Rattle.stock.proofs.is_chained.Statement.{statement}

@@ -1,6 +1,5 @@
 use borrow.Author.Needs.{needs}
 use native.Mathlib.Omega.{arith}
-use Prim.Native.Nat.{_-_}
 use Rattle.store.specs.Updates.{cells}
 use Rattle.stock.proofs.Causes.{short-spans, short-links, short-heads}
 use Rattle.stock.proofs.is_short.Statement.{statement}

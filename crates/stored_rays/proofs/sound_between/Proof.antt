@@ -71,13 +71,17 @@ loop-less : tie.Need-loop-less Inv-loop μ-loop
 loop-less c = step (c .before .before .before .before .before .before .loop .inv .0) (c .before .before .before .before .before .loop-test .taken) .less
 
 loop-again : tie.Need-loop-again Inv-loop μ-loop
-loop-again c = let s = step (c .before .before .before .before .before .before .loop .inv .0) (c .before .before .before .before .before .loop-test .taken) in (s .next, c .before .before .before .before .before .before .loop .inv .1 ∙ after-good _ _ _ _ _ _ s (c .before .before .before .before .follows .ensures) (c .before .before .before .if2 .left), c .before .before .before .before .before .before .loop .inv .2 ∙ last-step _ _ _ _ _ s, c .before .before .before .before .before .before .loop .inv .3 ∙ length-step s _)
+loop-again c =
+    let inv = c .before .before .before .before .before .before .loop .inv in
+    let s = step (inv .0) (c .before .before .before .before .before .loop-test .taken) in (s .next, inv .1 ∙ after-good _ _ _ _ _ _ s (c .before .before .before .before .follows .ensures) (c .before .before .before .if2 .left), inv .2 ∙ last-step _ _ _ _ _ s, inv .3 ∙ length-step s _)
 
 returns-3 : tie.Need-returns-3 Inv-loop μ-loop
 returns-3 c = sum-good _ _ _ _ (none-between _ _ _ _ _ _ (c .if3 .taken)) (c .before .before .loop .inv .3 ∙ length-end _ _ _ _ _ (c .before .loop-test .left))
 
 returns-4 : tie.Need-returns-4 Inv-loop μ-loop
-returns-4 c = sum-good _ _ _ _ (all-between _ _ _ _ _ _ _ _ _ zero-nan (step (c .before .before .before .before .before .before .before .pre) (c .if3 .left)) (c .before .before .before .before .starts-within .ensures) (c .before .before .before .if1 .left) (c .before .before .loop .inv .1 ∙ after-none _ _ _ _ _ (c .before .loop-test .left)) (c .before .before .loop .inv .2 ∙ last-none _ _ _ _ _ (c .before .loop-test .left))) (c .before .before .loop .inv .3 ∙ length-end _ _ _ _ _ (c .before .loop-test .left))
+returns-4 c =
+    let inv = c .before .before .loop .inv in
+    sum-good _ _ _ _ (all-between _ _ _ _ _ _ _ _ _ zero-nan (step (c .before .before .before .before .before .before .before .pre) (c .if3 .left)) (c .before .before .before .before .starts-within .ensures) (c .before .before .before .if1 .left) (inv .1 ∙ after-none _ _ _ _ _ (c .before .loop-test .left)) (inv .2 ∙ last-none _ _ _ _ _ (c .before .loop-test .left))) (inv .3 ∙ length-end _ _ _ _ _ (c .before .loop-test .left))
 
 pub sound-between-spec : {M : Type 1} → statement M
 sound-between-spec =

@@ -81,7 +81,9 @@ loop-less : tie.Need-loop-less Inv-loop μ-loop
 loop-less c = step (c .before .before .before .before .before .before .before .before .before .loop .inv .1) (c .before .before .before .before .before .before .before .before .loop-test .taken) .less
 
 loop-again : tie.Need-loop-again Inv-loop μ-loop
-loop-again c = let s = step (c .before .before .before .before .before .before .before .before .before .loop .inv .1) (c .before .before .before .before .before .before .before .before .loop-test .taken) in (c .before .before .before .before .first-reaching .ensures .readable, s .next, c .before .before .before .before .before .before .before .before .before .loop .inv .2 ∙ both-same _ _ _ _ (after-good _ _ _ _ _ _ s (c .before .before .before .before .before .before .before .follows .ensures) (c .before .before .before .before .before .before .if1 .left)) (lies-in (c .before .before .before .before .first-reaching .ensures) s _ (c .before .before .before .reaches-over .ensures) (c .before .before .if2 .left)), c .before .before .before .before .before .before .before .before .before .loop .inv .3 ∙ length-step s _)
+loop-again c =
+    let inv = c .before .before .before .before .before .before .before .before .before .loop .inv in
+    let s = step (inv .1) (c .before .before .before .before .before .before .before .before .loop-test .taken) in (c .before .before .before .before .first-reaching .ensures .readable, s .next, inv .2 ∙ both-same _ _ _ _ (after-good _ _ _ _ _ _ s (c .before .before .before .before .before .before .before .follows .ensures) (c .before .before .before .before .before .before .if1 .left)) (lies-in (c .before .before .before .before .first-reaching .ensures) s _ (c .before .before .before .reaches-over .ensures) (c .before .before .if2 .left)), inv .3 ∙ length-step s _)
 
 returns-3 : tie.Need-returns-3 Inv-loop μ-loop
 returns-3 c = sum-good _ _ _ _ (c .before .loop .inv .2 ∙ both _ _ (after-none _ _ _ _ _ (c .loop-test .left)) (all-contained _ _ _ _ _ (c .loop-test .left))) (c .before .loop .inv .3 ∙ length-end _ _ _ _ _ (c .loop-test .left))

@@ -58,7 +58,9 @@ same-length : tie.Need-same-length
 same-length c = search needs
 
 returns-4 : tie.Need-returns-4
-returns-4 c = let e = entry-on _ _ _ _ _ _ _ _ _ _ (sym (c .before .before .before .before .before .before .before .before .before .before .ray-hit .ensures) ∙ c .before .before .before .before .before .before .before .before .h .given .1) in went-on (c .before .before .before .before .before .before .before .before .before .before .before .before .before .before .before .before .before .before .before .before .before .pre .1) 6 (ap length e ∙ entry-length _ _ _) _ (c .before .before .before .before .before .before .before .before .before .before .before .before .before .before .before .if1 .left) (omega (arith, c .before .before .before .before .before .before .before .before .before .before .before .before .before .before .before .before .before .before .before .before .before .pre .1, c .before .before .before .before .before .if2 .left)) (rw e (c .before .before .put .ensures))
+returns-4 c =
+    let pre = c .before .before .before .before .before .before .before .before .before .before .before .before .before .before .before .before .before .before .before .before .before .pre in
+    let e = entry-on _ _ _ _ _ _ _ _ _ _ (sym (c .before .before .before .before .before .before .before .before .before .before .ray-hit .ensures) ∙ c .before .before .before .before .before .before .before .before .h .given .1) in went-on (pre .1) 6 (ap length e ∙ entry-length _ _ _) _ (c .before .before .before .before .before .before .before .before .before .before .before .before .before .before .before .if1 .left) (omega (arith, pre .1, c .before .before .before .before .before .if2 .left)) (rw e (c .before .before .put .ensures))
 
 pub visit-ray-spec : {M : Type 1} → statement M
 visit-ray-spec =
