@@ -73,7 +73,7 @@ unfolding holds
 marking-next {l} {c} {m} {before} {mid} {after} {n} {spans} {links} {k} s f g = record {
   size = g .size ∙ f .size;
   marks = λ i h. ap (λ (x : Bool). x || holds (listFrom n spans links (nextAt links (k - 1))) (getD c i nan)) (g .marks i h)
-      ∙ and-not-or (within (loAt spans (k - 1)) (hiAt spans (k - 1)) (getD c i nan)) (getD mid i false) (holds (listFrom n spans links (nextAt links (k - 1))) (getD c i nan))
+      ∙ one (within (loAt spans (k - 1)) (hiAt spans (k - 1)) (getD c i nan)) (getD mid i false) (holds (listFrom n spans links (nextAt links (k - 1))) (getD c i nan))
       ∙ ap (λ (x : List Float). getD mid i false || holds x (getD c i nan)) (sym (s .read)) ∙ f .marks i h;
 }
   where
