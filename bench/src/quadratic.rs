@@ -72,7 +72,14 @@ fn cases(n: usize) -> Vec<Case> {
         few("100 rays in turn", 100),
         few("300 rays in turn", 300),
         Case { what: "one ray of as many pairs", max: [long; 3], cell: long, lists: Box::new(comb), log: apart(n, |_| 0), n },
-        Case { what: "one ray, hits between as many pairs", max: [long; 3], cell: long, lists: Box::new(comb), log: between(n), n },
+        Case {
+            what: "one ray, hits between as many pairs",
+            max: [long; 3],
+            cell: long,
+            lists: Box::new(comb),
+            log: between(n),
+            n,
+        },
         Case {
             what: "one entry, one ray of as many pairs",
             max: [long; 3],

@@ -5,7 +5,7 @@ use crate::{
 };
 use harness::{
     commits::{Commit, Entries, Kind, Run, Tally, edges, run, run_of},
-    log_runs::{LogRun, log_run},
+    log_runs::{LogRun, log_run, long_run},
     store::{LentStore, Match},
 };
 use oracle::dexel::DexelStockSpec;
@@ -147,7 +147,7 @@ fn kind_of(c: &Commit) -> Kind {
     }
 }
 
-/// Runs of one kind of commit, so that each entry has a row of its own, mixed ones, and runs of logs with their copies.
+/// Runs of one kind of commit, so that each entry has a row of its own, mixed ones, runs of logs with their copies, and runs of long logs.
 pub fn functions() -> Vec<Function> {
     let of = |name: &'static str, kind: Kind| {
         let edges = edges().into_iter().filter(|r| r.commits.iter().all(|c| kind_of(c) == kind)).collect();
@@ -158,5 +158,6 @@ pub fn functions() -> Vec<Function> {
         of("commit_log", Kind::Logs),
         Function::new("runs", edges(), run, |r| outcome(r.play(&Port))),
         Function::new("log_runs", vec![], log_run, |r| outcome(r.play(&Port))),
+        Function::new("long_logs", vec![], long_run, |r| outcome(r.play(&Port))),
     ]
 }

@@ -1,5 +1,6 @@
 //! Runs of logs and copies of them with the same hits in their accepted logs: shuffled (logs, and the entries of each), and regrouped (the entries in
 //! other logs, some of them repeated, some taken apart into their outer and their inner hit). Every copy leaves the lists and the interval total of its run.
+//! And runs of long logs on few rays.
 use crate::{
     commits::{Commit, Entries, Run, State, log, work_pairs},
     generate::Gen,
@@ -147,14 +148,28 @@ fn roomy(g: &mut Gen, of: &Run, mut logs: Vec<Vec<f64>>, refused: &[Vec<f64>]) -
     Run { start: Store::fill(&spec), spec, over, commits }
 }
 
+/// These logs on an uncut store whose interval budget is often the most that they reach, or one less; now and then near the highest generation.
+fn budgeted(g: &mut Gen, wide: &DexelStockSpec, meant: usize, commits: &[Commit]) -> Run {
+    let rays = wide.grid().unwrap().total_rays();
+    let most = peak(wide, &Store::fill(wide), commits);
+    let budget = g.pick(&[most, most, most - 1, most + 1, meant]).max(2 * rays);
+    let commits = moved_to(commits, wide.max_intervals, budget);
+    let spec = with_budget(wide, budget);
+    let mut start = Store::fill(&spec);
+    if g.once_in(16) {
+        start.generation = u64::MAX - g.below(20);
+    }
+    let over = std::array::from_fn(|_| g.below(4) as usize);
+    Run { spec, start, over, commits }
+}
+
 /// 1 to 20 logs, with refused ones among them, on an uncut store whose interval budget is often the most that they reach, or one less; and two shuffled
 /// and two regrouped copies of what was accepted.
 pub fn log_run(g: &mut Gen) -> LogRun {
     let spec = small_spec(g);
     let rays = spec.grid().unwrap().total_rays();
     let wide = with_budget(&spec, 2 * rays + 20 * 8 * 3);
-    let start = Store::fill(&wide);
-    let mut state = State::of(&wide, start.clone());
+    let mut state = State::uncut(&wide);
     let mut commits = vec![];
     for _ in 0..1 + g.below(20) {
         let commit = log(g, &state);
@@ -162,16 +177,7 @@ pub fn log_run(g: &mut Gen) -> LogRun {
         state = state.due(&commit).next;
         commits.push(commit);
     }
-    let most = peak(&wide, &start, &commits);
-    let budget = g.pick(&[most, most, most - 1, most + 1, spec.max_intervals]).max(2 * rays);
-    let commits = moved_to(&commits, wide.max_intervals, budget);
-    let spec = with_budget(&spec, budget);
-    let mut start = Store::fill(&spec);
-    if g.once_in(16) {
-        start.generation = u64::MAX - g.below(20);
-    }
-    let over = std::array::from_fn(|_| g.below(4) as usize);
-    let first = Run { spec, start, over, commits };
+    let first = budgeted(g, &wide, spec.max_intervals, &commits);
     let (accepted, refused) = told_apart(&first);
     let copies = (0..4)
         .map(|k| {
@@ -180,4 +186,68 @@ pub fn log_run(g: &mut Gen) -> LogRun {
         })
         .collect();
     LogRun { first, copies }
+}
+
+/// A hit on a lattice of `steps` steps, one step wide but for three in `odd`: many of them leave many pairs, and their ends often meet.
+fn short_hit(g: &mut Gen, lo: f64, hi: f64, steps: u64, odd: u64) -> [f64; 2] {
+    let at = |k: u64| lo + (hi - lo) * (k as f64 / steps as f64);
+    let k = g.below(steps);
+    match g.below(odd) {
+        0 => [at(k), at(k + g.below(steps - k + 1))],
+        1 => [0.; 2],
+        2 => [g.double(), g.double()],
+        _ => [at(k), at(k + 1)],
+    }
+}
+
+/// A log of this many entries, nearly all of them on one to three rays.
+fn long_log(g: &mut Gen, state: &State, entries: usize) -> Commit {
+    let (stock, spec) = (&state.stock, state.stock.spec());
+    let any_ray = |g: &mut Gen| {
+        let axis = g.below(3) as usize;
+        (axis, g.below(stock.grid().rays(axis) as u64))
+    };
+    let few: Vec<_> = (0..1 + g.below(3)).map(|_| any_ray(g)).collect();
+    let steps = 1 + g.below(8 * entries as u64);
+    let odd = g.pick(&[64, 8192]);
+    let mut log = vec![];
+    for _ in 0..entries {
+        let (axis, index) = if g.once_in(16) { any_ray(g) } else { g.pick(&few) };
+        let (lo, hi) = (spec.min_mm[axis], spec.max_mm[axis]);
+        let outer = short_hit(g, lo, hi, steps, odd);
+        let inner = match g.below(3) {
+            0 => [0.; 2],
+            1 => outer,
+            _ => short_hit(g, lo, hi, steps, odd),
+        };
+        log.extend([axis as f64, index as f64, outer[0], outer[1], inner[0], inner[1]]);
+    }
+    if g.once_in(4) {
+        let mut entries = log.as_chunks::<6>().0.to_vec();
+        entries.sort_by(|a, b| {
+            a.iter().zip(b).map(|(x, y)| x.total_cmp(y)).find(|o| o.is_ne()).unwrap_or(std::cmp::Ordering::Equal)
+        });
+        log = entries.concat();
+    }
+    let work = 2 * work_pairs(spec, &log);
+    Commit::Log { log, allowance: 0, work }
+}
+
+/// 1 to 3 logs of up to 40 entries on few rays, once in 16 of up to 1,200 and so with more entries and pairs on a ray than any local array has cells,
+/// under budgets that are often exactly reached, or one short.
+pub fn long_run(g: &mut Gen) -> Run {
+    let spec = small_spec(g);
+    let rays = spec.grid().unwrap().total_rays();
+    let longest = if g.once_in(16) { 1200 } else { 40 };
+    let sizes: Vec<usize> = (0..1 + g.below(3)).map(|_| 1 + g.below(longest) as usize).collect();
+    let wide = with_budget(&spec, 2 * rays + 3 * sizes.iter().sum::<usize>());
+    let mut state = State::uncut(&wide);
+    let mut commits = vec![];
+    for entries in sizes {
+        let commit = long_log(g, &state, entries);
+        let commit = allowed(g, &state, commit);
+        state = state.due(&commit).next;
+        commits.push(commit);
+    }
+    budgeted(g, &wide, spec.max_intervals, &commits)
 }

@@ -2,7 +2,7 @@
 use harness::{
     commits::{Commit, Entries, State, Tally, edges, run},
     generate::Gen,
-    log_runs::log_run,
+    log_runs::{log_run, long_run},
     store::{LentStore, Match},
 };
 use oracle::dexel::DexelStockSpec;
@@ -169,6 +169,31 @@ fn log_runs() {
     assert!([9, 10, 11, 12, 15, 17].iter().all(|number| refused[*number] > 20), "{refused:?}");
     assert!(logs[0] == 0 && logs[1..].iter().all(|n| *n > 5), "{logs:?}");
     assert!(full > LOG_RUNS / 4 && cut > LOG_RUNS * 3 / 4, "{full} {cut}");
+}
+
+/// Among the long logs are some with more than 512 entries on one ray, and stores with more than 512 pairs on one.
+#[test]
+fn long_runs() {
+    let (mut refused, mut most_entries, mut most_pairs, mut full) = ([0; 18], 0, 0, 0);
+    for case in 0..LOG_RUNS {
+        let r = long_run(&mut Gen::new(1, "long_logs", case));
+        assert_eq!(r.play(&StandIn(Fault::None)), Ok(Match::Same), "case {case}");
+        let mut state = State::of(&r.spec, r.start.clone());
+        for c in &r.commits {
+            let Commit::Log { log, .. } = c else { unreachable!() };
+            let mut rays: Vec<_> = log.as_chunks::<6>().0.iter().map(|e| (e[0] as u64, e[1] as u64)).collect();
+            rays.sort();
+            most_entries = most_entries.max(rays.chunk_by(|a, b| a == b).map(<[_]>::len).max().unwrap());
+            let due = state.due(c);
+            refused[due.refused as usize] += 1;
+            full += (due.changed > 0 && due.next.store.intervals == r.spec.max_intervals as u64) as u64;
+            state = due.next;
+        }
+        most_pairs = most_pairs.max((0..state.store.heads.len()).map(|h| state.store.list(h).unwrap().len()).max().unwrap());
+    }
+    println!("by number {refused:?}, most entries on a ray {most_entries}, most pairs {most_pairs}, filled by a log {full}");
+    assert!([0, 9, 10].iter().all(|number| refused[*number] > 20), "{refused:?}");
+    assert!(most_entries > 512 && most_pairs > 512 && full > LOG_RUNS / 4, "{most_entries} {most_pairs} {full}");
 }
 
 /// A copy that lost its last accepted log is told apart wherever that log took something that no other takes.
