@@ -110,8 +110,8 @@ fn inner_from(l: Lane, s: Strip, t: Strip) -> Pair
             Strip::Miss => none,
             Strip::Hit(lo2, hi2) => {
                 let q = Pair {
-                    lo: doubles::larger(lo, lo2) + l.guard,
-                    hi: doubles::smaller(hi, hi2) - l.guard,
+                    lo: extremes::larger(lo, lo2) + l.guard,
+                    hi: extremes::smaller(hi, hi2) - l.guard,
                 };
                 if q.lo < q.hi {
                     return frame::world(l.frame, l.la, q);

@@ -59,7 +59,7 @@ fn plan_size(c: Chord) -> f64
 {
     let a = c.a;
     let b = c.b;
-    doubles::larger(doubles::abs(b.x - a.x), doubles::abs(b.y - a.y))
+    extremes::larger(doubles::abs(b.x - a.x), doubles::abs(b.y - a.y))
 }
 
 fn length_fits(c: Chord) -> bool

@@ -24,8 +24,10 @@ use Rattle.runs.specs.Runs.{points, Left, Cut}
 use Rattle.runs.specs.Lent.{listIn, lentStore, LogCommit}
 use Rattle.cuts.specs.Merges.{Merges, cutStock, listsOf}
 use Rattle.cuts.proofs.Leaves.{changed-rays, all-updated, cut-sound, cut}
-use Rattle.commit.specs.Commit.{answerOf, commitOf, Passes, Tested, Ready, Done, OnGrid, AllCellsLeft, LogCommits}
-use Rattle.commit.proofs.Tests.{passes-none}
+use Rattle.judging.specs.Tests.{commitOf, Passes, Tested}
+use Rattle.judging.proofs.Tests.{passes-none}
+use Rattle.cutting.specs.Cutting.{Ready, Done}
+use Rattle.commit.specs.Commit.{answerOf, OnGrid, AllCellsLeft, LogCommits}
 
 module _ (spec : DexelStockSpec) (g : DexelGrid) (s : Stock) (log : List Float) (allowance : ℕ) (work : List Float) where
   -- a refused commit

@@ -4,19 +4,9 @@ use mathlib.Core.Bool.{Bool, true, false, _&&_}
 use mathlib.Core.List.{List, [], _∷_}
 use lib.Ieee.{Float}
 use Rattle.refusal.specs.Refusal.{Cause, cause, Due, NoneDue}
-use Rattle.spans.specs.Spans.{sound, Within, Outside, Share, Apart}
+use Rattle.spans.specs.Spans.{sound}
 use Rattle.comparing.specs.declared.Told.{Told}
 use Rattle.comparing.specs.declared.Told.the-variants.{Yes, No, Refused}
-
--- whether the outer list has each point of the inner one, with the reason
-abbrev pub Covers : List Float → List Float → Bool → Type 0
-Covers outer inner true = Within outer inner
-Covers outer inner false = Outside outer inner
-
--- whether the lists have a point in common, with the reason
-abbrev pub Meets : List Float → List Float → Bool → Type 0
-Meets a b true = Share a b
-Meets a b false = Apart a b
 
 -- the causes of both comparisons: 11 a list is not sound
 abbrev pub compareCauses : List Float → List Float → List Cause

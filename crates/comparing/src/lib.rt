@@ -1,8 +1,7 @@
 // Two span lists compared: whether one has all points of the other, and whether they have one in common.
-ghost use mathlib.Core.Path.{_≡_};
-ghost use mathlib.Core.Bool.{true};
 ghost use Rattle.spans.specs.Spans.{sound};
-ghost use Rattle.comparing.specs.Verdicts.{Covers, Meets, Verdict, compareCauses};
+ghost use Rattle.covering.specs.Covering.{Covers, Meets};
+ghost use Rattle.comparing.specs.Verdicts.{Verdict, compareCauses};
 use spans::is_sound;
 
 // Whether something holds of two lists, or why the call is refused.
@@ -10,58 +9,6 @@ pub enum Told {
     Yes,
     No,
     Refused(u32),
-}
-
-// Whether each point of inner is in outer.
-pub fn covers(outer: &[f64], inner: &[f64]) -> bool
-    requires { ⌜ (sound (now outer) ≡ true) × (sound (now inner) ≡ true) ⌝ }
-    ensures { λ r. ⌜ Covers (now (outer .entry)) (now (inner .entry)) r ⌝ }
-{
-    let mut k = 0;
-    let mut j = 0;
-    while k < inner.len() {
-        if outer.len() <= j {
-            return false;
-        }
-        if outer[j + 1] < inner[k + 1] {
-            j += 2;
-        } else {
-            if inner[k] < outer[j] {
-                return false;
-            }
-            k += 2;
-            if inner.len() <= k {
-                return true;
-            }
-            if outer[j + 1] < inner[k + 1] {
-                j += 2;
-            }
-        }
-    }
-    true
-}
-
-// Whether some point is in both lists.
-pub fn meets(a: &[f64], b: &[f64]) -> bool
-    requires { ⌜ (sound (now a) ≡ true) × (sound (now b) ≡ true) ⌝ }
-    ensures { λ r. ⌜ Meets (now (a .entry)) (now (b .entry)) r ⌝ }
-{
-    let mut i = 0;
-    let mut j = 0;
-    while i < a.len() {
-        if b.len() <= j {
-            return false;
-        }
-        if a[i + 1] <= b[j] {
-            i += 2;
-        } else {
-            if a[i] < b[j + 1] {
-                return true;
-            }
-            j += 2;
-        }
-    }
-    false
 }
 
 // Whether each point of inner is in outer. 11: a list is not sound.
@@ -74,7 +21,7 @@ pub fn contains(outer: &[f64], inner: &[f64]) -> Told
     if !is_sound(inner) {
         return Told::Refused(11);
     }
-    if covers(outer, inner) {
+    if covering::covers(outer, inner) {
         return Told::Yes;
     }
     Told::No
@@ -90,7 +37,7 @@ pub fn overlaps(a: &[f64], b: &[f64]) -> Told
     if !is_sound(b) {
         return Told::Refused(11);
     }
-    if meets(a, b) {
+    if covering::meets(a, b) {
         return Told::Yes;
     }
     Told::No

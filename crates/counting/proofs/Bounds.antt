@@ -31,7 +31,7 @@ use Rattle.log_hits.proofs.Taken.{starts-le}
 use Rattle.counting.specs.Answer.{listsIn, Countable}
 use Rattle.counting.specs.Totals.{sum, pairsOf, leftOf, changesOf}
 use Rattle.counting.proofs.Sums.{sum-over, sum-le, sum-at, sum-one, sum-plus, sum-times, sum-none}
-use Rattle.counting.proofs.Alike.{pairs-of}
+use Rattle.entry_order.proofs.Alike.{pairs-of}
 
 -- no more rays are counted than there are
 at-most-all : (f : ℕ → Bool) (n : ℕ) → sum (λ ray. cond (f ray) 1 0) n ≤ n

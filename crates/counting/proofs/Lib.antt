@@ -1,6 +1,5 @@
 pub mod Sums
-pub mod Alike
 pub mod Bounds
 pub mod Steps
-pub mod Runs
 pub mod Answers
+pub mod Runs

@@ -18,11 +18,12 @@ use Rattle.runs.specs.Logs.{entryAt, entryCount, entries, rayOf}
 use Rattle.runs.specs.Counts.{raysChanged, pairsLeft}
 use Rattle.logs.proofs.Places.{each-below}
 use Rattle.counting.specs.Answer.{listsIn, Countable, Counting}
-use Rattle.counting.specs.Totals.{sum, pairsOf, leftOf, changesOf, seen, changedAt, pairsAt, RunOf, FirstOf, EndOf, Counts, Totalled}
+use Rattle.entry_order.specs.Places.{seen, RunOf, FirstOf, EndOf}
+use Rattle.counting.specs.Totals.{sum, pairsOf, leftOf, changesOf, changedAt, pairsAt, Counts, Totalled}
 use Rattle.counting.specs.declared.RayCount.{RayCount}
 use Rattle.counting.specs.declared.Totals.{Totals}
 use Rattle.counting.proofs.Sums.{sum-same, sum-le, sum-at, sum-one, sum-none}
-use Rattle.counting.proofs.Alike.{none-from, unseen, new-ray, old-ray, run-of}
+use Rattle.entry_order.proofs.Alike.{none-from, unseen, new-ray, old-ray, run-of}
 use Rattle.counting.proofs.Bounds.{total-is, changed-is, left-is, entriesOf, left-le, unchanged, untouched, rays-le, thrice, few-rays}
 
 module _ (spec : DexelStockSpec) (g : DexelGrid) (c : Cells) (intervals : ℕ) (log : List Float) (ok : Countable spec g c intervals log) where

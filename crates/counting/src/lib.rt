@@ -5,11 +5,10 @@ ghost use mathlib.Core.Logic.{_⊎_};
 ghost use Prim.Native.Nat.{_+_, _-_, _*_, _^_, _≤_, _<_};
 ghost use Rattle.grid.specs.Rays.{rayCount};
 ghost use Rattle.store.specs.Updates.{cells};
-ghost use Rattle.stock.specs.Stock.{Tells};
 ghost use Rattle.runs.specs.Logs.{entries, entryCount};
-ghost use Rattle.logs.specs.Named.{EachNamed};
 ghost use Rattle.counting.specs.Answer.{budgetIn, Countable, Counting};
-ghost use Rattle.counting.specs.Totals.{pairsOf, RunOf, Counts, Ascending, FirstOf, EndOf, Totalled};
+ghost use Rattle.counting.specs.Totals.{pairsOf, Counts, Totalled};
+ghost use Rattle.entry_order.specs.Places.{RunOf, Ascending};
 use grid::DexelGrid;
 use grid::DexelStockSpec;
 
@@ -31,84 +30,6 @@ pub struct RayCount {
 pub struct Totals {
     pub changed: u64,
     pub pairs: u64,
-}
-
-// Whether the rays of the entries never fall.
-fn ascends(g: DexelGrid, log: &[f64]) -> bool
-    requires { ⌜ (rayCount g < 2 ^ 64) × EachNamed g (now log) ⌝ }
-    ensures { λ r. ⌜ Tells (Ascending g (now (log .entry))) r ⌝ }
-{
-    let n = log.len() / 6;
-    let mut last: usize = 0;
-    let mut i: usize = 0;
-    while i < n {
-        let ray = logs::ray_at(g, log, i);
-        if ray < last {
-            return false;
-        }
-        last = ray;
-        i += 1;
-    }
-    true
-}
-
-// Whether no entry before place i is like the one there, of a log that ascends: the one before it decides.
-fn first_in_run(g: DexelGrid, log: &[f64], i: usize) -> bool
-    requires { ⌜ (rayCount g ≤ 2 ^ 53) × EachNamed g (now log) × Ascending g (now log) × (i < entryCount (now log)) ⌝ }
-    ensures { λ r. ⌜ FirstOf (now (log .entry)) i r ⌝ }
-{
-    if i == 0 {
-        return true;
-    }
-    !log_hits::alike(log, i, i - 1)
-}
-
-// The same of any log.
-fn first_so_far(log: &[f64], i: usize) -> bool
-    requires { ⌜ i < entryCount (now log) ⌝ }
-    ensures { λ r. ⌜ FirstOf (now (log .entry)) i r ⌝ }
-{
-    let mut j: usize = 0;
-    while j < i {
-        if log_hits::alike(log, i, j) {
-            return false;
-        }
-        j += 1;
-    }
-    true
-}
-
-// The place past the entries like the one at place i, of a log that ascends.
-fn end_of_run(g: DexelGrid, log: &[f64], i: usize) -> usize
-    requires { ⌜ (rayCount g ≤ 2 ^ 53) × EachNamed g (now log) × Ascending g (now log) × (i < entryCount (now log)) ⌝ }
-    ensures { λ r. ⌜ EndOf (now (log .entry)) i r ⌝ }
-{
-    let n = log.len() / 6;
-    let mut j = i + 1;
-    while j < n {
-        if !log_hits::alike(log, i, j) {
-            return j;
-        }
-        j += 1;
-    }
-    n
-}
-
-// The same of any log.
-fn end_of_like(log: &[f64], i: usize) -> usize
-    requires { ⌜ i < entryCount (now log) ⌝ }
-    ensures { λ r. ⌜ EndOf (now (log .entry)) i r ⌝ }
-{
-    let n = log.len() / 6;
-    let mut end = i + 1;
-    let mut j = i + 1;
-    while j < n {
-        if log_hits::alike(log, i, j) {
-            end = j + 1;
-        }
-        j += 1;
-    }
-    end
 }
 
 // How many pairs a ray's lists have.
@@ -176,28 +97,6 @@ fn count_ray(
     }
 }
 
-// Whether no entry before place i is like the one there.
-fn first_of_ray(g: DexelGrid, log: &[f64], ascending: bool, i: usize) -> bool
-    requires { ⌜ (rayCount g ≤ 2 ^ 53) × EachNamed g (now log) × (ascending ≡ true → Ascending g (now log)) × (i < entryCount (now log)) ⌝ }
-    ensures { λ r. ⌜ FirstOf (now (log .entry)) i r ⌝ }
-{
-    if ascending {
-        return first_in_run(g, log, i);
-    }
-    first_so_far(log, i)
-}
-
-// The place past the entries like the one at place i.
-fn end_of_ray(g: DexelGrid, log: &[f64], ascending: bool, i: usize) -> usize
-    requires { ⌜ (rayCount g ≤ 2 ^ 53) × EachNamed g (now log) × (ascending ≡ true → Ascending g (now log)) × (i < entryCount (now log)) ⌝ }
-    ensures { λ r. ⌜ EndOf (now (log .entry)) i r ⌝ }
-{
-    if ascending {
-        return end_of_run(g, log, i);
-    }
-    end_of_like(log, i)
-}
-
 // Counts the ray of the entry at place i, unless an entry before it is on that ray.
 fn count_entry(
     spec: DexelStockSpec,
@@ -214,10 +113,10 @@ fn count_entry(
         × Totalled spec g (cells (now spans) (now links) (now heads)) (now log) i t ⌝ }
     ensures { λ r. ⌜ Totalled spec g (cells (now (spans .entry)) (now (links .entry)) (now (heads .entry))) (now (log .entry)) (i + 1) r ⌝ }
 {
-    if !first_of_ray(g, log, ascending, i) {
+    if !entry_order::first_of_ray(g, log, ascending, i) {
         return t;
     }
-    let end = end_of_ray(g, log, ascending, i);
+    let end = entry_order::end_of_ray(g, log, ascending, i);
     let ray = logs::ray_at(g, log, i);
     let r = count_ray(spec, g, spans, links, heads, log, ray, i, end);
     let pairs = t.pairs - (r.before as u64) + (r.after as u64);
@@ -248,7 +147,7 @@ fn count_all(
     ensures { λ r. ⌜ r ≡ budgetIn spec g (cells (now (spans .entry)) (now (links .entry)) (now (heads .entry))) (now (log .entry)) allowance ⌝ }
 {
     let n = log.len() / 6;
-    let ascending = ascends(g, log);
+    let ascending = entry_order::ascends(g, log);
     let mut t = Totals {
         changed: 0,
         pairs: intervals,

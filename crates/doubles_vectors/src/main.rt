@@ -18,13 +18,13 @@ fn order_number(o: doubles::Ordering) -> u64 {
 // The answer of a function of doubles, as bits.
 fn double_answer(op: u64, x: f64, y: f64, z: f64) -> f64 {
     if op == 0 {
-        return doubles::larger(x, y);
+        return extremes::larger(x, y);
     }
     if op == 1 {
-        return doubles::smaller(x, y);
+        return extremes::smaller(x, y);
     }
     if op == 2 {
-        return doubles::clamp(x, y, z);
+        return extremes::clamp(x, y, z);
     }
     if op == 3 {
         return doubles::floor(x);
@@ -41,26 +41,29 @@ fn double_answer(op: u64, x: f64, y: f64, z: f64) -> f64 {
 // The answer of each function. `bits_of` and `of_bits` are tried on a whole number's double, made without the other.
 fn answer(op: u64, a: u64, b: u64, c: u64) -> u64 {
     if op < 7 {
-        return doubles::bits_of(double_answer(
+        return bit_patterns::bits_of(double_answer(
             op,
-            doubles::of_bits(a),
-            doubles::of_bits(b),
-            doubles::of_bits(c),
+            bit_patterns::of_bits(a),
+            bit_patterns::of_bits(b),
+            bit_patterns::of_bits(c),
         ));
     }
     if op == 7 {
-        return doubles::order_key(doubles::of_bits(a));
+        return bit_patterns::order_key(bit_patterns::of_bits(a));
     }
     if op == 8 {
-        return order_number(doubles::total_cmp(doubles::of_bits(a), doubles::of_bits(b)));
+        return order_number(bit_patterns::total_cmp(
+            bit_patterns::of_bits(a),
+            bit_patterns::of_bits(b),
+        ));
     }
     if op == 9 {
-        return doubles::to_u64(doubles::of_bits(a));
+        return doubles::to_u64(bit_patterns::of_bits(a));
     }
     if op == 10 {
-        return doubles::bits_of(std::num::nearest_u64_to_f64(a));
+        return bit_patterns::bits_of(std::num::nearest_u64_to_f64(a));
     }
-    if doubles::of_bits(a) == std::num::nearest_u64_to_f64(b) {
+    if bit_patterns::of_bits(a) == std::num::nearest_u64_to_f64(b) {
         1
     } else {
         0

@@ -85,8 +85,8 @@ fn check_answer(t: ToolCheck) -> Answer {
 
 fn point(x: u64, y: u64) -> Point {
     Point {
-        x: doubles::of_bits(x),
-        y: doubles::of_bits(y),
+        x: bit_patterns::of_bits(x),
+        y: bit_patterns::of_bits(y),
     }
 }
 
@@ -94,9 +94,9 @@ fn answer_strips(op: u64, w: &[u64; 17]) -> Answer {
     if op == 0 {
         return strip_answer(strips::disk_strip(
             point(w[0], w[1]),
-            doubles::of_bits(w[2]),
-            doubles::of_bits(w[3]),
-            doubles::of_bits(w[4]),
+            bit_patterns::of_bits(w[2]),
+            bit_patterns::of_bits(w[3]),
+            bit_patterns::of_bits(w[4]),
         ));
     }
     if op == 1 {
@@ -105,25 +105,25 @@ fn answer_strips(op: u64, w: &[u64; 17]) -> Answer {
             point(w[2], w[3]),
             point(w[4], w[5]),
             point(w[6], w[7]),
-            doubles::of_bits(w[8]),
-            doubles::of_bits(w[9]),
+            bit_patterns::of_bits(w[8]),
+            bit_patterns::of_bits(w[9]),
         ));
     }
     strip_answer(strips::stadium_strip(
         point(w[0], w[1]),
         point(w[2], w[3]),
-        doubles::of_bits(w[4]),
-        doubles::of_bits(w[5]),
-        doubles::of_bits(w[6]),
-        doubles::of_bits(w[7]),
+        bit_patterns::of_bits(w[4]),
+        bit_patterns::of_bits(w[5]),
+        bit_patterns::of_bits(w[6]),
+        bit_patterns::of_bits(w[7]),
     ))
 }
 
 fn answer_cutter(op: u64, w: &[u64; 17]) -> Answer {
     let shape = recorded::shape_at(w, 0);
     let c = recorded::cutter_at(w, 3);
-    let h0 = doubles::of_bits(w[12]);
-    let h1 = doubles::of_bits(w[13]);
+    let h0 = bit_patterns::of_bits(w[12]);
+    let h1 = bit_patterns::of_bits(w[13]);
     if op == 3 {
         return slice_answer(cutter::radius_at(shape, c, h0));
     }
@@ -156,8 +156,8 @@ fn same(a: f64, b: f64) -> bool {
 
 fn agrees(x: Answer, w: &[u64; 17]) -> bool {
     if x.kind == w[14] {
-        if same(x.a, doubles::of_bits(w[15])) {
-            return same(x.b, doubles::of_bits(w[16]));
+        if same(x.a, bit_patterns::of_bits(w[15])) {
+            return same(x.b, bit_patterns::of_bits(w[16]));
         }
     }
     false

@@ -1,17 +1,14 @@
 // The three grids of rays through a blank: how many rays there are, how they are numbered, and where each stands.
 ghost use mathlib.Core.Path.{_≡_};
 ghost use Prim.Native.Nat.{_<_, _^_};
-ghost use Rattle.grid.specs.Axes.{cellsAlong, crossOf};
-ghost use Rattle.grid.specs.Rays.{raysAlong, rayCount, offset, rayNumber, rayAxis, boundsOf, centerOf, cellBoundOf, cellAt};
+ghost use Rattle.grid.specs.Rays.{raysAlong, rayCount, offset, rayNumber, rayAxis, boundsOf};
 use grid::DexelGrid;
 use grid::DexelStockSpec;
 use grid::RayBounds;
-use grid::RayCenter;
 use grid::WorldAxis;
 use grid::along;
 use grid::cells_along;
 use grid::cross;
-use grid::step_along;
 
 // How many rays run along an axis.
 pub fn rays(g: DexelGrid, axis: WorldAxis) -> u64
@@ -27,46 +24,6 @@ pub fn total_rays(g: DexelGrid) -> u64
     ensures { λ r. ⌜ r ≡ rayCount g ⌝ }
 {
     rays(g, WorldAxis(0)) + rays(g, WorldAxis(1)) + rays(g, WorldAxis(2))
-}
-
-// The centre of a ray's cross-section. A ray's index is iv * cells[u] + iu.
-pub fn ray_center(spec: DexelStockSpec, g: DexelGrid, axis: WorldAxis, index: u64) -> RayCenter
-    requires { ⌜ 0 < cellsAlong g (crossOf axis .u) ⌝ }
-    ensures { λ r. ⌜ r ≡ centerOf spec g axis index ⌝ }
-{
-    let w = cross(axis);
-    let n = cells_along(g, w.u);
-    let iu = std::num::nearest_u64_to_f64(index % n);
-    let iv = std::num::nearest_u64_to_f64(index / n);
-    RayCenter {
-        u: along(spec.min_mm, w.u) + (iu + 0.5) * step_along(g, w.u),
-        v: along(spec.min_mm, w.v) + (iv + 0.5) * step_along(g, w.v),
-    }
-}
-
-// The boundary between the cells i - 1 and i along an axis: the box's own faces at both ends.
-pub fn cell_bound(spec: DexelStockSpec, g: DexelGrid, w: WorldAxis, i: u64) -> f64
-    ensures { λ r. ⌜ r ≡ cellBoundOf spec g w i ⌝ }
-{
-    if i == 0 {
-        return along(spec.min_mm, w);
-    }
-    let n = cells_along(g, w);
-    if i >= n {
-        return along(spec.max_mm, w);
-    }
-    along(spec.min_mm, w) + std::num::nearest_u64_to_f64(i) * step_along(g, w)
-}
-
-// The cell along an axis that x lies in, or the nearest.
-pub fn cell_at(spec: DexelStockSpec, g: DexelGrid, w: WorldAxis, x: f64) -> u64
-    requires { ⌜ 0 < cellsAlong g w ⌝ }
-    ensures { λ r. ⌜ r ≡ cellAt spec g w x ⌝ }
-{
-    let i = doubles::floor((x - along(spec.min_mm, w)) / step_along(g, w));
-    let n = cells_along(g, w);
-    let last = std::num::nearest_u64_to_f64(n - 1);
-    doubles::to_u64(doubles::clamp(i, 0.0, last))
 }
 
 // How many rays stand before the first along an axis: rays count through axis 0, then 1, 2.

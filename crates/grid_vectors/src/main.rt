@@ -47,21 +47,21 @@ fn asked(
     if rays <= index {
         return [0; 14];
     }
-    let c = grid_rays::ray_center(spec, g, axis, index);
+    let c = grid_cells::ray_center(spec, g, axis, index);
     [
         0,
         g.c0,
         g.c1,
         g.c2,
-        doubles::bits_of(g.s0),
-        doubles::bits_of(g.s1),
-        doubles::bits_of(g.s2),
+        bit_patterns::bits_of(g.s0),
+        bit_patterns::bits_of(g.s1),
+        bit_patterns::bits_of(g.s2),
         rays,
         grid_rays::total_rays(g),
-        doubles::bits_of(c.u),
-        doubles::bits_of(c.v),
-        doubles::bits_of(grid_rays::cell_bound(spec, g, axis, i)),
-        grid_rays::cell_at(spec, g, axis, x),
+        bit_patterns::bits_of(c.u),
+        bit_patterns::bits_of(c.v),
+        bit_patterns::bits_of(grid_cells::cell_bound(spec, g, axis, i)),
+        grid_cells::cell_at(spec, g, axis, x),
         grid_rays::ray_number(g, axis, index),
     ]
 }
@@ -93,7 +93,7 @@ fn answer_to(w: &[u64; 29]) -> [u64; 14] {
         axis,
         w[12],
         w[13],
-        doubles::of_bits(w[14]),
+        bit_patterns::of_bits(w[14]),
     )
 }
 

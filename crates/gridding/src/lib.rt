@@ -74,7 +74,7 @@ fn is_misdescribed(spec: DexelStockSpec, sizes: Vec3, extents: Vec3) -> bool
 fn cells(extent: f64, size: f64) -> f64
     ensures { λ r. ⌜ r ≡ cellsOf extent size ⌝ }
 {
-    doubles::larger(doubles::ceil(extent / size), 1.0)
+    extremes::larger(doubles::ceil(extent / size), 1.0)
 }
 
 fn dims(extents: Vec3, sizes: Vec3) -> Vec3
@@ -105,12 +105,12 @@ fn grid_with(extents: Vec3, dims: Vec3) -> DexelGrid
 fn magnitude(p: Vec3, q: Vec3) -> f64
     ensures { λ r. ⌜ r ≡ magnitudeOf p q ⌝ }
 {
-    let x = doubles::larger(1.0, doubles::abs(p.x));
-    let y = doubles::larger(x, doubles::abs(p.y));
-    let z = doubles::larger(y, doubles::abs(p.z));
-    let u = doubles::larger(z, doubles::abs(q.x));
-    let v = doubles::larger(u, doubles::abs(q.y));
-    doubles::larger(v, doubles::abs(q.z))
+    let x = extremes::larger(1.0, doubles::abs(p.x));
+    let y = extremes::larger(x, doubles::abs(p.y));
+    let z = extremes::larger(y, doubles::abs(p.z));
+    let u = extremes::larger(z, doubles::abs(q.x));
+    let v = extremes::larger(u, doubles::abs(q.y));
+    extremes::larger(v, doubles::abs(q.z))
 }
 
 // Refusal 4: a step below what doubles of this size resolve.
@@ -122,7 +122,7 @@ fn is_too_fine(min: Vec3, max: Vec3, g: DexelGrid) -> bool
         y: g.s1,
         z: g.s2,
     };
-    let least = doubles::larger(1e-6, 128.0 * 2.220446049250313e-16 * magnitude(min, max));
+    let least = extremes::larger(1e-6, 128.0 * 2.220446049250313e-16 * magnitude(min, max));
     any_below(steps, least)
 }
 

@@ -20,7 +20,8 @@ use Rattle.stock.specs.Stock.{Stock, SoundStock}
 use Rattle.stock.specs.declared.Committed.{Committed}
 use Rattle.store.specs.Updates.{Cells}
 use Rattle.change_commit.specs.Commit.{commitCauses}
-use Rattle.commit.specs.Commit.{LogCommits, commitOf}
+use Rattle.judging.specs.Tests.{commitOf}
+use Rattle.commit.specs.Commit.{LogCommits}
 use Rattle.runs.specs.Logs.{Commit}
 use Rattle.runs.specs.Model.{Answer, changed, refused, causes, Judged}
 use Rattle.runs.specs.Lent.{LogCommit, lentStore}

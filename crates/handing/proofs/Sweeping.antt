@@ -13,7 +13,7 @@ use Rattle.cutter.specs.declared.PreparedCutter.{PreparedCutter}
 use Rattle.refusal.specs.Refusal.{Due}
 use Rattle.store.specs.Updates.{Cells}
 use Rattle.sweep.specs.Answer.{settingOf, sweepCauses, Sweeps}
-use Rattle.sweep.specs.Entries.{Setting}
+use Rattle.walks.specs.Entries.{Setting}
 use Rattle.sweep.specs.declared.Totals.{Totals}
 use Rattle.sweep.specs.declared.Swept.{Swept}
 use Rattle.handing.specs.Numbers.{AnsweredBy, HandedAs, sweptNumbers}

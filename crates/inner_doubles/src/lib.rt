@@ -9,21 +9,21 @@ ghost use Rattle.inner_doubles.specs.Orderings.{numberOf};
 pub extern "C" fn tridexel_inner_larger(a: f64, b: f64) -> f64
     ensures { λ r. ⌜ r ≡ largerOf a b ⌝ }
 {
-    doubles::larger(a, b)
+    extremes::larger(a, b)
 }
 
 #[no_mangle]
 pub extern "C" fn tridexel_inner_smaller(a: f64, b: f64) -> f64
     ensures { λ r. ⌜ r ≡ smallerOf a b ⌝ }
 {
-    doubles::smaller(a, b)
+    extremes::smaller(a, b)
 }
 
 #[no_mangle]
 pub extern "C" fn tridexel_inner_clamp(x: f64, lo: f64, hi: f64) -> f64
     ensures { λ r. ⌜ r ≡ clampOf x lo hi ⌝ }
 {
-    doubles::clamp(x, lo, hi)
+    extremes::clamp(x, lo, hi)
 }
 
 #[no_mangle]
@@ -58,14 +58,14 @@ pub extern "C" fn tridexel_inner_sqrt(x: f64) -> f64
 pub extern "C" fn tridexel_inner_of_bits(bits: u64) -> f64
     ensures { λ r. ⌜ r ≡ ofBits binary64 bits ⌝ }
 {
-    doubles::of_bits(bits)
+    bit_patterns::of_bits(bits)
 }
 
 #[no_mangle]
 pub extern "C" fn tridexel_inner_bits_of(x: f64) -> u64
     ensures { λ r. ⌜ r ≡ toBits binary64 x ⌝ }
 {
-    doubles::bits_of(x)
+    bit_patterns::bits_of(x)
 }
 
 #[no_mangle]
@@ -79,14 +79,14 @@ pub extern "C" fn tridexel_inner_to_u64(x: f64) -> u64
 pub extern "C" fn tridexel_inner_order_key(x: f64) -> u64
     ensures { λ r. ⌜ r ≡ keyOf x ⌝ }
 {
-    doubles::order_key(x)
+    bit_patterns::order_key(x)
 }
 
 #[no_mangle]
 pub extern "C" fn tridexel_inner_total_cmp(a: f64, b: f64) -> u32
     ensures { λ r. ⌜ r ≡ numberOf (totalOf a b) ⌝ }
 {
-    let o = doubles::total_cmp(a, b);
+    let o = bit_patterns::total_cmp(a, b);
     match o {
         doubles::Ordering::Less => 0,
         doubles::Ordering::Equal => 1,

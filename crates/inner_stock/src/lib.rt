@@ -46,7 +46,7 @@ pub extern "C" fn tridexel_inner_ray_center(
     requires { ⌜ 0 < cellsAlong g (crossOf (worldAxis axis) .u) ⌝ }
     ensures { λ r. ⌜ r ≡ centerOf spec g (worldAxis axis) index ⌝ }
 {
-    grid_rays::ray_center(spec, g, WorldAxis(axis), index)
+    grid_cells::ray_center(spec, g, WorldAxis(axis), index)
 }
 
 #[no_mangle]
@@ -58,7 +58,7 @@ pub extern "C" fn tridexel_inner_cell_bound(
 ) -> f64
     ensures { λ r. ⌜ r ≡ cellBoundOf spec g (worldAxis axis) i ⌝ }
 {
-    grid_rays::cell_bound(spec, g, WorldAxis(axis), i)
+    grid_cells::cell_bound(spec, g, WorldAxis(axis), i)
 }
 
 #[no_mangle]
@@ -71,7 +71,7 @@ pub extern "C" fn tridexel_inner_cell_at(
     requires { ⌜ 0 < cellsAlong g (worldAxis axis) ⌝ }
     ensures { λ r. ⌜ r ≡ cellAt spec g (worldAxis axis) x ⌝ }
 {
-    grid_rays::cell_at(spec, g, WorldAxis(axis), x)
+    grid_cells::cell_at(spec, g, WorldAxis(axis), x)
 }
 
 #[no_mangle]

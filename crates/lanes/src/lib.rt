@@ -101,8 +101,8 @@ fn reach_of(k: Kernel, la: LocalAxis, pad: f64, a: Point, b: Point) -> Pair
     ensures { λ r. ⌜ r ≡ reachOf k la pad a b ⌝ }
 {
     let s = Pair {
-        lo: doubles::smaller(a.x, b.x) - pad - k.guard,
-        hi: doubles::larger(a.x, b.x) + pad + k.guard,
+        lo: extremes::smaller(a.x, b.x) - pad - k.guard,
+        hi: extremes::larger(a.x, b.x) + pad + k.guard,
     };
     frame::world(k.frame, la, s)
 }
@@ -141,8 +141,8 @@ pub fn lane_of(
         b: b,
         length: c.length,
         e: c.e,
-        z_lo: doubles::smaller(c.a.z, c.b.z),
-        z_hi: doubles::larger(c.a.z, c.b.z),
+        z_lo: extremes::smaller(c.a.z, c.b.z),
+        z_hi: extremes::larger(c.a.z, c.b.z),
         reach: reach_of(k, la, p.radius + c.e, a, b),
         u: side_of(spec, g, f, w.u),
         v: side_of(spec, g, f, w.v),
@@ -162,8 +162,8 @@ fn span_over(p: Profile, l: Lane, i: LocalAxis) -> Pair
     }
     let pad = p.radius + l.e;
     Pair {
-        lo: doubles::smaller(l.a.y, l.b.y) - pad,
-        hi: doubles::larger(l.a.y, l.b.y) + pad,
+        lo: extremes::smaller(l.a.y, l.b.y) - pad,
+        hi: extremes::larger(l.a.y, l.b.y) + pad,
     }
 }
 
@@ -182,8 +182,8 @@ fn cells_met(spec: DexelStockSpec, g: DexelGrid, w: WorldAxis, s: Pair) -> Cells
         return Cells::Missed;
     }
     Cells::Met(
-        grid_rays::cell_at(spec, g, w, s.lo),
-        grid_rays::cell_at(spec, g, w, s.hi),
+        grid_cells::cell_at(spec, g, w, s.lo),
+        grid_cells::cell_at(spec, g, w, s.hi),
     )
 }
 

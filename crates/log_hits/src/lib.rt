@@ -42,8 +42,8 @@ fn with_pair(s: Stretch, lo: f64, hi: f64, next: u64) -> Stretch
     ensures { λ r. ⌜ r ≡ withPair s lo hi next ⌝ }
 {
     Stretch {
-        low: doubles::smaller(s.low, lo),
-        high: doubles::larger(s.high, hi),
+        low: extremes::smaller(s.low, lo),
+        high: extremes::larger(s.high, hi),
         next,
     }
 }
@@ -53,7 +53,7 @@ fn first_stretch(spans: &[f64], links: &[u64], n: usize, head: u64) -> Stretch
     requires { ⌜ Readable n (now spans) (now links) head ⌝ }
     ensures { λ r. ⌜ Stretches n (now (spans .entry)) (now (links .entry)) head r ⌝ }
 {
-    let top = doubles::of_bits(0x7ff0_0000_0000_0000);
+    let top = bit_patterns::of_bits(0x7ff0_0000_0000_0000);
     let mut s = Stretch {
         low: top,
         high: -top,

@@ -129,12 +129,12 @@ fn box_volume(spec: DexelStockSpec) -> f64
 fn bounds_by(total: f64, x: AxisVolume, y: AxisVolume, z: AxisVolume) -> DexelVolume
     ensures { λ r. ⌜ r ≡ boundsBy total x y z ⌝ }
 {
-    let lower = doubles::larger(
-        doubles::larger(doubles::larger(0.0, x.certain), y.certain),
+    let lower = extremes::larger(
+        extremes::larger(extremes::larger(0.0, x.certain), y.certain),
         z.certain,
     );
-    let upper = doubles::smaller(
-        doubles::smaller(doubles::smaller(1.0 / 0.0, x.possible), y.possible),
+    let upper = extremes::smaller(
+        extremes::smaller(extremes::smaller(1.0 / 0.0, x.possible), y.possible),
         z.possible,
     );
     DexelVolume {
@@ -146,8 +146,8 @@ fn bounds_by(total: f64, x: AxisVolume, y: AxisVolume, z: AxisVolume) -> DexelVo
         z_possible_mm3: z.possible,
         remaining_lower_mm3: lower,
         remaining_upper_mm3: upper,
-        removed_lower_mm3: doubles::larger(total - upper, 0.0),
-        removed_upper_mm3: doubles::larger(total - lower, 0.0),
+        removed_lower_mm3: extremes::larger(total - upper, 0.0),
+        removed_upper_mm3: extremes::larger(total - lower, 0.0),
     }
 }
 

@@ -47,7 +47,7 @@ pub fn overlaps_at(spans: &[f64], links: &[u64], n: usize, head: u64, s: Pair) -
         let i = (k - 1) as usize;
         let lo = spans[2 * i];
         let hi = spans[2 * i + 1];
-        if doubles::larger(lo, s.lo) < doubles::smaller(hi, s.hi) {
+        if extremes::larger(lo, s.lo) < extremes::smaller(hi, s.hi) {
             return true;
         }
         if !(hi < s.hi) {

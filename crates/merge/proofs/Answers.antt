@@ -14,15 +14,16 @@ use Rattle.doubles.proofs.Bools.{and-left, and-right, or-neither, both, not-tru
 use Rattle.spans.specs.Spans.{holds}
 use Rattle.spans.specs.Spans.{Within}
 use Rattle.validity.specs.Ray.{ValidRay}
-use Rattle.merge.specs.Merge.{eitherHit, cellsOf, handed, Spared, Mergeable, workPairs, MergeAnswer}
-use Rattle.merge.specs.Steps.{part, newList, Ready, Merging, Placed, Normal, Given, Lists}
-use Rattle.merge.specs.declared.Part.{Part}
-use Rattle.merge.specs.declared.Parts.{Parts}
+use Rattle.taking.specs.Taking.{eitherHit, cellsOf, handed, Spared}
+use Rattle.merge.specs.Merge.{Mergeable, workPairs, MergeAnswer}
+use Rattle.taking.specs.Steps.{part, newList, Ready, Merging, Placed, Normal, Given, Lists}
+use Rattle.taking.specs.declared.Part.{Part}
+use Rattle.taking.specs.declared.Parts.{Parts}
 use Rattle.merge.specs.declared.Merged.the-variants.{Refused}
 use Rattle.merge.specs.declared.Merged.the-variants.{Lists as Answered}
 use Rattle.merge.proofs.Rays.{bounded-within}
-use Rattle.merge.proofs.Places.{part-kept, handed-still, handed-new}
-use Rattle.merge.proofs.Sparing.{spared-same}
+use Rattle.taking.proofs.Places.{part-kept, handed-still, handed-new}
+use Rattle.taking.proofs.Sparing.{spared-same}
 
 -- ---- the lists are brought into the work buffer
 module _ (possible certain outer inner w w₁ w₂ w₃ w₄ : List Float) (at no ni : ℕ) (given : Given possible certain outer inner w)

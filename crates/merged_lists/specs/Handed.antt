@@ -1,7 +1,7 @@
 -- The lists of a ray after a merge.
 use mathlib.Core.List.{List}
 use lib.Ieee.{Float}
-use Rattle.merge.specs.Merge.{cellsOf, handed}
+use Rattle.taking.specs.Taking.{cellsOf, handed}
 use Rattle.merge.specs.declared.Merged.{Merged}
 use Rattle.merge.specs.declared.Merged.the-variants.{Lists, Refused}
 

@@ -1,9 +1,9 @@
 // The lists of a ray after a merge: the caller's own, or the new ones in the work buffer.
 ghost use mathlib.Core.Path.{_≡_};
-ghost use Rattle.merge.specs.Merge.{handed};
+ghost use Rattle.taking.specs.Taking.{handed};
 ghost use Rattle.merged_lists.specs.Handed.{possibleHanded, certainHanded};
 use merge::Merged;
-use merge::Part;
+use taking::Part;
 
 // The new list at cell `at` of the work buffer, or the list from before where it did not move or the buffer ends too early.
 fn handed_back<'a>(before: &'a [f64], work: &'a [f64], p: Part, at: usize) -> &'a [f64]

@@ -25,8 +25,8 @@ use Rattle.logs.specs.Named.{pairsNamed}
 use Rattle.logs.proofs.Sizes.{named-most}
 use Rattle.grouping.specs.Groups.{Grouped}
 use Rattle.grouping.proofs.Chains.{grouped-kept}
-use Rattle.merge.specs.Steps.{part, Placed, Normal}
-use Rattle.merge.proofs.Places.{part-kept, normal}
+use Rattle.taking.specs.Steps.{part, Placed, Normal}
+use Rattle.taking.proofs.Places.{part-kept, normal}
 use Rattle.merging.specs.Rays.{Bringable, Brought}
 
 -- a list that was copied stands at its place

@@ -9,9 +9,9 @@ use lib.ListN.{length}
 use lib.Ieee.{Float}
 use Rattle.spans.specs.Spans.{holds, sound, ListOf}
 use Rattle.spans.proofs.Sets.{sound-mod}
-use Rattle.merge.specs.Merge.{Moves, eitherHit, spared}
-use Rattle.merge.specs.Steps.{part, Lies, Subtracted, Shortened, Ready}
-use Rattle.merge.proofs.Places.{part-length, part-front, part-past, lies-past}
+use Rattle.taking.specs.Taking.{Moves, eitherHit, spared}
+use Rattle.taking.specs.Steps.{part, Lies, Subtracted, Shortened, Ready}
+use Rattle.taking.proofs.Places.{part-length, part-front, part-past, lies-past}
 use Rattle.merging.specs.Rays.{Touches, RayCut}
 
 -- ---- whether the ray changes

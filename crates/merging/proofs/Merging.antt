@@ -28,8 +28,8 @@ use Rattle.cuts.specs.Merges.{Merges, none, same, new, listsOf}
 use Rattle.cuts.proofs.Totals.{sum-at, sum-next}
 use Rattle.grouping.specs.Groups.{Grouped}
 use Rattle.grouping.proofs.Chains.{grouped-kept}
-use Rattle.merge.specs.Steps.{part}
-use Rattle.merge.proofs.Places.{part-same}
+use Rattle.taking.specs.Steps.{part}
+use Rattle.taking.proofs.Places.{part-same}
 use Rattle.merging.specs.Rays.{Bringable, RayMerged, limitOf}
 use Rattle.merging.specs.All.{firstOf, countOf, sizesAt, listsFrom, AllMergeable, AllMerged}
 use Rattle.merging.specs.declared.Change.{Change}

@@ -17,9 +17,9 @@ use Rattle.stock.specs.Stock.{possibleIn, certainIn, ValidAt}
 use Rattle.logs.specs.Named.{pairsNamed}
 use Rattle.numbers.specs.Numbers.{numberAt}
 use Rattle.grouping.proofs.Gathering.{none-named}
-use Rattle.merge.specs.Merge.{eitherHit}
-use Rattle.merge.specs.Steps.{part, Lies, Ready}
-use Rattle.merge.proofs.Places.{part-drop, tail-size, tail-front, tail-drop}
+use Rattle.taking.specs.Taking.{eitherHit}
+use Rattle.taking.specs.Steps.{part, Lies, Ready}
+use Rattle.taking.proofs.Places.{part-drop, tail-size, tail-front, tail-drop}
 use Rattle.merging.specs.Rays.{RayCut, Bringable, Brought, limitOf, RayMerged}
 use Rattle.merging.specs.declared.Change.{Change}
 use Rattle.merging.specs.declared.Sizes.{Sizes}

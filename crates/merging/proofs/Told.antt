@@ -21,9 +21,9 @@ use Rattle.logs.specs.Named.{pairsNamed}
 use Rattle.logs.proofs.Places.{pairs-named}
 use Rattle.cuts.specs.Merges.{LeftOf, listsOf}
 use Rattle.cuts.proofs.Totals.{each, one-pairs}
-use Rattle.merge.specs.Merge.{eitherHit}
-use Rattle.merge.specs.Steps.{part}
-use Rattle.merge.proofs.Places.{part-length}
+use Rattle.taking.specs.Taking.{eitherHit}
+use Rattle.taking.specs.Steps.{part}
+use Rattle.taking.proofs.Places.{part-length}
 use Rattle.merging.specs.Rays.{Touches, RayMerged, limitOf}
 use Rattle.merging.specs.declared.Change.{Change}
 

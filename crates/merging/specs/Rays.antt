@@ -15,8 +15,8 @@ use Rattle.store.specs.Updates.{Cells}
 use Rattle.stock.specs.Stock.{possibleIn, certainIn, Chained, ValidTo}
 use Rattle.logs.specs.Named.{pairsNamed}
 use Rattle.grouping.specs.Groups.{Grouped}
-use Rattle.merge.specs.Merge.{Moves, eitherHit, spared}
-use Rattle.merge.specs.Steps.{part}
+use Rattle.taking.specs.Taking.{Moves, eitherHit, spared}
+use Rattle.taking.specs.Steps.{part}
 use Rattle.merging.specs.declared.Change.{Change}
 use Rattle.merging.specs.declared.Sizes.{Sizes}
 

@@ -10,8 +10,8 @@ ghost use Rattle.store.specs.Updates.{cells};
 ghost use Rattle.stock.specs.Stock.{possibleIn, certainIn};
 ghost use Rattle.logs.specs.Named.{pairsNamed};
 ghost use Rattle.grouping.specs.Groups.{Grouped, kindOf};
-ghost use Rattle.merge.specs.Merge.{eitherHit};
-ghost use Rattle.merge.specs.Steps.{part, Ready, Normal};
+ghost use Rattle.taking.specs.Taking.{eitherHit};
+ghost use Rattle.taking.specs.Steps.{part, Ready, Normal};
 ghost use Rattle.merging.specs.Rays.{Touches, RayCut, Bringable, Brought, limitOf, RayMerged};
 ghost use Rattle.merging.specs.All.{firstOf, countOf, AllMergeable, AllMerged};
 use grid::DexelGrid;
@@ -39,10 +39,10 @@ fn is_changed(w: &[f64], at: usize, np: usize, nc: usize, no: usize, ni: usize) 
         (eitherHit (part (at + np + nc) no (now (w .entry))) (part (at + np + nc + no) ni (now (w .entry)))) r ⌝ }
 {
     let c = at + np;
-    if merge::share_point(w, at, np, c + nc + no, ni) {
+    if taking::share_point(w, at, np, c + nc + no, ni) {
         return true;
     }
-    merge::is_hit(w, c, nc, no, ni)
+    taking::is_hit(w, c, nc, no, ni)
 }
 
 // Where the ray changes, writes both its lists less the hits to the start of w, possible's before certain's: the one that no hit touches as well,
@@ -60,8 +60,8 @@ fn cut_ray(w: &mut [f64], at: usize, np: usize, nc: usize, no: usize, ni: usize)
         };
     }
     let c = at + np;
-    let p = merge::subtract_at(w, at, np, c + nc + no, ni);
-    let r = merge::subtract_both(w, p, np + 2 * ni, c, nc, no, ni);
+    let p = taking::subtract_at(w, at, np, c + nc + no, ni);
+    let r = taking::subtract_both(w, p, np + 2 * ni, c, nc, no, ni);
     Change {
         changed: true,
         possible: p / 2,

@@ -9,7 +9,7 @@ pub fn put_number(w: &mut [f64], at: usize, k: u64)
     requires { ⌜ at < length (now w) ⌝ }
     ensures { λ _. ⌜ now (w .exit) ≡ set (now (w .entry)) at (numberCell k) ⌝ }
 {
-    w[at] = doubles::of_bits(k);
+    w[at] = bit_patterns::of_bits(k);
 }
 
 // The number in the cell at `at`.
@@ -17,5 +17,5 @@ pub fn number_at(w: &[f64], at: usize) -> u64
     requires { ⌜ at < length (now w) ⌝ }
     ensures { λ r. ⌜ r ≡ numberAt (now (w .entry)) at ⌝ }
 {
-    doubles::bits_of(w[at])
+    bit_patterns::bits_of(w[at])
 }

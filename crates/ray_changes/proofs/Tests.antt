@@ -11,7 +11,7 @@ use Rattle.grid.specs.declared.DexelStockSpec.{DexelStockSpec}
 use Rattle.grid.specs.declared.DexelGrid.{DexelGrid}
 use Rattle.grid.specs.declared.RayBounds.{RayBounds}
 use Rattle.store.specs.Updates.{Cells}
-use Rattle.comparing.specs.Verdicts.{Covers}
+use Rattle.covering.specs.Covering.{Covers}
 use Rattle.validity.specs.Ray.{ValidRay}
 use Rattle.rays.proofs.Tests.{passes, covers-tells}
 use Rattle.stock.specs.Stock.{Tells, possibleIn, certainIn}

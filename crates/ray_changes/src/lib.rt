@@ -59,10 +59,10 @@ fn only_loses(p: &[f64], q: &[f64], np: &[f64], nq: &[f64], lo: f64, hi: f64) ->
     if !rays::valid_ray(np, nq, lo, hi) {
         return false;
     }
-    if !comparing::covers(p, np) {
+    if !covering::covers(p, np) {
         return false;
     }
-    if !comparing::covers(q, nq) {
+    if !covering::covers(q, nq) {
         return false;
     }
     if !same_ends(np, p) {

@@ -23,8 +23,8 @@ pub fn double_at(s: &[u8], at: usize) -> f64
     ensures { λ r. ⌜ r ≡ ofBits binary64 (bitsAt (now (s .entry)) at) ⌝ }
 {
     match rows::word_at(s, at) {
-        Word::Value(v) => doubles::of_bits(v),
-        Word::Missing => doubles::of_bits(0),
+        Word::Value(v) => bit_patterns::of_bits(v),
+        Word::Missing => bit_patterns::of_bits(0),
     }
 }
 

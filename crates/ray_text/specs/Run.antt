@@ -8,7 +8,7 @@ use lib.Ieee.{Float, binary64, ofBits}
 use Rattle.refusal.specs.Refusal.{Cause, cause, Due, NoneDue}
 use Rattle.spans.specs.Spans.{holds, ListOf}
 use Rattle.validity.specs.Ray.{ValidRay}
-use Rattle.merge.specs.Merge.{Moves, eitherHit, spared}
+use Rattle.taking.specs.Taking.{Moves, eitherHit, spared}
 use Rattle.ray_input.specs.Format.{letterP, letterC, letterO, letterI, bitsAt, pairs, total, readable}
 use Rattle.ray_output.specs.Output.{answerText, refusedText}
 use Rattle.ray_input.specs.Steps.{Appended}

@@ -5,7 +5,7 @@ use mathlib.Core.List.{List}
 use lib.Ieee.{Float}
 use Rattle.doubles.proofs.Bools.{not-true, not-false, clash}
 use Rattle.spans.specs.Spans.{holds, sound, Within}
-use Rattle.comparing.specs.Verdicts.{Covers}
+use Rattle.covering.specs.Covering.{Covers}
 use Rattle.validity.specs.Ray.{bounded, ValidRay}
 
 -- a test of b that passes

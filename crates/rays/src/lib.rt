@@ -38,5 +38,5 @@ pub fn valid_ray(possible: &[f64], certain: &[f64], lo: f64, hi: f64) -> bool
     if !is_bounded(certain, lo, hi) {
         return false;
     }
-    comparing::covers(possible, certain)
+    covering::covers(possible, certain)
 }

@@ -30,7 +30,7 @@ fn word_of(w: &[u64], from: usize, k: usize) -> u64
 fn double_of(w: &[u64], from: usize, k: usize) -> f64
     ensures { λ r. ⌜ r ≡ doubleOf (now (w .entry)) from k ⌝ }
 {
-    doubles::of_bits(word_of(w, from, k))
+    bit_patterns::of_bits(word_of(w, from, k))
 }
 
 // Fills `out` with the doubles from word `from` on.
@@ -176,12 +176,12 @@ fn cell_agrees(x: f64, k: usize, ends: usize, room: usize, word: u64) -> bool
     ensures { λ r. ⌜ r ≡ cellAgrees x k ends room word ⌝ }
 {
     if room <= k {
-        return doubles::bits_of(x) == SEVEN;
+        return bit_patterns::bits_of(x) == SEVEN;
     }
     if ends <= k {
-        return doubles::bits_of(x) == word;
+        return bit_patterns::bits_of(x) == word;
     }
-    x == doubles::of_bits(word)
+    x == bit_patterns::of_bits(word)
 }
 
 // Whether each cell is right, the words standing from place `from` on.

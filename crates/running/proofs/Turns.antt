@@ -21,7 +21,8 @@ use Rattle.runs.specs.Runs.{Committed as CommitPromise}
 use Rattle.runs.specs.Lent.{lentStore, LogCommit}
 use Rattle.runs.proofs.Demand3.{extend}
 use Rattle.runs.proofs.Lent.{demand3-lent}
-use Rattle.commit.specs.Commit.{answerOf, commitOf}
+use Rattle.judging.specs.Tests.{commitOf}
+use Rattle.commit.specs.Commit.{answerOf}
 use Rattle.running.specs.Running.{beginOf, logFrom, commitAt, commitsTo, answerBy, answersTo, kindOf, numberOf, answered, Turned, RanOn}
 
 -- the two numbers of an answer tell it

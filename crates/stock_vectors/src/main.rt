@@ -8,9 +8,9 @@ use filling::Filled;
 use measuring::DexelVolume;
 use measuring::Measured;
 use merge::Merged;
-use merge::Part;
 use replay::Outcome;
 use replay::Tally;
+use taking::Part;
 
 // Words 1 to 5: the cells of possible, certain, outer, inner and the work buffer; 6, 7: the bounds; the lists from 8, 14, 20 and 26 on.
 fn merge_on(w: &[u64; 87], work: &mut [f64]) -> Merged {
@@ -25,8 +25,8 @@ fn merge_on(w: &[u64; 87], work: &mut [f64]) -> Merged {
     merge::merge(
         recorded::first(&p, w[1] as usize),
         recorded::first(&c, w[2] as usize),
-        doubles::of_bits(w[6]),
-        doubles::of_bits(w[7]),
+        bit_patterns::of_bits(w[6]),
+        bit_patterns::of_bits(w[7]),
         recorded::first(&o, w[3] as usize),
         recorded::first(&i, w[4] as usize),
         recorded::first_mut(work, w[5] as usize),

@@ -35,13 +35,13 @@ use Rattle.visits.specs.declared.Progress.{Progress}
 use Rattle.visits.specs.declared.Progress.the-variants.{At, Stopped}
 use Rattle.visits.proofs.Walks.{walk-done, walk-stop, stop-is, done-no-stop}
 use Rattle.chords.specs.Limits.{chordsFit}
-use Rattle.sweep.specs.Entries.{Setting, setting, sweepEntries, logOf, Sweepable}
+use Rattle.walks.specs.Entries.{Setting, setting, sweepEntries, logOf, Sweepable}
 use Rattle.sweep.specs.Answer.{Unsound, settingCauses, walkOf, visitCauses, causesIn, sweepCauses, refusedLog, Sweeps, Checks, endOf, loggedBy, endLog}
 use Rattle.sweep.specs.declared.Swept.{Swept}
 use Rattle.sweep.specs.declared.Swept.the-variants.{Accepted, Refused}
 use Rattle.sweep.specs.declared.SweepCheck.{SweepCheck}
 use Rattle.sweep.specs.declared.SweepCheck.the-variants.{Admitted, Declined}
-use Rattle.sweep.proofs.Chords.{sweep-length, log-length}
+use Rattle.walks.proofs.Chords.{sweep-length, log-length}
 
 -- ---- the check of a setting
 module _ (s : Setting) (intervals : ℕ) (chords : List Float) where
@@ -137,10 +137,6 @@ end-is x y r log after e h k = subst (λ (z : Progress). (r ≡ endOf z) × (aft
 pub logged-room : (budget : ℕ) (rays : List (List Float)) (c : Cursor) (log after : List Float) (x : Progress) → Walks budget rays c log x after → loggedBy x ≤ length after
 logged-room budget rays c log after (At d) w = w .room
 logged-room budget rays c log after (Stopped k) w = omega arith
-
-pub logged-same : (budget : ℕ) (rays : List (List Float)) (c : Cursor) (log after : List Float) (x : Progress) → Walks budget rays c log x after → length after ≡ length log
-logged-same budget rays c log after (At d) w = w .same
-logged-same budget rays c log after (Stopped k) w = w .same
 
 pub logged-at : (x : Progress) (c : Cursor) (n : ℕ) → x ≡ At c → loggedBy x ≤ n → c .at ≤ n
 logged-at x c n e h = subst (λ (y : Progress). loggedBy y ≤ n) e h

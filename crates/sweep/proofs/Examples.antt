@@ -37,7 +37,7 @@ use Rattle.visits.specs.Walk.{walk}
 use Rattle.visits.proofs.Walks.{done-no-stop}
 use Rattle.chords.specs.Chords.{chordOf}
 use Rattle.chords.specs.Limits.{guardFits, endsFit, planSize, lengthFits, numbersFit, chordFits, every, chordsFit}
-use Rattle.sweep.specs.Entries.{trackOf, axisEntries, firstAxis, secondAxis, chordEntries, sweepEntries, visitTotal}
+use Rattle.walks.specs.Entries.{trackOf, axisEntries, firstAxis, secondAxis, chordEntries, sweepEntries, visitTotal}
 use Rattle.sweep.specs.Answer.{Unsound, causesIn, sweepCauses}
 use Rattle.sweep.specs.Examples.{AllRight, halves, lent, blank, flat, sweeping, threeChords, fourEntries, examples}
 

@@ -1,4 +1,2 @@
-pub mod Tracks
-pub mod Chords
 pub mod Answers
 pub mod Examples

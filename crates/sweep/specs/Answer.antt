@@ -24,7 +24,7 @@ use Rattle.visits.specs.Walk.{Walked, Stop, walk}
 use Rattle.visits.specs.declared.Progress.{Progress}
 use Rattle.visits.specs.declared.Progress.the-variants.{At, Stopped}
 use Rattle.chords.specs.Limits.{chordsFit}
-use Rattle.sweep.specs.Entries.{Setting, setting, sweepEntries, logOf, visitTotal, Sweepable}
+use Rattle.walks.specs.Entries.{Setting, setting, sweepEntries, logOf, visitTotal, Sweepable}
 use Rattle.sweep.specs.declared.Totals.{Totals}
 use Rattle.sweep.specs.declared.Swept.{Swept}
 use Rattle.sweep.specs.declared.Swept.the-variants.{Accepted, Refused}

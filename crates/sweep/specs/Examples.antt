@@ -17,7 +17,7 @@ use Rattle.gridding.specs.Causes.{gridIn}
 use Rattle.store.specs.Updates.{Cells, cells}
 use Rattle.filling.specs.Uncut.{uncut}
 use Rattle.visits.specs.Walk.{Walked, Done, Stop}
-use Rattle.sweep.specs.Entries.{Setting}
+use Rattle.walks.specs.Entries.{Setting}
 use Rattle.sweep.specs.Answer.{settingOf, walkOf}
 
 -- n / 2 and -n / 2

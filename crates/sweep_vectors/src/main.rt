@@ -65,7 +65,7 @@ fn sweep_on(
         axis,
         shape,
         recorded::cutter_at(w, 22),
-        doubles::of_bits(w[31]),
+        bit_patterns::of_bits(w[31]),
         chords,
         w[33],
         recorded::first_mut(log, w[34] as usize),

@@ -11,10 +11,10 @@ use lib.Seq.{take-at, sets, sets-eq, length-sets}
 use lib.Ieee.{Float, nan, le, lt}
 use Rattle.doubles.proofs.Bools.{by-cases, clash}
 use Rattle.spans.specs.Spans.{holds, sound}
-use Rattle.merge.specs.Merge.{Moves, Spared, eitherHit, cellsOf}
-use Rattle.merge.specs.Steps.{Given, Lists, newList}
-use Rattle.merge.specs.declared.Part.{Part}
-use Rattle.merge.specs.declared.Parts.{Parts}
+use Rattle.taking.specs.Taking.{Moves, Spared, eitherHit, cellsOf}
+use Rattle.taking.specs.Steps.{Given, Lists, newList}
+use Rattle.taking.specs.declared.Part.{Part}
+use Rattle.taking.specs.declared.Parts.{Parts}
 use Rattle.lists.specs.Reading.{Copied}
 use Rattle.runs.specs.Counts.{hitBy}
 use Rattle.runs.proofs.Meets.{kept-unhit}

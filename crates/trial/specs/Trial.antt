@@ -6,8 +6,8 @@ use Prim.Native.Nat.{ℕ, zero, suc, _+_, _*_, _≤_}
 use lib.ListN.{length, take}
 use lib.Ieee.{Float}
 use Rattle.spans.specs.Spans.{sound}
-use Rattle.merge.specs.declared.Part.{Part}
-use Rattle.merge.specs.declared.Parts.{Parts}
+use Rattle.taking.specs.declared.Part.{Part}
+use Rattle.taking.specs.declared.Parts.{Parts}
 use Rattle.lists.specs.Reading.{listFrom, Readable}
 use Rattle.runs.specs.Counts.{hitBy, startsLeft}
 use Rattle.log_hits.specs.Hits.{alikeAt, takenFrom}

@@ -7,11 +7,11 @@ ghost use Prim.Native.Nat.{_+_, _-_, _*_, _≤_, _<_};
 ghost use lib.ListN.{length, take, set, getD};
 ghost use lib.Ieee.{nan};
 ghost use Rattle.lists.specs.Reading.{listFrom, Readable};
-ghost use Rattle.merge.specs.Steps.{Given, Lists};
+ghost use Rattle.taking.specs.Steps.{Given, Lists};
 ghost use Rattle.log_hits.specs.Hits.{alikeAt, hitsFrom, takenFrom, Places};
 ghost use Rattle.trial.specs.Trial.{likeFrom, SoundList, Starts, Told, Tried, Holds};
-use merge::Part;
-use merge::Parts;
+use taking::Part;
+use taking::Parts;
 
 // The larger of two numbers.
 fn larger(x: usize, y: usize) -> usize

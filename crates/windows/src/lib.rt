@@ -434,7 +434,7 @@ fn next_window(
     if w.starts != 0 {
         return w;
     }
-    let last = doubles::of_bits(0x7ff0_0000_0000_0000);
+    let last = bit_patterns::of_bits(0x7ff0_0000_0000_0000);
     count_window(spans, links, n, head, log, first, end, certain, b, last)
 }
 
@@ -452,7 +452,7 @@ pub fn starts_left(
     requires { ⌜ Readable n (now spans) (now links) head × Places (now log) first first end ⌝ }
     ensures { λ r. ⌜ r ≡ startsLeft (listFrom n (now (spans .entry)) (now (links .entry)) head) (takenFrom (now (log .entry)) first (end - first) certain) ⌝ }
 {
-    let last = doubles::of_bits(0x7ff0_0000_0000_0000);
+    let last = bit_patterns::of_bits(0x7ff0_0000_0000_0000);
     let mut total: usize = 0;
     let mut b = -last;
     let mut w = next_window(spans, links, n, head, log, first, end, certain, b, last);

@@ -1,5 +1,5 @@
 -- `comparing::contains` meets its contract.
-use Rattle.comparing.specs.Verdicts.{Covers}
+use Rattle.covering.specs.Covering.{Covers}
 use Rattle.comparing.proofs.Answers.{refuse-first, refuse-second, both-sound, say-yes, say-no}
 use borrow.Author.Needs.{needs}
 use Rattle.comparing.proofs.contains.Statement.{statement}

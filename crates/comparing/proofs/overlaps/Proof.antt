@@ -1,5 +1,5 @@
 -- `comparing::overlaps` meets its contract.
-use Rattle.comparing.specs.Verdicts.{Meets}
+use Rattle.covering.specs.Covering.{Meets}
 use Rattle.comparing.proofs.Answers.{refuse-first, refuse-second, both-sound, say-yes, say-no}
 use borrow.Author.Needs.{needs}
 use Rattle.comparing.proofs.overlaps.Statement.{statement}

@@ -1,5 +1,5 @@
 -- `merge::place` meets its contract.
-use Rattle.merge.proofs.Places.{placed}
+use Rattle.taking.proofs.Places.{placed}
 use borrow.Author.Needs.{needs}
 use native.Mathlib.Omega.{arith}
 use Rattle.merge.proofs.place.Statement.{statement}

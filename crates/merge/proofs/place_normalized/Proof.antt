@@ -1,5 +1,5 @@
 -- `merge::place_normalized` meets its contract.
-use Rattle.merge.proofs.Places.{normal}
+use Rattle.taking.proofs.Places.{normal}
 use borrow.Author.Needs.{needs}
 use native.Mathlib.Omega.{arith}
 use Rattle.merge.proofs.place_normalized.Statement.{statement}

@@ -2,7 +2,7 @@
 use mathlib.Core.Path.{_≡_}
 use Prim.Native.Nat.{_+_, _-_, _*_}
 use Rattle.doubles.proofs.Bools.{not-true, not-false}
-use Rattle.merge.proofs.Places.{handed-still, handed-new}
+use Rattle.taking.proofs.Places.{handed-still, handed-new}
 use Rattle.merged_lists.proofs.Lists.{handed-short}
 use borrow.Author.Needs.{needs}
 use native.Mathlib.Omega.{arith}

@@ -4,8 +4,8 @@ use borrow.Author.Needs.{needs}
 use Prim.Native.Nat.{_+_, _*_}
 use Rattle.doubles.proofs.Bools.{not-true, not-false}
 use Rattle.spans.specs.Spans.{holds}
-use Rattle.merge.specs.Merge.{eitherHit}
-use Rattle.merge.specs.Steps.{part}
+use Rattle.taking.specs.Taking.{eitherHit}
+use Rattle.taking.specs.Steps.{part}
 use Rattle.merging.proofs.Cutting.{untouched, second-ready, both-cut}
 use Rattle.merging.proofs.cut_ray.Statement.{statement}
 use Rattle.merging.proofs.cut_ray.Tie as tie

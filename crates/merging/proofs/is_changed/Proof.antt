@@ -3,8 +3,8 @@ use borrow.Author.Needs.{needs}
 use borrow.Author.Needs.{needs}
 use Prim.Native.Nat.{_+_}
 use Rattle.spans.specs.Spans.{holds}
-use Rattle.merge.specs.Merge.{eitherHit}
-use Rattle.merge.specs.Steps.{part}
+use Rattle.taking.specs.Taking.{eitherHit}
+use Rattle.taking.specs.Steps.{part}
 use Rattle.merging.proofs.Cutting.{touch-first, touch-second}
 use Rattle.merging.proofs.is_changed.Statement.{statement}
 use Rattle.merging.proofs.is_changed.Tie as tie

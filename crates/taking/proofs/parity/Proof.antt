@@ -1,0 +1,17 @@
+-- `taking::parity` meets its contract.
+use borrow.Author.Tests.{eq-eqb, ne-eqb}
+use borrow.Author.Needs.{needs}
+use Rattle.taking.proofs.parity.Statement.{statement}
+use Rattle.taking.proofs.parity.Tie as tie
+
+returns : tie.Need-returns
+returns c = simp (eq-eqb _ _ (c .if1 .taken))
+
+sub-result : tie.Need-sub-result
+sub-result c = search needs
+
+returns-2 : tie.Need-returns-2
+returns-2 c = simp (ne-eqb _ _ (c .if1 .left))
+
+pub parity-spec : {M : Type 1} → statement M
+parity-spec = tie.close (tie.spec returns sub-result returns-2)

@@ -1,0 +1,58 @@
+-- `taking::take_inner` meets its contract.
+use mathlib.Core.Path.{_≡_}
+use Prim.Native.Nat.{ℕ, _+_}
+use Rattle.doubles.proofs.Bools.{not-true, not-false}
+use Rattle.spans.specs.Spans.{holds}
+use Rattle.taking.specs.Steps.{part}
+use Rattle.taking.proofs.Places.{part-length}
+use Rattle.taking.proofs.Sparing.{reduced-still, reduced-moved}
+use borrow.Author.Needs.{needs}
+use native.Mathlib.Omega.{arith}
+use Rattle.taking.proofs.take_inner.Statement.{statement}
+use Rattle.taking.proofs.take_inner.Tie as tie
+
+none : (n : ℕ) → 0 + n ≡ n
+none n = omega arith
+
+share-point-requires : tie.Need-share-point-requires
+share-point-requires c κs = search needs
+
+same-length : tie.Need-same-length
+same-length c = search needs
+
+returns : tie.Need-returns
+returns c =
+    let s = c .before .before .before .before in
+    let a = s .args in
+    let h = c .before .share-point in
+    reduced-still (part (a .a) (a .n) (a .w .now)) (holds (part (a .b) (a .m) (a .w .now))) 0 (a .n + a .m) (a .n + a .m) (a .w .now) (a .n)
+    (part-length (a .a) (a .n) (a .w .now) (s .pre .0 .room)) (s .pre .0 .isSound) (h .result) (not-true (h .result) (c .if1 .taken)) (h .ensures)
+
+subtract-at-requires : tie.Need-subtract-at-requires
+subtract-at-requires c κs = search needs
+
+same-length-2 : tie.Need-same-length-2
+same-length-2 c = search needs
+
+returns-2 : tie.Need-returns-2
+returns-2 c =
+    let y = c .before .before in
+    let d = y .before .before in
+    let s = c .before .before .before .before .before .before .before .before in
+    let a = s .args in
+    let h = d .before .share-point in
+    let z = y .subtract-at .ensures in
+    reduced-moved (part (a .a) (a .n) (a .w .now)) (holds (part (a .b) (a .m) (a .w .now))) 0 (a .n + a .m) (a .n + a .m) (a .w .now) (y .subtract-at .last .0) (y .subtract-at .result)
+    (h .result) (not-false (h .result) (d .if1 .left)) (h .ensures) (rw (none (a .n)) at (z .between)) (z .most)
+    (omega (arith, z .most, z .between .size, s .pre .2, s .pre .0 .room)) (z .list)
+
+pub take-inner-spec : {M : Type 1} → statement M
+take-inner-spec =
+    tie.close
+    (tie.spec
+    share-point-requires
+    same-length
+    returns
+    subtract-at-requires
+    same-length-2
+    returns-2)
