@@ -22,13 +22,13 @@ use Rattle.lists.proofs.Steps.{ends-length}
 use Rattle.runs.specs.Logs.{possible, certain, entryAt, entryCount, entries, rayOf, HitKind, outer, inner}
 use Rattle.runs.specs.Model.{pairs}
 use Rattle.runs.specs.Counts.{hitBy, startsLeft, hitsOn, changesRay, raysChanged, pairsLeft}
-use Rattle.runs.specs.Lent.{listNumber, listIn}
+use Rattle.runs.specs.Lent.{listNumber, listIn, listsIn}
 use Rattle.runs.proofs.Lent.{lent-laws}
 use Rattle.runs.proofs.Starts.{pairs-left}
 use Rattle.logs.specs.Named.{pairsNamed, namedFrom, pairsAt}
 use Rattle.logs.proofs.Places.{AllFrom, all-first, all-rest, pairs-named, each-below}
 use Rattle.log_hits.proofs.Taken.{starts-le}
-use Rattle.counting.specs.Answer.{listsIn, Countable}
+use Rattle.counting.specs.Answer.{Countable}
 use Rattle.counting.specs.Totals.{sum, pairsOf, leftOf, changesOf}
 use Rattle.counting.proofs.Sums.{sum-over, sum-le, sum-at, sum-one, sum-plus, sum-times, sum-none}
 use Rattle.entry_order.proofs.Alike.{pairs-of}

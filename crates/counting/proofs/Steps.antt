@@ -17,7 +17,8 @@ use Rattle.store.specs.Updates.{Cells}
 use Rattle.runs.specs.Logs.{entryAt, entryCount, entries, rayOf}
 use Rattle.runs.specs.Counts.{raysChanged, pairsLeft}
 use Rattle.logs.proofs.Places.{each-below}
-use Rattle.counting.specs.Answer.{listsIn, Countable, Counting}
+use Rattle.runs.specs.Lent.{listsIn}
+use Rattle.counting.specs.Answer.{Countable, Counting}
 use Rattle.entry_order.specs.Places.{seen, RunOf, FirstOf, EndOf}
 use Rattle.counting.specs.Totals.{sum, pairsOf, leftOf, changesOf, changedAt, pairsAt, Counts, Totalled}
 use Rattle.counting.specs.declared.RayCount.{RayCount}

@@ -8,18 +8,14 @@ use Rattle.grid.specs.Rays.{rayCount}
 use Rattle.gridding.specs.Causes.{GridFacts}
 use Rattle.grid.specs.declared.DexelStockSpec.{DexelStockSpec}
 use Rattle.grid.specs.declared.DexelGrid.{DexelGrid}
-use Rattle.store.specs.Updates.{Cells, Room, held}
+use Rattle.store.specs.Updates.{Cells, Room}
 use Rattle.stock.specs.Stock.{SoundCells}
-use Rattle.runs.specs.Logs.{Ray, Kind, entries}
+use Rattle.runs.specs.Logs.{entries}
 use Rattle.runs.specs.Counts.{raysChanged, pairsLeft}
-use Rattle.runs.specs.Lent.{listNumber}
+use Rattle.runs.specs.Lent.{listsIn}
 use Rattle.logs.specs.Named.{EachNamed}
 use Rattle.counting.specs.declared.Budgets.{Budgets}
 use Rattle.counting.specs.declared.Budgets.the-variants.{Kept, Rays, Intervals}
-
--- the lists of the rays, as they stand in the cells
-abbrev pub listsIn : DexelStockSpec → (g : DexelGrid) → Cells → Ray g → Kind → List Float
-listsIn spec g c r k = held (spec .«max_intervals») c (listNumber (r .0) k)
 
 -- `Rays` is document 01's 9, one more changed ray than allowed; `Intervals` its 10, intervals after the commit above `max_intervals`; 9 comes first
 unfoldable pub budgetOf : (allowance intervals changed left : ℕ) → Budgets

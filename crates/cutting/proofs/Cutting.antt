@@ -14,7 +14,7 @@ use Rattle.store.proofs.Updating.{FreedAll, freed-all, all-empty, kept-room}
 use Rattle.stock.specs.Stock.{Stock}
 use Rattle.runs.specs.Logs.{entries, entryCount}
 use Rattle.runs.specs.Counts.{pairsLeft}
-use Rattle.runs.specs.Lent.{listIn}
+use Rattle.runs.specs.Lent.{listIn, listsIn}
 use Rattle.grouping.specs.Groups.{Groups}
 use Rattle.laying.specs.Updates.{updatesFrom, listsEnd}
 use Rattle.laying.specs.Steps.{AllFreeable, EachLayable, RaysLayable}
@@ -22,7 +22,6 @@ use Rattle.laying.proofs.Room.{each-layable, no-cursor}
 use Rattle.cuts.specs.Merges.{Merges, listsOf}
 use Rattle.cuts.proofs.Leaves.{ascend, intervals-left}
 use Rattle.merging.specs.All.{AllMergeable, AllMerged}
-use Rattle.counting.specs.Answer.{listsIn}
 use Rattle.cutting.specs.Cutting.{Ready, Done}
 
 module _ (spec : DexelStockSpec) (g : DexelGrid) (c : Cells) (log w : List Float) (ready : Ready spec g c log w) where

@@ -11,12 +11,11 @@ use Rattle.grid.specs.declared.DexelStockSpec.{DexelStockSpec}
 use Rattle.grid.specs.declared.DexelGrid.{DexelGrid}
 use Rattle.store.specs.Updates.{Cells, Update, Room, applied}
 use Rattle.stock.specs.Stock.{SoundCells}
-use Rattle.runs.specs.Logs.{entries}
+use Rattle.runs.specs.Logs.{entries, workNeeded}
 use Rattle.runs.specs.Counts.{pairsLeft}
-use Rattle.counting.specs.Answer.{listsIn}
+use Rattle.runs.specs.Lent.{listsIn}
 use Rattle.logs.specs.Named.{EachNamed}
 use Rattle.cuts.specs.Merges.{Merges}
-use Rattle.judging.specs.Tests.{workNeeded}
 
 -- the grid, the cells and the log have passed the tests
 pub record Ready (spec : DexelStockSpec) (g : DexelGrid) (c : Cells) (log work : List Float) : Type 0 where

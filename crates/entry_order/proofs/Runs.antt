@@ -1,4 +1,4 @@
--- The entries of a ray in a log that ascends, and the count of a ray over them.
+-- The entries of a ray in a log that ascends, and the loops that look for them.
 use mathlib.Core.Path.{_≡_, sym, ap, _∙_, subst}
 use mathlib.Core.Bool.{Bool, true, false, not, true≢false, false≢true}
 use mathlib.Core.List.{List}

@@ -1,4 +1,4 @@
-// Which entries of a log are of one ray: where they ascend by ray, the first of each ray and the place past its last are found without a search.
+// Which entries of a log are of one ray: the first of them and the place past the last, found without a search where the log ascends by ray.
 ghost use mathlib.Core.Path.{_≡_};
 ghost use mathlib.Core.Bool.{true};
 ghost use Prim.Native.Nat.{_+_, _-_, _^_, _≤_, _<_};

@@ -1,4 +1,4 @@
-// Where the cells of a grid and the centers of its rays lie.
+// Where the cells of a grid lie, and the centres of its rays.
 ghost use mathlib.Core.Path.{_≡_};
 ghost use Prim.Native.Nat.{_<_};
 ghost use Rattle.grid.specs.Axes.{cellsAlong, crossOf};

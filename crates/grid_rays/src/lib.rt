@@ -1,4 +1,4 @@
-// The three grids of rays through a blank: how many rays there are, how they are numbered, and where each stands.
+// The three grids of rays through a blank: how many rays there are, how they are numbered, and between which faces each runs.
 ghost use mathlib.Core.Path.{_≡_};
 ghost use Prim.Native.Nat.{_<_, _^_};
 ghost use Rattle.grid.specs.Rays.{raysAlong, rayCount, offset, rayNumber, rayAxis, boundsOf};

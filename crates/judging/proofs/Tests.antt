@@ -18,20 +18,20 @@ use Rattle.grid.specs.declared.DexelGrid.{DexelGrid}
 use Rattle.store.specs.Updates.{Room}
 use Rattle.stock.specs.Stock.{Stock, SoundStock, Tells, short}
 use Rattle.stock.proofs.Causes.{room-of}
-use Rattle.runs.specs.Logs.{Ray, Kind, entries}
+use Rattle.runs.specs.Logs.{Ray, Kind, entries, workNeeded}
 use Rattle.runs.specs.Model.{Short, Bad, causes}
 use Rattle.runs.specs.Counts.{raysChanged, pairsLeft}
 use Rattle.runs.specs.Runs.{points}
-use Rattle.runs.specs.Lent.{listIn, lentStore}
+use Rattle.runs.specs.Lent.{listIn, listsIn, lentStore}
 use Rattle.runs.proofs.Decided.{rays-by, intervals-by}
 use Rattle.runs.proofs.Lent.{lent-laws}
 use Rattle.logs.specs.Named.{EachNamed, NamesAll}
 use Rattle.logs.proofs.Places.{each-no}
 use Rattle.cuts.specs.Merges.{listsOf}
-use Rattle.counting.specs.Answer.{listsIn, budgetOf}
+use Rattle.counting.specs.Answer.{budgetOf}
 use Rattle.counting.specs.declared.Budgets.{Budgets}
 use Rattle.counting.specs.declared.Budgets.the-variants.{Kept, Rays, Intervals}
-use Rattle.judging.specs.Tests.{commitOf, workNeeded, Passes, logCauses, Tested}
+use Rattle.judging.specs.Tests.{commitOf, Passes, logCauses, Tested}
 
 -- ---- what `budget` says
 module _ (a n c l : ℕ) where

@@ -10,7 +10,7 @@ use Rattle.grid.specs.declared.DexelGrid.{DexelGrid}
 use Rattle.store.specs.Updates.{Room}
 use Rattle.stock.specs.Stock.{Stock, SoundStock}
 use Rattle.refusal.specs.Refusal.{Cause, Due}
-use Rattle.runs.specs.Logs.{entries, entryCount, Commit}
+use Rattle.runs.specs.Logs.{entries, workNeeded, Commit}
 use Rattle.runs.specs.Model.{causes}
 use Rattle.runs.specs.Counts.{raysChanged, pairsLeft}
 use Rattle.runs.specs.Runs.{points}
@@ -21,10 +21,6 @@ use Rattle.cuts.specs.Merges.{listsOf}
 -- what the commit brings: only the pairs of its work buffer count
 abbrev pub commitOf : (log : List Float) (allowance : ℕ) (work : List Float) → Commit
 commitOf log allowance work = record { log = log; allowance = allowance; work = length work / 2 }
-
--- the work pairs that document 01 asks for: six for each interval of the budget, and 18 for each entry
-abbrev pub workNeeded : ℕ → List Float → ℕ
-workNeeded n log = 6 * n + 18 * entryCount log
 
 -- every test of the commit is passed
 pub record Passes (spec : DexelStockSpec) (g : DexelGrid) (s : Stock) (log : List Float) (allowance : ℕ) (work : List Float) : Type 0 where

@@ -19,7 +19,7 @@ use Rattle.spans.proofs.Points.{or-assoc}
 use Rattle.grid.specs.Rays.{rayCount}
 use Rattle.grid.specs.declared.DexelStockSpec.{DexelStockSpec}
 use Rattle.grid.specs.declared.DexelGrid.{DexelGrid}
-use Rattle.runs.specs.Logs.{Ray, Kind, possible, certain, Entry, entries, entryCount, namesOne, names, HitKind, outer, inner, loOf, hiOf, pairsOn, taken, Commit}
+use Rattle.runs.specs.Logs.{Ray, Kind, possible, certain, Entry, entries, workNeeded, namesOne, names, HitKind, outer, inner, loOf, hiOf, pairsOn, taken, Commit}
 use Rattle.runs.specs.Model.{Sets, without, Changes, Count, none, counted, skipped, sumTo, sumOver, pairs, Intervals, Lent, Short, Bad, NoRay, TooManyRays, TooManyIntervals, causes, Answer, changed, refused, Judged}
 use Rattle.runs.specs.Counts.{hitBy, startsLeft, hitsOn, changesRay, raysChanged, pairsLeft}
 use Rattle.runs.proofs.Unique.{count-unique, intervals-unique}
@@ -192,7 +192,7 @@ module _ (spec : DexelStockSpec) (g : DexelGrid) (b : Lent) where
   unfoldable pub tests : (Ray g → Kind → List Float) → ℕ → Commit → List Bool
   unfolding raysChanged pairsLeft unnamed entries
   tests lists n c =
-      (ltb (b .records) (spec .«max_intervals») || (ltb (b .heads) (2 * rayCount g) || ltb (c .work) (6 * spec .«max_intervals» + 18 * entryCount (c .log))))
+      (ltb (b .records) (spec .«max_intervals») || (ltb (b .heads) (2 * rayCount g) || ltb (c .work) (workNeeded (spec .«max_intervals») (c .log))))
       ∷ not (eqb (length (c .log) % 6) 0)
       ∷ eqb n (2 ^ 64 - 1)
       ∷ unnamed g (entries (c .log))
@@ -201,13 +201,13 @@ module _ (spec : DexelStockSpec) (g : DexelGrid) (b : Lent) where
       ∷ []
 
   module _ (s : Sets g) (lists : Ray g → Kind → List Float) (each : (r : Ray g) (k : Kind) → ListOf (s r k) (lists r k)) (n : ℕ) (c : Commit) where
-    short-by : Decides (Short spec g b c) (ltb (b .records) (spec .«max_intervals») || (ltb (b .heads) (2 * rayCount g) || ltb (c .work) (6 * spec .«max_intervals» + 18 * entryCount (c .log))))
+    short-by : Decides (Short spec g b c) (ltb (b .records) (spec .«max_intervals») || (ltb (b .heads) (2 * rayCount g) || ltb (c .work) (workNeeded (spec .«max_intervals») (c .log))))
     unfolding Short
     short-by =
-        either (ltb (b .records) (spec .«max_intervals»)) (ltb (b .heads) (2 * rayCount g) || ltb (c .work) (6 * spec .«max_intervals» + 18 * entryCount (c .log)))
+        either (ltb (b .records) (spec .«max_intervals»)) (ltb (b .heads) (2 * rayCount g) || ltb (c .work) (workNeeded (spec .«max_intervals») (c .log)))
         (less-than (b .records) (spec .«max_intervals»))
-        (either (ltb (b .heads) (2 * rayCount g)) (ltb (c .work) (6 * spec .«max_intervals» + 18 * entryCount (c .log))) (less-than (b .heads) (2 * rayCount g))
-        (less-than (c .work) (6 * spec .«max_intervals» + 18 * entryCount (c .log))))
+        (either (ltb (b .heads) (2 * rayCount g)) (ltb (c .work) (workNeeded (spec .«max_intervals») (c .log))) (less-than (b .heads) (2 * rayCount g))
+        (less-than (c .work) (workNeeded (spec .«max_intervals») (c .log))))
 
     bad-by : Decides (Bad ⊥ c) (not (eqb (length (c .log) % 6) 0))
     unfolding Bad

@@ -9,8 +9,9 @@ use Rattle.grid.specs.declared.DexelGrid.{DexelGrid}
 use Rattle.grid.specs.declared.Gridded.{Gridded}
 use Rattle.grid.specs.declared.Gridded.the-variants.{Accepted, Refused}
 use Rattle.store.specs.Store.{listOf}
+use Rattle.store.specs.Updates.{Cells, held}
 use Rattle.stock.specs.Stock.{Stock, SoundStock}
-use Rattle.runs.specs.Logs.{Kind, possible, certain, Commit}
+use Rattle.runs.specs.Logs.{Ray, Kind, possible, certain, Commit}
 use Rattle.runs.specs.Model.{Answer, refused}
 use Rattle.runs.specs.Runs.{Reading, Committed}
 
@@ -23,6 +24,10 @@ listNumber r certain = 2 * r + 1
 unfoldable pub listIn : DexelStockSpec → Stock → ℕ → Kind → List Float
 unfolding listNumber
 listIn spec s r k = listOf (spec .«max_intervals») (s .cells .spans) (s .cells .links) (s .cells .heads) (listNumber r k)
+
+-- the same of all rays, from the cells alone
+abbrev pub listsIn : DexelStockSpec → (g : DexelGrid) → Cells → Ray g → Kind → List Float
+listsIn spec g c r k = held (spec .«max_intervals») c (listNumber (r .0) k)
 
 -- the reading that the log commit's contract cites
 abbrev pub lentStore : DexelStockSpec → (g : DexelGrid) → Reading g

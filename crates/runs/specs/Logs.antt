@@ -52,6 +52,10 @@ entriesFrom log i (suc n) = entryAt log i ∷ entriesFrom log (suc i) n
 abbrev pub entryCount : List Float → ℕ
 entryCount log = length log / 6
 
+-- the pairs that a log commit needs in its work buffer, by document 01: six for each interval of the budget and 18 for each entry
+abbrev pub workNeeded : (intervals : ℕ) → List Float → ℕ
+workNeeded intervals log = 6 * intervals + 18 * entryCount log
+
 -- its whole entries, in order
 unfoldable pub entries : List Float → List Entry
 unfolding entriesFrom

@@ -13,7 +13,7 @@ use Rattle.spans.specs.Spans.{ListOf}
 use Rattle.grid.specs.Rays.{rayCount}
 use Rattle.grid.specs.declared.DexelStockSpec.{DexelStockSpec}
 use Rattle.grid.specs.declared.DexelGrid.{DexelGrid}
-use Rattle.runs.specs.Logs.{Ray, Kind, possible, certain, Entry, entries, entryCount, namesOne, taken, Commit}
+use Rattle.runs.specs.Logs.{Ray, Kind, possible, certain, Entry, entries, workNeeded, namesOne, taken, Commit}
 
 -- ---- the sets of all rays
 
@@ -68,7 +68,7 @@ pub record Lent : Type 0 where
 unfoldable pub Short : DexelStockSpec → DexelGrid → Lent → Commit → Type 0
 Short spec g b c =
     (b .records < spec .«max_intervals») ⊎ (b .heads < 2 * rayCount g)
-    ⊎ (c .work < 6 * spec .«max_intervals» + 18 * entryCount (c .log))
+    ⊎ (c .work < workNeeded (spec .«max_intervals») (c .log))
 
 -- 11: part of an entry is over, or the store is not sound
 unfoldable pub Bad : Type 0 → Commit → Type 0

@@ -1,4 +1,4 @@
-// Document 01's lateral sweep: chords in order, for each the two world axes other than the tool's, and the rays of each clamped rectangle.
+// Document 01's lateral sweep: its tests, its walk over the chords, and the end of its log.
 ghost use mathlib.Core.Path.{_≡_};
 ghost use Prim.Native.Nat.{_≤_};
 ghost use lib.ListN.{length};

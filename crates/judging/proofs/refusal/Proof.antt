@@ -7,7 +7,7 @@ use Rattle.store.specs.Updates.{Room, cells}
 use Rattle.stock.specs.Stock.{SoundStock}
 use Rattle.stock.specs.Outcomes.{stock}
 use Rattle.logs.specs.Named.{EachNamed}
-use Rattle.judging.specs.Tests.{workNeeded}
+use Rattle.runs.specs.Logs.{workNeeded}
 use Rattle.judging.proofs.Tests.{short-due, room-of-test, work-due, work-of-test, part-due, unsound-due, sound-of-test, last-due, unnamed-due, named-of-test, rays-due, intervals-due, all-passed}
 use Rattle.judging.proofs.refusal.Statement.{statement}
 use Rattle.judging.proofs.refusal.Tie as tie
