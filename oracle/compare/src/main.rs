@@ -5,8 +5,9 @@ use compare::{
     function::{Difference, Function},
     modules,
 };
-use std::{collections::BTreeMap, process::ExitCode, time::Instant};
+use std::{collections::BTreeMap, process::ExitCode, sync::mpsc, thread, time::Instant};
 
+#[derive(Clone)]
 struct Options {
     meant: bool,
     only: Option<String>,
@@ -42,17 +43,25 @@ fn options() -> Option<Options> {
 #[derive(Default)]
 struct Tally {
     cases: u64,
+    calls: u64,
+    seconds: f64,
     meant: BTreeMap<Explained, u64>,
     different: u64,
     /// the first difference of each row, and the first that no row explains
     first: BTreeMap<Option<Explained>, (u64, Difference)>,
 }
 
-fn run(f: &Function, numbers: impl Iterator<Item = u64>, seed: u64) -> Tally {
+/// Compares the cases of one worker: its own of every `workers`, or the one case that was asked for.
+fn run(f: &Function, o: &Options, worker: u64, workers: u64) -> Tally {
     let mut t = Tally::default();
-    for number in numbers {
+    let start = Instant::now();
+    let numbers = match o.case {
+        Some(number) => number..number + 1,
+        None => 0..f.edges + o.count,
+    };
+    for number in numbers.skip(worker as usize).step_by(workers as usize) {
         t.cases += 1;
-        if let Some(d) = f.case(seed, number) {
+        if let Some(d) = f.case(o.seed, number) {
             match d.meant {
                 Some(e) => *t.meant.entry(e).or_default() += 1,
                 None => t.different += 1,
@@ -60,7 +69,51 @@ fn run(f: &Function, numbers: impl Iterator<Item = u64>, seed: u64) -> Tally {
             t.first.entry(d.meant).or_insert((number, d));
         }
     }
+    t.calls = f.calls();
+    t.seconds = start.elapsed().as_secs_f64();
     t
+}
+
+impl Tally {
+    /// Both together; of the first differences the one with the lower number.
+    fn and(mut self, other: Tally) -> Tally {
+        self.cases += other.cases;
+        self.calls += other.calls;
+        self.seconds = self.seconds.max(other.seconds);
+        self.different += other.different;
+        for (e, n) in other.meant {
+            *self.meant.entry(e).or_default() += n;
+        }
+        for (e, d) in other.first {
+            match self.first.get(&e) {
+                Some(first) if first.0 < d.0 => {}
+                _ => drop(self.first.insert(e, d)),
+            }
+        }
+        self
+    }
+}
+
+/// The functions that are asked for, by their names with the module in front.
+fn functions(only: Option<&str>) -> Vec<(String, Function)> {
+    let all =
+        modules().into_iter().flat_map(|(module, list)| list.into_iter().map(move |f| (format!("{module}::{}", f.name), f)));
+    all.filter(|(name, _)| only.is_none_or(|only| only == name)).collect()
+}
+
+/// Starts the workers. Each makes the functions for itself and sends a tally for each, in order.
+fn start(o: &Options, workers: u64) -> Vec<mpsc::Receiver<Tally>> {
+    let started = (0..workers).map(|worker| {
+        let (sender, receiver) = mpsc::channel();
+        let o = o.clone();
+        thread::spawn(move || {
+            for (_, f) in functions(o.only.as_deref()) {
+                sender.send(run(&f, &o, worker, workers)).expect("the tallies are read to the end");
+            }
+        });
+        receiver
+    });
+    started.collect()
 }
 
 /// Prints the difference that no row explains, and with `meant` the others too.
@@ -86,36 +139,26 @@ fn main() -> ExitCode {
         "{:<24} {:>10} {:>10} {:>22} {:>10} {:>8}",
         "function", "cases", "calls", "meant (row: times)", "different", "seconds"
     );
-    let (mut functions, mut cases, mut calls, mut different) = (0, 0, 0, 0);
-    for (module, list) in modules() {
-        for f in list {
-            let name = format!("{module}::{}", f.name);
-            if o.only.as_ref().is_some_and(|only| *only != name) {
-                continue;
-            }
-            let start = Instant::now();
-            let t = match o.case {
-                Some(number) => run(&f, number..number + 1, o.seed),
-                None => run(&f, 0..f.edges + o.count, o.seed),
-            };
-            let meant: Vec<_> = t.meant.iter().map(|(e, n)| format!("{}: {n}", e.number())).collect();
-            let seconds = start.elapsed().as_secs_f64();
-            let called = f.calls();
-            println!("{name:<24} {:>10} {called:>10} {:>22} {:>10} {seconds:>8.1}", t.cases, meant.join(", "), t.different);
-            print_first(&t, &name, &o);
-            functions += 1;
-            cases += t.cases;
-            calls += called;
-            different += t.different;
-        }
-    }
-    if functions == 0 {
+    let names: Vec<_> = functions(o.only.as_deref()).into_iter().map(|(name, _)| name).collect();
+    if names.is_empty() {
         eprintln!("no function of this name\n{USAGE}");
         return ExitCode::from(2);
+    }
+    let workers = start(&o, thread::available_parallelism().map_or(1, |n| n.get() as u64));
+    let (mut cases, mut calls, mut different) = (0, 0, 0);
+    for name in &names {
+        let tallies = workers.iter().map(|w| w.recv().expect("a worker has stopped"));
+        let t = tallies.reduce(Tally::and).expect("there is a worker");
+        let meant: Vec<_> = t.meant.iter().map(|(e, n)| format!("{}: {n}", e.number())).collect();
+        println!("{name:<24} {:>10} {:>10} {:>22} {:>10} {:>8.1}", t.cases, t.calls, meant.join(", "), t.different, t.seconds);
+        print_first(&t, name, &o);
+        cases += t.cases;
+        calls += t.calls;
+        different += t.different;
     }
     for e in Explained::ALL {
         println!("row {} of docs/DIFFERENCES.md: {}", e.number(), e.text());
     }
-    println!("{functions} functions, {cases} cases, {calls} calls, {different} unexplained differences");
+    println!("{} functions, {cases} cases, {calls} calls, {different} unexplained differences", names.len());
     ExitCode::from((different > 0) as u8)
 }
