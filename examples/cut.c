@@ -28,8 +28,8 @@ int main(void) {
   uint64_t cells[3];
   double steps[3];
   expect("grid", tridexel_grid(spec, MM, sizeof MM, cells, steps));
-  size_t rays = cells[0] * cells[1] + cells[1] * cells[2] + cells[2] * cells[0];
-  size_t records = 2 * spec.max_intervals, heads_len = 2 * rays;
+  size_t rays = TRIDEXEL_RAYS(cells);
+  size_t records = TRIDEXEL_RECORD_CELLS(spec.max_intervals), heads_len = TRIDEXEL_HEAD_CELLS(rays);
   printf("grid    %" PRIu64 " x %" PRIu64 " x %" PRIu64 " cells, %zu rays\n", cells[0], cells[1], cells[2], rays);
 
   double *spans = room(records);
@@ -40,22 +40,22 @@ int main(void) {
 
   tridexel_cutter ball = {.diameter_mm = 6, .cutting_length_mm = 12, .overall_length_mm = 40, .neck_diameter_mm = 6, .shank_diameter_mm = 6,
                           .radius = 3, .tip_height = 3, .slope = 0, .shoulder = 0};
-  double chord[8] = {0, 10, 6, 20, 10, 6, 0.01, hypot(20, 0)};
-  size_t log_len = 6 * 10000, entries;
+  double chord[TRIDEXEL_CHORD_CELLS(1)] = {0, 10, 6, 20, 10, 6, 0.01, hypot(20, 0)};
+  size_t log_len = TRIDEXEL_LOG_CELLS(10000), entries;
   double *log = room(log_len);
   uint64_t visits;
   expect("sweep", tridexel_sweep(spec, MM, sizeof MM, spans, records, links, records, heads, heads_len, intervals, TRIDEXEL_POS_Z, TRIDEXEL_BALL, 0, 0,
-                                 ball, 0.001, chord, 8, 100000, log, log_len, &entries, &visits));
+                                 ball, 0.001, chord, TRIDEXEL_CHORD_CELLS(1), 100000, log, log_len, &entries, &visits));
   printf("sweep   %" PRIu64 " rays visited, %zu hits\n", visits, entries);
 
   size_t work_len = TRIDEXEL_LOG_WORK(spec.max_intervals, entries);
   double *work = room(work_len);
   uint64_t changed;
-  expect("commit", tridexel_commit_log(spec, MM, sizeof MM, spans, records, links, records, heads, heads_len, &generation, &intervals, log, 6 * entries, UINT64_MAX, work,
+  expect("commit", tridexel_commit_log(spec, MM, sizeof MM, spans, records, links, records, heads, heads_len, &generation, &intervals, log, TRIDEXEL_LOG_CELLS(entries), UINT64_MAX, work,
                                        work_len, &changed));
   printf("commit  %" PRIu64 " rays changed, generation %" PRIu64 ", %" PRIu64 " intervals\n", changed, generation, intervals);
 
-  uint32_t refused = tridexel_commit_log(spec, MM, sizeof MM, spans, records, links, records, heads, heads_len, &generation, &intervals, log, 6 * entries - 1, UINT64_MAX,
+  uint32_t refused = tridexel_commit_log(spec, MM, sizeof MM, spans, records, links, records, heads, heads_len, &generation, &intervals, log, TRIDEXEL_LOG_CELLS(entries) - 1, UINT64_MAX,
                                          work, work_len, &changed);
   printf("part of an entry over: refused %" PRIu32 ", generation still %" PRIu64 "\n", refused, generation);
 

@@ -72,6 +72,11 @@ uint32_t tridexel_grid(tridexel_spec spec, const uint8_t *units, size_t units_le
  * ray, zero for an empty list. Records are numbered from 1. max_intervals records (2 * max_intervals cells of spans and of links) and 2 heads per ray count;
  * cells past these are neither read nor written. The generation and the interval total are two numbers that the caller keeps. */
 
+/* The rays of a grid of these cells; the cells that `spans` needs, and `links` as many; the cells that `heads` needs. */
+#define TRIDEXEL_RAYS(cells) ((size_t)((cells)[0] * (cells)[1] + (cells)[1] * (cells)[2] + (cells)[2] * (cells)[0]))
+#define TRIDEXEL_RECORD_CELLS(max_intervals) (2 * (size_t)(max_intervals))
+#define TRIDEXEL_HEAD_CELLS(rays) (2 * (size_t)(rays))
+
 /* Lays the uncut stock: one full pair in each list. Refusals: 1 to 4, 12. */
 uint32_t tridexel_fill(tridexel_spec spec, const uint8_t *units, size_t units_len, double *spans, size_t spans_len, uint64_t *links, size_t links_len,
                        uint64_t *heads, size_t heads_len, uint64_t *generation, uint64_t *intervals);
@@ -120,6 +125,10 @@ typedef struct {
   double diameter_mm, cutting_length_mm, overall_length_mm, neck_diameter_mm, shank_diameter_mm;
   double radius, tip_height, slope, shoulder;
 } tridexel_cutter;
+
+/* The cells of a log of so many entries, and of so many chords. */
+#define TRIDEXEL_LOG_CELLS(entries) (6 * (size_t)(entries))
+#define TRIDEXEL_CHORD_CELLS(chords) (8 * (size_t)(chords))
 
 /* The rays across the tool for a list of chords: eight doubles each, world ends a and b, the error e, the plan length (hypot of the two differences across the
  * tool axis). Accepted: `*entries` entries of six doubles stand in `log` in visiting order, every cell past them is plus zero, `*visits` is the number of rays
