@@ -15,7 +15,9 @@ apply-changes-requires : tie.Need-apply-changes-requires
 apply-changes-requires c κs = let a = c .before .before .before .before .before .before .before .before .before .before .before .before .before .before .before .args in (a .intervals, judged-fitting (a .spec) (a .g) (stock (a .spans .now) (a .links .now) (a .heads .now) (a .generation) (a .intervals)) (a .changes .now) (a .pairs .now) (a .base) _ (c .before .before .before .before .before .before .judge .ensures) _ (c .before .before .before .before .total .given .1))
 
 add-t32 : tie.Need-add-t32
-add-t32 c = let a = c .before .before .before .before .before .before .before .before .before .before .before .before .before .before .before .before .before .before .before .before .before .before .args in omega (arith, generation-steps (a .spec) (a .g) (stock (a .spans .now) (a .links .now) (a .heads .now) (a .generation) (a .intervals)) (a .changes .now) (a .pairs .now) (a .base) _ (c .before .before .before .before .before .before .before .before .before .before .before .before .before .judge .ensures) _ (c .before .before .before .before .before .before .before .before .before .before .before .total .given .1) (omega (arith, c .before .before .before .before .before .before .before .before .before .before .before .before .before .before .before .before .before .before .before .before .before .before .good .0)))
+add-t32 c =
+    let a = c .before .before .before .before .before .before .before .before .before .before .before .before .before .before .before .before .before .before .before .before .before .before .args in
+    omega (arith, generation-steps (a .spec) (a .g) (stock (a .spans .now) (a .links .now) (a .heads .now) (a .generation) (a .intervals)) (a .changes .now) (a .pairs .now) (a .base) _ (c .before .before .before .before .before .before .before .before .before .before .before .before .before .judge .ensures) _ (c .before .before .before .before .before .before .before .before .before .before .before .total .given .1) (omega (arith, c .before .before .before .before .before .before .before .before .before .before .before .before .before .before .before .before .before .before .before .before .before .before .good .0)))
 
 enum-known-k : tie.Need-enum-known-k
 enum-known-k c = search needs
@@ -30,7 +32,9 @@ same-length-3 : tie.Need-same-length-3
 same-length-3 c = search needs
 
 returns : tie.Need-returns
-returns c = let a = c .before .before .before .before .before .before .before .before .before .before .before .before .before .before .before .before .before .before .before .before .before .before .args in judged-fits (a .spec) (a .g) (stock (a .spans .now) (a .links .now) (a .heads .now) (a .generation) (a .intervals)) (a .changes .now) (a .pairs .now) (a .base) _ (c .before .before .before .before .before .before .before .before .before .before .before .before .before .judge .ensures) _ (c .before .before .before .before .before .before .before .before .before .before .before .total .given .1) _ (c .before .before .before .before .before .before .apply-changes .ensures)
+returns c =
+    let a = c .before .before .before .before .before .before .before .before .before .before .before .before .before .before .before .before .before .before .before .before .before .before .args in
+    judged-fits (a .spec) (a .g) (stock (a .spans .now) (a .links .now) (a .heads .now) (a .generation) (a .intervals)) (a .changes .now) (a .pairs .now) (a .base) _ (c .before .before .before .before .before .before .before .before .before .before .before .before .before .judge .ensures) _ (c .before .before .before .before .before .before .before .before .before .before .before .total .given .1) _ (c .before .before .before .before .before .before .apply-changes .ensures)
 
 same-length-4 : tie.Need-same-length-4
 same-length-4 c = search needs

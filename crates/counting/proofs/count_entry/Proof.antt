@@ -49,9 +49,15 @@ sub-pairs c =
 
 add-pairs : tie.Need-add-pairs
 add-pairs c =
-    let given = c .before .before .before .before .before .before .before .before .before .before .args in
-    let pre = c .before .before .before .before .before .before .before .before .before .before .pre in
-    omega (arith, entry-before (given .spec) (given .g) (cells (given .spans .now) (given .links .now) (given .heads .now)) (given .log .now) (pre .0) (given .i) (pre .2) (given .t) (pre .3) (c .before .before .before .before .before .first-of-ray .result) (not-false _ (c .before .before .before .before .if1 .left)) (c .before .before .before .before .before .first-of-ray .ensures) (c .before .before .ray-at .result) (c .before .before .ray-at .ensures) (c .before .count-ray .result) (c .before .count-ray .ensures), entry-fits (given .spec) (given .g) (cells (given .spans .now) (given .links .now) (given .heads .now)) (given .log .now) (pre .0) (given .i) (pre .2) (given .t) (pre .3) (c .before .before .before .before .before .first-of-ray .result) (not-false _ (c .before .before .before .before .if1 .left)) (c .before .before .before .before .before .first-of-ray .ensures) (c .before .before .ray-at .result) (c .before .before .ray-at .ensures) (c .before .count-ray .result) (c .before .count-ray .ensures), total-fits (given .spec) (given .g) (cells (given .spans .now) (given .links .now) (given .heads .now)) (pre .0 .intervals) (given .log .now) (pre .0 .countable), pre .0 .countable .room .in-spans, c .before .before .before .before .before .before .before .before .before .before .good, c .before .before .before .before .before .before .before .before .before .before .fits)
+    let counted = c .before .count-ray in
+    let named = c .before .before .ray-at in
+    let new = not-false _ (c .before .before .before .before .if1 .left) in
+    let told = c .before .before .before .before .before .first-of-ray in
+    let start = c .before .before .before .before .before .before .before .before .before .before in
+    let given = start .args in
+    let pre = start .pre in
+    let store = cells (given .spans .now) (given .links .now) (given .heads .now) in
+    omega (arith, entry-before (given .spec) (given .g) store (given .log .now) (pre .0) (given .i) (pre .2) (given .t) (pre .3) (told .result) new (told .ensures) (named .result) (named .ensures) (counted .result) (counted .ensures), entry-fits (given .spec) (given .g) store (given .log .now) (pre .0) (given .i) (pre .2) (given .t) (pre .3) (told .result) new (told .ensures) (named .result) (named .ensures) (counted .result) (counted .ensures), total-fits (given .spec) (given .g) store (pre .0 .intervals) (given .log .now) (pre .0 .countable), pre .0 .countable .room .in-spans, start .good, start .fits)
 
 add-t19 : tie.Need-add-t19
 add-t19 c =

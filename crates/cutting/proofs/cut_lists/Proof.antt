@@ -50,14 +50,28 @@ add-lay-all c =
     past-fits (c .before .before .before .before .before .before .before .before .before .before .before .before .before .before .before .total-rays .result) (length (given .log .now) / 6) (length (given .work .now)) (room (c .before .before .before .before .before .before .before .before .before .before .before .before .before .before .before)) (bound (c .before .before .before .before .before .before .before .before .before .before .before .before .before .before .before))
 
 lay-all-requires : tie.Need-lay-all-requires
-lay-all-requires c κs = layable _ _ _ _ _ (c .before .before .before .before .before .before .before .before .before .before .before .before .before .before .before .before .before .before .before .before .before .before .before .before .before .before .before .before .before .before .before .before .pre) _ _ _ (c .before .before .before .before .before .before .before .before .before .before .before .before .before .before .before .before .before .before .before .before .before .before .before .before .before .group .ensures) (c .before .before .before .before .before .before .before .before .before .before .before .before .before .before .before .before .before .before .merge-all .ensures) _ (c .before .before .before .before .before .before .before .before .before .before .before .before .before .before .before .total-rays .ensures) _ (c .before .before .before .before .before .before .before .before .before .before .free-all .ensures)
+lay-all-requires c κs =
+    let freed = c .before .before .before .before .before .before .before .before .before .before in
+    let counted = freed .before .before .before .before .before in
+    let merged = counted .before .before .before in
+    let grouped = merged .before .before .before .before .before .before .before in
+    let start = grouped .before .before .before .before .before .before .before in
+    layable _ _ _ _ _ (start .pre) _ _ _ (grouped .group .ensures) (merged .merge-all .ensures) _ (counted .total-rays .ensures) _ (freed .free-all .ensures)
 
 clear-from-requires : tie.Need-clear-from-requires
 clear-from-requires c κs = search needs
 
 -- the cells and the work buffer at the end
 finished : tie.Need-returns
-finished c = done _ _ _ _ _ (c .before .before .before .before .before .before .before .before .before .before .before .before .before .before .before .before .before .before .before .before .before .before .before .before .before .before .before .before .before .before .before .before .before .before .before .before .before .before .before .before .before .before .before .pre) _ _ _ (c .before .before .before .before .before .before .before .before .before .before .before .before .before .before .before .before .before .before .before .before .before .before .before .before .before .before .before .before .before .before .before .before .before .before .before .before .group .ensures) (c .before .before .before .before .before .before .before .before .before .before .before .before .before .before .before .before .before .before .before .before .before .before .before .before .before .before .before .before .before .merge-all .ensures) _ (c .before .before .before .before .before .before .before .before .before .before .before .before .before .before .before .before .before .before .before .before .before .before .before .before .before .before .total-rays .ensures) _ (c .before .before .before .before .before .before .before .before .before .before .before .before .before .before .before .before .before .before .before .before .before .free-all .ensures) _ _ (c .before .before .before .before .before .before .before .before .before .before .lay-all .ensures) (c .before .before .clear-from .ensures)
+finished c =
+    let cleared = c .before .before in
+    let laid = cleared .before .before .before .before .before .before .before .before in
+    let freed = laid .before .before .before .before .before .before .before .before .before .before .before in
+    let counted = freed .before .before .before .before .before in
+    let merged = counted .before .before .before in
+    let grouped = merged .before .before .before .before .before .before .before in
+    let start = grouped .before .before .before .before .before .before .before in
+    done _ _ _ _ _ (start .pre) _ _ _ (grouped .group .ensures) (merged .merge-all .ensures) _ (counted .total-rays .ensures) _ (freed .free-all .ensures) _ _ (laid .lay-all .ensures) (cleared .clear-from .ensures)
 
 same-length : tie.Need-same-length
 same-length c = search needs

@@ -28,7 +28,10 @@ same-length-3 : tie.Need-same-length-3
 same-length-3 c = search needs
 
 returns : tie.Need-returns
-returns c = let a = c .before .before .before .before .before .before .before .before .before .before .before .before .before .before .before .before .before .before in let s = cells (a .args .spans .now) (a .args .links .now) (a .args .heads .now) in fill-accepted (a .args .spec) (a .args .units .now) s _ _ (c .before .before .before .before .before .before .fill-grid .result) (sym (c .before .before .before .before .before .before .before .before .before .before .before .before .before .grid .ensures) ∙ c .before .before .before .before .before .before .before .before .before .before .before .g .given .1) (c .before .before .before .before .before .before .fill-grid .ensures)
+returns c =
+    let a = c .before .before .before .before .before .before .before .before .before .before .before .before .before .before .before .before .before .before in
+    let s = cells (a .args .spans .now) (a .args .links .now) (a .args .heads .now) in
+    fill-accepted (a .args .spec) (a .args .units .now) s _ _ (c .before .before .before .before .before .before .fill-grid .result) (sym (c .before .before .before .before .before .before .before .before .before .before .before .before .before .grid .ensures) ∙ c .before .before .before .before .before .before .before .before .before .before .before .g .given .1) (c .before .before .before .before .before .before .fill-grid .ensures)
 
 returns-2 : tie.Need-returns-2
 returns-2 c = let a = c .before .before .before .before .before .before .before .before in let s = cells (a .args .spans .now) (a .args .links .now) (a .args .heads .now) in fill-refused (a .args .spec) (a .args .units .now) s _ (sym (c .before .before .before .grid .ensures) ∙ c .before .k .given .1)

@@ -33,7 +33,11 @@ fill-records-requires : tie.Need-fill-records-requires
 fill-records-requires c κs = let a = c .before .before .before .before .before .before .before .before .before .before .before in let s = cells (a .args .spans .now) (a .args .links .now) (a .args .heads .now) in let r = room-of (a .args .spec) (a .args .g) s (sym (c .before .before .before .before .is-short .ensures) ∙ c .before .before .before .if1 .left) in (ap (λ k. 2 * k) (c .before .before .total-rays .ensures), r .in-spans, r .in-links)
 
 fill-heads-requires : tie.Need-fill-heads-requires
-fill-heads-requires c κs = let a = c .before .before .before .before .before .before .before .before .before .before .before .before .before .before .before .before .before in let s = cells (a .args .spans .now) (a .args .links .now) (a .args .heads .now) in let r = room-of (a .args .spec) (a .args .g) s (sym (c .before .before .before .before .before .before .before .before .before .before .is-short .ensures) ∙ c .before .before .before .before .before .before .before .before .before .if1 .left) in omega (arith, r .in-heads, c .before .before .before .before .before .before .before .before .total-rays .ensures)
+fill-heads-requires c κs =
+    let a = c .before .before .before .before .before .before .before .before .before .before .before .before .before .before .before .before .before in
+    let s = cells (a .args .spans .now) (a .args .links .now) (a .args .heads .now) in
+    let r = room-of (a .args .spec) (a .args .g) s (sym (c .before .before .before .before .before .before .before .before .before .before .is-short .ensures) ∙ c .before .before .before .before .before .before .before .before .before .if1 .left) in
+    omega (arith, r .in-heads, c .before .before .before .before .before .before .before .before .total-rays .ensures)
 
 same-length-4 : tie.Need-same-length-4
 same-length-4 c = search needs
@@ -45,7 +49,10 @@ same-length-6 : tie.Need-same-length-6
 same-length-6 c = search needs
 
 returns-2 : tie.Need-returns-2
-returns-2 c = let a = c .before .before .before .before .before .before .before .before .before .before .before .before .before .before .before .before .before .before .before .before in let s = cells (a .args .spans .now) (a .args .links .now) (a .args .heads .now) in fill-done (a .args .spec) (a .args .g) s (c .before .before .before .before .before .before .before .before .before .before .before .total-rays .result) _ _ _ (sym (c .before .before .before .before .before .before .before .before .before .before .before .before .before .is-short .ensures) ∙ c .before .before .before .before .before .before .before .before .before .before .before .before .if1 .left) (c .before .before .before .before .before .before .before .before .before .before .before .total-rays .ensures) (c .before .before .before .before .before .before .before .before .fill-records .ensures .0) (c .before .before .before .before .before .before .before .before .fill-records .ensures .1) (c .before .before .fill-heads .ensures)
+returns-2 c =
+    let a = c .before .before .before .before .before .before .before .before .before .before .before .before .before .before .before .before .before .before .before .before in
+    let s = cells (a .args .spans .now) (a .args .links .now) (a .args .heads .now) in
+    fill-done (a .args .spec) (a .args .g) s (c .before .before .before .before .before .before .before .before .before .before .before .total-rays .result) _ _ _ (sym (c .before .before .before .before .before .before .before .before .before .before .before .before .before .is-short .ensures) ∙ c .before .before .before .before .before .before .before .before .before .before .before .before .if1 .left) (c .before .before .before .before .before .before .before .before .before .before .before .total-rays .ensures) (c .before .before .before .before .before .before .before .before .fill-records .ensures .0) (c .before .before .before .before .before .before .before .before .fill-records .ensures .1) (c .before .before .fill-heads .ensures)
 
 pub fill-grid-spec : {M : Type 1} → statement M
 fill-grid-spec =

@@ -23,7 +23,9 @@ sound : (c : tie.Else4) → let a = c .before .before .before .before .before .b
 sound c = let a = c .before .before .before .before .before .before .before .before .before .before .before .before .args in sound-of-test (a .spec) (a .g) (stock (a .spans .now) (a .links .now) (a .heads .now) (a .generation) (a .intervals)) (a .log .now) (a .allowance) (a .work .now) (room (c .before .before .before .before .before)) (enough (c .before .before .before)) _ (c .before .check-stock .ensures) (c .if4 .left)
 
 named : (c : tie.Else6) → let a = c .before .before .before .before .before .before .before .before .before .before .before .before .before .before .before .args in EachNamed (a .g) (a .log .now)
-named c = let a = c .before .before .before .before .before .before .before .before .before .before .before .before .before .before .before .args in named-of-test (a .spec) (a .g) (stock (a .spans .now) (a .links .now) (a .heads .now) (a .generation) (a .intervals)) (a .log .now) (a .allowance) (a .work .now) (room (c .before .before .before .before .before .before .before .before)) (enough (c .before .before .before .before .before .before)) (c .before .before .before .before .before .if3 .left) (sound (c .before .before .before)) (c .before .before .if5 .left) _ (c .before .names-all .ensures) (c .if6 .left)
+named c =
+    let a = c .before .before .before .before .before .before .before .before .before .before .before .before .before .before .before .args in
+    named-of-test (a .spec) (a .g) (stock (a .spans .now) (a .links .now) (a .heads .now) (a .generation) (a .intervals)) (a .log .now) (a .allowance) (a .work .now) (room (c .before .before .before .before .before .before .before .before)) (enough (c .before .before .before .before .before .before)) (c .before .before .before .before .before .if3 .left) (sound (c .before .before .before)) (c .before .before .if5 .left) _ (c .before .names-all .ensures) (c .if6 .left)
 
 is-short-requires : tie.Need-is-short-requires
 is-short-requires c κs = search needs

@@ -23,7 +23,10 @@ measure-rays-requires : tie.Need-measure-rays-requires
 measure-rays-requires c κs = let a = c .before .before .before .before .before .before .before in let s = cells (a .args .spans .now) (a .args .links .now) (a .args .heads .now) in chained-of (a .args .spec) (a .args .g) s (a .args .intervals) (c .before .is-chained .result) (room-of (a .args .spec) (a .args .g) s (sym (c .before .before .before .is-short .ensures) ∙ c .before .before .if1 .left)) (c .before .is-chained .ensures) (c .if2 .left)
 
 returns-3 : tie.Need-returns-3
-returns-3 c = let a = c .before .before .before .before .before .before .before .before in let s = cells (a .args .spans .now) (a .args .links .now) (a .args .heads .now) in measure-done (a .args .spec) (a .args .g) s (a .args .intervals) (c .before .before .before .before .is-short .result) (c .before .before .is-chained .result) (c .before .before .before .before .is-short .ensures) (c .before .before .before .if1 .left) (c .before .before .is-chained .ensures) (c .before .if2 .left) (c .measure-rays .result) (c .measure-rays .ensures)
+returns-3 c =
+    let a = c .before .before .before .before .before .before .before .before in
+    let s = cells (a .args .spans .now) (a .args .links .now) (a .args .heads .now) in
+    measure-done (a .args .spec) (a .args .g) s (a .args .intervals) (c .before .before .before .before .is-short .result) (c .before .before .is-chained .result) (c .before .before .before .before .is-short .ensures) (c .before .before .before .if1 .left) (c .before .before .is-chained .ensures) (c .before .if2 .left) (c .measure-rays .result) (c .measure-rays .ensures)
 
 pub measure-spec : {M : Type 1} → statement M
 measure-spec =

@@ -32,7 +32,10 @@ bounds-by-requires : tie.Need-bounds-by-requires
 bounds-by-requires c κs = search needs
 
 returns-4 : tie.Need-returns-4
-returns-4 c = let a = c .before .before .before .before .before .before .before .before .before .before .before .before .before .before in let s = cells (a .args .spans .now) (a .args .links .now) (a .args .heads .now) in axes-good (a .args .spec) (a .args .g) s (c .before .box-volume .result) (c .before .before .before .before .before .before .before .before .before .before .axis-volume .result) (c .before .before .before .before .before .before .before .axis-volume2 .result) (c .before .before .before .before .axis-volume3 .result) (c .bounds-by .result) (c .bounds-by .ensures) (c .before .box-volume .ensures) (c .before .before .before .before .before .before .before .before .before .before .axis-volume .ensures) (c .before .before .before .before .before .before .before .before .if1 .left) (c .before .before .before .before .before .before .before .axis-volume2 .ensures) (c .before .before .before .before .before .if2 .left) (c .before .before .before .before .axis-volume3 .ensures) (c .before .before .if3 .left)
+returns-4 c =
+    let a = c .before .before .before .before .before .before .before .before .before .before .before .before .before .before in
+    let s = cells (a .args .spans .now) (a .args .links .now) (a .args .heads .now) in
+    axes-good (a .args .spec) (a .args .g) s (c .before .box-volume .result) (c .before .before .before .before .before .before .before .before .before .before .axis-volume .result) (c .before .before .before .before .before .before .before .axis-volume2 .result) (c .before .before .before .before .axis-volume3 .result) (c .bounds-by .result) (c .bounds-by .ensures) (c .before .box-volume .ensures) (c .before .before .before .before .before .before .before .before .before .before .axis-volume .ensures) (c .before .before .before .before .before .before .before .before .if1 .left) (c .before .before .before .before .before .before .before .axis-volume2 .ensures) (c .before .before .before .before .before .if2 .left) (c .before .before .before .before .axis-volume3 .ensures) (c .before .before .if3 .left)
 
 pub measure-rays-spec : {M : Type 1} → statement M
 measure-rays-spec =

@@ -18,7 +18,10 @@ only-loses-requires : tie.Need-only-loses-requires
 only-loses-requires c κs = let a = c .before .before .before .before .before .before .before .before .before .before in let s = cells (a .args .spans .now) (a .args .links .now) (a .args .heads .now) in old-sound (a .args .spec) (a .args .g) s (a .args .ray) (a .args .p .now) (a .args .q .now) (a .pre .0) (a .pre .1) (c .before .before .had .result) (c .before .before .had .ensures) (c .before .if1 .left)
 
 returns-2 : tie.Need-returns-2
-returns-2 c = let a = c .before .before .before .before .before .before .before .before .before .before .before in let s = cells (a .args .spans .now) (a .args .links .now) (a .args .heads .now) in cuts-rest (a .args .spec) (a .args .g) s (a .args .ray) (a .args .p .now) (a .args .q .now) (a .args .np .now) (a .args .nq .now) (c .before .before .before .had .result) (c .only-loses .result) (c .before .ray-bounds .result) (c .before .before .before .had .ensures) (c .before .before .if1 .left) (c .before .ray-bounds .ensures) (c .only-loses .ensures)
+returns-2 c =
+    let a = c .before .before .before .before .before .before .before .before .before .before .before in
+    let s = cells (a .args .spans .now) (a .args .links .now) (a .args .heads .now) in
+    cuts-rest (a .args .spec) (a .args .g) s (a .args .ray) (a .args .p .now) (a .args .q .now) (a .args .np .now) (a .args .nq .now) (c .before .before .before .had .result) (c .only-loses .result) (c .before .ray-bounds .result) (c .before .before .before .had .ensures) (c .before .before .if1 .left) (c .before .ray-bounds .ensures) (c .only-loses .ensures)
 
 pub cuts-spec : {M : Type 1} → statement M
 cuts-spec =

@@ -26,13 +26,17 @@ same-ends-requires : tie.Need-same-ends-requires
 same-ends-requires c κs = search needs
 
 returns-4 : tie.Need-returns-4
-returns-4 c = let a = c .before .before .before .before .before .before .before .before .before .before .before .before .args in only-4 (a .lo) (a .hi) (a .p .now) (a .q .now) (a .np .now) (a .nq .now) (c .before .same-ends .result) (tells-good _ (c .before .before .before .before .before .before .before .valid-ray .result) (c .before .before .before .before .before .before .before .valid-ray .ensures) (c .before .before .before .before .before .before .if1 .left)) (covers-good _ _ (c .before .before .before .before .before .covers .result) (c .before .before .before .before .before .covers .ensures) (c .before .before .before .before .if2 .left)) (covers-good _ _ (c .before .before .before .covers2 .result) (c .before .before .before .covers2 .ensures) (c .before .before .if3 .left)) (c .before .same-ends .ensures) (c .if4 .taken)
+returns-4 c =
+    let a = c .before .before .before .before .before .before .before .before .before .before .before .before .args in
+    only-4 (a .lo) (a .hi) (a .p .now) (a .q .now) (a .np .now) (a .nq .now) (c .before .same-ends .result) (tells-good _ (c .before .before .before .before .before .before .before .valid-ray .result) (c .before .before .before .before .before .before .before .valid-ray .ensures) (c .before .before .before .before .before .before .if1 .left)) (covers-good _ _ (c .before .before .before .before .before .covers .result) (c .before .before .before .before .before .covers .ensures) (c .before .before .before .before .if2 .left)) (covers-good _ _ (c .before .before .before .covers2 .result) (c .before .before .before .covers2 .ensures) (c .before .before .if3 .left)) (c .before .same-ends .ensures) (c .if4 .taken)
 
 same-ends-requires-2 : tie.Need-same-ends-requires-2
 same-ends-requires-2 c κs = search needs
 
 returns-5 : tie.Need-returns-5
-returns-5 c = let a = c .before .before .before .before .before .before .before .before .before .before .before .before .before .args in only-5 (a .lo) (a .hi) (a .p .now) (a .q .now) (a .np .now) (a .nq .now) (c .before .before .same-ends .result) (c .same-ends2 .result) (tells-good _ (c .before .before .before .before .before .before .before .before .valid-ray .result) (c .before .before .before .before .before .before .before .before .valid-ray .ensures) (c .before .before .before .before .before .before .before .if1 .left)) (covers-good _ _ (c .before .before .before .before .before .before .covers .result) (c .before .before .before .before .before .before .covers .ensures) (c .before .before .before .before .before .if2 .left)) (covers-good _ _ (c .before .before .before .before .covers2 .result) (c .before .before .before .before .covers2 .ensures) (c .before .before .before .if3 .left)) (c .before .before .same-ends .ensures) (c .before .if4 .left) (c .same-ends2 .ensures)
+returns-5 c =
+    let a = c .before .before .before .before .before .before .before .before .before .before .before .before .before .args in
+    only-5 (a .lo) (a .hi) (a .p .now) (a .q .now) (a .np .now) (a .nq .now) (c .before .before .same-ends .result) (c .same-ends2 .result) (tells-good _ (c .before .before .before .before .before .before .before .before .valid-ray .result) (c .before .before .before .before .before .before .before .before .valid-ray .ensures) (c .before .before .before .before .before .before .before .if1 .left)) (covers-good _ _ (c .before .before .before .before .before .before .covers .result) (c .before .before .before .before .before .before .covers .ensures) (c .before .before .before .before .before .if2 .left)) (covers-good _ _ (c .before .before .before .before .covers2 .result) (c .before .before .before .before .covers2 .ensures) (c .before .before .before .if3 .left)) (c .before .before .same-ends .ensures) (c .before .if4 .left) (c .same-ends2 .ensures)
 
 pub only-loses-spec : {M : Type 1} → statement M
 only-loses-spec =

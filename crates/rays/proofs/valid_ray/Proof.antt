@@ -31,7 +31,9 @@ covers-requires : tie.Need-covers-requires
 covers-requires c κs = (passes _ (c .before .before .before .before .before .before .before .is-sound .result) (c .before .before .before .before .before .before .before .is-sound .ensures) (c .before .before .before .before .before .before .if1 .left), passes _ (c .before .before .before .before .before .is-sound2 .result) (c .before .before .before .before .before .is-sound2 .ensures) (c .before .before .before .before .if2 .left))
 
 returns-5 : tie.Need-returns-5
-returns-5 c = let a = c .before .before .before .before .before .before .before .before .before .before .before .args in rest-tells (a .lo) (a .hi) (a .possible .now) (a .certain .now) (c .covers .result) (passes _ (c .before .before .before .before .before .before .before .before .is-sound .result) (c .before .before .before .before .before .before .before .before .is-sound .ensures) (c .before .before .before .before .before .before .before .if1 .left)) (passes _ (c .before .before .before .before .before .before .is-sound2 .result) (c .before .before .before .before .before .before .is-sound2 .ensures) (c .before .before .before .before .before .if2 .left)) (passes _ (c .before .before .before .before .is-bounded .result) (c .before .before .before .before .is-bounded .ensures) (c .before .before .before .if3 .left)) (passes _ (c .before .before .is-bounded2 .result) (c .before .before .is-bounded2 .ensures) (c .before .if4 .left)) (c .covers .ensures)
+returns-5 c =
+    let a = c .before .before .before .before .before .before .before .before .before .before .before .args in
+    rest-tells (a .lo) (a .hi) (a .possible .now) (a .certain .now) (c .covers .result) (passes _ (c .before .before .before .before .before .before .before .before .is-sound .result) (c .before .before .before .before .before .before .before .before .is-sound .ensures) (c .before .before .before .before .before .before .before .if1 .left)) (passes _ (c .before .before .before .before .before .before .is-sound2 .result) (c .before .before .before .before .before .before .is-sound2 .ensures) (c .before .before .before .before .before .if2 .left)) (passes _ (c .before .before .before .before .is-bounded .result) (c .before .before .before .before .is-bounded .ensures) (c .before .before .before .if3 .left)) (passes _ (c .before .before .is-bounded2 .result) (c .before .before .is-bounded2 .ensures) (c .before .if4 .left)) (c .covers .ensures)
 
 pub valid-ray-spec : {M : Type 1} → statement M
 valid-ray-spec =

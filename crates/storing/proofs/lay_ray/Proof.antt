@@ -50,7 +50,9 @@ part-lay-list-end-2 : tie.Need-part-lay-list-end-2
 part-lay-list-end-2 c = search needs
 
 lay-list-requires-2 : tie.Need-lay-list-requires-2
-lay-list-requires-2 c κs = let a = c .before .before .before .before .before .before .before .before .before .before .before .before .before .before .before .before .before .before .before .args in (certain-layable (a .n) (cells (a .spans .now) (a .links .now) (a .heads .now)) (a .ray) (a .pairs .now) (a .at) (a .possible) (a .certain) (c .before .before .before .before .before .before .before .before .before .before .before .before .before .before .before .before .before .before .before .pre .2) _ _ (c .before .before .before .before .before .before .before .before .before .before .lay-list .ensures), c .before .before .before .before .before .before .before .before .before .before .lay-list .ensures .onward)
+lay-list-requires-2 c κs =
+    let a = c .before .before .before .before .before .before .before .before .before .before .before .before .before .before .before .before .before .before .before .args in
+    (certain-layable (a .n) (cells (a .spans .now) (a .links .now) (a .heads .now)) (a .ray) (a .pairs .now) (a .at) (a .possible) (a .certain) (c .before .before .before .before .before .before .before .before .before .before .before .before .before .before .before .before .before .before .before .pre .2) _ _ (c .before .before .before .before .before .before .before .before .before .before .lay-list .ensures), c .before .before .before .before .before .before .before .before .before .before .lay-list .ensures .onward)
 
 same-length : tie.Need-same-length
 same-length c = search needs
@@ -62,7 +64,9 @@ same-length-3 : tie.Need-same-length-3
 same-length-3 c = search needs
 
 returns : tie.Need-returns
-returns c = let a = c .before .before .before .before .before .before .before .before .before .before .before .before .before .before .before .before .before .before .before .before .before .before .before .before .before .before .args in ray-laid (a .n) (cells (a .spans .now) (a .links .now) (a .heads .now)) (a .ray) (a .pairs .now) (a .at) (a .possible) (a .certain) _ _ _ _ (c .before .before .before .before .before .before .before .before .before .before .before .before .before .before .before .before .before .lay-list .ensures) (c .before .before .before .before .before .before .lay-list2 .ensures)
+returns c =
+    let a = c .before .before .before .before .before .before .before .before .before .before .before .before .before .before .before .before .before .before .before .before .before .before .before .before .before .before .args in
+    ray-laid (a .n) (cells (a .spans .now) (a .links .now) (a .heads .now)) (a .ray) (a .pairs .now) (a .at) (a .possible) (a .certain) _ _ _ _ (c .before .before .before .before .before .before .before .before .before .before .before .before .before .before .before .before .before .lay-list .ensures) (c .before .before .before .before .before .before .lay-list2 .ensures)
 
 pub lay-ray-spec : {M : Type 1} → statement M
 lay-ray-spec =

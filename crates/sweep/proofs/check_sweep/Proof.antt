@@ -21,7 +21,10 @@ check-stock-requires : tie.Need-check-stock-requires
 check-stock-requires c κs = let a = c .before .before .before .before .before .before .before in room-of (a .args .spec) (a .args .g) (cells (a .args .spans .now) (a .args .links .now) (a .args .heads .now)) (sym (c .before .before .is-short .ensures) ∙ c .before .if1 .left)
 
 returns-3 : tie.Need-returns-3
-returns-3 c = let a = c .before .before .before .before .before .before .before .before .before in let s = setting (a .args .spec) (a .args .g) (a .args .k) (a .args .p) (cells (a .args .spans .now) (a .args .links .now) (a .args .heads .now)) in check-bad s (a .args .intervals) (a .args .chords .now) (c .before .before .before .before .is-short .result) (c .before .before .before .before .is-short .ensures) (c .before .before .before .if1 .left) (c .before .check-stock .result) (c .before .check-stock .ensures) (c .if3 .taken)
+returns-3 c =
+    let a = c .before .before .before .before .before .before .before .before .before in
+    let s = setting (a .args .spec) (a .args .g) (a .args .k) (a .args .p) (cells (a .args .spans .now) (a .args .links .now) (a .args .heads .now)) in
+    check-bad s (a .args .intervals) (a .args .chords .now) (c .before .before .before .before .is-short .result) (c .before .before .before .before .is-short .ensures) (c .before .before .before .if1 .left) (c .before .check-stock .result) (c .before .check-stock .ensures) (c .if3 .taken)
 
 check-tool-requires : tie.Need-check-tool-requires
 check-tool-requires c κs = search needs
@@ -30,7 +33,10 @@ enum-known-tool : tie.Need-enum-known-tool
 enum-known-tool c = search needs
 
 returns-4 : tie.Need-returns-4
-returns-4 c = let a = c .before .before .before .before .before .before .before .before .before .before .before .before .before in let s = setting (a .args .spec) (a .args .g) (a .args .k) (a .args .p) (cells (a .args .spans .now) (a .args .links .now) (a .args .heads .now)) in check-tool-bad s (a .args .intervals) (a .args .chords .now) (c .before .before .before .before .before .before .before .before .is-short .result) (c .before .before .before .before .before .before .before .before .is-short .ensures) (c .before .before .before .before .before .before .before .if1 .left) (c .before .before .before .before .before .check-stock .result) (c .before .before .before .before .before .check-stock .ensures) (c .before .before .before .before .before .before .if2 .left) (not-false _ (c .before .before .before .before .if3 .left)) (c .before .before .before .check-tool .result) _ (c .before .before .before .check-tool .ensures) (c .before .tool .given .1)
+returns-4 c =
+    let a = c .before .before .before .before .before .before .before .before .before .before .before .before .before in
+    let s = setting (a .args .spec) (a .args .g) (a .args .k) (a .args .p) (cells (a .args .spans .now) (a .args .links .now) (a .args .heads .now)) in
+    check-tool-bad s (a .args .intervals) (a .args .chords .now) (c .before .before .before .before .before .before .before .before .is-short .result) (c .before .before .before .before .before .before .before .before .is-short .ensures) (c .before .before .before .before .before .before .before .if1 .left) (c .before .before .before .before .before .check-stock .result) (c .before .before .before .before .before .check-stock .ensures) (c .before .before .before .before .before .before .if2 .left) (not-false _ (c .before .before .before .before .if3 .left)) (c .before .before .before .check-tool .result) _ (c .before .before .before .check-tool .ensures) (c .before .tool .given .1)
 
 enum-told : tie.Need-enum-told
 enum-told c = search needs
@@ -39,10 +45,16 @@ check-chords-requires : tie.Need-check-chords-requires
 check-chords-requires c κs = search needs
 
 returns-5 : tie.Need-returns-5
-returns-5 c = let a = c .before .before .before .before .before .before .before .before .before .before .before .before .before .before in let s = setting (a .args .spec) (a .args .g) (a .args .k) (a .args .p) (cells (a .args .spans .now) (a .args .links .now) (a .args .heads .now)) in check-good s (a .args .intervals) (a .args .chords .now) (c .before .before .before .before .before .before .before .before .before .is-short .result) (c .before .before .before .before .before .before .before .before .before .is-short .ensures) (c .before .before .before .before .before .before .before .before .if1 .left) (c .before .before .before .before .before .before .check-stock .result) (c .before .before .before .before .before .before .check-stock .ensures) (c .before .before .before .before .before .before .before .if2 .left) (not-false _ (c .before .before .before .before .before .if3 .left)) (c .before .before .before .before .check-tool .result) (c .before .before .before .before .check-tool .ensures) (c .before .before .enum-told .given .1) (c .before .check-chords .result) (c .before .check-chords .ensures) (a .pre) (c .if4 .taken)
+returns-5 c =
+    let a = c .before .before .before .before .before .before .before .before .before .before .before .before .before .before in
+    let s = setting (a .args .spec) (a .args .g) (a .args .k) (a .args .p) (cells (a .args .spans .now) (a .args .links .now) (a .args .heads .now)) in
+    check-good s (a .args .intervals) (a .args .chords .now) (c .before .before .before .before .before .before .before .before .before .is-short .result) (c .before .before .before .before .before .before .before .before .before .is-short .ensures) (c .before .before .before .before .before .before .before .before .if1 .left) (c .before .before .before .before .before .before .check-stock .result) (c .before .before .before .before .before .before .check-stock .ensures) (c .before .before .before .before .before .before .before .if2 .left) (not-false _ (c .before .before .before .before .before .if3 .left)) (c .before .before .before .before .check-tool .result) (c .before .before .before .before .check-tool .ensures) (c .before .before .enum-told .given .1) (c .before .check-chords .result) (c .before .check-chords .ensures) (a .pre) (c .if4 .taken)
 
 returns-6 : tie.Need-returns-6
-returns-6 c = let a = c .before .before .before .before .before .before .before .before .before .before .before .before .before .before in let s = setting (a .args .spec) (a .args .g) (a .args .k) (a .args .p) (cells (a .args .spans .now) (a .args .links .now) (a .args .heads .now)) in check-chords-bad s (a .args .intervals) (a .args .chords .now) (c .before .before .before .before .before .before .before .before .before .is-short .result) (c .before .before .before .before .before .before .before .before .before .is-short .ensures) (c .before .before .before .before .before .before .before .before .if1 .left) (c .before .before .before .before .before .before .check-stock .result) (c .before .before .before .before .before .before .check-stock .ensures) (c .before .before .before .before .before .before .before .if2 .left) (not-false _ (c .before .before .before .before .before .if3 .left)) (c .before .before .before .before .check-tool .result) (c .before .before .before .before .check-tool .ensures) (c .before .before .enum-told .given .1) (c .before .check-chords .result) (c .before .check-chords .ensures) (c .if4 .left)
+returns-6 c =
+    let a = c .before .before .before .before .before .before .before .before .before .before .before .before .before .before in
+    let s = setting (a .args .spec) (a .args .g) (a .args .k) (a .args .p) (cells (a .args .spans .now) (a .args .links .now) (a .args .heads .now)) in
+    check-chords-bad s (a .args .intervals) (a .args .chords .now) (c .before .before .before .before .before .before .before .before .before .is-short .result) (c .before .before .before .before .before .before .before .before .before .is-short .ensures) (c .before .before .before .before .before .before .before .before .if1 .left) (c .before .before .before .before .before .before .check-stock .result) (c .before .before .before .before .before .before .check-stock .ensures) (c .before .before .before .before .before .before .before .if2 .left) (not-false _ (c .before .before .before .before .before .if3 .left)) (c .before .before .before .before .check-tool .result) (c .before .before .before .before .check-tool .ensures) (c .before .before .enum-told .given .1) (c .before .check-chords .result) (c .before .check-chords .ensures) (c .if4 .left)
 
 pub check-sweep-spec : {M : Type 1} → statement M
 check-sweep-spec =

@@ -16,7 +16,12 @@ enum-known-n : tie.Need-enum-known-n
 enum-known-n c = search needs
 
 returns : tie.Need-returns
-returns c = let a = c .before .before .before .before .before .before .before .before .before .before in let s = cells (a .args .spans .now) (a .args .links .now) (a .args .heads .now) in let k : Kernel = record { frame = frameOf (a .args .axis); guard = a .args .guard } in let p = profileOf (a .args .shape) (a .args .cutter) in sweep-refused (a .args .spec) (a .args .units .now) k p s (a .args .intervals) (a .args .chords .now) (a .args .budget) (a .args .log .now) _ (sym (c .before .before .before .grid .ensures) ∙ c .before .n .given .1)
+returns c =
+    let a = c .before .before .before .before .before .before .before .before .before .before in
+    let s = cells (a .args .spans .now) (a .args .links .now) (a .args .heads .now) in
+    let k : Kernel = record { frame = frameOf (a .args .axis); guard = a .args .guard } in
+    let p = profileOf (a .args .shape) (a .args .cutter) in
+    sweep-refused (a .args .spec) (a .args .units .now) k p s (a .args .intervals) (a .args .chords .now) (a .args .budget) (a .args .log .now) _ (sym (c .before .before .before .grid .ensures) ∙ c .before .n .given .1)
 
 enum-known-g : tie.Need-enum-known-g
 enum-known-g c = search needs

@@ -27,7 +27,10 @@ same-length : tie.Need-same-length
 same-length c = search needs
 
 returns-2 : tie.Need-returns-2
-returns-2 c = let a = c .before .before .before .before .before .before .before .before .before .before .before .before .before .before .before .before in let s = setting (a .args .spec) (a .args .g) (a .args .k) (a .args .p) (cells (a .args .spans .now) (a .args .links .now) (a .args .heads .now)) in grid-swept s (a .args .intervals) (a .args .chords .now) (a .args .budget) (a .args .log .now) (c .before .before .before .before .before .before .before .before .before .before .check-sweep .result) (c .before .before .before .before .before .before .sweep-chords .result) _ _ _ (c .before .before .before .before .before .before .before .before .before .before .check-sweep .ensures) (c .before .before .before .before .before .before .before .before .enum-told .given .1) (c .before .before .before .before .before .before .sweep-chords .ensures) (c .before .before .end-log .ensures)
+returns-2 c =
+    let a = c .before .before .before .before .before .before .before .before .before .before .before .before .before .before .before .before in
+    let s = setting (a .args .spec) (a .args .g) (a .args .k) (a .args .p) (cells (a .args .spans .now) (a .args .links .now) (a .args .heads .now)) in
+    grid-swept s (a .args .intervals) (a .args .chords .now) (a .args .budget) (a .args .log .now) (c .before .before .before .before .before .before .before .before .before .before .check-sweep .result) (c .before .before .before .before .before .before .sweep-chords .result) _ _ _ (c .before .before .before .before .before .before .before .before .before .before .check-sweep .ensures) (c .before .before .before .before .before .before .before .before .enum-told .given .1) (c .before .before .before .before .before .before .sweep-chords .ensures) (c .before .before .end-log .ensures)
 
 pub sweep-grid-spec : {M : Type 1} → statement M
 sweep-grid-spec =

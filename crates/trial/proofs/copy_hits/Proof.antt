@@ -31,9 +31,13 @@ loop-less c = omega arith
 
 loop-again : tie.Need-loop-again Inv-loop μ-loop
 loop-again c =
+    let put = c .before .before .put-hit in
+    let tested = c .before .before .before .before .loop-test in
+    let at = c .before .before .before .before .before .loop in
     let given = c .before .before .before .before .before .before .before .before .args in
-    let inv = c .before .before .before .before .before .loop .inv in
-    (omega (arith, inv .0), omega (arith, c .before .before .before .before .loop-test .taken), hit-sizes (given .log .now) (given .first) (given .w) (c .before .before .before .before .before .loop .j) (given .end) (omega arith) (c .before .before .before .before .before .loop .out) (c .before .before .before .before .before .loop .t) _ (c .before .before .put-hit .result) (c .before .before .put-hit .ensures .0) (c .before .before .put-hit .ensures .1) .1 ∙ inv .2, hit-sizes (given .log .now) (given .first) (given .w) (c .before .before .before .before .before .loop .j) (given .end) (omega arith) (c .before .before .before .before .before .loop .out) (c .before .before .before .before .before .loop .t) _ (c .before .before .put-hit .result) (c .before .before .put-hit .ensures .0) (c .before .before .put-hit .ensures .1) .0 ∙ inv .3, inv .4 ∙ hit-copied (given .log .now) (given .first) (given .w) (c .before .before .before .before .before .loop .j) (given .end) (omega arith) (c .before .before .before .before .before .loop .out) (c .before .before .before .before .before .loop .t) _ (c .before .before .put-hit .result) (c .before .before .put-hit .ensures .0) (c .before .before .put-hit .ensures .1))
+    let inv = at .inv in
+    let sizes = hit-sizes (given .log .now) (given .first) (given .w) (at .j) (given .end) (omega arith) (at .out) (at .t) _ (put .result) (put .ensures .0) (put .ensures .1) in
+    (omega (arith, inv .0), omega (arith, tested .taken), sizes .1 ∙ inv .2, sizes .0 ∙ inv .3, inv .4 ∙ hit-copied (given .log .now) (given .first) (given .w) (at .j) (given .end) (omega arith) (at .out) (at .t) _ (put .result) (put .ensures .0) (put .ensures .1))
 
 same-length : tie.Need-same-length Inv-loop μ-loop
 same-length c = c .before .loop .inv .2

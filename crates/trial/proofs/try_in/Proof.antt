@@ -19,8 +19,16 @@ copy-hits-requires-2 c κs = search needs
 
 merge-starts-requires : tie.Need-merge-starts-requires
 merge-starts-requires c κs =
-    let pre = c .before .before .before .before .before .before .before .before .before .before .before .before .before .before .before .before .before .before .before .before .before .before .before .before .before .before .before .before .before .pre in
-    given _ _ _ _ _ _ _ _ _ _ _ _ _ _ _ _ _ (likeFrom (c .before .before .before .before .before .before .before .before .before .before .before .before .before .before .before .before .before .before .before .before .before .before .before .before .before .before .before .before .before .args .log .now) (c .before .before .before .before .before .before .before .before .before .before .before .before .before .before .before .before .before .before .before .before .before .before .before .before .before .before .before .before .before .args .first) (c .before .before .before .before .before .before .before .before .before .before .before .before .before .before .before .before .before .before .before .before .before .before .before .before .before .before .before .before .before .args .first) (c .before .before .before .before .before .before .before .before .before .before .before .before .before .before .before .before .before .before .before .before .before .before .before .before .before .before .before .before .before .args .end - c .before .before .before .before .before .before .before .before .before .before .before .before .before .before .before .before .before .before .before .before .before .before .before .before .before .before .before .before .before .args .first)) (pre .0 .isSound) (pre .1 .isSound) (c .before .before .before .before .before .before .before .before .before .before .before .before .before .before .before .before .before .before .before .copy-list .ensures) (c .before .before .before .before .before .before .before .before .before .before .before .before .before .before .before .copy-list2 .ensures) (c .before .before .before .before .before .before .before .before .before .before .before .copy-hits .ensures) (c .before .before .before .before .before .before .before .copy-hits2 .ensures) (like-length (c .before .before .before .before .before .before .before .before .before .before .before .before .before .before .before .before .before .before .before .before .before .before .before .before .before .before .before .before .before .args .log .now) (c .before .before .before .before .before .before .before .before .before .before .before .before .before .before .before .before .before .before .before .before .before .before .before .before .before .before .before .before .before .args .first) 2 (c .before .before .before .before .before .before .before .before .before .before .before .before .before .before .before .before .before .before .before .before .before .before .before .before .before .before .before .before .before .args .first) (c .before .before .before .before .before .before .before .before .before .before .before .before .before .before .before .before .before .before .before .before .before .before .before .before .before .before .before .before .before .args .end - c .before .before .before .before .before .before .before .before .before .before .before .before .before .before .before .before .before .before .before .before .before .before .before .before .before .before .before .before .before .args .first)) (like-length (c .before .before .before .before .before .before .before .before .before .before .before .before .before .before .before .before .before .before .before .before .before .before .before .before .before .before .before .before .before .args .log .now) (c .before .before .before .before .before .before .before .before .before .before .before .before .before .before .before .before .before .before .before .before .before .before .before .before .before .before .before .before .before .args .first) 4 (c .before .before .before .before .before .before .before .before .before .before .before .before .before .before .before .before .before .before .before .before .before .before .before .before .before .before .before .before .before .args .first) (c .before .before .before .before .before .before .before .before .before .before .before .before .before .before .before .before .before .before .before .before .before .before .before .before .before .before .before .before .before .args .end - c .before .before .before .before .before .before .before .before .before .before .before .before .before .before .before .before .before .before .before .before .before .before .before .before .before .before .before .before .before .args .first)) (pre .3)
+    let inner = c .before .before .before .before .before .before .before in
+    let outer = inner .before .before .before .before in
+    let certain = outer .before .before .before .before in
+    let possible = certain .before .before .before .before in
+    let start = possible .before .before .before .before .before .before .before .before .before .before in
+    let pre = start .pre in
+    let log = start .args .log .now in
+    let first = start .args .first in
+    let n = start .args .end - first in
+    given _ _ _ _ _ _ _ _ _ _ _ _ _ _ _ _ _ (likeFrom log first first n) (pre .0 .isSound) (pre .1 .isSound) (possible .copy-list .ensures) (certain .copy-list2 .ensures) (outer .copy-hits .ensures) (inner .copy-hits2 .ensures) (like-length log first 2 first n) (like-length log first 4 first n) (pre .3)
 
 same-length : tie.Need-same-length
 same-length c = c .before .before .before .before .before .before .before .before .before .before .before .before .before .before .before .before .before .before .before .before .before .before .copy-list .ensures .size
@@ -39,8 +47,13 @@ same-length-5 c = search needs
 
 returns : tie.Need-returns
 returns c =
-    let pre = c .before .before .before .before .before .before .before .before .before .before .before .before .before .before .before .before .before .before .before .before .before .before .before .before .before .before .before .before .before .before .before .before .pre in
-    tried _ _ _ _ _ _ _ _ _ _ _ _ (pre .0 .isSound) (pre .1 .isSound) (c .before .before .before .before .before .before .before .before .before .before .before .before .before .before .before .before .before .before .before .before .before .before .copy-list .ensures .cells) (c .before .before .before .before .before .before .before .before .before .before .before .before .before .before .before .before .before .before .copy-list2 .ensures .cells) (c .before .before .before .before .before .before .before .before .before .before .before .before .before .before .copy-hits .ensures .cells) (c .before .before .before .before .before .before .before .before .before .before .copy-hits2 .ensures .cells) (c .before .before .merge-starts .ensures)
+    let merged = c .before .before in
+    let inner = merged .before .before .before .before .before .before .before .before in
+    let outer = inner .before .before .before .before in
+    let certain = outer .before .before .before .before in
+    let possible = certain .before .before .before .before in
+    let pre = possible .before .before .before .before .before .before .before .before .before .before .pre in
+    tried _ _ _ _ _ _ _ _ _ _ _ _ (pre .0 .isSound) (pre .1 .isSound) (possible .copy-list .ensures .cells) (certain .copy-list2 .ensures .cells) (outer .copy-hits .ensures .cells) (inner .copy-hits2 .ensures .cells) (merged .merge-starts .ensures)
 
 pub try-in-spec : {M : Type 1} → statement M
 try-in-spec =
