@@ -1,5 +1,4 @@
 // Two span lists compared: whether one has all points of the other, and whether they have one in common.
-ghost use Rattle.spans.specs.Spans.{sound};
 ghost use Rattle.covering.specs.Covering.{Covers, Meets};
 ghost use Rattle.comparing.specs.Verdicts.{Verdict, compareCauses};
 use spans::is_sound;

@@ -4,7 +4,7 @@ ghost use mathlib.Core.Bool.{true};
 ghost use Prim.Native.Nat.{_+_, _-_, _^_, _≤_, _<_};
 ghost use Rattle.grid.specs.Rays.{rayCount};
 ghost use Rattle.stock.specs.Stock.{Tells};
-ghost use Rattle.runs.specs.Logs.{entries, entryCount};
+ghost use Rattle.runs.specs.Logs.{entryCount};
 ghost use Rattle.logs.specs.Named.{EachNamed};
 ghost use Rattle.entry_order.specs.Places.{Ascending, FirstOf, EndOf};
 use grid::DexelGrid;

@@ -16,9 +16,6 @@ and-yes r a b h k = rw h k
 pub and-no : (a b : Bool) → a ≡ false → false ≡ (a && b)
 and-no a b h = rw h
 
-pub cond-yes : {A : Type 0} (a : Bool) (x y : A) → a ≡ true → x ≡ cond a x y
-cond-yes a x y h = rw h
-
 pub cond-no : {A : Type 0} (r : A) (a : Bool) (x y : A) → a ≡ false → r ≡ y → r ≡ cond a x y
 cond-no r a x y h k = rw h k
 

@@ -3,7 +3,7 @@ ghost use mathlib.Core.Path.{_≡_};
 ghost use Prim.Native.Nat.{_+_, _-_, _*_, _/_, _%_, _≤_, _<_};
 ghost use lib.ListN.{length};
 ghost use Rattle.merge.specs.Merge.{MergeAnswer};
-ghost use Rattle.taking.specs.Steps.{part, Placed, Normal, Given, Lists};
+ghost use Rattle.taking.specs.Steps.{Placed, Normal, Given, Lists};
 use taking::Part;
 use taking::Parts;
 

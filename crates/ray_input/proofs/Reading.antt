@@ -10,7 +10,7 @@ use borrow.Author.Tests.{lt-leb, le-leb, eq-eqb, ne-eqb, eqb-false}
 use lib.Dec.{leb, eqb}
 use lib.ListN.{length, getD, length-append}
 use lib.Ieee.{Float, binary64, ofBits}
-use Rattle.doubles.proofs.Bools.{and-left, and-right, and-false, both}
+use Rattle.doubles.proofs.Bools.{and-false, both}
 use Rattle.ray_input.specs.Format.{space, newline, letterB, letterP, letterC, letterO, letterI, isLetter, eachBelow, isNumber, bitsAt, isLine, lines, letterOf, count, pairAt, pairs, few, total, readable}
 
 module _ (test : ℕ → Bool) where
@@ -28,14 +28,6 @@ module _ (test : ℕ → Bool) where
   each-stop k (suc n) h t = elim (decLt k n) [
     | yes g ↦ ap (λ (b : Bool). b && test n) (each-stop k n g t)
     | no g ↦ and-false (eachBelow test n) (test n) (subst (λ (m : ℕ). test m ≡ false) (omega arith) t)
-  ]
-
-  pub each-at : (k n : ℕ) → k < n → eachBelow test n ≡ true → test k ≡ true
-  unfolding eachBelow
-  each-at k zero h t = absurd (omega arith)
-  each-at k (suc n) h t = elim (decLt k n) [
-    | yes g ↦ each-at k n g (and-left (eachBelow test n) (test n) t)
-    | no g ↦ subst (λ (m : ℕ). test m ≡ true) (omega arith) (and-right (eachBelow test n) (test n) t)
   ]
 
 -- ---- the lines of a letter

@@ -9,18 +9,6 @@ use lib.ListN.{length, getD, set, length-set}
 use lib.Ieee.{Float, nan}
 use Rattle.rearranging.specs.Pairs.{Rearranged, same, keep, swap, then, SamePairs, foldPairs}
 
-pub rearranged-length : {l m : List Float} → Rearranged l m → length m ≡ length l
-rearranged-length same = refl
-rearranged-length (keep r) = ap (λ (n : ℕ). suc (suc n)) (rearranged-length r)
-rearranged-length swap = refl
-rearranged-length (then r s) = rearranged-length s ∙ rearranged-length r
-
-pub rearranged-sym : {l m : List Float} → Rearranged l m → Rearranged m l
-rearranged-sym same = same
-rearranged-sym (keep r) = keep (rearranged-sym r)
-rearranged-sym swap = swap
-rearranged-sym (then r s) = then (rearranged-sym s) (rearranged-sym r)
-
 -- a value gathered over the pairs is the same for every order, where two pairs may change places
 pub fold-rearranged : {A : Type 0} (f : Float → Float → A → A) (v : A)
     → ((a b c d : Float) (x : A) → f a b (f c d x) ≡ f c d (f a b x))

@@ -54,11 +54,6 @@ pub ascending-left : {m k : ℕ} (us vs : List Update) → Ascending m k (us ++ 
 ascending-left [] vs a = none
 ascending-left (u ∷ us) vs (next lo hi whole a) = next lo hi whole (ascending-left us vs a)
 
--- one more list, above those that are updated
-pub ascending-more : {m k : ℕ} {us : List Update} → Ascending m k us → (u : Update) → ((v : Update) → List·Memᴰ v us → v .list < u .list) → k ≤ u .list → u .list < m → length (u .ends) % 2 ≡ 0 → Ascending m k (us ++ u ∷ [])
-ascending-more none u above lo hi whole = next lo hi whole none
-ascending-more (next {u = v} lo′ hi′ whole′ a) u above lo hi whole = next lo′ hi′ whole′ (ascending-more a u (λ w mw. above w (List·Memᴰ·tail mw)) (above v (List·Memᴰ·head refl)) hi whole)
-
 -- a list below those that are updated stays
 pub after-below : {m k : ℕ} {us : List Update} → Ascending m k us → (j : ℕ) (l : List Float) → j < k → listAfter us j l ≡ l
 unfolding listAfter
@@ -164,11 +159,6 @@ pub freed-append : (n : ℕ) (us vs : List Update) (c : Cells) → freedAll n c 
 unfolding freedAll
 freed-append n [] vs c = refl
 freed-append n (u ∷ us) vs c = freed-append n us vs (freedList n c (u .list))
-
-pub freed-pairs-append : (n : ℕ) (c : Cells) (us vs : List Update) → pairsFreed n c (us ++ vs) ≡ pairsFreed n c us + pairsFreed n c vs
-unfolding pairsFreed
-freed-pairs-append n c [] vs = omega arith
-freed-pairs-append n c (u ∷ us) vs = omega (arith, freed-pairs-append n c us vs)
 
 -- ---- empty lists of a sound store are laid
 pub record LaidAll (n m total : ℕ) (c : Cells) (us : List Update) (d : Cells) : Type 0 where
