@@ -26,24 +26,32 @@ head-requires c κs = omega (arith, c .before .loop .inv .0)
 ray-named-requires : tie.Need-ray-named-requires Inv-loop μ-loop
 ray-named-requires c κs =
     let inv = c .before .before .loop .inv in
-    let b = c .before .before .before .before .before .before .before .before .pre in let m = laid-good _ _ _ _ _ (b .total) (b .fitting) _ _ _ _ (inv .3 b) (omega (arith, inv .0)) (c .head .result) (c .head .ensures) in (omega (arith, ap (λ (x : Cells). length (x .heads)) (b .is), all-freed _ _ _ _ _ (b .total) (b .fitting) .kept .heads-size, b .fitting .room .in-heads), m .names .digit, m .names .below)
+    let b = c .before .before .before .before .before .before .before .before .pre in
+    let m = laid-good _ _ _ _ _ (b .total) (b .fitting) _ _ _ _ (inv .3 b) (omega (arith, inv .0)) (c .head .result) (c .head .ensures) in
+    (omega (arith, ap (λ (x : Cells). length (x .heads)) (b .is), all-freed _ _ _ _ _ (b .total) (b .fitting) .kept .heads-size, b .fitting .room .in-heads), m .names .digit, m .names .below)
 
 past-lists-requires : tie.Need-past-lists-requires Inv-loop μ-loop
 past-lists-requires c κs =
     let inv = c .before .before .before .loop .inv in
-    let b = c .before .before .before .before .before .before .before .before .before .pre in let m = laid-good _ _ _ _ _ (b .total) (b .fitting) _ _ _ _ (inv .3 b) (omega (arith, inv .0)) (c .before .head .result) (c .before .head .ensures) in front-fits (c .before .head .result) (c .before .before .before .loop .at) (length (c .before .before .before .before .before .before .before .before .before .args .pairs .now)) (m .within) (omega (arith, c .before .before .before .before .before .before .before .before .before .good .1 .1 .1 .1 .1 .1 .0))
+    let b = c .before .before .before .before .before .before .before .before .before .pre in
+    let m = laid-good _ _ _ _ _ (b .total) (b .fitting) _ _ _ _ (inv .3 b) (omega (arith, inv .0)) (c .before .head .result) (c .before .head .ensures) in
+    front-fits (c .before .head .result) (c .before .before .before .loop .at) (length (c .before .before .before .before .before .before .before .before .before .args .pairs .now)) (m .within) (omega (arith, c .before .before .before .before .before .before .before .before .before .good .1 .1 .1 .1 .1 .1 .0))
 
 lay-ray-requires : tie.Need-lay-ray-requires Inv-loop μ-loop
 lay-ray-requires c κs =
-    let start = c .before .before .before .before .before in
     let inv = c .before .before .before .before .before .before .before .loop .inv in
-    let b = c .before .before .before .before .before .before .before .before .before .before .before .before .before .pre in let p = inv .3 b in let m = laid-good _ _ _ _ _ (b .total) (b .fitting) _ _ _ _ p (omega (arith, inv .0)) (start .head .result) (start .head .ensures) in (back-within (start .head .result) (c .before .before .before .before .before .before .before .loop .at) (length (c .before .before .before .before .before .before .before .before .before .before .before .before .before .args .pairs .now)) (m .within) _ (c .before .before .before .past-lists .ensures), p .cursor, ray-layable _ _ _ _ _ (b .total) (b .fitting) _ _ _ _ p (omega (arith, inv .0)) (start .head .result) (start .head .ensures) _ (c .before .before .before .before .ray-named .ensures) _ (c .before .before .before .past-lists .ensures))
+    let b = c .before .before .before .before .before .before .before .before .before .before .before .before .before .pre in
+    let p = inv .3 b in
+    let m = laid-good _ _ _ _ _ (b .total) (b .fitting) _ _ _ _ p (omega (arith, inv .0)) (c .before .before .before .before .before .head .result) (c .before .before .before .before .before .head .ensures) in
+    (back-within (c .before .before .before .before .before .head .result) (c .before .before .before .before .before .before .before .loop .at) (length (c .before .before .before .before .before .before .before .before .before .before .before .before .before .args .pairs .now)) (m .within) _ (c .before .before .before .past-lists .ensures), p .cursor, ray-layable _ _ _ _ _ (b .total) (b .fitting) _ _ _ _ p (omega (arith, inv .0)) (c .before .before .before .before .before .head .result) (c .before .before .before .before .before .head .ensures) _ (c .before .before .before .before .ray-named .ensures) _ (c .before .before .before .past-lists .ensures))
 
 past-lists-requires-2 : tie.Need-past-lists-requires-2 Inv-loop μ-loop
 past-lists-requires-2 c κs =
-    let start = c .before .before .before .before .before .before .before .before .before .before .before .before .before .before .before .before .before .before .before .before in
     let inv = c .before .before .before .before .before .before .before .before .before .before .before .before .before .before .loop .inv in
-    let b = start .pre in let p = inv .3 b in let m = laid-good _ _ _ _ _ (b .total) (b .fitting) _ _ _ _ p (omega (arith, inv .0)) (c .before .before .before .before .before .before .before .before .before .before .before .before .head .result) (c .before .before .before .before .before .before .before .before .before .before .before .before .head .ensures) in back-fits (c .before .before .before .before .before .before .before .before .before .before .before .before .head .result) (c .before .before .before .before .before .before .before .before .before .before .before .before .before .before .loop .at) (length (start .args .pairs .now)) (m .within) _ (c .before .before .before .before .before .before .before .before .before .before .past-lists .ensures) (omega (arith, start .good .1 .1 .1 .1 .1 .1 .0))
+    let b = c .before .before .before .before .before .before .before .before .before .before .before .before .before .before .before .before .before .before .before .before .pre in
+    let p = inv .3 b in
+    let m = laid-good _ _ _ _ _ (b .total) (b .fitting) _ _ _ _ p (omega (arith, inv .0)) (c .before .before .before .before .before .before .before .before .before .before .before .before .head .result) (c .before .before .before .before .before .before .before .before .before .before .before .before .head .ensures) in
+    back-fits (c .before .before .before .before .before .before .before .before .before .before .before .before .head .result) (c .before .before .before .before .before .before .before .before .before .before .before .before .before .before .loop .at) (length (c .before .before .before .before .before .before .before .before .before .before .before .before .before .before .before .before .before .before .before .before .args .pairs .now)) (m .within) _ (c .before .before .before .before .before .before .before .before .before .before .past-lists .ensures) (omega (arith, c .before .before .before .before .before .before .before .before .before .before .before .before .before .before .before .before .before .before .before .before .good .1 .1 .1 .1 .1 .1 .0))
 
 add-k : tie.Need-add-k Inv-loop μ-loop
 add-k c = search needs
