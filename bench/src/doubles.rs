@@ -4,7 +4,8 @@ use compare::doubles::tridexel_inner_sqrt as port;
 use harness::generate::Gen;
 use std::hint::black_box;
 
-const N: usize = 1000;
+/// More than a processor's branch prediction remembers from one pass to the next.
+const N: usize = 100_000;
 
 fn sum(xs: &[f64], root: impl Fn(f64) -> f64) -> f64 {
     black_box(xs).iter().map(|x| root(*x)).sum()

@@ -98,7 +98,7 @@ pub fn rows(table: &mut Table) {
     let (spec, described) = (q.spec(), grid::described(&q));
     let port = || {
         let (mut counts, mut steps) = ([0; 3], [0.; 3]);
-        assert_eq!(grid::grid(black_box(described), UNITS[0].as_bytes(), &mut counts, &mut steps), 0);
+        assert_eq!(grid::grid(*black_box(&described), UNITS[0].as_bytes(), &mut counts, &mut steps), 0);
         (counts, steps)
     };
     let due = spec.grid().unwrap();

@@ -105,7 +105,7 @@ fn wide_root(m: u64) -> u64
     root - 1
 }
 
-// The whole root of m: a linear first guess within 1%, two steps of Heron's rule, whose results
+// The whole root of m: a first guess within 1%, two steps of Heron's rule, whose results
 // are never below the root, and a step down in the rare case that the last is above it.
 fn whole_root(m: u64) -> u64
     requires { ⌜ 2 ^ 52 ≤ m ⌝ }
@@ -130,15 +130,13 @@ fn heron(m: u64, guess: u64) -> u64
     (guess + m / guess) / 2
 }
 
-// Near the root: on either half of the range a line through the root's curve.
+// Near the root: a parabola along the root's curve. It needs no branch, of which no processor
+// could foresee the way.
 fn first_guess(m: u64) -> u64
     requires { ⌜ m < 2 ^ 54 ⌝ }
     ensures { λ r. ⌜ 2 ^ 25 ≤ r ⌝ }
     ensures { λ r. ⌜ r < 2 ^ 30 ⌝ }
 {
-    if m < 0x20_0000_0000_0000 {
-        m / 162_015_130 + 39_852_875
-    } else {
-        m / 229_123_994 + 56_360_477
-    }
+    let slope = 549_098 - m / 0x80_0000_0000 * 5;
+    m / 0x400_0000 * slope / 0x10_0000 + 34_942_255
 }
