@@ -130,8 +130,8 @@ fn heron(m: u64, guess: u64) -> u64
     (guess + m / guess) / 2
 }
 
-// Near the root: a parabola along the root's curve. It needs no branch, of which no processor
-// could foresee the way.
+// Near the root: a parabola along the root's curve. Two lines, one for each half of the range,
+// would need a branch that a processor cannot foresee.
 fn first_guess(m: u64) -> u64
     requires { ⌜ m < 2 ^ 54 ⌝ }
     ensures { λ r. ⌜ 2 ^ 25 ≤ r ⌝ }
