@@ -4,7 +4,7 @@ use compare::doubles::tridexel_inner_sqrt as port;
 use harness::generate::Gen;
 use std::hint::black_box;
 
-/// More than a processor's branch prediction remembers from one pass to the next.
+/// So many that the branch prediction of the machine tried does not remember all from one pass to the next.
 const N: usize = 100_000;
 
 fn sum(xs: &[f64], root: impl Fn(f64) -> f64) -> f64 {
