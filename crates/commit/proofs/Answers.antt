@@ -5,7 +5,8 @@ use Prim.Native.Nat.{ℕ, suc, _+_, _-_, _*_}
 use native.Mathlib.Numerals.{add-one}
 use lib.Ieee.{Float}
 use Rattle.grid.specs.Rays.{rayCount}
-use Rattle.gridding.specs.Causes.{GridFacts}
+use Rattle.gridding.specs.Causes.{GridFacts, ByCauses}
+use Rattle.gridding.proofs.Causes.{grid-by-causes}
 use Rattle.gridding.specs.Grid.{gridOf}
 use Rattle.grid.specs.declared.Gridded.{Gridded}
 use Rattle.grid.specs.declared.Gridded.the-variants.{Accepted as Griddable, Refused as NoGrid}
@@ -89,13 +90,17 @@ module _ (spec : DexelStockSpec) (units : List ℕ) (s : Stock) (log : List Floa
   pub on-grid : (g : DexelGrid) (a : Committed) (t : Stock) (work′ : List Float) → gridOf spec units ≡ Griddable g → OnGrid spec g s log allowance work a t work′ → LogCommits spec units s log allowance work a t work′
   unfolding LogCommit
   on-grid g a t work′ e o = record {
-    promise = subst (λ (x : Gridded). LogCommit x spec s (commitOf log allowance work) (answerOf a) t) (sym e) (o .promise);
-    left = subst (λ (x : Gridded). AllCellsLeft x spec s log work a t work′) (sym e) (o .left);
+    described = Griddable g;
+    by = subst (ByCauses spec units) e (grid-by-causes spec units);
+    promise = o .promise;
+    left = o .left;
   }
 
   pub no-grid : (k : ℕ) → gridOf spec units ≡ NoGrid k → LogCommits spec units s log allowance work (Refused k) s work
   unfolding LogCommit
   no-grid k e = record {
-    promise = subst (λ (x : Gridded). LogCommit x spec s (commitOf log allowance work) (refused k) s) (sym e) (refl, refl);
-    left = subst (λ (x : Gridded). AllCellsLeft x spec s log work (Refused k) s work) (sym e) refl;
+    described = NoGrid k;
+    by = subst (ByCauses spec units) e (grid-by-causes spec units);
+    promise = (refl, refl);
+    left = refl;
   }

@@ -6,7 +6,7 @@ use lib.ListN.{length, replicate}
 use lib.Ieee.{Float}
 use Rattle.doubles.specs.Constants.{plusZero}
 use Rattle.grid.specs.Rays.{rayCount}
-use Rattle.gridding.specs.Grid.{gridOf}
+use Rattle.gridding.specs.Causes.{ByCauses}
 use Rattle.grid.specs.declared.DexelStockSpec.{DexelStockSpec}
 use Rattle.grid.specs.declared.DexelGrid.{DexelGrid}
 use Rattle.grid.specs.declared.Gridded.{Gridded}
@@ -53,5 +53,8 @@ AllCellsLeft (NoGrid k) spec s log work a t work′ = work′ ≡ work
 
 -- THE LOG COMMIT: what a run of logs is made of, and every cell of every buffer
 pub record LogCommits (spec : DexelStockSpec) (units : List ℕ) (s : Stock) (log : List Float) (allowance : ℕ) (work : List Float) (a : Committed) (t : Stock) (work′ : List Float) : Type 0 where
-  pub promise : LogCommit (gridOf spec units) spec s (commitOf log allowance work) (answerOf a) t
-  pub left : AllCellsLeft (gridOf spec units) spec s log work a t work′
+  -- the answer of `grid`, by document 01's causes 1 to 4
+  pub described : Gridded
+  pub by : ByCauses spec units described
+  pub promise : LogCommit described spec s (commitOf log allowance work) (answerOf a) t
+  pub left : AllCellsLeft described spec s log work a t work′

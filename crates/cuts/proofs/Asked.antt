@@ -1,6 +1,8 @@
 -- The updates that a log asks: in order, as many as rays change, and the lists that they leave.
 use mathlib.Core.Path.{_≡_, refl, sym, _∙_, subst}
-use mathlib.Core.Bool.{false}
+use mathlib.Core.Bool.{true, false}
+use mathlib.Core.Logic.{inl, inr}
+use Rattle.doubles.proofs.Bools.{by-cases}
 use mathlib.Core.List.{List, _∷_}
 use Prim.Native.Nat.{ℕ, suc, _+_, _*_, _≤_, _<_}
 use native.Mathlib.Bridge.{le-prop}
@@ -75,17 +77,20 @@ module _ (g : DexelGrid) (lists : Ray g → Kind → List Float) (es : List Entr
       where
         sum : (a : ℕ) → a ≡ a + 0
         sum a = omega arith
-    merges-count (same {ray = ray} h e u) t = merges-count u (skipped h (changes-by g (λ r k. holds (lists r k)) lists each es (ray, h) .1 e) t)
-    merges-count {a = a} (new {ray = ray} {m = m} h e p c u) t = subst (λ (x : ℕ). Count g (Changes g (λ r k. holds (lists r k)) es) (rayCount g) x) (sum a m) (merges-count u (counted h (changes-by g (λ r k. holds (lists r k)) lists each es (ray, h) .0 e) t))
+    merges-count (same {ray = ray} h e u) t = merges-count u (skipped h e t)
+    merges-count {a = a} (new {ray = ray} {m = m} h e p c u) t = subst (λ (x : ℕ). Count g (Changes g (λ r k. holds (lists r k)) es) (rayCount g) x) (sum a m) (merges-count u (counted h e t))
       where
         sum : (a m : ℕ) → suc a + m ≡ a + suc m
         sum a m = omega arith
 
     -- a ray that does not change keeps the sound lists of its sets
-    pub kept-left : (r : Ray g) → changesRay g lists es r ≡ false → (k : Kind) → LeftOf g lists es r k (lists r k)
+    pub kept-left : (r : Ray g) → ¬ Changes g (λ r k. holds (lists r k)) es r → (k : Kind) → LeftOf g lists es r k (lists r k)
     unfolding changesRay
-    kept-left r e k = record { isSound = each r k .isSound; points = λ p. sym (stays g (λ r k. holds (lists r k)) lists each es r k .1 (unhit k) p) }
+    kept-left r n k = record { isSound = each r k .isSound; points = λ p. sym (stays g (λ r k. holds (lists r k)) lists each es r k .1 (unhit k) p) }
       where
+        e : changesRay g lists es r ≡ false
+        e = elim (by-cases (changesRay g lists es r)) [ inl y ↦ absurd (n (changes-by g (λ r k. holds (lists r k)) lists each es r .0 y)) | inr y ↦ y ]
+
         unhit : (k : Kind) → hitBy (lists r k) (hitsOn g es r k) ≡ false
         unhit possible = not-left (hitBy (lists r possible) (hitsOn g es r possible)) (hitBy (lists r certain) (hitsOn g es r certain)) e
         unhit certain = not-right (hitBy (lists r possible) (hitsOn g es r possible)) (hitBy (lists r certain) (hitsOn g es r certain)) e

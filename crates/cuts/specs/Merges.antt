@@ -1,6 +1,5 @@
 -- The updates that a log asks of a store: both lists of each ray that changes.
 use mathlib.Core.Path.{_≡_}
-use mathlib.Core.Bool.{true, false}
 use mathlib.Core.List.{List, [], _∷_}
 use Prim.Native.Nat.{ℕ, suc, _+_, _-_, _*_, _<_}
 use lib.Ieee.{Float}
@@ -11,19 +10,22 @@ use Rattle.grid.specs.declared.DexelGrid.{DexelGrid}
 use Rattle.store.specs.Updates.{Update, update, applied, pairsFreed, pairsLaid}
 use Rattle.stock.specs.Stock.{Stock}
 use Rattle.runs.specs.Logs.{Ray, Kind, possible, certain, Entry}
-use Rattle.runs.specs.Model.{without}
-use Rattle.runs.specs.Counts.{changesRay}
+use Rattle.runs.specs.Model.{Sets, without, Changes}
 use Rattle.runs.specs.Lent.{listIn}
+
+-- the sets of these lists
+abbrev pub setsOf : (g : DexelGrid) → (Ray g → Kind → List Float) → Sets g
+setsOf g lists r k = holds (lists r k)
 
 -- l is the sound list of what the log leaves of a list of the ray
 abbrev pub LeftOf : (g : DexelGrid) → (Ray g → Kind → List Float) → List Entry → Ray g → Kind → List Float → Type 0
-LeftOf g lists es r k l = ListOf (without g (λ r k. holds (lists r k)) es r k) l
+LeftOf g lists es r k l = ListOf (without g (setsOf g lists) es r k) l
 
 -- the updates of the rays from `ray` to the last one, in order, and how many of these rays change
 pub data Merges (g : DexelGrid) (lists : Ray g → Kind → List Float) (es : List Entry) : (ray : ℕ) → List Update → (changed : ℕ) → Type 0 where
   none : {ray : ℕ} → ray ≡ rayCount g → Merges g lists es ray [] 0
-  same : {ray m : ℕ} {us : List Update} (h : ray < rayCount g) → changesRay g lists es (ray, h) ≡ false → Merges g lists es (suc ray) us m → Merges g lists es ray us m
-  new : {ray m : ℕ} {p c : List Float} {us : List Update} (h : ray < rayCount g) → changesRay g lists es (ray, h) ≡ true
+  same : {ray m : ℕ} {us : List Update} (h : ray < rayCount g) → ¬ Changes g (setsOf g lists) es (ray, h) → Merges g lists es (suc ray) us m → Merges g lists es ray us m
+  new : {ray m : ℕ} {p c : List Float} {us : List Update} (h : ray < rayCount g) → Changes g (setsOf g lists) es (ray, h)
       → LeftOf g lists es (ray, h) possible p → LeftOf g lists es (ray, h) certain c → Merges g lists es (suc ray) us m
       → Merges g lists es ray (update (2 * ray) p ∷ update (2 * ray + 1) c ∷ us) (suc m)
 

@@ -94,4 +94,4 @@ log-above spec units s t c k (Refused j) b p = subst (λ (x : ℕ). 0 < x) (same
     same k j e = ap number (sym e)
 
 pub commit-above : (spec : DexelStockSpec) (units : List ℕ) (s t : Stock) (log : List Float) (allowance : ℕ) (work work′ : List Float) (k : ℕ) → LogCommits spec units s log allowance work (Committed.Refused k) t work′ → 0 < k
-commit-above spec units s t log allowance work work′ k p = log-above spec units s t (commitOf log allowance work) k (gridOf spec units) (grid-by-causes spec units) (p .promise)
+commit-above spec units s t log allowance work work′ k p = log-above spec units s t (commitOf log allowance work) k (p .described) (p .by) (p .promise)

@@ -33,7 +33,7 @@ use Rattle.taking.proofs.Places.{part-same}
 use Rattle.merging.specs.Rays.{Bringable, RayMerged, limitOf}
 use Rattle.merging.specs.All.{firstOf, countOf, sizesAt, listsFrom, AllMergeable, AllMerged}
 use Rattle.merging.specs.declared.Change.{Change}
-use Rattle.merging.proofs.Told.{changes, possible-left, certain-left, pairs-most}
+use Rattle.merging.proofs.Told.{changes, changes-not, possible-left, certain-left, pairs-most}
 
 -- the stock of the cells; its small record does not count here
 abbrev pub stockOf : Cells → Stock
@@ -192,7 +192,7 @@ module _ (spec : DexelStockSpec) (g : DexelGrid) (c : Cells) (log before : List 
             → Merges g lists (entries log) ray (updatesFrom v (sizesAt g log) q ray (rayCount g - ray)) n
         stays n y =
             subst (λ (us : List Update). Merges g lists (entries log) ray us n) (sym same-updates)
-            (same h (changes spec g (stockOf c) total snd log ray h q w w₁ r m ∙ e) (subst (λ (i : ℕ). Merges g lists (entries log) i (updatesFrom v (sizesAt g log) next (ray + 1) left) n) (sym up-one) y))
+            (same h (changes-not spec g (stockOf c) total snd log ray h q w w₁ r m e) (subst (λ (i : ℕ). Merges g lists (entries log) i (updatesFrom v (sizesAt g log) next (ray + 1) left) n) (sym up-one) y))
 
       -- the ray changes
       module _ (e : r .changed ≡ true) where
@@ -231,7 +231,7 @@ module _ (spec : DexelStockSpec) (g : DexelGrid) (c : Cells) (log before : List 
             → Merges g lists (entries log) ray (updatesFrom v (sizesAt g log) q ray (rayCount g - ray)) (suc n)
         moves n y =
             subst (λ (us : List Update). Merges g lists (entries log) ray us (suc n)) (sym new-updates)
-            (new h (changes spec g (stockOf c) total snd log ray h q w w₁ r m ∙ e) (possible-left spec g (stockOf c) total snd log ray h q w w₁ r m e)
+            (new h (changes spec g (stockOf c) total snd log ray h q w w₁ r m e) (possible-left spec g (stockOf c) total snd log ray h q w w₁ r m e)
             (certain-left spec g (stockOf c) total snd log ray h q w w₁ r m e)
             (subst (λ (i : ℕ). Merges g lists (entries log) i (updatesFrom v (sizesAt g log) next (ray + 1) left) n) (sym up-one) y))
 

@@ -42,11 +42,11 @@ module _ (spec : DexelStockSpec) (g : DexelGrid) (s : Stock) (total : ℕ) (snd 
   abbrev whole : Stock
   whole = record { cells = s .cells; generation = 0; intervals = total }
 
-  sets : Ray g → Kind → Float → Bool
+  abbrev sets : Ray g → Kind → Float → Bool
   sets r k = holds (listsOf spec g s r k)
 
   listed : (r : Ray g) (k : Kind) → ListOf (sets r k) (listsOf spec g s r k)
-  unfolding sets listIn
+  unfolding listIn
   listed r k = each spec g whole snd (entries log) r k
 
   module _ (ray : ℕ) (h : ray < rayCount g) where
@@ -61,28 +61,25 @@ module _ (spec : DexelStockSpec) (g : DexelGrid) (s : Stock) (total : ℕ) (snd 
     module _ (q : ℕ) (before after : List Float) (r : Change) (m : RayMerged spec g (s .cells) log ray q before after r) where
       does : Touches (possibleIn spec (s .cells) ray) (certainIn spec (s .cells) ray) (holds (pairsNamed g (entries log) ray inner))
           (eitherHit (pairsNamed g (entries log) ray outer) (pairsNamed g (entries log) ray inner)) true → Changes g sets (entries log) (ray, h)
-      unfolding Changes without sets listIn listNumber
+      unfolding Changes without listIn listNumber
       does (inl (p, a, b)) f = gone _ _ a (hit-possible p ∙ b) (f possible p)
       does (inr (p, a, b)) f = gone _ _ a (hit-certain p ∙ b) (f certain p)
 
       does-not : Touches (possibleIn spec (s .cells) ray) (certainIn spec (s .cells) ray) (holds (pairsNamed g (entries log) ray inner))
           (eitherHit (pairsNamed g (entries log) ray outer) (pairsNamed g (entries log) ray inner)) false → ¬ Changes g sets (entries log) (ray, h)
-      unfolding Changes without sets listIn listNumber
+      unfolding Changes without listIn listNumber
       does-not (a, b) n = n (λ k p. elim k [
         | possible ↦ kept _ _ (λ e. hit-possible p ∙ a p e)
         | certain ↦ kept _ _ (λ e. hit-certain p ∙ b p e)
       ])
 
-      pub changes : changesRay g (listsOf spec g s) (entries log) (ray, h) ≡ r .changed
-      changes = go (r .changed) (m .touches) (changesRay g (listsOf spec g s) (entries log) (ray, h)) refl
-        where
-          go : (b : Bool) → Touches (possibleIn spec (s .cells) ray) (certainIn spec (s .cells) ray) (holds (pairsNamed g (entries log) ray inner))
-              (eitherHit (pairsNamed g (entries log) ray outer) (pairsNamed g (entries log) ray inner)) b
-              → (x : Bool) → changesRay g (listsOf spec g s) (entries log) (ray, h) ≡ x → x ≡ b
-          go true t true e = refl
-          go true t false e = absurd (changes-by g sets (listsOf spec g s) listed (entries log) (ray, h) .1 e (does t))
-          go false t true e = absurd (does-not t (changes-by g sets (listsOf spec g s) listed (entries log) (ray, h) .0 e))
-          go false t false e = refl
+      pub changes : r .changed ≡ true → Changes g sets (entries log) (ray, h)
+      changes e = does (subst (Touches (possibleIn spec (s .cells) ray) (certainIn spec (s .cells) ray) (holds (pairsNamed g (entries log) ray inner))
+          (eitherHit (pairsNamed g (entries log) ray outer) (pairsNamed g (entries log) ray inner))) e (m .touches))
+
+      pub changes-not : r .changed ≡ false → ¬ Changes g sets (entries log) (ray, h)
+      changes-not e = does-not (subst (Touches (possibleIn spec (s .cells) ray) (certainIn spec (s .cells) ray) (holds (pairsNamed g (entries log) ray inner))
+          (eitherHit (pairsNamed g (entries log) ray outer) (pairsNamed g (entries log) ray inner))) e (m .touches))
 
       pub possible-left : r .changed ≡ true → LeftOf g (listsOf spec g s) (entries log) (ray, h) possible (part q (2 * r .possible) after)
       unfolding without listIn listNumber

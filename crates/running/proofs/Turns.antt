@@ -6,14 +6,16 @@ use Prim.Native.Nat.{ℕ, zero, suc, _+_, _*_, _/_, _≤_, _<_}
 use lib.ListN.{length, getD, set, length-set}
 use lib.Seq.{getD-set-other, getD-set-same}
 use lib.Ieee.{Float}
-use Rattle.gridding.specs.Grid.{gridOf}
+use Rattle.refusal.specs.Refusal.{NoneDue}
+use Rattle.refusal.proofs.Laws.{none-due}
+use Rattle.gridding.specs.Causes.{gridCauses, gridIn, ByCauses}
 use Rattle.grid.specs.declared.DexelStockSpec.{DexelStockSpec}
 use Rattle.grid.specs.declared.DexelGrid.{DexelGrid}
 use Rattle.grid.specs.declared.Gridded.{Gridded}
-use Rattle.grid.specs.declared.Gridded.the-variants.{Accepted}
+use Rattle.grid.specs.declared.Gridded.the-variants.{Accepted, Refused}
 use Rattle.stock.specs.Stock.{Stock}
 use Rattle.stock.specs.declared.Committed.{Committed}
-use Rattle.stock.specs.declared.Committed.the-variants.{Changed, Refused}
+use Rattle.stock.specs.declared.Committed.the-variants.{Changed, Refused as NotCommitted}
 use Rattle.runs.specs.Logs.{Commit}
 use Rattle.runs.specs.Model.{Answer}
 use Rattle.runs.specs.Runs.{Run, done}
@@ -23,12 +25,12 @@ use Rattle.runs.proofs.Demand3.{extend}
 use Rattle.runs.proofs.Lent.{demand3-lent}
 use Rattle.judging.specs.Tests.{commitOf}
 use Rattle.commit.specs.Commit.{answerOf}
-use Rattle.running.specs.Running.{beginOf, logFrom, commitAt, commitsTo, answerBy, answersTo, kindOf, numberOf, answered, Turned, RanOn}
+use Rattle.running.specs.Running.{beginOf, logFrom, commitAt, commitsTo, answerBy, answersTo, kindOf, numberOf, answered, Turned, Commits, none, more, RanOn, RanAll}
 
 -- the two numbers of an answer tell it
 by-numbers : (a : Committed) → answerBy (kindOf a) (numberOf a) ≡ answerOf a
 by-numbers (Changed n) = refl
-by-numbers (Refused k) = refl
+by-numbers (NotCommitted k) = refl
 
 -- answer i stands in its own two cells
 told-at : (answers : List ℕ) (i : ℕ) (a : Committed) → 2 * i + 1 < length answers
@@ -53,7 +55,8 @@ told-before answers i a (suc k) h =
 pub record RunTo (spec : DexelStockSpec) (units : List ℕ) (s : Stock) (logs : List Float) (ends allowances : List ℕ) (work₀ : List Float) (answers₀ : List ℕ) (i : ℕ) (t : Stock) (at : ℕ) (work : List Float) (answers : List ℕ) : Type 0 where
   pub most : i ≤ length ends
   pub begins : at ≡ beginOf ends i
-  pub run : (g : DexelGrid) → gridOf spec units ≡ Accepted g → Run spec g (lentStore spec g) s (commitsTo logs ends allowances (length work₀ / 2) i) (answersTo answers i) t
+  pub run : NoneDue (gridCauses spec units) → Run spec (gridIn spec) (lentStore spec (gridIn spec)) s (commitsTo logs ends allowances (length work₀ / 2) i) (answersTo answers i) t
+  pub commits : Commits spec units logs ends allowances s work₀ answers₀ i t work answers
   pub spans-size : length (t .cells .spans) ≡ length (s .cells .spans)
   pub links-size : length (t .cells .links) ≡ length (s .cells .links)
   pub heads-size : length (t .cells .heads) ≡ length (s .cells .heads)
@@ -65,7 +68,8 @@ unfolding commitsTo answersTo
 run-start spec units s logs ends allowances work answers = record {
   most = omega arith;
   begins = refl;
-  run = λ g e. done;
+  run = λ e. done;
+  commits = none;
   spans-size = refl;
   links-size = refl;
   heads-size = refl;
@@ -73,10 +77,11 @@ run-start spec units s logs ends allowances work answers = record {
   answers-size = refl;
 }
 
--- a commit on a description that `grid` accepts is a step of a run
-on-grid : (spec : DexelStockSpec) (units : List ℕ) (g : DexelGrid) (s t : Stock) (c : Commit) (a : Answer) → gridOf spec units ≡ Accepted g → LogCommit (gridOf spec units) spec s c a t → CommitPromise spec g (lentStore spec g) s c a t
+-- a commit on a description without a cause is a step of a run
+on-grid : (spec : DexelStockSpec) (units : List ℕ) (d : Gridded) (s t : Stock) (c : Commit) (a : Answer) → NoneDue (gridCauses spec units) → ByCauses spec units d → LogCommit d spec s c a t → CommitPromise spec (gridIn spec) (lentStore spec (gridIn spec)) s c a t
 unfolding LogCommit
-on-grid spec units g s t c a e x = subst (λ (r : Gridded). LogCommit r spec s c a t) e x
+on-grid spec units (Accepted g) s t c a e b x = subst (λ (h : DexelGrid). CommitPromise spec h (lentStore spec h) s c a t) (b .1) x
+on-grid spec units (Refused k) s t c a e b x = absurd (none-due (gridCauses spec units) k e b)
 
 pub run-next : (spec : DexelStockSpec) (units : List ℕ) (s : Stock) (logs : List Float) (ends allowances : List ℕ) (work₀ : List Float) (answers₀ : List ℕ) (i : ℕ) (t : Stock) (at : ℕ) (work : List Float) (answers : List ℕ)
     (u : Stock) (work′ : List Float) (answers′ : List ℕ)
@@ -89,11 +94,13 @@ unfolding commitsTo answersTo
 run-next spec units s logs ends allowances work₀ answers₀ i t at work answers u work′ answers′ r below room x za zb zc zw zn = record {
   most = omega arith;
   begins = begins;
-  run = λ g e.
-      subst (λ (vs : List Answer). Run spec g (lentStore spec g) s (commitsTo logs ends allowances (length work₀ / 2) (i + 1)) vs u) (sym answers-are)
-      (subst (λ (k : ℕ). Run spec g (lentStore spec g) s (commitsTo logs ends allowances (length work₀ / 2) k) (answersTo answers i ++ (answerOf (x .answer) ∷ [])) u) one-more
-      (extend spec g (lentStore spec g) (r .run g e) (on-grid spec units g t u (commitAt logs ends allowances (length work₀ / 2) i) (answerOf (x .answer)) e
-      (subst (λ (c : Commit). LogCommit (gridOf spec units) spec t c (answerOf (x .answer)) u) same-commit (x .commits .promise)))));
+  run = λ e.
+      subst (λ (vs : List Answer). Run spec (gridIn spec) (lentStore spec (gridIn spec)) s (commitsTo logs ends allowances (length work₀ / 2) (i + 1)) vs u) (sym answers-are)
+      (subst (λ (k : ℕ). Run spec (gridIn spec) (lentStore spec (gridIn spec)) s (commitsTo logs ends allowances (length work₀ / 2) k) (answersTo answers i ++ (answerOf (x .answer) ∷ [])) u) one-more
+      (extend spec (gridIn spec) (lentStore spec (gridIn spec)) (r .run e) (on-grid spec units (x .commits .described) t u (commitAt logs ends allowances (length work₀ / 2) i) (answerOf (x .answer)) e (x .commits .by)
+      (subst (λ (c : Commit). LogCommit (x .commits .described) spec t c (answerOf (x .answer)) u) same-commit (x .commits .promise)))));
+  commits = subst (λ (k : ℕ). Commits spec units logs ends allowances s work₀ answers₀ k u work′ answers′) one-more
+      (more (r .commits) (subst (λ (b : ℕ). Turned spec units t (logFrom logs b (getD ends i 0)) (getD allowances i 0) work answers i u work′ answers′) (r .begins) x));
   spans-size = za ∙ r .spans-size;
   links-size = zb ∙ r .links-size;
   heads-size = zc ∙ r .heads-size;
@@ -120,10 +127,14 @@ run-next spec units s logs ends allowances work₀ answers₀ i t at work answer
 
 pub run-end : (spec : DexelStockSpec) (units : List ℕ) (s : Stock) (logs : List Float) (ends allowances : List ℕ) (work₀ : List Float) (answers₀ : List ℕ) (i : ℕ) (t : Stock) (at : ℕ) (work : List Float) (answers : List ℕ)
     → RunTo spec units s logs ends allowances work₀ answers₀ i t at work answers → length ends ≤ i
-    → RanOn spec units s (commitsTo logs ends allowances (length work₀ / 2) (length ends)) (answersTo answers (length ends)) t
+    → RanAll spec units logs ends allowances s work₀ answers₀ t work answers
 unfolding RanOn
-run-end spec units s logs ends allowances work₀ answers₀ i t at work answers r past g e =
+run-end spec units s logs ends allowances work₀ answers₀ i t at work answers r past =
     let all : i ≡ length ends = omega (arith, r .most) in
-    let run : Run spec g (lentStore spec g) s (commitsTo logs ends allowances (length work₀ / 2) (length ends)) (answersTo answers (length ends)) t =
-    subst (λ (k : ℕ). Run spec g (lentStore spec g) s (commitsTo logs ends allowances (length work₀ / 2) k) (answersTo answers k) t) all (r .run g e) in
-    record { run = run; settled = λ sound. demand3-lent spec g .settles s t (commitsTo logs ends allowances (length work₀ / 2) (length ends)) (answersTo answers (length ends)) sound run }
+    record {
+      commits = subst (λ (k : ℕ). Commits spec units logs ends allowances s work₀ answers₀ k t work answers) all (r .commits);
+      ran = λ e.
+          let run : Run spec (gridIn spec) (lentStore spec (gridIn spec)) s (commitsTo logs ends allowances (length work₀ / 2) (length ends)) (answersTo answers (length ends)) t =
+          subst (λ (k : ℕ). Run spec (gridIn spec) (lentStore spec (gridIn spec)) s (commitsTo logs ends allowances (length work₀ / 2) k) (answersTo answers k) t) all (r .run e) in
+          record { run = run; settled = λ sound. demand3-lent spec (gridIn spec) .settles s t (commitsTo logs ends allowances (length work₀ / 2) (length ends)) (answersTo answers (length ends)) sound run };
+    }

@@ -2,13 +2,13 @@
 -- tell each answer: 0 and how many rays changed, or 1 and the refusal's number.
 use mathlib.Core.Path.{_≡_}
 use mathlib.Core.List.{List, [], _∷_, _++_}
-use Prim.Native.Nat.{ℕ, zero, suc, _+_, _-_, _*_, _≤_, _<_}
+use Prim.Native.Nat.{ℕ, zero, suc, _+_, _-_, _*_, _/_, _≤_, _<_}
 use lib.ListN.{length, getD, take, drop, set}
 use lib.Ieee.{Float}
-use Rattle.gridding.specs.Grid.{gridOf}
+use Rattle.refusal.specs.Refusal.{NoneDue}
+use Rattle.gridding.specs.Causes.{gridCauses, gridIn}
 use Rattle.grid.specs.declared.DexelStockSpec.{DexelStockSpec}
 use Rattle.grid.specs.declared.DexelGrid.{DexelGrid}
-use Rattle.grid.specs.declared.Gridded.the-variants.{Accepted}
 use Rattle.stock.specs.Stock.{Stock, SoundStock}
 use Rattle.stock.specs.declared.Committed.{Committed}
 use Rattle.stock.specs.declared.Committed.the-variants.{Changed, Refused}
@@ -69,6 +69,12 @@ pub record Turned (spec : DexelStockSpec) (units : List ℕ) (s : Stock) (log : 
   pub commits : LogCommits spec units s log allowance work answer t work′
   pub told : answers′ ≡ answered answers i answer
 
+-- The first i commits one after the other, whatever the description is: each on the stock, the work buffer and the answers that the one before left
+pub data Commits (spec : DexelStockSpec) (units : List ℕ) (logs : List Float) (ends allowances : List ℕ) (s : Stock) (work : List Float) (answers : List ℕ) : ℕ → Stock → List Float → List ℕ → Type 0 where
+  none : Commits spec units logs ends allowances s work answers 0 s work answers
+  more : {i : ℕ} {t u : Stock} {w v : List Float} {ks ls : List ℕ} → Commits spec units logs ends allowances s work answers i t w ks
+      → Turned spec units t (logFrom logs (beginOf ends i) (getD ends i 0)) (getD allowances i 0) w ks i u v ls → Commits spec units logs ends allowances s work answers (suc i) u v ls
+
 -- A list of log commits was run from the stock s to the stock t: it is a run of logs, and from a sound stock all that demand 3 says holds of it
 pub record Ran (spec : DexelStockSpec) (g : DexelGrid) (s : Stock) (cs : List Commit) (vs : List Answer) (t : Stock) : Type 0 where
   pub run : Run spec g (lentStore spec g) s cs vs t
@@ -76,4 +82,9 @@ pub record Ran (spec : DexelStockSpec) (g : DexelGrid) (s : Stock) (cs : List Co
 
 -- the same, for a description that `grid` accepts
 unfoldable pub RanOn : (spec : DexelStockSpec) (units : List ℕ) → Stock → List Commit → List Answer → Stock → Type 0
-RanOn spec units s cs vs t = (g : DexelGrid) → gridOf spec units ≡ Accepted g → Ran spec g s cs vs t
+RanOn spec units s cs vs t = NoneDue (gridCauses spec units) → Ran spec (gridIn spec) s cs vs t
+
+-- ALL OF A RUN: every cell of every buffer, commit by commit, and what demand 3 says of the whole
+pub record RanAll (spec : DexelStockSpec) (units : List ℕ) (logs : List Float) (ends allowances : List ℕ) (s : Stock) (work : List Float) (answers : List ℕ) (t : Stock) (work′ : List Float) (answers′ : List ℕ) : Type 0 where
+  pub commits : Commits spec units logs ends allowances s work answers (length ends) t work′ answers′
+  pub ran : RanOn spec units s (commitsTo logs ends allowances (length work / 2) (length ends)) (answersTo answers′ (length ends)) t

@@ -1,9 +1,9 @@
 // Runs a list of log commits on one stock, each on what the one before left.
 ghost use mathlib.Core.Path.{_≡_};
-ghost use Prim.Native.Nat.{_+_, _*_, _/_, _<_, _≤_};
+ghost use Prim.Native.Nat.{_+_, _*_, _<_, _≤_};
 ghost use lib.ListN.{length, set};
 ghost use Rattle.stock.specs.Outcomes.{stock};
-ghost use Rattle.running.specs.Running.{Lends, logFrom, answered, Turned, RanOn, commitsTo, answersTo};
+ghost use Rattle.running.specs.Running.{Lends, logFrom, answered, Turned, RanAll};
 use grid::DexelStockSpec;
 use stock::Committed;
 use stock::Tally;
@@ -83,9 +83,9 @@ pub fn run_logs(
     answers: &mut [u64],
 ) -> Tally
     requires { ⌜ Lends (now logs) (now ends) (now allowances) (now answers) ⌝ }
-    ensures { λ r. ⌜ RanOn spec (now (units .entry)) (stock (now (spans .entry)) (now (links .entry)) (now (heads .entry)) (tally .generation) (tally .intervals))
-        (commitsTo (now (logs .entry)) (now (ends .entry)) (now (allowances .entry)) (length (now (work .entry)) / 2) (length (now (ends .entry)))) (answersTo (now (answers .exit)) (length (now (ends .entry))))
-        (stock (now (spans .exit)) (now (links .exit)) (now (heads .exit)) (r .generation) (r .intervals)) ⌝ }
+    ensures { λ r. ⌜ RanAll spec (now (units .entry)) (now (logs .entry)) (now (ends .entry)) (now (allowances .entry))
+        (stock (now (spans .entry)) (now (links .entry)) (now (heads .entry)) (tally .generation) (tally .intervals)) (now (work .entry)) (now (answers .entry))
+        (stock (now (spans .exit)) (now (links .exit)) (now (heads .exit)) (r .generation) (r .intervals)) (now (work .exit)) (now (answers .exit)) ⌝ }
 {
     let count = ends.len();
     let mut left = tally;
