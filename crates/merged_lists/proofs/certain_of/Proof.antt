@@ -1,4 +1,5 @@
 -- `merged_lists::certain_of` meets its contract.
+use mathlib.Core.Path.{refl}
 use Prim.Native.Nat.{_*_}
 use Rattle.merged_lists.proofs.Lists.{handed-short}
 use borrow.Author.Needs.{needs}
@@ -14,7 +15,7 @@ returns c =
     let a = c .before .before .before .before .before .before .before .args in
     let d = c .before .before .before .answer in
     rw (d .given .1, c .before .if1 .taken)
-    (handed-short (d .given .0 .1 .0) (a .before .now) (a .work .now) (2 * d .given .0 .0 .pairs) (omega (arith, c .if2 .taken)))
+    (handed-short (d .given .0 .1 .0) (a .before .now) (a .work .now) (2 * d .given .0 .0 .pairs) (omega (arith, c .if2 .taken)), λ _. refl)
 
 mul-handed-back : tie.Need-mul-handed-back
 mul-handed-back c = search needs
@@ -35,7 +36,7 @@ returns-3 : tie.Need-returns-3
 returns-3 c = rw (c .before .before .before .answer .given .1, c .before .if1 .left) (c .handed-back2 .ensures)
 
 returns-4 : tie.Need-returns-4
-returns-4 c = rw (c .enum-told .given .1)
+returns-4 c = rw (c .enum-told .given .1) (refl, λ _. refl)
 
 pub certain-of-spec : {M : Type 1} → statement M
 certain-of-spec =

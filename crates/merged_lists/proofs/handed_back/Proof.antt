@@ -1,7 +1,7 @@
 -- `merged_lists::handed_back` meets its contract.
-use mathlib.Core.Path.{_≡_}
+use mathlib.Core.Path.{_≡_, refl}
 use Prim.Native.Nat.{_+_, _-_, _*_}
-use Rattle.doubles.proofs.Bools.{not-true, not-false}
+use Rattle.doubles.proofs.Bools.{not-true, not-false, clash}
 use Rattle.taking.proofs.Places.{handed-still, handed-new}
 use Rattle.merged_lists.proofs.Lists.{handed-short}
 use borrow.Author.Needs.{needs}
@@ -12,12 +12,12 @@ use Rattle.merged_lists.proofs.handed_back.Tie as tie
 returns : tie.Need-returns
 returns c =
     let a = c .before .before .args in
-    handed-still (a .p) (a .before .now) (a .work .now) (a .at) (not-true (a .p .moved) (c .if1 .taken))
+    (handed-still (a .p) (a .before .now) (a .work .now) (a .at) (not-true (a .p .moved) (c .if1 .taken)), λ _. refl)
 
 returns-2 : tie.Need-returns-2
 returns-2 c =
     let a = c .before .before .before .args in
-    handed-short (a .p) (a .before .now) (a .work .now) (a .at) (omega (arith, c .if2 .taken))
+    (handed-short (a .p) (a .before .now) (a .work .now) (a .at) (omega (arith, c .if2 .taken)), λ _. refl)
 
 sub-if3 : tie.Need-sub-if3
 sub-if3 c = search needs
@@ -25,7 +25,7 @@ sub-if3 c = search needs
 returns-3 : tie.Need-returns-3
 returns-3 c =
     let a = c .before .before .before .before .args in
-    handed-short (a .p) (a .before .now) (a .work .now) (a .at) (omega (arith, c .if3 .taken, c .before .if2 .left))
+    (handed-short (a .p) (a .before .now) (a .work .now) (a .at) (omega (arith, c .if3 .taken, c .before .if2 .left)), λ _. refl)
 
 mul-end : tie.Need-mul-end
 mul-end c = search needs
@@ -49,7 +49,8 @@ returns-4 : tie.Need-returns-4
 returns-4 c =
     let a = c .before .before .before .before .before .args in
     let n : a .at + 2 * a .p .pairs - a .at ≡ 2 * a .p .pairs = omega arith in
-    rw n (handed-new (a .p) (a .before .now) (a .work .now) (a .at) (not-false (a .p .moved) (c .before .before .before .if1 .left)) (omega (arith, c .before .if3 .left, c .before .before .if2 .left)))
+    (rw n (handed-new (a .p) (a .before .now) (a .work .now) (a .at) (not-false (a .p .moved) (c .before .before .before .if1 .left)) (omega (arith, c .before .if3 .left, c .before .before .if2 .left))),
+    λ e. absurd (clash (a .p .moved) (not-false (a .p .moved) (c .before .before .before .if1 .left)) e))
 
 pub handed-back-spec : {M : Type 1} → statement M
 handed-back-spec =

@@ -1,4 +1,5 @@
 -- `merged_lists::possible_of` meets its contract.
+use mathlib.Core.Path.{refl}
 use borrow.Author.Needs.{needs}
 use Rattle.merged_lists.proofs.possible_of.Statement.{statement}
 use Rattle.merged_lists.proofs.possible_of.Tie as tie
@@ -16,7 +17,7 @@ returns : tie.Need-returns
 returns c = rw (c .before .before .answer .given .1) (c .handed-back .ensures)
 
 returns-2 : tie.Need-returns-2
-returns-2 c = rw (c .enum-told .given .1)
+returns-2 c = rw (c .enum-told .given .1) (refl, λ _. refl)
 
 pub possible-of-spec : {M : Type 1} → statement M
 possible-of-spec =

@@ -38,10 +38,10 @@ size : (c : tie.After-known-told2) → length (buffer c) ≡ 3072
 size c = c .before .before .before .before .merge .kept .1 .1 .1 .1 .1 .1 .0
 
 possible-is : (c : tie.After-possible-of) → let k = c .before .before .before in now (c .possible-of .result) ≡ handed (first k) (k .before .before .before .before .before .before .before .before .before .before .before .args .possible .now) (buffer k) 0
-possible-is c = c .possible-of .ensures
+possible-is c = c .possible-of .ensures .0
 
 certain-is : (c : tie.After-certain-of) → let k = c .before .before .before .before .before .before .before .before .before in now (c .certain-of .result) ≡ handed (second k) (k .before .before .before .before .before .before .before .before .before .before .before .args .certain .now) (buffer k) (cellsOf (first k))
-certain-is c = c .certain-of .ensures
+certain-is c = c .certain-of .ensures .0
 
 -- what was printed is the text of the list
 printed : (o : tie.After-put-lines) → let k = o .before .before .before .before in length (linesText letterP (now (o .before .possible-of .result))) ≡ length (linesText letterP (handed (first k) (k .before .before .before .before .before .before .before .before .before .before .before .args .possible .now) (buffer k) 0))
