@@ -13,7 +13,8 @@ use Rattle.spans.specs.Spans.{within, holds, sound, Within, Outside, Share, Apa
 use Rattle.spans.proofs.Ends.{rising-at}
 use Rattle.spans.proofs.Sets.{sound-rising, sound-mod}
 use Rattle.spans.proofs.Points.{holds-more, front-only, in-pair, in-gap, upTo-last, pair-rises, number-at}
-use Rattle.overlay.proofs.Cutting.{top, top-first, top-second, top-both}
+use Rattle.overlay.specs.Overlay.{higherOf as top}
+use Rattle.overlay.proofs.Less.{higher-first as top-first, higher-second as top-second, higher-both as top-both}
 use Rattle.doubles.specs.Doubles.{Number}
 use Rattle.doubles.proofs.Bools.{and-left, and-right, or-cases, by-cases, clash}
 use Rattle.doubles.proofs.Order.{lt-number, not-lt→le, not-le→lt, le-refl, le-trans, lt-trans, lt-le-trans}

@@ -1,5 +1,5 @@
 -- From the lists that the caller gave to the answer.
-use mathlib.Core.Path.{_≡_, refl, sym, _∙_, ap, ap₂, subst}
+use mathlib.Core.Path.{_≡_, refl, sym, _∙_, ap, ap₂, subst, subst₂}
 use mathlib.Core.Bool.{Bool, true, false, cond, not, _||_}
 use mathlib.Core.List.{List, _++_}
 use mathlib.Core.Logic.{inl, inr}
@@ -16,7 +16,8 @@ use Rattle.spans.specs.Spans.{Within}
 use Rattle.validity.specs.Ray.{ValidRay}
 use Rattle.taking.specs.Taking.{eitherHit, cellsOf, handed, Spared}
 use Rattle.merge.specs.Merge.{Mergeable, workPairs, MergeAnswer}
-use Rattle.taking.specs.Steps.{part, newList, Ready, Merging, Placed, Normal, Given, Lists}
+use Rattle.taking.specs.Steps.{part, newList, Ready, Merging, Placed, Normal, Given, Lists, Exact}
+use Rattle.overlay.specs.Overlay.{lessOf}
 use Rattle.taking.specs.declared.Part.{Part}
 use Rattle.taking.specs.declared.Parts.{Parts}
 use Rattle.merge.specs.declared.Merged.the-variants.{Refused}
@@ -73,6 +74,16 @@ module _ (possible certain outer inner w w₁ w₂ w₃ w₄ : List Float) (at n
     certainLeft = subst (λ (l : List Float). Spared certain (eitherHit outer inner) (r .certain) (newList (r .certain) l (cellsOf (r .possible)) after)) certain-at
         (spared-same certain-at
         (λ x. ap₂ (λ (a b : Bool). a || b) (ap (λ (l : List Float). holds l x) outer-at ∙ o .list .points x) (i .list .points x)) (m .certainLeft));
+    exact = record {
+      outerNormal = part (at + length possible + length certain) no w₃;
+      innerNormal = part (at + length possible + length certain + no) ni w₄;
+      outerIs = o .list;
+      innerIs = i .list;
+      possibleIs = ap (λ (l : List Float). newList (r .possible) l 0 after) (sym possible-at) ∙ m .possibleIs
+          ∙ ap (λ (l : List Float). lessOf l (part (at + length possible + length certain + no) ni w₄)) possible-at;
+      certainIs = ap (λ (l : List Float). newList (r .certain) l (cellsOf (r .possible)) after) (sym certain-at) ∙ m .certainIs
+          ∙ ap₂ (λ (l k : List Float). lessOf (lessOf l k) (part (at + length possible + length certain + no) ni w₄)) certain-at outer-at;
+    };
   }
 
 -- ---- the rest of the buffer is cleared
@@ -147,6 +158,7 @@ module _ (lo hi : Float) (possible certain outer inner before : List Float) wher
           room = omega (arith, same-size w after n fit cleared);
           possibleLeft = p;
           certainLeft = c;
+          exact = subst₂ (Exact possible certain outer inner) (same (r .possible) possible 0 (omega arith)) (same (r .certain) certain (cellsOf (r .possible)) (omega arith)) (l .exact);
           valid = still-valid lo hi possible certain outer inner (handed (r .possible) possible after 0) (handed (r .certain) certain after (cellsOf (r .possible))) (r .possible) (r .certain) (m .ray) p c;
           rest = subst (λ (k : ℕ). drop k after ≡ replicate (length after - k) plusZero) e (rest-zero w after n fit cleared);
         },

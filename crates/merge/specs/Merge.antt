@@ -9,6 +9,7 @@ use Rattle.refusal.specs.Refusal.{Cause, cause, Due, NoneDue}
 use Rattle.spans.specs.Spans.{holds}
 use Rattle.validity.specs.Ray.{ValidRay}
 use Rattle.taking.specs.Taking.{eitherHit, cellsOf, handed, Spared}
+use Rattle.taking.specs.Steps.{Exact}
 use Rattle.taking.specs.declared.Part.{Part}
 use Rattle.merge.specs.declared.Merged.{Merged}
 use Rattle.merge.specs.declared.Merged.the-variants.{Lists, Refused}
@@ -18,6 +19,7 @@ pub record Left (lo hi : Float) (possible certain outer inner : List Float) (p c
   pub room : cellsOf p + cellsOf c ≤ length work
   pub possibleLeft : Spared possible (holds inner) p (handed p possible work 0)
   pub certainLeft : Spared certain (eitherHit outer inner) c (handed c certain work (cellsOf p))
+  pub exact : Exact possible certain outer inner (handed p possible work 0) (handed c certain work (cellsOf p))
   pub valid : ValidRay lo hi (handed p possible work 0) (handed c certain work (cellsOf p))
   pub rest : drop (cellsOf p + cellsOf c) work ≡ replicate (length work - (cellsOf p + cellsOf c)) plusZero
 

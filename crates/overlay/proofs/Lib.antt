@@ -1,3 +1,5 @@
 -- Laws that belong to no one function.
+pub mod Less
+pub mod Shared
 pub mod Cutting
 pub mod Common

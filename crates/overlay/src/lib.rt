@@ -1,17 +1,16 @@
-// Two sound lists laid over each other: the sound list of one less the other, and that of the points in both, filled into a buffer.
+// Two sound lists laid over each other: the list of one less the other, and that of the points in both, filled into a buffer.
 ghost use mathlib.Core.Path.{_≡_};
-ghost use mathlib.Core.Bool.{true, cond};
+ghost use mathlib.Core.Bool.{true};
 ghost use Prim.Native.Nat.{_+_, _≤_};
 ghost use lib.ListN.{length};
-ghost use lib.Ieee.{lt};
-ghost use Rattle.spans.specs.Spans.{sound, less, common};
-ghost use Rattle.spans.specs.Steps.{Filled};
-ghost use Rattle.overlay.specs.Steps.{Ready, Cut};
+ghost use Rattle.spans.specs.Spans.{sound};
+ghost use Rattle.overlay.specs.Overlay.{higherOf, lessOf, commonOf};
+ghost use Rattle.overlay.specs.Steps.{Ready, Cut, Written};
 use spans::Place;
 
-// The larger of two ends that are no NaN, the first where they are equal.
-fn higher(x: f64, y: f64) -> f64
-    ensures { λ r. ⌜ r ≡ cond (lt x y) y x ⌝ }
+// The first end, or the second where that is higher.
+pub fn higher(x: f64, y: f64) -> f64
+    ensures { λ r. ⌜ r ≡ higherOf x y ⌝ }
 {
     if x < y {
         return y;
@@ -19,7 +18,7 @@ fn higher(x: f64, y: f64) -> f64
     x
 }
 
-// Puts what the pair [from, hi] has outside the sound list `rest` past the first n ends.
+// Puts what the sound list `rest` leaves of the pair [from, hi] past the first n ends.
 fn cut_pair(rest: &[f64], out: &mut [f64], n: usize, from: f64, hi: f64) -> Place
     requires { ⌜ Ready (now rest) from hi (now out) n ⌝ }
     ensures { λ r. ⌜ Cut (now (rest .entry)) from hi (now (out .entry)) n (now (out .exit)) r ⌝ }
@@ -44,10 +43,10 @@ fn cut_pair(rest: &[f64], out: &mut [f64], n: usize, from: f64, hi: f64) -> Plac
     Place { passed: j, end }
 }
 
-// Fills the front of `out` with the sound list of a less b.
+// Fills the front of `out` with a less b.
 pub fn subtract_into(a: &[f64], b: &[f64], out: &mut [f64]) -> usize
     requires { ⌜ (sound (now a) ≡ true) × (sound (now b) ≡ true) × (length (now a) + length (now b) ≤ length (now out)) ⌝ }
-    ensures { λ r. ⌜ Filled (less (now (a .entry)) (now (b .entry))) (now (out .entry))
+    ensures { λ r. ⌜ Written (lessOf (now (a .entry)) (now (b .entry))) (now (out .entry))
         (length (now (a .entry)) + length (now (b .entry))) (now (out .exit)) r ⌝ }
 {
     let mut i = 0;
@@ -62,10 +61,10 @@ pub fn subtract_into(a: &[f64], b: &[f64], out: &mut [f64]) -> usize
     n
 }
 
-// Fills the front of `out` with the sound list of the points in both a and b.
+// Fills the front of `out` with what a and b have in common.
 pub fn intersect_into(a: &[f64], b: &[f64], out: &mut [f64]) -> usize
     requires { ⌜ (sound (now a) ≡ true) × (sound (now b) ≡ true) × (length (now a) + length (now b) ≤ length (now out)) ⌝ }
-    ensures { λ r. ⌜ Filled (common (now (a .entry)) (now (b .entry))) (now (out .entry))
+    ensures { λ r. ⌜ Written (commonOf (now (a .entry)) (now (b .entry))) (now (out .entry))
         (length (now (a .entry)) + length (now (b .entry))) (now (out .exit)) r ⌝ }
 {
     let mut i = 0;
@@ -75,14 +74,13 @@ pub fn intersect_into(a: &[f64], b: &[f64], out: &mut [f64]) -> usize
         if b.len() <= j {
             break;
         }
-        let lo = higher(a[i], b[j]);
+        let lo = extremes::larger(a[i], b[j]);
         let x = a[i + 1];
         let y = b[j + 1];
+        n = spans::put_pair(out, n, lo, extremes::smaller(x, y));
         if x < y {
-            n = spans::put_pair(out, n, lo, x);
             i += 2;
         } else {
-            n = spans::put_pair(out, n, lo, y);
             j += 2;
         }
     }

@@ -141,6 +141,7 @@ module _ (at : ℕ) (w ys : List Float) (fit : at ≤ length w) (size : length y
       past = λ q h. tail-past (n + m) (λ k g. s .between .past k (omega arith) ∙ ap (λ (l : List Float). getD l k nan) lent) q (omega arith);
     };
     most = s .most;
+    ends = rw (tail-drop, ← part-drop at a n w ha, ← part-drop at b m w hb, ← lent) (s .ends);
     list = record {
       isSound = rw tail-drop (s .list .isSound);
       points = λ p.

@@ -7,8 +7,10 @@ use native.Mathlib.Omega.{arith}
 use lib.ListN.{length}
 use lib.Ieee.{Float}
 use Rattle.spans.specs.Spans.{holds, sound, ListOf}
-use Rattle.doubles.proofs.Bools.{and-not-or}
+use Rattle.doubles.proofs.Bools.{and-not-or, or-neither}
 use Rattle.spans.proofs.Sets.{sound-mod}
+use Rattle.overlay.specs.Overlay.{lessOf}
+use Rattle.overlay.proofs.Less.{less-apart}
 use Rattle.taking.specs.Taking.{Moves, eitherHit, spared, cellsOf, Spared}
 use Rattle.taking.specs.Steps.{part, Lies, Between, Subtracted, Shortened, newList, Reduced, Ready, Merging}
 use Rattle.taking.specs.declared.Part.{Part}
@@ -20,12 +22,13 @@ spared-same {a} {b} {hit} {hit′} {r} {l} e h s = subst (λ (x : List Float). S
 
 -- ---- one list
 -- where no point is hit, the list stays
-pub reduced-still : (a : List Float) (hit : Float → Bool) (to end limit : ℕ) (w : List Float) (n : ℕ) → length a ≡ n → sound a ≡ true → (r : Bool) → r ≡ false → Moves a hit r
-    → Reduced a hit to end limit w w (record { moved = false; pairs = n / 2 })
-reduced-still a hit to end limit w n e s true h m = absurd (true≢false h)
-reduced-still a hit to end limit w n e s false h m = record {
+pub reduced-still : (a : List Float) (hit : Float → Bool) (exact : List Float) → a ≡ exact → (to end limit : ℕ) (w : List Float) (n : ℕ) → length a ≡ n → sound a ≡ true → (r : Bool) → r ≡ false → Moves a hit r
+    → Reduced a hit exact to end limit w w (record { moved = false; pairs = n / 2 })
+reduced-still a hit exact x to end limit w n e s true h m = absurd (true≢false h)
+reduced-still a hit exact x to end limit w n e s false h m = record {
   between = between-same to end w;
   most = omega arith;
+  is = x;
   spared = record {
     moves = m;
     list = record { isSound = s; points = λ p. same (holds a p) (hit p) (m p) };
@@ -37,18 +40,29 @@ reduced-still a hit to end limit w n e s false h m = record {
     same true y f = sym (ap not (f refl))
     same false y f = refl
 
-pub reduced-moved : (a : List Float) (hit : Float → Bool) (to end limit : ℕ) (before after : List Float) (r : ℕ) (b : Bool) → b ≡ true → Moves a hit b → Between to end before after
-    → r ≤ limit → to + r ≤ length after → ListOf (spared a hit) (part to r after) → Reduced a hit to end limit before after (record { moved = true; pairs = r / 2 })
-reduced-moved a hit to end limit before after r false h m x k f l = absurd (false≢true h)
-reduced-moved a hit to end limit before after r true h m x k f l =
+pub reduced-moved : (a : List Float) (hit : Float → Bool) (exact : List Float) (to end limit : ℕ) (before after : List Float) (r : ℕ) (b : Bool) → b ≡ true → Moves a hit b → Between to end before after
+    → r ≤ limit → to + r ≤ length after → part to r after ≡ exact → ListOf (spared a hit) (part to r after) → Reduced a hit exact to end limit before after (record { moved = true; pairs = r / 2 })
+reduced-moved a hit exact to end limit before after r false h m x k f z l = absurd (false≢true h)
+reduced-moved a hit exact to end limit before after r true h m x k f z l =
     let long : length (part to r after) ≡ r = part-length to r after f in
     let even : r % 2 ≡ 0 = subst (λ (n : ℕ). n % 2 ≡ 0) long (sound-mod (part to r after) (l .isSound)) in
     let twice : 2 * (r / 2) ≡ r = omega arith in
     record {
       between = x;
       most = omega arith;
+      is = ap (λ (k : ℕ). part to k after) twice ∙ z;
       spared = record { moves = m; list = rw twice l; pairs = rw twice long };
     }
+
+-- where no point is hit, the exact list is the old one
+pub stays-one : (a b : List Float) → sound a ≡ true → sound b ≡ true → (r : Bool) → r ≡ false → Moves a (holds b) r → a ≡ lessOf a b
+stays-one a b sa sb true h m = absurd (true≢false h)
+stays-one a b sa sb false h m = sym (less-apart a b sa sb m)
+
+pub stays-both : (a o i : List Float) → sound a ≡ true → sound o ≡ true → sound i ≡ true → (r : Bool) → r ≡ false → Moves a (eitherHit o i) r → a ≡ lessOf (lessOf a o) i
+stays-both a o i sa so si true h m = absurd (true≢false h)
+stays-both a o i sa so si false h m =
+    sym (ap (λ (l : List Float). lessOf l i) (less-apart a o sa so (λ p k. or-neither (holds o p) (holds i p) (m p k) .0)) ∙ less-apart a i sa si (λ p k. or-neither (holds o p) (holds i p) (m p k) .1))
 
 -- less the outer hits, then less the inner ones
 module _ (w w₁ w₂ : List Float) (to t c nc no ni m r : ℕ) (in-c : Lies c nc w) (in-o : Lies (c + nc) no w) (in-i : Lies (c + nc + no) ni w)
@@ -66,10 +80,11 @@ module _ (w w₁ w₂ : List Float) (to t c nc no ni m r : ℕ) (in-c : Lies c n
   )
 
   pub both-shortened : Subtracted (part t m w₁) (part (c + nc + no) ni w₁) to m ni w₁ w₂ r
-      → Shortened (part c nc w) (eitherHit (part (c + nc) no w) (part (c + nc + no) ni w)) to (t + nc + no) (nc + no + ni) w w₂ r
+      → Shortened (part c nc w) (eitherHit (part (c + nc) no w) (part (c + nc + no) ni w)) (lessOf (lessOf (part c nc w) (part (c + nc) no w)) (part (c + nc + no) ni w)) to (t + nc + no) (nc + no + ni) w w₂ r
   both-shortened second = record {
     between = between-both t (t + nc + no) to (to + m + ni) to (t + nc + no) w w₁ w₂ (first .between) (second .between) (omega arith) (omega arith) (omega arith) (omega (arith, first .most));
     most = omega (arith, first .most, second .most);
+    ends = second .ends ∙ ap₂ lessOf (first .ends) inner-kept;
     list = record {
       isSound = second .list .isSound;
       points = λ p.
@@ -88,7 +103,7 @@ cells-of-moved r a to w w′ f = go (r .moved) refl
     go false e = rw e
 
 module _ (at np nc no ni : ℕ) (w w₁ w₂ : List Float) (p q : Part) (ready : Ready at np nc no ni w)
-    (first : Reduced (part at np w) (holds (part (at + np + nc + no) ni w)) 0 (np + ni) (np + ni) w w₁ p) where
+    (first : Reduced (part at np w) (holds (part (at + np + nc + no) ni w)) (lessOf (part at np w) (part (at + np + nc + no) ni w)) 0 (np + ni) (np + ni) w w₁ p) where
   still : (k n : ℕ) → at ≤ k → k + n ≤ length w → part k n w₁ ≡ part k n w
   still k n h fit = part-past 0 (np + ni) w w₁ (first .between) k n fit (omega (arith, ready .room))
 
@@ -103,11 +118,16 @@ module _ (at np nc no ni : ℕ) (w w₁ w₂ : List Float) (p q : Part) (ready :
   )
 
   pub merging : (used : ℕ) → used ≡ cellsOf p
-      → Reduced (part (at + np) nc w₁) (eitherHit (part (at + np + nc) no w₁) (part (at + np + nc + no) ni w₁)) used (np + 2 * ni + nc + no) (nc + no + ni) w₁ w₂ q
+      → Reduced (part (at + np) nc w₁) (eitherHit (part (at + np + nc) no w₁) (part (at + np + nc + no) ni w₁)) (lessOf (lessOf (part (at + np) nc w₁) (part (at + np + nc) no w₁)) (part (at + np + nc + no) ni w₁)) used (np + 2 * ni + nc + no) (nc + no + ni) w₁ w₂ q
       → Merging at np nc no ni w w₂ (record { possible = p; certain = q })
   merging used e second = record {
     between = between-both 0 (np + ni) used (np + 2 * ni + nc + no) 0 at w w₁ w₂ (first .between) (second .between) (omega arith) (omega arith) (omega (arith, ready .room)) (omega (arith, ready .room));
     room = omega (arith, first .most, second .most, ready .room);
+    possibleIs = sym (cells-of-moved p (part at np w) 0 w₁ w₂ (λ h. part-front used (np + 2 * ni + nc + no) w₁ w₂ (second .between) 0 (2 * p .pairs) (fits h) (inside h))) ∙ first .is;
+    certainIs =
+        let cs = still (at + np) nc (omega arith) (ready .certain .room) in
+        ap₂ (λ (l : List Float) (k : ℕ). newList q l k w₂) (sym cs) (sym e) ∙ second .is
+        ∙ ap₂ lessOf (ap₂ lessOf cs (still (at + np + nc) no (omega arith) (ready .outer .room))) (still (at + np + nc + no) ni (omega arith) (ready .inner .room));
     possibleLeft = subst (Spared (part at np w) (holds (part (at + np + nc + no) ni w)) p)
         (cells-of-moved p (part at np w) 0 w₁ w₂ (λ h. part-front used (np + 2 * ni + nc + no) w₁ w₂ (second .between) 0 (2 * p .pairs) (fits h) (inside h)))
         (first .spared);

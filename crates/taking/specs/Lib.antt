@@ -1,3 +1,2 @@
 pub mod Taking
 pub mod Steps
-pub mod Sweep

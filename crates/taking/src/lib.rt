@@ -1,14 +1,13 @@
 // What the hits of one ray take from its lists, worked out in a buffer.
 ghost use mathlib.Core.Path.{_≡_};
-ghost use mathlib.Core.Bool.{true, false, _&&_};
-ghost use lib.Dec.{ltb};
-ghost use lib.Ieee.{nan, le};
 ghost use Prim.Native.Nat.{_+_, _-_, _*_, _/_, _%_, _^_, _≤_, _<_};
-ghost use lib.ListN.{length, getD};
+ghost use lib.ListN.{length};
 ghost use Rattle.spans.specs.Spans.{holds};
 ghost use Rattle.taking.specs.Taking.{Moves, eitherHit, cellsOf};
-ghost use Rattle.taking.specs.Sweep.{parityOf, Turn};
-ghost use Rattle.taking.specs.Steps.{part, Lies, Subtracted, Shortened, Reduced, Ready, Merging};
+ghost use Rattle.overlay.specs.Overlay.{lessOf};
+ghost use Rattle.overlay.specs.Steps.{Ready as CutReady};
+ghost use Rattle.taking.specs.Steps.{part, Lies, CutAt, Subtracted, Shortened, Reduced, Ready, Merging};
+use spans::Place;
 
 // One list after a merge: whether it moved, and how many pairs it has.
 pub struct Part {
@@ -31,48 +30,32 @@ pub fn share_point(w: &[f64], a: usize, n: usize, b: usize, m: usize) -> bool
     covering::meets(&w[a..e], &w[b..f])
 }
 
-// How many ends modulo 2 the result of a subtraction has, past i ends of the first list and j of the second.
-fn parity(i: usize, j: usize) -> usize
-    ensures { λ r. ⌜ r ≡ parityOf i j ⌝ }
+// Puts what the list of m cells at `at` leaves of the pair [from, hi] past the first n cells. Nothing is written that is still to be read.
+fn cut_at(w: &mut [f64], at: usize, m: usize, n: usize, from: f64, hi: f64) -> Place
+    requires { ⌜ (at + m ≤ length (now w)) × (n ≤ at) × CutReady (part at m (now w)) from hi (now w) n ⌝ }
+    ensures { λ r. ⌜ CutAt at m from hi (now (w .entry)) n (now (w .exit)) r ⌝ }
 {
-    if i % 2 == 0 {
-        return 0;
+    let mut lo = from;
+    let mut end = n;
+    let mut j = 0;
+    while j < m {
+        let x = w[at + j];
+        if hi <= x {
+            break;
+        }
+        let y = w[at + j + 1];
+        end = spans::put_pair(w, end, lo, x);
+        if hi <= y {
+            return Place { passed: j, end };
+        }
+        lo = overlay::higher(lo, y);
+        j += 2;
     }
-    1 - j % 2
+    end = spans::put_pair(w, end, lo, hi);
+    Place { passed: j, end }
 }
 
-// From e on, the first n ends shall be `want` in number modulo 2: e is put behind them or, where it stands there already, taken off.
-fn turn(out: &mut [f64], n: usize, e: f64, want: usize) -> usize
-    requires { ⌜ n < length (now out) ⌝ }
-    ensures { λ r. ⌜ Turn (now (out .entry)) n e want (now (out .exit)) r ⌝ }
-{
-    if n % 2 == want {
-        return n;
-    }
-    if n == 0 {
-        out[n] = e;
-        return n + 1;
-    }
-    if out[n - 1] < e {
-        out[n] = e;
-        return n + 1;
-    }
-    n - 1
-}
-
-// Whether the list of m cells at b has an end at place j that is at most x.
-fn comes_first(w: &[f64], b: usize, m: usize, j: usize, x: f64) -> bool
-    requires { ⌜ b + m ≤ length (now w) ⌝ }
-    ensures { λ r. ⌜ r ≡ (ltb j m && le (getD (now (w .entry)) (b + j) nan) x) ⌝ }
-{
-    if j < m {
-        return w[b + j] <= x;
-    }
-    false
-}
-
-// Writes the list of n cells at a less that of m cells at b to the start of w: the ends of both in ascending order. The result never reaches an
-// end that is still to be read.
+// Writes the list of n cells at a less that of m cells at b to the start of w.
 pub fn subtract_at(w: &mut [f64], a: usize, n: usize, b: usize, m: usize) -> usize
     requires { ⌜ Lies a n (now w) × Lies b m (now w) × (m ≤ a) × (n ≤ b) ⌝ }
     ensures { λ r. ⌜ Subtracted (part a n (now (w .entry))) (part b m (now (w .entry))) 0 n m (now (w .entry)) (now (w .exit)) r ⌝ }
@@ -81,15 +64,12 @@ pub fn subtract_at(w: &mut [f64], a: usize, n: usize, b: usize, m: usize) -> usi
     let mut j = 0;
     let mut r = 0;
     while i < n {
-        let x = w[a + i];
-        if comes_first(w, b, m, j, x) {
-            let y = w[b + j];
-            j += 1;
-            r = turn(w, r, y, parity(i, j));
-        } else {
-            i += 1;
-            r = turn(w, r, x, parity(i, j));
-        }
+        let lo = w[a + i];
+        let hi = w[a + i + 1];
+        let place = cut_at(w, b + j, m - j, r, lo, hi);
+        r = place.end;
+        j += place.passed;
+        i += 2;
     }
     r
 }
@@ -116,7 +96,7 @@ pub fn cells(p: Part) -> usize
 // Possible less the inner hits.
 fn take_inner(w: &mut [f64], a: usize, n: usize, b: usize, m: usize) -> Part
     requires { ⌜ Lies a n (now w) × Lies b m (now w) × (m ≤ a) × (n ≤ b) ⌝ }
-    ensures { λ r. ⌜ Reduced (part a n (now (w .entry))) (holds (part b m (now (w .entry)))) 0 (n + m) (n + m) (now (w .entry)) (now (w .exit)) r ⌝ }
+    ensures { λ r. ⌜ Reduced (part a n (now (w .entry))) (holds (part b m (now (w .entry)))) (lessOf (part a n (now (w .entry))) (part b m (now (w .entry)))) 0 (n + m) (n + m) (now (w .entry)) (now (w .exit)) r ⌝ }
 {
     if !share_point(w, a, n, b, m) {
         return Part {
@@ -155,7 +135,7 @@ pub fn subtract_both(
 ) -> usize
     requires { ⌜ Lies c nc (now w) × Lies (c + nc) no (now w) × Lies (c + nc + no) ni (now w) × (to + ni ≤ t) × (t + nc + no ≤ c) ⌝ }
     ensures { λ r. ⌜ Shortened (part c nc (now (w .entry))) (eitherHit (part (c + nc) no (now (w .entry))) (part (c + nc + no) ni (now (w .entry))))
-        to (t + nc + no) (nc + no + ni) (now (w .entry)) (now (w .exit)) r ⌝ }
+        (lessOf (lessOf (part c nc (now (w .entry))) (part (c + nc) no (now (w .entry)))) (part (c + nc + no) ni (now (w .entry)))) to (t + nc + no) (nc + no + ni) (now (w .entry)) (now (w .exit)) r ⌝ }
 {
     let o = c + nc;
     let i = o + no;
@@ -167,7 +147,7 @@ pub fn subtract_both(
 fn take_both(w: &mut [f64], to: usize, t: usize, c: usize, nc: usize, no: usize, ni: usize) -> Part
     requires { ⌜ Lies c nc (now w) × Lies (c + nc) no (now w) × Lies (c + nc + no) ni (now w) × (to + ni ≤ t) × (t + nc + no ≤ c) ⌝ }
     ensures { λ r. ⌜ Reduced (part c nc (now (w .entry))) (eitherHit (part (c + nc) no (now (w .entry))) (part (c + nc + no) ni (now (w .entry))))
-        to (t + nc + no) (nc + no + ni) (now (w .entry)) (now (w .exit)) r ⌝ }
+        (lessOf (lessOf (part c nc (now (w .entry))) (part (c + nc) no (now (w .entry)))) (part (c + nc + no) ni (now (w .entry)))) to (t + nc + no) (nc + no + ni) (now (w .entry)) (now (w .exit)) r ⌝ }
 {
     if !is_hit(w, c, nc, no, ni) {
         return Part {

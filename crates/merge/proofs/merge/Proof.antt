@@ -79,7 +79,10 @@ cells-requires-2 : tie.Need-cells-requires-2
 cells-requires-2 c κs = search needs
 
 add-clear-from : tie.Need-add-clear-from
-add-clear-from c = search needs
+add-clear-from c =
+    let j = c .before in
+    let y = j .before .before .before .before .before .before in
+    record { fits = omega (arith, c .cells2 .ensures, j .cells .ensures, y .merge-lists .ensures .room, y .before .before .before .before .before .before .before .before .before .before .before .before .good .1 .1 .1 .1 .1 .1 .0 .0) }
 
 clear-from-requires : tie.Need-clear-from-requires
 clear-from-requires c κs = search needs

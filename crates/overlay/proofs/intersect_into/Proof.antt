@@ -18,20 +18,20 @@ abbrev μ-loop : tie.MeasureT-loop
 loop-holds : tie.Need-loop-holds Inv-loop μ-loop
 loop-holds c = share-start _ _ _
 
-mul-higher : tie.Need-mul-higher Inv-loop μ-loop
-mul-higher c = search needs
+mul-larger : tie.Need-mul-larger Inv-loop μ-loop
+mul-larger c = search needs
 
-shared-slice-read-higher : tie.Need-shared-slice-read-higher Inv-loop μ-loop
-shared-slice-read-higher c = search needs
+shared-slice-read-larger : tie.Need-shared-slice-read-larger Inv-loop μ-loop
+shared-slice-read-larger c = search needs
 
-mul-higher-2 : tie.Need-mul-higher-2 Inv-loop μ-loop
-mul-higher-2 c = search needs
+mul-larger-2 : tie.Need-mul-larger-2 Inv-loop μ-loop
+mul-larger-2 c = search needs
 
-shared-slice-read-higher-2 : tie.Need-shared-slice-read-higher-2 Inv-loop μ-loop
-shared-slice-read-higher-2 c = search needs
+shared-slice-read-larger-2 : tie.Need-shared-slice-read-larger-2 Inv-loop μ-loop
+shared-slice-read-larger-2 c = search needs
 
-higher-requires : tie.Need-higher-requires Inv-loop μ-loop
-higher-requires c κs = search needs
+larger-requires : tie.Need-larger-requires Inv-loop μ-loop
+larger-requires c κs = search needs
 
 add-x : tie.Need-add-x Inv-loop μ-loop
 add-x c = search needs
@@ -57,6 +57,9 @@ shared-slice-read-y c =
     let s = l .before .before .before .before in
     omega (arith, sound-mod (s .args .b .now) (s .pre .1), l .loop .inv .jWhole)
 
+smaller-requires : tie.Need-smaller-requires Inv-loop μ-loop
+smaller-requires c κs = search needs
+
 put-pair-requires : tie.Need-put-pair-requires Inv-loop μ-loop
 put-pair-requires c κs = search needs
 
@@ -68,12 +71,9 @@ loop-less c = search needs
 
 loop-again : tie.Need-loop-again Inv-loop μ-loop
 loop-again c =
-    let l = c .before .before .before .before .before .before .before .before .before .before .before .before in
+    let l = c .before .before .before .before .before .before .before .before .before .before .before .before .before in
     let s = l .before .before .before .before in
-    share-a _ _ _ _ _ _ _ _ _ (s .pre .0) (s .pre .1) (s .pre .2) (l .loop .inv) (c .before .before .before .before .before .before .before .before .before .before .before .loop-test .taken) (omega (arith, c .before .before .before .before .before .before .before .before .before .before .if1 .left)) (c .before .before .before .before .if2 .taken) (rw (c .before .before .before .before .before .before .before .higher .ensures) at (c .before .before .put-pair .ensures))
-
-put-pair-requires-2 : tie.Need-put-pair-requires-2 Inv-loop μ-loop
-put-pair-requires-2 c κs = search needs
+    share-a _ _ _ _ _ _ _ _ _ (s .pre .0) (s .pre .1) (l .loop .inv) (c .before .before .before .before .before .before .before .before .before .before .before .before .loop-test .taken) (omega (arith, c .before .before .before .before .before .before .before .before .before .before .before .if1 .left)) (rw (c .before .before .before .before .before .before .before .before .larger .ensures, c .before .before .before .before .smaller .ensures) at (c .before .before .before .put-pair .ensures)) (c .if2 .taken)
 
 add-j : tie.Need-add-j Inv-loop μ-loop
 add-j c = search needs
@@ -83,9 +83,9 @@ loop-less-2 c = search needs
 
 loop-again-2 : tie.Need-loop-again-2 Inv-loop μ-loop
 loop-again-2 c =
-    let l = c .before .before .before .before .before .before .before .before .before .before .before .before in
+    let l = c .before .before .before .before .before .before .before .before .before .before .before .before .before in
     let s = l .before .before .before .before in
-    share-b _ _ _ _ _ _ _ _ _ (s .pre .0) (s .pre .1) (s .pre .2) (l .loop .inv) (c .before .before .before .before .before .before .before .before .before .before .before .loop-test .taken) (omega (arith, c .before .before .before .before .before .before .before .before .before .before .if1 .left)) (c .before .before .before .before .if2 .left) (rw (c .before .before .before .before .before .before .before .higher .ensures) at (c .before .before .put-pair2 .ensures))
+    share-b _ _ _ _ _ _ _ _ _ (s .pre .0) (s .pre .1) (l .loop .inv) (c .before .before .before .before .before .before .before .before .before .before .before .before .loop-test .taken) (omega (arith, c .before .before .before .before .before .before .before .before .before .before .before .if1 .left)) (rw (c .before .before .before .before .before .before .before .before .larger .ensures, c .before .before .before .before .smaller .ensures) at (c .before .before .before .put-pair .ensures)) (c .if2 .left)
 
 same-length : tie.Need-same-length Inv-loop μ-loop
 same-length c = search needs
@@ -94,7 +94,7 @@ returns : tie.Need-returns Inv-loop μ-loop
 returns c =
     let l = c .before in
     let s = l .before .before .before .before in
-    share-done _ _ _ _ _ _ _ (s .pre .0) (s .pre .1) (inl (c .loop-test .left)) (l .loop .inv)
+    share-done _ _ _ _ _ _ _ (inl (c .loop-test .left)) (l .loop .inv)
 
 same-length-2 : tie.Need-same-length-2 Inv-loop μ-loop
 same-length-2 c = search needs
@@ -103,7 +103,7 @@ returns-2 : tie.Need-returns-2 Inv-loop μ-loop
 returns-2 c =
     let l = c .before .before in
     let s = l .before .before .before .before in
-    share-done _ _ _ _ _ _ _ (s .pre .0) (s .pre .1) (inr (c .if1 .taken)) (l .loop .inv)
+    share-done _ _ _ _ _ _ _ (inr (c .if1 .taken)) (l .loop .inv)
 
 pub intersect-into-spec : {M : Type 1} → statement M
 intersect-into-spec =
@@ -112,22 +112,22 @@ intersect-into-spec =
     Inv-loop
     μ-loop
     loop-holds
-    mul-higher
-    shared-slice-read-higher
-    mul-higher-2
-    shared-slice-read-higher-2
-    higher-requires
+    mul-larger
+    shared-slice-read-larger
+    mul-larger-2
+    shared-slice-read-larger-2
+    larger-requires
     add-x
     mul-x
     shared-slice-read-x
     add-y
     mul-y
     shared-slice-read-y
+    smaller-requires
     put-pair-requires
     add-i
     loop-less
     loop-again
-    put-pair-requires-2
     add-j
     loop-less-2
     loop-again-2

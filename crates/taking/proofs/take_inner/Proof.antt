@@ -5,7 +5,8 @@ use Rattle.doubles.proofs.Bools.{not-true, not-false}
 use Rattle.spans.specs.Spans.{holds}
 use Rattle.taking.specs.Steps.{part}
 use Rattle.taking.proofs.Places.{part-length}
-use Rattle.taking.proofs.Sparing.{reduced-still, reduced-moved}
+use Rattle.taking.proofs.Sparing.{reduced-still, reduced-moved, stays-one}
+use Rattle.overlay.specs.Overlay.{lessOf}
 use borrow.Author.Needs.{needs}
 use native.Mathlib.Omega.{arith}
 use Rattle.taking.proofs.take_inner.Statement.{statement}
@@ -25,7 +26,8 @@ returns c =
     let s = c .before .before .before .before in
     let a = s .args in
     let h = c .before .share-point in
-    reduced-still (part (a .a) (a .n) (a .w .now)) (holds (part (a .b) (a .m) (a .w .now))) 0 (a .n + a .m) (a .n + a .m) (a .w .now) (a .n)
+    reduced-still (part (a .a) (a .n) (a .w .now)) (holds (part (a .b) (a .m) (a .w .now))) (lessOf (part (a .a) (a .n) (a .w .now)) (part (a .b) (a .m) (a .w .now)))
+    (stays-one (part (a .a) (a .n) (a .w .now)) (part (a .b) (a .m) (a .w .now)) (s .pre .0 .isSound) (s .pre .1 .isSound) (h .result) (not-true (h .result) (c .if1 .taken)) (h .ensures)) 0 (a .n + a .m) (a .n + a .m) (a .w .now) (a .n)
     (part-length (a .a) (a .n) (a .w .now) (s .pre .0 .room)) (s .pre .0 .isSound) (h .result) (not-true (h .result) (c .if1 .taken)) (h .ensures)
 
 subtract-at-requires : tie.Need-subtract-at-requires
@@ -42,9 +44,9 @@ returns-2 c =
     let a = s .args in
     let h = d .before .share-point in
     let z = y .subtract-at .ensures in
-    reduced-moved (part (a .a) (a .n) (a .w .now)) (holds (part (a .b) (a .m) (a .w .now))) 0 (a .n + a .m) (a .n + a .m) (a .w .now) (y .subtract-at .last .0) (y .subtract-at .result)
+    reduced-moved (part (a .a) (a .n) (a .w .now)) (holds (part (a .b) (a .m) (a .w .now))) (lessOf (part (a .a) (a .n) (a .w .now)) (part (a .b) (a .m) (a .w .now))) 0 (a .n + a .m) (a .n + a .m) (a .w .now) (y .subtract-at .last .0) (y .subtract-at .result)
     (h .result) (not-false (h .result) (d .if1 .left)) (h .ensures) (rw (none (a .n)) at (z .between)) (z .most)
-    (omega (arith, z .most, z .between .size, s .pre .2, s .pre .0 .room)) (z .list)
+    (omega (arith, z .most, z .between .size, s .pre .2, s .pre .0 .room)) (z .ends) (z .list)
 
 pub take-inner-spec : {M : Type 1} → statement M
 take-inner-spec =
