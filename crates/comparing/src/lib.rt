@@ -1,6 +1,5 @@
 // Two span lists compared: whether one has all points of the other, and whether they have one in common.
-ghost use Rattle.covering.specs.Covering.{Covers, Meets};
-ghost use Rattle.comparing.specs.Verdicts.{Verdict, compareCauses};
+ghost use Rattle.comparing.specs.Verdicts.{Verdict, compareCauses, Contains, Overlaps};
 use spans::is_sound;
 
 // Whether something holds of two lists, or why the call is refused.
@@ -12,7 +11,7 @@ pub enum Told {
 
 // Whether each point of inner is in outer. 11: a list is not sound.
 pub fn contains(outer: &[f64], inner: &[f64]) -> Told
-    ensures { λ r. ⌜ Verdict (compareCauses (now (outer .entry)) (now (inner .entry))) (Covers (now (outer .entry)) (now (inner .entry))) r ⌝ }
+    ensures { λ r. ⌜ Verdict (compareCauses (now (outer .entry)) (now (inner .entry))) (Contains (now (outer .entry)) (now (inner .entry))) r ⌝ }
 {
     if !is_sound(outer) {
         return Told::Refused(11);
@@ -28,7 +27,7 @@ pub fn contains(outer: &[f64], inner: &[f64]) -> Told
 
 // Whether some point is in both lists. 11: a list is not sound.
 pub fn overlaps(a: &[f64], b: &[f64]) -> Told
-    ensures { λ r. ⌜ Verdict (compareCauses (now (a .entry)) (now (b .entry))) (Meets (now (a .entry)) (now (b .entry))) r ⌝ }
+    ensures { λ r. ⌜ Verdict (compareCauses (now (a .entry)) (now (b .entry))) (Overlaps (now (a .entry)) (now (b .entry))) r ⌝ }
 {
     if !is_sound(a) {
         return Told::Refused(11);

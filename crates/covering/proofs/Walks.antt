@@ -1,15 +1,16 @@
 -- Two sound lists walked pair by pair: what a turn keeps, and the point that decides.
-use mathlib.Core.Path.{_≡_, sym, _∙_, ap, subst}
+use mathlib.Core.Path.{_≡_, refl, sym, _∙_, ap, subst}
 use mathlib.Core.Logic.{_⊎_, inl, inr}
 use mathlib.Core.Bool.{true, false, false≢true}
-use mathlib.Core.List.{List}
-use Prim.Native.Nat.{ℕ, _+_, _-_, _%_, _≤_, _<_}
+use mathlib.Core.List.{List, [], _∷_, List·Memᴰ, List·Memᴰ·head, List·Memᴰ·tail}
+use Prim.Native.Nat.{ℕ, zero, suc, _+_, _-_, _%_, _≤_, _<_}
 use native.Mathlib.Omega.{arith}
 use native.Mathlib.Decide.{decLt}
 use lib.ListN.{length, getD, take}
 use lib.Seq.{take-all}
 use lib.Ieee.{Float, nan, lt, le}
-use Rattle.spans.specs.Spans.{within, holds, sound, Within, Outside, Share, Apart}
+use Rattle.spans.specs.Spans.{EndOf, within, holds, sound, Within, Apart}
+use Rattle.covering.specs.Covering.{Covers, Meets}
 use Rattle.spans.proofs.Ends.{rising-at}
 use Rattle.spans.proofs.Sets.{sound-rising, sound-mod}
 use Rattle.spans.proofs.Points.{holds-more, front-only, in-pair, in-gap, upTo-last, pair-rises, number-at}
@@ -18,6 +19,13 @@ use Rattle.overlay.proofs.Less.{higher-first as top-first, higher-second as top
 use Rattle.doubles.specs.Doubles.{Number}
 use Rattle.doubles.proofs.Bools.{and-left, and-right, or-cases, by-cases, clash}
 use Rattle.doubles.proofs.Order.{lt-number, not-lt→le, not-le→lt, le-refl, le-trans, lt-trans, lt-le-trans}
+
+-- a cell of a list is one of its ends
+end-at : (l : List Float) (k : ℕ) → k < length l → List·Memᴰ (getD l k nan) l
+end-at [] k h = absurd (omega arith)
+end-at (x ∷ l) zero h = List·Memᴰ·head refl
+end-at (x ∷ l) (suc k) h = List·Memᴰ·tail (end-at l k (omega arith))
+
 
 -- the points of a list's first pairs and one more
 one-more : (l : List Float) (k : ℕ) (p : Float) → k % 2 ≡ 0 → k + 2 ≤ length l → holds (take (k + 2) l) p ≡ true
@@ -59,21 +67,22 @@ module _ (outer inner : List Float) (k j : ℕ) (so : sound outer ≡ true) (si 
   k-fits = omega (arith, sound-mod inner si, s .kWhole)
 
   -- lo, or the last end that is passed where that is larger, is in the pair and in no pair of outer
-  pub escapes : (j < length outer → lt lo (getD outer j nan) ≡ true) → Outside outer inner
+  pub escapes : (j < length outer → lt lo (getD outer j nan) ≡ true) → Covers outer inner false
   escapes next = elim (decLt 0 j) [
     | yes g ↦
         let e = getD outer (j - 1) nan in
         let e-hi : lt e hi ≡ true = s .passed h g in
         let nlo = number-at inner k si h in
-        point (top lo e) (top-first lo e nlo) (top-both (λ x. lt x hi ≡ true) lo e (pair-rises inner k si k-fits) e-hi)
+        point (top lo e) (top-both (EndOf outer inner) lo e (inr (end-at inner k h)) (inl (end-at outer (j - 1) (omega (arith, s .jMost))))) (top-first lo e nlo) (top-both (λ x. lt x hi ≡ true) lo e (pair-rises inner k si k-fits) e-hi)
         (λ _. top-second lo e nlo (lt-number e hi e-hi .0))
         (λ f. top-both (λ x. lt x (getD outer j nan) ≡ true) lo e (next f) (rising-at outer (j - 1) j (sound-rising outer so) (omega arith) f))
-    | no g ↦ point lo (le-refl lo (number-at inner k si h)) (pair-rises inner k si k-fits) (λ f. absurd (g f)) next
+    | no g ↦ point lo (inr (end-at inner k h)) (le-refl lo (number-at inner k si h)) (pair-rises inner k si k-fits) (λ f. absurd (g f)) next
   ]
     where
-      point : (p : Float) → le lo p ≡ true → lt p hi ≡ true → (0 < j → le (getD outer (j - 1) nan) p ≡ true) → (j < length outer → lt p (getD outer j nan) ≡ true) → Outside outer inner
-      point p l u last f = (
+      point : (p : Float) → EndOf outer inner p → le lo p ≡ true → lt p hi ≡ true → (0 < j → le (getD outer (j - 1) nan) p ≡ true) → (j < length outer → lt p (getD outer j nan) ≡ true) → Covers outer inner false
+      point p m l u last f = (
         p,
+        m,
         in-pair inner k p si (s .kWhole) k-fits l u,
         in-gap outer j p (s .jMost) so (s .jWhole) (upTo-last outer j p (s .jMost) (sound-rising outer so) last) f,
       )
@@ -187,13 +196,14 @@ module _ (a b : List Float) (i j : ℕ) (sa : sound a ≡ true) (sb : sound b �
   }
 
   -- the larger lo is in both pairs
-  pub share-point : le (getD a (i + 1) nan) (getD b j nan) ≡ false → lt (getD a i nan) (getD b (j + 1) nan) ≡ true → Share a b
+  pub share-point : le (getD a (i + 1) nan) (getD b j nan) ≡ false → lt (getD a i nan) (getD b (j + 1) nan) ≡ true → Meets a b true
   share-point t u =
       let x = getD a i nan in
       let y = getD b j nan in
       let nx = number-at a i sa h in
       let ny = number-at b j sb g in (
         top x y,
+        top-both (EndOf a b) x y (inl (end-at a i h)) (inr (end-at b j g)),
         in-pair a i (top x y) sa (s .iWhole) a-fits (top-first x y nx)
             (top-both (λ e. lt e (getD a (i + 1) nan) ≡ true) x y (pair-rises a i sa a-fits) (not-le→lt (getD a (i + 1) nan) y (number-at a (i + 1) sa (omega (arith, a-fits))) ny t)),
         in-pair b j (top x y) sb (s .jWhole) b-fits (top-second x y nx ny) (top-both (λ e. lt e (getD b (j + 1) nan) ≡ true) x y u (pair-rises b j sb b-fits)),

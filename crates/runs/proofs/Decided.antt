@@ -14,7 +14,8 @@ use lib.ListN.{length}
 use lib.Ieee.{Float}
 use Rattle.doubles.proofs.Bools.{or-cases, or-left, clash, not-true, not-false}
 use Rattle.refusal.specs.Refusal.{Cause, Due, NoneDue}
-use Rattle.spans.specs.Spans.{within, holds, ListOf}
+use Rattle.spans.specs.Spans.{Double, Point, within, holds, ListOf}
+use Rattle.spans.specs.Steps.{All}
 use Rattle.spans.proofs.Points.{or-assoc}
 use Rattle.grid.specs.Rays.{rayCount}
 use Rattle.grid.specs.declared.DexelStockSpec.{DexelStockSpec}
@@ -23,7 +24,7 @@ use Rattle.runs.specs.Logs.{Ray, Kind, possible, certain, Entry, entries
 use Rattle.runs.specs.Model.{Sets, without, Changes, Count, none, counted, skipped, sumTo, sumOver, pairs, Intervals, Lent, Short, Bad, NoRay, TooManyRays, TooManyIntervals, causes, Answer, changed, refused, Judged}
 use Rattle.runs.specs.Counts.{hitBy, startsLeft, hitsOn, changesRay, raysChanged, pairsLeft}
 use Rattle.runs.proofs.Unique.{count-unique, intervals-unique}
-use Rattle.runs.proofs.Meets.{kept-unhit}
+use Rattle.runs.proofs.Meets.{kept-unhit, unhit-points}
 use Rattle.runs.proofs.Starts.{pairs-left}
 use Rattle.runs.proofs.Less.{less, less-list, same-list}
 
@@ -122,22 +123,28 @@ module _ (g : DexelGrid) (s : Sets g) (lists : Ray g → Kind → List Float) (e
         (λ h p. without-hits g r s es k p ∙ ap (λ (b : Bool). b && not (holds (hitsOn g es r k) p)) (sym (each r k .points p)) ∙ law .1 h p ∙ each r k .points p),
       )
 
-  pub changes-by : (r : Ray g) → Decides (Changes g s es r) (changesRay g lists es r)
-  unfolding Changes changesRay
-  changes-by r = (
-    (λ h f. elim (or-cases (hitBy (lists r possible) (hitsOn g es r possible)) (hitBy (lists r certain) (hitsOn g es r certain)) h) [
-      | inl u ↦ clash (hitBy (lists r possible) (hitsOn g es r possible)) u (stays r possible .0 (f possible))
-      | inr u ↦ clash (hitBy (lists r certain) (hitsOn g es r certain)) u (stays r certain .0 (f certain))
-    ]),
-    (λ h n. n (λ k. elim k [
-      | possible ↦ stays r possible .1 (not-left (hitBy (lists r possible) (hitsOn g es r possible)) (hitBy (lists r certain) (hitsOn g es r certain)) h)
-      | certain ↦ stays r certain .1 (not-right (hitBy (lists r possible) (hitsOn g es r possible)) (hitBy (lists r certain) (hitsOn g es r certain)) h)
-    ])),
-  )
+  -- the same where the ends of the lists and of the hits are doubles, by the points alone
+  module _ (dl : (r : Ray g) (k : Kind) → All Double (lists r k)) (dh : (r : Ray g) (k : Kind) → All Double (hitsOn g es r k)) where
+    stays-points : (r : Ray g) (k : Kind) → ((p : Float) → Point p → without g s es r k p ≡ s r k p) → hitBy (lists r k) (hitsOn g es r k) ≡ false
+    stays-points r k f = unhit-points (lists r k) (hitsOn g es r k) (each r k .isSound) (dl r k) (dh r k)
+        (λ p h. ap (λ (b : Bool). b && not (holds (hitsOn g es r k) p)) (each r k .points p) ∙ sym (without-hits g r s es k p) ∙ f p h ∙ sym (each r k .points p))
 
-  pub rays-counted : Count g (Changes g s es) (rayCount g) (raysChanged g lists es)
-  unfolding raysChanged
-  rays-counted = count-by g (Changes g s es) (changesRay g lists es) changes-by (rayCount g) (le-refl (rayCount g))
+    pub changes-by : (r : Ray g) → Decides (Changes g s es r) (changesRay g lists es r)
+    unfolding Changes changesRay
+    changes-by r = (
+      (λ h f. elim (or-cases (hitBy (lists r possible) (hitsOn g es r possible)) (hitBy (lists r certain) (hitsOn g es r certain)) h) [
+        | inl u ↦ clash (hitBy (lists r possible) (hitsOn g es r possible)) u (stays-points r possible (f possible))
+        | inr u ↦ clash (hitBy (lists r certain) (hitsOn g es r certain)) u (stays-points r certain (f certain))
+      ]),
+      (λ h n. n (λ k p _. elim k [
+        | possible ↦ stays r possible .1 (not-left (hitBy (lists r possible) (hitsOn g es r possible)) (hitBy (lists r certain) (hitsOn g es r certain)) h) p
+        | certain ↦ stays r certain .1 (not-right (hitBy (lists r possible) (hitsOn g es r possible)) (hitBy (lists r certain) (hitsOn g es r certain)) h) p
+      ])),
+    )
+
+    pub rays-counted : Count g (Changes g s es) (rayCount g) (raysChanged g lists es)
+    unfolding raysChanged
+    rays-counted = count-by g (Changes g s es) (changesRay g lists es) changes-by (rayCount g) (le-refl (rayCount g))
 
   -- the sound lists of the sets as they would be
   pub left-list : (r : Ray g) (k : Kind) → ListOf (without g s es r k) (less (lists r k) (hitsOn g es r k))
@@ -200,7 +207,8 @@ module _ (spec : DexelStockSpec) (g : DexelGrid) (b : Lent) where
       ∷ ltb (spec .«max_intervals») (pairsLeft g lists (entries (c .log)))
       ∷ []
 
-  module _ (s : Sets g) (lists : Ray g → Kind → List Float) (each : (r : Ray g) (k : Kind) → ListOf (s r k) (lists r k)) (n : ℕ) (c : Commit) where
+  module _ (s : Sets g) (lists : Ray g → Kind → List Float) (each : (r : Ray g) (k : Kind) → ListOf (s r k) (lists r k)) (n : ℕ) (c : Commit)
+      (dl : (r : Ray g) (k : Kind) → All Double (lists r k)) (dh : (r : Ray g) (k : Kind) → All Double (hitsOn g (entries (c .log)) r k)) where
     short-by : Decides (Short spec g b c) (ltb (b .records) (spec .«max_intervals») || (ltb (b .heads) (2 * rayCount g) || ltb (c .work) (workNeeded (spec .«max_intervals») (c .log))))
     unfolding Short
     short-by =
@@ -220,7 +228,7 @@ module _ (spec : DexelStockSpec) (g : DexelGrid) (b : Lent) where
     pub rays-by : Decides (TooManyRays g s c) (ltb (c .allowance) (raysChanged g lists (entries (c .log))))
     unfolding TooManyRays
     rays-by =
-        let x = rays-counted g s lists each (entries (c .log)) in
+        let x = rays-counted g s lists each (entries (c .log)) dl dh in
         let d = less-than (c .allowance) (raysChanged g lists (entries (c .log))) in (
           (λ h. (raysChanged g lists (entries (c .log)), x, d .0 h)),
           (λ h y. d .1 h (subst (λ (m : ℕ). c .allowance < m) (count-unique (y .1) x) (y .2))),
@@ -245,5 +253,5 @@ module _ (spec : DexelStockSpec) (g : DexelGrid) (b : Lent) where
     unfolding Judged
     judged = elim (due-by (causes spec g b ⊥ s n c) (tests lists n c) (changed (raysChanged g lists (entries (c .log)))) all-decided) [
       | inl (k, e, x) ↦ subst (λ (a : Answer). Judged spec g b ⊥ s n c a) (sym e) x
-      | inr (e, x) ↦ subst (λ (a : Answer). Judged spec g b ⊥ s n c a) (sym e) (x, rays-counted g s lists each (entries (c .log)))
+      | inr (e, x) ↦ subst (λ (a : Answer). Judged spec g b ⊥ s n c a) (sym e) (x, rays-counted g s lists each (entries (c .log)) dl dh)
     ]

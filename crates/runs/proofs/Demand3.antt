@@ -10,6 +10,7 @@ use lib.ListN.{length}
 use lib.Ieee.{Float}
 use Rattle.doubles.proofs.Bools.{and-left, and-right, both, not-true, clash, by-cases}
 use Rattle.spans.specs.Spans.{holds, equal, ListOf}
+use Rattle.spans.proofs.Sets.{same-points}
 use Rattle.grid.specs.declared.DexelStockSpec.{DexelStockSpec}
 use Rattle.grid.specs.declared.DexelGrid.{DexelGrid}
 use Rattle.runs.specs.Logs.{Ray, Kind, possible, certain, inner, outer, Lies, Alike, entries, taken, Commit}
@@ -130,7 +131,7 @@ module _ (spec : DexelStockSpec) (g : DexelGrid) (R : Reading g) (L : Lawful g R
       answers = F .modelled;
       no-others = λ bs x. modelled-unique spec g (R .lent s) (start g R s) cs bs vs x (F .modelled);
       listed = list-of;
-      only-list = λ r k l x. one-list (ended g (start g R s) cs vs .sets r k) l (R .lists t r k) x (list-of r k);
+      only-list = λ r k l dl dt sl x. same-points l (R .lists t r k) dl dt sl (list-of r k .isSound) (λ p h. x p h ∙ sym (list-of r k .points p));
       all-pairs = L .all-pairs t (F .sound);
       model-generation = F .generation;
       generation = F .generation ∙ unfold start in grown g (start g R s) cs vs;

@@ -9,7 +9,7 @@ use native.Mathlib.Nat.{le-refl, le-of-lt}
 use lib.ListN.{length}
 use lib.Ieee.{Float}
 use Rattle.refusal.specs.Refusal.{Cause, cause, Due, NoneDue}
-use Rattle.spans.specs.Spans.{ListOf}
+use Rattle.spans.specs.Spans.{Point, ListOf}
 use Rattle.grid.specs.Rays.{rayCount}
 use Rattle.grid.specs.declared.DexelStockSpec.{DexelStockSpec}
 use Rattle.grid.specs.declared.DexelGrid.{DexelGrid}
@@ -26,10 +26,10 @@ unfoldable pub without : (g : DexelGrid) → Sets g → List Entry → Sets g
 unfolding taken
 without g s es r k p = s r k p && not (taken g es r k p)
 
--- a set of the ray r would change
+-- a set of the ray r would change: not all points stay
 unfoldable pub Changes : (g : DexelGrid) → Sets g → List Entry → Ray g → Type 0
 unfolding without
-Changes g s es r = ¬ ((k : Kind) (p : Float) → without g s es r k p ≡ s r k p)
+Changes g s es r = ¬ ((k : Kind) (p : Float) → Point p → without g s es r k p ≡ s r k p)
 
 -- of the first i rays exactly n have the property P
 pub data Count (g : DexelGrid) (P : Ray g → Type 0) : ℕ → ℕ → Type 0 where

@@ -6,7 +6,8 @@ use mathlib.Core.Logic.{_↔_}
 use Prim.Native.Nat.{ℕ, suc, _+_}
 use lib.ListN.{length}
 use lib.Ieee.{Float}
-use Rattle.spans.specs.Spans.{holds, sound, equal, ListOf}
+use Rattle.spans.specs.Spans.{Double, Point, holds, sound, equal, ListOf}
+use Rattle.spans.specs.Steps.{All}
 use Rattle.grid.specs.declared.DexelStockSpec.{DexelStockSpec}
 use Rattle.grid.specs.declared.DexelGrid.{DexelGrid}
 use Rattle.runs.specs.Logs.{Ray, Kind, possible, certain, outer, inner, Lies, Alike, entries, Commit}
@@ -67,7 +68,9 @@ pub record Settled (spec : DexelStockSpec) (g : DexelGrid) (R : Reading g) (s : 
   pub no-others : (bs : List Answer) → Modelled spec g (R .lent s) (start g R s) cs bs → bs ≡ vs
   -- each list is the one sound list of the model's set
   pub listed : (r : Ray g) (k : Kind) → ListOf (ended g (start g R s) cs vs .sets r k) (R .lists t r k)
-  pub only-list : (r : Ray g) (k : Kind) (l : List Float) → ListOf (ended g (start g R s) cs vs .sets r k) l → equal l (R .lists t r k) ≡ true
+  -- and no other list of doubles is sound and has its points
+  pub only-list : (r : Ray g) (k : Kind) (l : List Float) → All Double l → All Double (R .lists t r k) → sound l ≡ true
+      → ((p : Float) → Point p → holds l p ≡ ended g (start g R s) cs vs .sets r k p) → equal l (R .lists t r k) ≡ true
   -- the interval total is the number of all their pairs, the generation the model's
   pub all-pairs : R .intervals t ≡ pairs g (R .lists t)
   pub model-generation : R .generation t ≡ ended g (start g R s) cs vs .generation
