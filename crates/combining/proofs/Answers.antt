@@ -46,9 +46,10 @@ module _ (want : Float → Bool) (list a b before : List Float) (is : sound a �
       accept-filled after z =
           let l : ListOf want (take n mid) = rw (f .ends) (is (checked-lists .0) (checked-lists .1)) in
           let even : n % 2 ≡ 0 = subst (λ (k : ℕ). k % 2 ≡ 0) (length-take-le n mid filled-fits) (sound-mod (take n mid) (l .isSound)) in
-          let twice : 2 * (n / 2) ≡ n = omega arith in
-          ((c .0 e, laid want mid after n filled-fits l z),
-          ap (λ (k : ℕ). take k after) twice ∙ ap (take n) z ∙ take-at (take n mid) (replicate (length mid - n) plusZero) n (length-take-le n mid filled-fits) ∙ f .ends)
+          let twice : 2 * (n / 2) ≡ n = omega arith in (
+            (c .0 e, laid want mid after n filled-fits l z),
+            ap (λ (k : ℕ). take k after) twice ∙ ap (take n) z ∙ take-at (take n mid) (replicate (length mid - n) plusZero) n (length-take-le n mid filled-fits) ∙ f .ends,
+          )
 
 -- the number of a refusal, found before anything is written
 module _ (short bad : Type 0) where

@@ -26,7 +26,6 @@ end-at [] k h = absurd (omega arith)
 end-at (x ∷ l) zero h = List·Memᴰ·head refl
 end-at (x ∷ l) (suc k) h = List·Memᴰ·tail (end-at l k (omega arith))
 
-
 -- the points of a list's first pairs and one more
 one-more : (l : List Float) (k : ℕ) (p : Float) → k % 2 ≡ 0 → k + 2 ≤ length l → holds (take (k + 2) l) p ≡ true
     → (holds (take k l) p ≡ true) ⊎ (within (getD l k nan) (getD l (k + 1) nan) p ≡ true)

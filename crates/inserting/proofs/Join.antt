@@ -233,7 +233,6 @@ join-all P l i j lo hi h a b =
     (all-append P (endIf (eqb (i % 2) 0) lo) (endIf (eqb (j % 2) 0) hi ++ drop j l) (end-all P (eqb (i % 2) 0) lo a)
     (all-append P (endIf (eqb (j % 2) 0) hi) (drop j l) (end-all P (eqb (j % 2) 0) hi b) (all-right P (take j l) (drop j l) (rw take-append-drop h))))
 
-
 -- ---- the step: what `insert` leaves
 pub insert-done : (b b′ : List Float) (n : ℕ) (lo hi : Float) (i j r : ℕ) → n ≤ length b → sound (take n b) ≡ true → lt lo hi ≡ true
     → Counted (λ e. lt e lo) b n i → Counted (λ e. le e hi) b n j → Spliced b n i j lo hi b′ r → Joined b n lo hi b′ r

@@ -7,8 +7,8 @@ use Prim.Native.Nat.{ℕ, _+_, _-_, _%_, _≤_, _<_}
 use lib.Dec.{eqb}
 use lib.ListN.{length, getD, take, drop}
 use lib.Ieee.{Float, nan, lt}
-use Rattle.spans.specs.Spans.{within, holds, ListOf}
-use Rattle.spans.specs.Steps.{All, SameFrom}
+use Rattle.spans.specs.Spans.{All, within, holds, ListOf}
+use Rattle.spans.specs.Steps.{SameFrom}
 
 -- of the first n ends, those from r on fail the test, and the one before r passes it
 pub record Counted (test : Float → Bool) (l : List Float) (n r : ℕ) : Type 0 where

@@ -67,9 +67,10 @@ module _ (lo hi x y : Float) (nl : Number lo) (nh : Number hi) (nx : Number x) (
   shared-over z h = rw shared-is (pair-all (Over z) (higherOf lo x) (lowerOf hi y) (λ t. let k = lt-le-trans z lo (higherOf lo x) h (higher-first lo x nl) in (k, lt-trans z (higherOf lo x) (lowerOf hi y) k t)))
 
   pub shared-upTo : All (λ e. (le e hi ≡ true) × (le e y ≡ true)) (pairIf (largerOf lo x) (smallerOf hi y))
-  shared-upTo = rw shared-is (pair-all (λ e. (le e hi ≡ true) × (le e y ≡ true)) (higherOf lo x) (lowerOf hi y) (λ t.
-      ((le-trans (higherOf lo x) (lowerOf hi y) hi (lt→le (higherOf lo x) (lowerOf hi y) t) (lower-first hi y nh), le-trans (higherOf lo x) (lowerOf hi y) y (lt→le (higherOf lo x) (lowerOf hi y) t) (lower-second hi y nh ny)),
-      (lower-first hi y nh, lower-second hi y nh ny))))
+  shared-upTo = rw shared-is (pair-all (λ e. (le e hi ≡ true) × (le e y ≡ true)) (higherOf lo x) (lowerOf hi y) (λ t. (
+    (le-trans (higherOf lo x) (lowerOf hi y) hi (lt→le (higherOf lo x) (lowerOf hi y) t) (lower-first hi y nh), le-trans (higherOf lo x) (lowerOf hi y) y (lt→le (higherOf lo x) (lowerOf hi y) t) (lower-second hi y nh ny)),
+    (lower-first hi y nh, lower-second hi y nh ny),
+  )))
 
   pub shared-above : (z : Float) → lt z x ≡ true → Above z (pairIf (largerOf lo x) (smallerOf hi y))
   shared-above z h = rw shared-is (pair-all (Over z) (higherOf lo x) (lowerOf hi y) (λ t. let k = lt-le-trans z x (higherOf lo x) h (higher-second lo x nl nx) in (k, lt-trans z (higherOf lo x) (lowerOf hi y) k t)))

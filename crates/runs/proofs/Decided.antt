@@ -14,8 +14,7 @@ use lib.ListN.{length}
 use lib.Ieee.{Float}
 use Rattle.doubles.proofs.Bools.{or-cases, or-left, clash, not-true, not-false}
 use Rattle.refusal.specs.Refusal.{Cause, Due, NoneDue}
-use Rattle.spans.specs.Spans.{Double, Point, within, holds, ListOf}
-use Rattle.spans.specs.Steps.{All}
+use Rattle.spans.specs.Spans.{All, Double, Point, within, holds, ListOf}
 use Rattle.spans.proofs.Points.{or-assoc}
 use Rattle.grid.specs.Rays.{rayCount}
 use Rattle.grid.specs.declared.DexelStockSpec.{DexelStockSpec}

@@ -6,9 +6,8 @@ use mathlib.Core.Logic.{inl, inr, _↔_}
 use lib.Ieee.{Float, lt, le}
 use Rattle.doubles.proofs.Bools.{or-cases, or-left, or-right, and-left, and-right, both, by-cases, clash}
 use Rattle.doubles.proofs.Order.{lt-number, le-number, le-refl, lt→le, not-lt→le, le-lt-trans}
-use Rattle.spans.specs.Spans.{within, holds, rising, sound}
+use Rattle.spans.specs.Spans.{All, within, holds, rising, sound}
 use Rattle.spans.specs.Spans.{Double, Point, Apart}
-use Rattle.spans.specs.Steps.{All}
 use Rattle.doubles.specs.Doubles.{Number}
 use Rattle.spans.proofs.Ends.{rising-tail, rising-above}
 use Rattle.spans.proofs.Sets.{sound-rising}

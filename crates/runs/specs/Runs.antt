@@ -6,8 +6,7 @@ use mathlib.Core.Logic.{_↔_}
 use Prim.Native.Nat.{ℕ, suc, _+_}
 use lib.ListN.{length}
 use lib.Ieee.{Float}
-use Rattle.spans.specs.Spans.{Double, Point, holds, sound, equal, ListOf}
-use Rattle.spans.specs.Steps.{All}
+use Rattle.spans.specs.Spans.{All, Double, Point, holds, sound, equal, ListOf}
 use Rattle.grid.specs.declared.DexelStockSpec.{DexelStockSpec}
 use Rattle.grid.specs.declared.DexelGrid.{DexelGrid}
 use Rattle.runs.specs.Logs.{Ray, Kind, possible, certain, outer, inner, Lies, Alike, entries, Commit}

@@ -48,9 +48,10 @@ part-result-end c = search needs
 returns-4 : tie.Need-returns-4
 returns-4 c =
     let a = c .before .before .before .before .before .args in
-    let n : a .at + 2 * a .p .pairs - a .at ≡ 2 * a .p .pairs = omega arith in
-    (rw n (handed-new (a .p) (a .before .now) (a .work .now) (a .at) (not-false (a .p .moved) (c .before .before .before .if1 .left)) (omega (arith, c .before .if3 .left, c .before .before .if2 .left))),
-    λ e. absurd (clash (a .p .moved) (not-false (a .p .moved) (c .before .before .before .if1 .left)) e))
+    let n : a .at + 2 * a .p .pairs - a .at ≡ 2 * a .p .pairs = omega arith in (
+      rw n (handed-new (a .p) (a .before .now) (a .work .now) (a .at) (not-false (a .p .moved) (c .before .before .before .if1 .left)) (omega (arith, c .before .if3 .left, c .before .before .if2 .left))),
+      λ e. absurd (clash (a .p .moved) (not-false (a .p .moved) (c .before .before .before .if1 .left)) e),
+    )
 
 pub handed-back-spec : {M : Type 1} → statement M
 handed-back-spec =
