@@ -4,14 +4,12 @@ mod commits;
 mod stocks;
 mod sweeps;
 
-ghost use mathlib.Core.Bool.{not, _&&_};
-ghost use Rattle.spans.specs.Spans.{holds};
+ghost use Rattle.spans.specs.Spans.{NormalOf};
 ghost use lib.ListN.{length};
 ghost use Rattle.spans.specs.Results.{Answer};
 ghost use Rattle.normalizing.specs.Normalizing.{normalizeCauses};
-ghost use Rattle.combining.specs.Combining.{combineCauses};
-ghost use Rattle.covering.specs.Covering.{Covers, Meets};
-ghost use Rattle.comparing.specs.Verdicts.{Verdict, compareCauses};
+ghost use Rattle.combining.specs.Combining.{combineCauses, LessOf, CommonOf};
+ghost use Rattle.comparing.specs.Verdicts.{Verdict, compareCauses, Contains, Overlaps};
 ghost use Rattle.comparing.specs.declared.Told.{Told};
 ghost use Rattle.merge.specs.Merge.{MergeAnswer};
 ghost use Rattle.merge.specs.declared.Merged.{Merged};
@@ -21,7 +19,7 @@ ghost use Rattle.handing.specs.Numbers.{AnsweredBy, listedNumbers, toldNumbers,
 // `normalizing::normalize`; `pairs` becomes the number of pairs.
 #[no_mangle]
 pub extern "C" fn tridexel_normalize(spans: &[f64], out: &mut [f64], pairs: &mut usize) -> u32
-    ensures { λ r. ⌜ AnsweredBy listedNumbers Listed.Refused (Answer (holds (now (spans .entry))) (normalizeCauses (now (spans .entry)) (length (now (out .entry)))) (now (out .entry)) (now (out .exit)))
+    ensures { λ r. ⌜ AnsweredBy listedNumbers Listed.Refused (Answer (NormalOf (now (spans .entry))) (normalizeCauses (now (spans .entry)) (length (now (out .entry)))) (now (out .entry)) (now (out .exit)))
         r (now (pairs .entry)) (now (pairs .exit)) ⌝ }
 {
     let l = normalizing::normalize(spans, out);
@@ -31,7 +29,7 @@ pub extern "C" fn tridexel_normalize(spans: &[f64], out: &mut [f64], pairs: &mut
 // `combining::subtract`; `pairs` becomes the number of pairs.
 #[no_mangle]
 pub extern "C" fn tridexel_subtract(a: &[f64], b: &[f64], out: &mut [f64], pairs: &mut usize) -> u32
-    ensures { λ r. ⌜ AnsweredBy listedNumbers Listed.Refused (Answer (λ p. holds (now (a .entry)) p && not (holds (now (b .entry)) p))
+    ensures { λ r. ⌜ AnsweredBy listedNumbers Listed.Refused (Answer (LessOf (now (a .entry)) (now (b .entry)))
         (combineCauses (now (a .entry)) (now (b .entry)) (length (now (out .entry)))) (now (out .entry)) (now (out .exit)))
         r (now (pairs .entry)) (now (pairs .exit)) ⌝ }
 {
@@ -47,7 +45,7 @@ pub extern "C" fn tridexel_intersect(
     out: &mut [f64],
     pairs: &mut usize,
 ) -> u32
-    ensures { λ r. ⌜ AnsweredBy listedNumbers Listed.Refused (Answer (λ p. holds (now (a .entry)) p && holds (now (b .entry)) p)
+    ensures { λ r. ⌜ AnsweredBy listedNumbers Listed.Refused (Answer (CommonOf (now (a .entry)) (now (b .entry)))
         (combineCauses (now (a .entry)) (now (b .entry)) (length (now (out .entry)))) (now (out .entry)) (now (out .exit)))
         r (now (pairs .entry)) (now (pairs .exit)) ⌝ }
 {
@@ -59,7 +57,7 @@ pub extern "C" fn tridexel_intersect(
 #[no_mangle]
 pub extern "C" fn tridexel_contains(outer: &[f64], inner: &[f64], yes: &mut u32) -> u32
     ensures { λ r. ⌜ AnsweredBy toldNumbers Told.Refused (Verdict (compareCauses (now (outer .entry)) (now (inner .entry)))
-        (Covers (now (outer .entry)) (now (inner .entry))))
+        (Contains (now (outer .entry)) (now (inner .entry))))
         r (now (yes .entry)) (now (yes .exit)) ⌝ }
 {
     let t = comparing::contains(outer, inner);
@@ -70,7 +68,7 @@ pub extern "C" fn tridexel_contains(outer: &[f64], inner: &[f64], yes: &mut u32)
 #[no_mangle]
 pub extern "C" fn tridexel_overlaps(a: &[f64], b: &[f64], yes: &mut u32) -> u32
     ensures { λ r. ⌜ AnsweredBy toldNumbers Told.Refused (Verdict (compareCauses (now (a .entry)) (now (b .entry)))
-        (Meets (now (a .entry)) (now (b .entry))))
+        (Overlaps (now (a .entry)) (now (b .entry))))
         r (now (yes .entry)) (now (yes .exit)) ⌝ }
 {
     let t = comparing::overlaps(a, b);
