@@ -1,15 +1,14 @@
--- What is asked of two lists and a buffer.
+-- What is asked of two lists and a buffer, and what the lists leave of each other.
 use mathlib.Core.Path.{_≡_}
-use mathlib.Core.Bool.{Bool, false, _&&_}
+use mathlib.Core.Bool.{false, _&&_}
 use mathlib.Core.List.{List}
-use Prim.Native.Nat.{ℕ, _+_, _*_, _/_, _<_}
-use lib.ListN.{length, take}
+use Prim.Native.Nat.{ℕ, _+_, _/_, _<_}
+use lib.ListN.{length}
 use lib.Ieee.{Float}
 use Rattle.refusal.specs.Refusal.{Cause, Due, NoneDue}
-use Rattle.spans.specs.Spans.{sound}
-use Rattle.spans.specs.Results.{listCauses, Answer}
-use Rattle.spans.specs.declared.Listed.{Listed}
-use Rattle.spans.specs.declared.Listed.the-variants.{Pairs, Refused}
+use Rattle.spans.specs.Spans.{sound, less, common, ListOf}
+use Rattle.spans.specs.Results.{listCauses}
+use Rattle.overlay.specs.Overlay.{lessOf, commonOf}
 
 -- for two lists and a buffer of `room` cells; one is bad where it is not sound
 abbrev pub combineCauses : List Float → List Float → ℕ → List Cause
@@ -19,11 +18,12 @@ combineCauses a b room = listCauses (room / 2 < length a / 2 + length b / 2) ((s
 abbrev pub Checked : List Cause → ℕ → Type 0
 Checked causes r = (r ≡ 0 → NoneDue causes) × ((r ≡ 0 → ⊥) → Due causes r)
 
--- the ends of an accepted result, as they were given: which zero stands at an end is settled too
-abbrev pub Exactly : List Float → List Float → Listed → Type 0
-Exactly list after (Pairs n) = take (2 * n) after ≡ list
-Exactly list after (Refused k) = Unit {0}
+-- the sound list of a less b, end by end: which zero stands at an end is settled too
+pub record LessOf (a b l : List Float) : Type 0 where
+  pub list : ListOf (less a b) l
+  pub ends : l ≡ lessOf a b
 
--- what two lists and a buffer answer: the sound list of `want`, which is `list`
-abbrev pub Combined : (Float → Bool) → List Float → List Cause → List Float → List Float → Listed → Type 0
-Combined want list causes before after r = Answer want causes before after r × Exactly list after r
+-- the sound list of the points in both, end by end
+pub record CommonOf (a b l : List Float) : Type 0 where
+  pub list : ListOf (common a b) l
+  pub ends : l ≡ commonOf a b

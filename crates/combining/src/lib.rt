@@ -1,8 +1,7 @@
 // What two sound lists leave of each other: one less the other, and the points in both.
 ghost use lib.ListN.{length};
-ghost use Rattle.spans.specs.Spans.{less, common};
-ghost use Rattle.overlay.specs.Overlay.{lessOf, commonOf};
-ghost use Rattle.combining.specs.Combining.{combineCauses, Checked, Combined};
+ghost use Rattle.spans.specs.Results.{Answer};
+ghost use Rattle.combining.specs.Combining.{combineCauses, Checked, LessOf, CommonOf};
 use spans::Listed;
 
 // The number of a refusal of two lists and a buffer of `room` cells, 0 for none.
@@ -23,7 +22,7 @@ fn checked(a: &[f64], b: &[f64], room: usize) -> u32
 
 // The sound list of a less b. 12: `out` has fewer pairs than a and b together. 11: a or b is not sound.
 pub fn subtract(a: &[f64], b: &[f64], out: &mut [f64]) -> Listed
-    ensures { λ r. ⌜ Combined (less (now (a .entry)) (now (b .entry))) (lessOf (now (a .entry)) (now (b .entry)))
+    ensures { λ r. ⌜ Answer (LessOf (now (a .entry)) (now (b .entry)))
         (combineCauses (now (a .entry)) (now (b .entry)) (length (now (out .entry)))) (now (out .entry)) (now (out .exit)) r ⌝ }
 {
     let refused = checked(a, b, out.len());
@@ -37,7 +36,7 @@ pub fn subtract(a: &[f64], b: &[f64], out: &mut [f64]) -> Listed
 
 // The sound list of the points in both a and b. Refusals as for `subtract`.
 pub fn intersect(a: &[f64], b: &[f64], out: &mut [f64]) -> Listed
-    ensures { λ r. ⌜ Combined (common (now (a .entry)) (now (b .entry))) (commonOf (now (a .entry)) (now (b .entry)))
+    ensures { λ r. ⌜ Answer (CommonOf (now (a .entry)) (now (b .entry)))
         (combineCauses (now (a .entry)) (now (b .entry)) (length (now (out .entry)))) (now (out .entry)) (now (out .exit)) r ⌝ }
 {
     let refused = checked(a, b, out.len());

@@ -2,7 +2,7 @@
 use mathlib.Core.Path.{_≡_, refl, sym, _∙_, ap, subst}
 use mathlib.Core.Logic.{inl, inr}
 use mathlib.Core.Bool.{Bool, true, false, not, _&&_, _||_}
-use mathlib.Core.List.{List, [], _∷_, _++_, List·Memᴰ, List·Memᴰ·head, List·Memᴰ·tail}
+use mathlib.Core.List.{List, [], _∷_, _++_, List·Memᴰ}
 use Prim.Native.Nat.{ℕ, suc, _+_, _-_, _%_, _≤_, _<_}
 use native.Mathlib.Omega.{arith}
 use native.Mathlib.Decide.{decLt}
@@ -12,13 +12,14 @@ use lib.ListN.{length, getD, take, drop, set, take-append-drop, length-drop, len
 use lib.Seq.{length-take-le, getD-take, getD-drop, getD-set-same, getD-set-other, take-suc, take-suc-set, take-set-le}
 use lib.Ieee.{Float, nan, lt, le}
 use Rattle.spans.specs.Spans.{within, holds, rising, sound}
-use Rattle.spans.specs.Steps.{Put}
-use Rattle.inserting.specs.Steps.{Counted, Spliced, Joined, DrawnFrom, endIf, joinAt}
+use Rattle.spans.specs.Steps.{Put, pairIf}
+use Rattle.inserting.specs.Steps.{Counted, Spliced, Joined, endIf, joinAt}
 use Rattle.doubles.specs.Doubles.{Number}
 use Rattle.doubles.proofs.Bools.{and-left, and-right, and-true, and-false, both, by-cases, clash}
 use Rattle.doubles.proofs.Order.{lt-number, le-number, lt-not-le, lt→le, not-lt→le, not-le→lt, le-lt-trans, lt-trans, lt-le-trans, le-refl, le-trans}
 use Rattle.spans.proofs.Ends.{flip, flip-false, not-not, oddN, odd, odd-append, All, all-append, all-left, all-right, all-map, all-by-place, all-at, Over, Under, AtMost, Past, From, Above, Below, UpTo, odd-all, odd-none, odd-past, above-less, upTo-more, below-upTo, oddN-add, rising-cons, rising-append, rising-left, rising-right, rising-at, rising-before}
-use Rattle.spans.proofs.Points.{or-false, or-true, or-assoc, holds-more, put-all, put-list, below-by-last}
+use Rattle.spans.proofs.Points.{or-false, or-true, or-assoc, holds-more, put-list, below-by-last}
+use Rattle.spans.proofs.Normal.{all-in, normal-pair}
 use Rattle.spans.proofs.Sets.{oddN-mod, mod-oddN, sound-rising, sound-even, sound-mod, sound-numbers, sound-holds, make-sound}
 
 pub even-odd : (n : ℕ) → eqb (n % 2) 0 ≡ not (oddN n)
@@ -216,22 +217,18 @@ module _ (b : List Float) (n : ℕ) (lo hi : Float) (i j : ℕ) (n-fits : n ≤ 
       ∙ ap (λ (x : Bool). x || within lo hi p) (sym (sound-holds l p is-sound))
 
 -- ---- each end was given
-all-mem : (l : List Float) → All (λ e. List·Memᴰ e l) l
-all-mem [] = tt
-all-mem (x ∷ l) = (List·Memᴰ·head refl, all-map (λ e. List·Memᴰ e l) (λ e. List·Memᴰ e (x ∷ l)) (λ e h. List·Memᴰ·tail h) l (all-mem l))
+-- the ends of a list are among those of the list and a pair; so are those of the pair, where it is not dropped
+kept : (l : List Float) (lo hi : Float) → All (λ e. List·Memᴰ e (l ++ pairIf lo hi)) l
+kept l lo hi = all-left (λ e. List·Memᴰ e (l ++ pairIf lo hi)) l (pairIf lo hi) (all-in (l ++ pairIf lo hi))
 
-old : (l : List Float) (lo hi : Float) → All (DrawnFrom l lo hi) l
-old l lo hi = all-map (λ e. List·Memᴰ e l) (DrawnFrom l lo hi) (λ e h. inl h) l (all-mem l)
-
-end-all : (P : Float → Type 0) (b : Bool) (x : Float) → P x → All P (endIf b x)
-end-all P true x h = (h, tt)
-end-all P false x h = tt
+from-pair : (l : List Float) (lo hi : Float) → lt lo hi ≡ true → All (λ e. List·Memᴰ e (l ++ pairIf lo hi)) (lo ∷ hi ∷ [])
+from-pair l lo hi up = rw up (all-right (λ e. List·Memᴰ e (l ++ (lo ∷ hi ∷ []))) l (lo ∷ hi ∷ []) (all-in (l ++ (lo ∷ hi ∷ []))))
 
 join-all : (P : Float → Type 0) (l : List Float) (i j : ℕ) (lo hi : Float) → All P l → P lo → P hi → All P (joinAt l i j lo hi)
 join-all P l i j lo hi h a b =
     all-append P (take i l) (endIf (eqb (i % 2) 0) lo ++ (endIf (eqb (j % 2) 0) hi ++ drop j l)) (all-left P (take i l) (drop i l) (rw take-append-drop h))
-    (all-append P (endIf (eqb (i % 2) 0) lo) (endIf (eqb (j % 2) 0) hi ++ drop j l) (end-all P (eqb (i % 2) 0) lo a)
-    (all-append P (endIf (eqb (j % 2) 0) hi) (drop j l) (end-all P (eqb (j % 2) 0) hi b) (all-right P (take j l) (drop j l) (rw take-append-drop h))))
+    (all-append P (endIf (eqb (i % 2) 0) lo) (endIf (eqb (j % 2) 0) hi ++ drop j l) (all-endIf P (eqb (i % 2) 0) lo a)
+    (all-append P (endIf (eqb (j % 2) 0) hi) (drop j l) (all-endIf P (eqb (j % 2) 0) hi b) (all-right P (take j l) (drop j l) (rw take-append-drop h))))
 
 -- ---- the step: what `insert` leaves
 pub insert-done : (b b′ : List Float) (n : ℕ) (lo hi : Float) (i j r : ℕ) → n ≤ length b → sound (take n b) ≡ true → lt lo hi ≡ true
@@ -239,11 +236,9 @@ pub insert-done : (b b′ : List Float) (n : ℕ) (lo hi : Float) (i j r : ℕ) 
 insert-done b b′ n lo hi i j r fit s up ci cj m = record {
   size = m .size;
   most = m .most;
-  list = record {
-    isSound = rw (m .ends) (join-sound b n lo hi i j fit s up cj ci);
-    points = λ p. rw (m .ends) (join-holds b n lo hi i j fit s up cj ci p);
-  };
-  drawn = rw (m .ends) (join-all (DrawnFrom (take n b) lo hi) (take n b) i j lo hi (old (take n b) lo hi) (inr (up, inl refl)) (inr (up, inr refl)));
+  list = rw (m .ends) (normal-pair (take n b) (joinAt (take n b) i j lo hi) lo hi s
+      (record { isSound = join-sound b n lo hi i j fit s up cj ci; points = join-holds b n lo hi i j fit s up cj ci })
+      (join-all (λ e. List·Memᴰ e (take n b ++ pairIf lo hi)) (take n b) i j lo hi (kept (take n b) lo hi) (from-pair (take n b) lo hi up .0) (from-pair (take n b) lo hi up .1 .0)));
   rest = m .rest;
 }
 
@@ -253,8 +248,8 @@ pub insert-last : (b b′ : List Float) (n : ℕ) (lo hi : Float) (r : ℕ) → 
 insert-last b b′ n lo hi r fit s last m = record {
   size = m .size;
   most = m .most;
-  list = put-list b b′ n lo hi r fit s (below-by-last b n lo fit (sound-rising (take n b) s) last) m;
-  drawn = put-all b b′ n lo hi r (DrawnFrom (take n b) lo hi) (old (take n b) lo hi) (λ t. (inr (t, inl refl), inr (t, inr refl))) m;
+  list = normal-pair (take n b) (take r b′) lo hi s (put-list b b′ n lo hi r fit s (below-by-last b n lo fit (sound-rising (take n b) s) last) m)
+      (rw (m .ends) (all-in (take n b ++ pairIf lo hi)));
   rest = m .rest;
 }
 
@@ -262,14 +257,13 @@ pub insert-none : (b : List Float) (n : ℕ) (lo hi : Float) → sound (take n b
 insert-none b n lo hi s inside = record {
   size = refl;
   most = omega arith;
-  list = record {
+  list = normal-pair (take n b) (take n b) lo hi s (record {
     isSound = s;
     points = λ p. elim (by-cases (within lo hi p)) [
       | inl w ↦ rw (w, inside p w)
       | inr w ↦ rw (w, or-false (holds (take n b) p))
     ];
-  };
-  drawn = old (take n b) lo hi;
+  }) (kept (take n b) lo hi);
   rest = λ q h. refl;
 }
 
@@ -318,13 +312,11 @@ module _ (b : List Float) (n : ℕ) (lo hi : Float) (fit : n ≤ length b) (s : 
   insert-extends room h = record {
     size = length-set b (n - 1) hi;
     most = omega arith;
-    list = record {
+    list = normal-pair (take n b) (take n (set b (n - 1) hi)) lo hi s (record {
       isSound = sound-now;
       points = λ p. now-apart p ∙ ap (_||_ (holds (take (n - 2) b) p)) (spread p) ∙ sym (or-assoc (holds (take (n - 2) b) p) (within x y p) (within lo hi p))
           ∙ ap (λ (c : Bool). c || within lo hi p) (sym (last-apart p));
-    };
-    drawn = rw ends (all-append (DrawnFrom (take n b) lo hi) (take (n - 1) b) (hi ∷ []) (all-left (DrawnFrom (take n b) lo hi) (take (n - 1) b) (y ∷ []) (subst (All (DrawnFrom (take n b) lo hi)) all-before (old (take n b) lo hi)))
-        (inr (le-lt-trans lo y hi (not-lt→le y lo (lt-number y hi h .0) (le-number x lo low .1) near) h, inr refl), tt));
+    }) drawn;
     rest = λ q g. getD-set-other b (n - 1) q hi nan (λ e. omega arith);
   }
     where
@@ -339,6 +331,13 @@ module _ (b : List Float) (n : ℕ) (lo hi : Float) (fit : n ≤ length b) (s : 
         where
           back : n ≡ suc (n - 1)
           back = omega arith
+
+      -- the pair is not dropped, since lo ≤ y < hi
+      drawn : All (λ e. List·Memᴰ e (take n b ++ pairIf lo hi)) (take n (set b (n - 1) hi))
+      drawn =
+          let P : Float → Type 0 = λ e. List·Memᴰ e (take n b ++ pairIf lo hi) in
+          rw ends (all-append P (take (n - 1) b) (hi ∷ []) (all-left P (take (n - 1) b) (y ∷ []) (subst (All P) all-before (kept (take n b) lo hi)))
+          (from-pair (take n b) lo hi (le-lt-trans lo y hi reaches h) .1))
 
       sound-now : sound (take n (set b (n - 1) hi)) ≡ true
       sound-now = rw ends (make-sound (take (n - 1) b ++ (hi ∷ []))

@@ -1,13 +1,12 @@
 -- What the steps that work a pair into a sound list leave.
 use mathlib.Core.Path.{_≡_}
-use mathlib.Core.Bool.{Bool, true, false, _||_}
-use mathlib.Core.List.{List, [], _∷_, _++_, List·Memᴰ}
-use mathlib.Core.Logic.{_⊎_}
+use mathlib.Core.Bool.{Bool, true, false}
+use mathlib.Core.List.{List, [], _∷_, _++_}
 use Prim.Native.Nat.{ℕ, _+_, _-_, _%_, _≤_, _<_}
 use lib.Dec.{eqb}
 use lib.ListN.{length, getD, take, drop}
-use lib.Ieee.{Float, nan, lt}
-use Rattle.spans.specs.Spans.{All, within, holds, ListOf}
+use lib.Ieee.{Float, nan}
+use Rattle.spans.specs.Spans.{NormalOf}
 use Rattle.spans.specs.Steps.{SameFrom}
 
 -- of the first n ends, those from r on fail the test, and the one before r passes it
@@ -39,14 +38,9 @@ pub record Spliced (before : List Float) (n i j : ℕ) (lo hi : Float) (after : 
   pub ends : take r after ≡ joinAt (take n before) i j lo hi
   pub rest : SameFrom (n + 2) before after
 
--- e is, as data, an end of the list, or one of a pair with lo < hi
-abbrev pub DrawnFrom : List Float → Float → Float → Float → Type 0
-DrawnFrom l lo hi e = List·Memᴰ e l ⊎ ((lt lo hi ≡ true) × ((e ≡ lo) ⊎ (e ≡ hi)))
-
--- the first r ends are the sound list of the points of the first n and those of the pair
+-- the first r ends are what normalising makes of the first n, a sound list, and the pair
 pub record Joined (before : List Float) (n : ℕ) (lo hi : Float) (after : List Float) (r : ℕ) : Type 0 where
   pub size : length after ≡ length before
   pub most : r ≤ n + 2
-  pub list : ListOf (λ p. holds (take n before) p || within lo hi p) (take r after)
-  pub drawn : All (DrawnFrom (take n before) lo hi) (take r after)
+  pub list : NormalOf (take n before ++ (lo ∷ hi ∷ [])) (take r after)
   pub rest : SameFrom (n + 2) before after

@@ -1,20 +1,20 @@
 -- What the passes over the pairs of a list keep.
 use mathlib.Core.Path.{_≡_, refl, sym, _∙_, ap, subst}
 use mathlib.Core.Logic.{inl, inr}
-use mathlib.Core.Bool.{Bool, _||_, or-comm}
 use mathlib.Core.List.{List, [], _∷_, _++_, append-nil, append-assoc}
 use Prim.Native.Nat.{ℕ, zero, suc, _+_, _-_, _%_, _≤_, _<_}
 use native.Mathlib.Omega.{arith}
 use native.Mathlib.Numerals.{add-one}
-use lib.ListN.{length, getD, take, drop, drop-of-length-le}
+use lib.ListN.{length, getD, take, drop, length-drop, drop-of-length-le}
 use lib.Seq.{length-take-le, take-all}
 use lib.Ieee.{Float, nan, lt}
-use Rattle.spans.specs.Spans.{within, holds, rising, sound, retained, ListOf}
+use Rattle.spans.specs.Spans.{retained, NormalOf}
 use Rattle.spans.specs.Steps.{SameFrom, Put, Filled, pairIf}
 use Rattle.inserting.specs.Steps.{Joined}
 use Rattle.joining.specs.Steps.{Begun, BegunBack, Front}
 use Rattle.doubles.proofs.Bools.{by-cases}
-use Rattle.spans.proofs.Points.{holds-more, holds-drop}
+use Rattle.spans.proofs.Points.{take-pair, drop-pair}
+use Rattle.spans.proofs.Normal.{normal-none, normal-then, normal-swap}
 use Rattle.spans.proofs.Sets.{sound-mod}
 
 -- ---- the pairs of a list worked in one by one, in place
@@ -22,12 +22,11 @@ pub record Joining (b₀ : List Float) (n k : ℕ) (b : List Float) : Type 0 whe
   pub size : length b ≡ length b₀
   pub whole : k % 2 ≡ 0
   pub room : n ≤ k
-  pub list : ListOf (holds (take k b₀)) (take n b)
+  pub list : NormalOf (take k b₀) (take n b)
   pub same : SameFrom k b₀ b
 
 pub joining-start : (b : List Float) → Joining b 0 0 b
-unfolding holds sound rising
-joining-start b = record { size = refl; whole = omega arith; room = omega arith; list = record { isSound = refl; points = λ p. refl }; same = λ q h. refl }
+joining-start b = record { size = refl; whole = omega arith; room = omega arith; list = normal-none; same = λ q h. refl }
 
 pub joining-step : (b₀ b b′ : List Float) (n k r : ℕ) → k + 2 ≤ length b₀ → Joining b₀ n k b
     → Joined b n (getD b k nan) (getD b (k + 1) nan) b′ r → Joining b₀ r (k + 2) b′
@@ -35,20 +34,16 @@ joining-step b₀ b b′ n k r fit s m = record {
   size = m .size ∙ s .size;
   whole = omega (arith, s .whole);
   room = omega (arith, s .room, m .most);
-  list = record {
-    isSound = m .list .isSound;
-    points = λ p.
-        m .list .points p ∙ ap (λ (x : Bool). x || within (getD b k nan) (getD b (k + 1) nan) p) (s .list .points p)
-        ∙ rw (s .same k (omega arith), s .same (k + 1) (omega arith)) (sym (holds-more b₀ k p (s .whole) fit));
-  };
+  list = rw (take-pair b₀ k fit) (normal-then (take k b₀) (getD b₀ k nan ∷ getD b₀ (k + 1) nan ∷ []) (take n b) (take r b′) (rw (length-take-le k b₀ (omega arith)) (s .whole)) (s .list)
+      (rw (s .same k (omega arith), s .same (k + 1) (omega arith)) at (m .list)));
   same = λ q h. m .rest q (omega (arith, s .room)) ∙ s .same q (omega arith);
 }
 
-pub joining-done : (b₀ b : List Float) (m n k : ℕ) → k ≤ m → m ≤ k → Joining b₀ n k b → Filled (holds (take m b₀)) b₀ m b n
+pub joining-done : (b₀ b : List Float) (m n k : ℕ) → k ≤ m → m ≤ k → Joining b₀ n k b → Filled (NormalOf (take m b₀)) b₀ m b n
 joining-done b₀ b m n k h g s = record {
   size = s .size;
   most = omega (arith, s .room);
-  list = subst (λ (q : ℕ). ListOf (holds (take q b₀)) (take n b)) (same k m h g) (s .list);
+  list = subst (λ (q : ℕ). NormalOf (take q b₀) (take n b)) (same k m h g) (s .list);
 }
   where
     same : (k m : ℕ) → k ≤ m → m ≤ k → k ≡ m
@@ -73,24 +68,6 @@ retained-more l k e h = rw (two k, add-one k) (retained-two l k e (omega arith))
   where
     two : (k : ℕ) → k + 2 ≡ suc (suc k)
     two k = omega arith
-
-pub retained-even : (l : List Float) → length (retained l) % 2 ≡ 0
-unfolding retained
-retained-even [] = refl
-retained-even (x ∷ []) = refl
-retained-even (x ∷ y ∷ l) = elim (by-cases (lt x y)) [
-  | inl t ↦ rw t (omega (arith, retained-even l))
-  | inr t ↦ rw t (retained-even l)
-]
-
-pub retained-most : (l : List Float) → length (retained l) ≤ length l
-unfolding retained
-retained-most [] = omega arith
-retained-most (x ∷ []) = omega arith
-retained-most (x ∷ y ∷ l) = elim (by-cases (lt x y)) [
-  | inl t ↦ rw t (omega (arith, retained-most l))
-  | inr t ↦ rw t (omega (arith, retained-most l))
-]
 
 pub record Gathered (spans b₀ : List Float) (at n k : ℕ) (b : List Float) : Type 0 where
   pub size : length b ≡ length b₀
@@ -126,62 +103,63 @@ gather-done spans b₀ b at n k fit h s =
     }
 
 -- the sound list at the start of the buffer has whole pairs
-pub filled-even : (want : Float → Bool) (b₀ b : List Float) (limit n : ℕ) → limit ≤ length b₀ → Filled want b₀ limit b n → n % 2 ≡ 0
-filled-even want b₀ b limit n fit s = omega (arith, sound-mod (take n b) (s .list .isSound), length-take-le n b (omega (arith, s .most, s .size)))
+pub filled-even : (pairs b₀ b : List Float) (limit n : ℕ) → limit ≤ length b₀ → Filled (NormalOf pairs) b₀ limit b n → n % 2 ≡ 0
+filled-even pairs b₀ b limit n fit s = omega (arith, sound-mod (take n b) (s .list .list .isSound), length-take-le n b (omega (arith, s .most, s .size)))
+
+-- no pairs yet
+filled-none : (b : List Float) → Filled (NormalOf []) b 0 b 0
+filled-none b = record { size = refl; most = omega arith; list = normal-none }
 
 -- one pair more, worked into the list at the start of the buffer
-filled-step : (want want′ : Float → Bool) (b₀ b b′ : List Float) (limit limit′ n r : ℕ) (lo hi : Float) → Filled want b₀ limit b n → Joined b n lo hi b′ r
-    → limit + 2 ≤ limit′ → ((p : Float) → (want p || within lo hi p) ≡ want′ p) → Filled want′ b₀ limit′ b′ r
-filled-step want want′ b₀ b b′ limit limit′ n r lo hi s m fit e = record {
+filled-step : (pairs b₀ b b′ : List Float) (limit limit′ n r : ℕ) (lo hi : Float) → length pairs % 2 ≡ 0 → Filled (NormalOf pairs) b₀ limit b n → Joined b n lo hi b′ r
+    → limit + 2 ≤ limit′ → Filled (NormalOf (pairs ++ (lo ∷ hi ∷ []))) b₀ limit′ b′ r
+filled-step pairs b₀ b b′ limit limit′ n r lo hi even s m fit = record {
   size = m .size ∙ s .size;
   most = omega (arith, s .most, m .most);
-  list = record {
-    isSound = m .list .isSound;
-    points = λ p. m .list .points p ∙ ap (λ (x : Bool). x || within lo hi p) (s .list .points p) ∙ e p;
-  };
+  list = normal-then pairs (lo ∷ hi ∷ []) (take n b) (take r b′) even (s .list) (m .list);
 }
 
 -- ---- pairs joined as they are read, in their order
 pub begun-start : (spans b : List Float) → Begun spans b b (record { passed = 0; end = 0 })
-unfolding holds sound rising
-begun-start spans b = record {
-  passedMost = omega arith;
-  passedEven = omega arith;
-  filled = record { size = refl; most = omega arith; list = record { isSound = refl; points = λ p. refl } };
-}
+begun-start spans b = record { passedMost = omega arith; passedEven = omega arith; filled = filled-none b }
 
 pub begun-step : (spans b₀ b b′ : List Float) (n k r : ℕ) → k + 2 ≤ length spans → Begun spans b₀ b (record { passed = k; end = n })
     → Joined b n (getD spans k nan) (getD spans (k + 1) nan) b′ r → Begun spans b₀ b′ (record { passed = k + 2; end = r })
 begun-step spans b₀ b b′ n k r fit s m = record {
   passedMost = fit;
   passedEven = omega (arith, s .passedEven);
-  filled = filled-step (holds (take k spans)) (holds (take (k + 2) spans)) b₀ b b′ k (k + 2) n r (getD spans k nan) (getD spans (k + 1) nan) (s .filled) m (omega arith)
-      (λ p. sym (holds-more spans k p (s .passedEven) fit));
+  filled = rw (take-pair spans k fit) (filled-step (take k spans) b₀ b b′ k (k + 2) n r (getD spans k nan) (getD spans (k + 1) nan)
+      (rw (length-take-le k spans (s .passedMost)) (s .passedEven)) (s .filled) m (omega arith));
 }
 
 -- ---- the same from the last pair back
 pub back-start : (spans b : List Float) → length spans % 2 ≡ 0 → BegunBack spans b b (record { passed = length spans; end = 0 })
-unfolding holds sound rising
 back-start spans b even = record {
   passedMost = omega arith;
   passedEven = even;
-  filled = record {
-    size = refl;
-    most = omega arith;
-    list = record { isSound = refl; points = λ p. sym (ap (λ (l : List Float). holds l p) (drop-of-length-le spans {i = length spans} (omega arith))) };
-  };
+  filled = rw (drop-of-length-le spans {i = length spans} (omega arith), none (length spans)) (filled-none b);
 }
+  where
+    none : (k : ℕ) → k - k ≡ 0
+    none k = omega arith
 
-pub back-step : (spans b₀ b b′ : List Float) (n k r : ℕ) → 0 < k → BegunBack spans b₀ b (record { passed = k; end = n })
+pub back-step : (spans b₀ b b′ : List Float) (n k r : ℕ) → length spans % 2 ≡ 0 → 0 < k → BegunBack spans b₀ b (record { passed = k; end = n })
     → Joined b n (getD spans (k - 2) nan) (getD spans (k - 1) nan) b′ r → BegunBack spans b₀ b′ (record { passed = k - 2; end = r })
-back-step spans b₀ b b′ n k r pos s m = record {
-  passedMost = omega (arith, s .passedMost);
-  passedEven = omega (arith, s .passedEven);
-  filled = filled-step (holds (drop k spans)) (holds (drop (k - 2) spans)) b₀ b b′ (length spans - k) (length spans - (k - 2)) n r (getD spans (k - 2) nan) (getD spans (k - 1) nan) (s .filled) m
-      (omega (arith, s .passedMost, s .passedEven))
-      (λ p. or-comm (holds (drop k spans) p) (within (getD spans (k - 2) nan) (getD spans (k - 1) nan) p)
-      ∙ sym (holds-drop spans (k - 2) p (omega (arith, s .passedMost, s .passedEven)) ∙ rw (one (s .passedEven), two (s .passedEven)) refl));
-}
+back-step spans b₀ b b′ n k r even pos s m =
+    let pair = getD spans (k - 2) nan ∷ getD spans (k - 1) nan ∷ [] in
+    let whole : length (drop k spans) % 2 ≡ 0 = omega (arith, length-drop k spans, s .passedMost, s .passedEven) in
+    let f = filled-step (drop k spans) b₀ b b′ (length spans - k) (length spans - (k - 2)) n r (getD spans (k - 2) nan) (getD spans (k - 1) nan) whole (s .filled) m
+    (omega (arith, s .passedMost, s .passedEven)) in
+    record {
+      passedMost = omega (arith, s .passedMost);
+      passedEven = omega (arith, s .passedEven);
+      filled = record {
+        size = f .size;
+        most = f .most;
+        list = rw (drop-pair spans (k - 2) (omega (arith, s .passedMost, s .passedEven)), one (s .passedEven), two (s .passedEven))
+            (normal-swap (drop k spans) pair (take r b′) whole (omega arith) (f .list));
+      };
+    }
   where
     one : k % 2 ≡ 0 → k - 2 + 1 ≡ k - 1
     one e = omega arith

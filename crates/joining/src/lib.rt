@@ -3,7 +3,7 @@ ghost use mathlib.Core.Path.{_≡_};
 ghost use Prim.Native.Nat.{_+_, _%_, _≤_};
 ghost use mathlib.Core.List.{_++_};
 ghost use lib.ListN.{length, take};
-ghost use Rattle.spans.specs.Spans.{holds, retained};
+ghost use Rattle.spans.specs.Spans.{retained, NormalOf};
 ghost use Rattle.spans.specs.Steps.{Filled};
 ghost use Rattle.joining.specs.Steps.{Begun, BegunBack, Front};
 use spans::Place;
@@ -25,7 +25,7 @@ pub fn gather(spans: &[f64], out: &mut [f64], n: usize) -> usize
 // Works the pairs of the first m cells one by one into the sound list of those in front of them, which stands at the start.
 pub fn join_all(b: &mut [f64], m: usize) -> usize
     requires { ⌜ (m % 2 ≡ 0) × (m ≤ length (now b)) ⌝ }
-    ensures { λ r. ⌜ Filled (holds (take m (now (b .entry)))) (now (b .entry)) m (now (b .exit)) r ⌝ }
+    ensures { λ r. ⌜ Filled (NormalOf (take m (now (b .entry)))) (now (b .entry)) m (now (b .exit)) r ⌝ }
 {
     let mut n = 0;
     let mut k = 0;

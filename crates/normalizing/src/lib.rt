@@ -2,8 +2,8 @@
 ghost use mathlib.Core.Path.{_≡_};
 ghost use Prim.Native.Nat.{_+_, _%_, _≤_};
 ghost use lib.ListN.{length, take};
-ghost use mathlib.Core.Bool.{_||_};
-ghost use Rattle.spans.specs.Spans.{holds};
+ghost use mathlib.Core.List.{_++_};
+ghost use Rattle.spans.specs.Spans.{NormalOf};
 ghost use Rattle.spans.specs.Results.{Answer};
 ghost use Rattle.spans.specs.Steps.{Filled};
 ghost use Rattle.normalizing.specs.Normalizing.{normalizeCauses};
@@ -14,7 +14,7 @@ use spans::Listed;
 // worked in at the high end.
 pub fn normalize_front(b: &mut [f64], m: usize) -> usize
     requires { ⌜ (m % 2 ≡ 0) × (m ≤ length (now b)) ⌝ }
-    ensures { λ r. ⌜ Filled (holds (take m (now (b .entry)))) (now (b .entry)) m (now (b .exit)) r ⌝ }
+    ensures { λ r. ⌜ Filled (NormalOf (take m (now (b .entry)))) (now (b .entry)) m (now (b .exit)) r ⌝ }
 {
     sort_pairs(&mut b[..m]);
     joining::join_all(b, m)
@@ -23,7 +23,7 @@ pub fn normalize_front(b: &mut [f64], m: usize) -> usize
 // Works further pairs into the list of the first n ends.
 fn join_more(spans: &[f64], out: &mut [f64], n: usize) -> usize
     requires { ⌜ (length (now spans) % 2 ≡ 0) × (n % 2 ≡ 0) × (n + length (now spans) ≤ length (now out)) ⌝ }
-    ensures { λ r. ⌜ Filled (λ p. holds (take n (now (out .entry))) p || holds (now (spans .entry)) p) (now (out .entry))
+    ensures { λ r. ⌜ Filled (NormalOf (take n (now (out .entry)) ++ now (spans .entry))) (now (out .entry))
         (n + length (now (spans .entry))) (now (out .exit)) r ⌝ }
 {
     let m = joining::gather(spans, out, n);
@@ -33,7 +33,7 @@ fn join_more(spans: &[f64], out: &mut [f64], n: usize) -> usize
 // Fills the front of `out` with the sound list of arbitrary pairs. Pairs that ascend or descend are joined as they are read.
 pub fn normalize_into(spans: &[f64], out: &mut [f64]) -> usize
     requires { ⌜ (length (now spans) % 2 ≡ 0) × (length (now spans) ≤ length (now out)) ⌝ }
-    ensures { λ r. ⌜ Filled (holds (now (spans .entry))) (now (out .entry)) (length (now (spans .entry))) (now (out .exit)) r ⌝ }
+    ensures { λ r. ⌜ Filled (NormalOf (now (spans .entry))) (now (out .entry)) (length (now (spans .entry))) (now (out .exit)) r ⌝ }
 {
     let up = joining::join_rising(spans, out);
     let k = up.passed;
@@ -54,7 +54,8 @@ pub fn normalize_into(spans: &[f64], out: &mut [f64]) -> usize
 // The sound list of arbitrary pairs: those without lo < hi are dropped, touching ones joined.
 // 12: `out` has fewer pairs than `spans`. 11: `spans` has a part of a pair over.
 pub fn normalize(spans: &[f64], out: &mut [f64]) -> Listed
-    ensures { λ r. ⌜ Answer (holds (now (spans .entry))) (normalizeCauses (now (spans .entry)) (length (now (out .entry)))) (now (out .entry)) (now (out .exit)) r ⌝ }
+    ensures { λ r. ⌜ Answer (NormalOf (now (spans .entry))) (normalizeCauses (now (spans .entry)) (length (now (out .entry))))
+        (now (out .entry)) (now (out .exit)) r ⌝ }
 {
     if out.len() / 2 < spans.len() / 2 {
         return Listed::Refused(12);

@@ -8,16 +8,14 @@ use native.Mathlib.Omega.{arith}
 use lib.ListN.{length, getD, take, drop, drop-of-length-le}
 use lib.Ieee.{Float, nan, lt, le}
 use Rattle.spans.specs.Spans.{sound}
-use Rattle.spans.specs.Steps.{Put, pairIf}
+use Rattle.spans.specs.Steps.{Put, Filled, pairIf}
 use Rattle.overlay.specs.Overlay.{sharedBy, commonOf}
-use Rattle.overlay.specs.Steps.{Written}
 use Rattle.doubles.specs.Doubles.{Number, largerOf, smallerOf}
 use Rattle.doubles.proofs.Order.{not-lt→le, le-lt-trans, lt-trans}
 use Rattle.spans.proofs.Ends.{All, rising-at}
 use Rattle.spans.proofs.Sets.{sound-rising, sound-mod}
-use Rattle.spans.proofs.Points.{numbers-of, number-at, above-by-place, drop-sound}
+use Rattle.spans.proofs.Points.{numbers-of, number-at, drop-pair, above-by-place, drop-sound}
 use Rattle.overlay.proofs.Shared.{by-none, past-front, with-none}
-use Rattle.overlay.proofs.Cutting.{drop-two}
 
 pub record Sharing (a b before : List Float) (i j n : ℕ) (out : List Float) : Type 0 where
   pub size : length out ≡ length before
@@ -39,12 +37,13 @@ share-start a b before = record {
   ends = refl;
 }
 
-pub share-done : (a b before : List Float) (i j n : ℕ) (out : List Float) → (length a ≤ i) ⊎ (length b ≤ j) → Sharing a b before i j n out → Written (commonOf a b) before (length a + length b) out n
+pub share-done : (a b before : List Float) (i j n : ℕ) (out : List Float) → (length a ≤ i) ⊎ (length b ≤ j) → Sharing a b before i j n out
+    → Filled (λ l. l ≡ commonOf a b) before (length a + length b) out n
 unfolding commonOf
 share-done a b before i j n out h s = record {
   size = s .size;
   most = omega (arith, s .most, s .iMost, s .jMost);
-  ends = sym (append-nil (take n out)) ∙ ap (λ (l : List Float). take n out ++ l) (sym (elim h [ inl k ↦ used k | inr k ↦ ap (commonOf (drop i a)) (drop-of-length-le b k) ∙ with-none (drop i a) ])) ∙ s .ends;
+  list = sym (append-nil (take n out)) ∙ ap (λ (l : List Float). take n out ++ l) (sym (elim h [ inl k ↦ used k | inr k ↦ ap (commonOf (drop i a)) (drop-of-length-le b k) ∙ with-none (drop i a) ])) ∙ s .ends;
 }
   where
     used : length a ≤ i → commonOf (drop i a) (drop j b) ≡ []
@@ -92,7 +91,7 @@ module _ (a b before : List Float) (i j n : ℕ) (out out′ : List Float) (r : 
   -- this pair of both, then the other pairs of b with this one of a, then the other pairs of a
   split : commonOf (drop i a) (drop j b) ≡ (pairIf (largerOf lo x) (smallerOf hi y) ++ sharedBy lo hi restB) ++ commonOf restA (drop j b)
   unfolding commonOf sharedBy
-  split = ap (λ (l : List Float). commonOf l (drop j b)) (drop-two a i a-fits) ∙ ap (λ (l : List Float). sharedBy lo hi l ++ commonOf restA (drop j b)) (drop-two b j b-fits)
+  split = ap (λ (l : List Float). commonOf l (drop j b)) (drop-pair a i a-fits) ∙ ap (λ (l : List Float). sharedBy lo hi l ++ commonOf restA (drop j b)) (drop-pair b j b-fits)
 
   next : (k : List Float) → commonOf (drop i a) (drop j b) ≡ pairIf (largerOf lo x) (smallerOf hi y) ++ k → take r out′ ++ k ≡ commonOf a b
   next k e =
@@ -126,8 +125,8 @@ module _ (a b before : List Float) (i j n : ℕ) (out out′ : List Float) (r : 
     most = omega (arith, m .most, s .most);
     ends = next (commonOf (drop i a) restB) (split
         ∙ append-assoc (pairIf (largerOf lo x) (smallerOf hi y)) (sharedBy lo hi restB) (commonOf restA (drop j b))
-        ∙ ap (λ (l : List Float). pairIf (largerOf lo x) (smallerOf hi y) ++ (sharedBy lo hi restB ++ l)) (ap (commonOf restA) (drop-two b j b-fits)
+        ∙ ap (λ (l : List Float). pairIf (largerOf lo x) (smallerOf hi y) ++ (sharedBy lo hi restB ++ l)) (ap (commonOf restA) (drop-pair b j b-fits)
         ∙ past-front x y restA restB numbers-a (number-at b j sb g) ny
         (above-by-place a (i + 2) y a-fits (sound-rising a sa) (λ k. le-lt-trans y hi (getD a (i + 2) nan) (not-lt→le hi y nhi ny t) (rising-at a (i + 1) (i + 2) (sound-rising a sa) (omega arith) k))))
-        ∙ ap (λ (l : List Float). pairIf (largerOf lo x) (smallerOf hi y) ++ commonOf l restB) (sym (drop-two a i a-fits)));
+        ∙ ap (λ (l : List Float). pairIf (largerOf lo x) (smallerOf hi y) ++ commonOf l restB) (sym (drop-pair a i a-fits)));
   }

@@ -11,25 +11,17 @@ use lib.ListN.{length, getD, take, drop, length-drop, drop-of-length-le}
 use lib.Seq.{take-add, drop-cons}
 use lib.Ieee.{Float, nan, lt, le}
 use Rattle.spans.specs.Spans.{sound}
-use Rattle.spans.specs.Steps.{Put, pairIf}
+use Rattle.spans.specs.Steps.{Put, Filled, pairIf}
 use Rattle.overlay.specs.Overlay.{higherOf, lowerOf, cutBy, lessOf}
-use Rattle.overlay.specs.Steps.{Ready, Cut, Written}
+use Rattle.overlay.specs.Steps.{Ready, Cut}
 use Rattle.spans.specs.declared.Place.{Place}
 use Rattle.doubles.specs.Doubles.{Number}
 use Rattle.doubles.proofs.Bools.{by-cases}
 use Rattle.doubles.proofs.Order.{lt-number, lt→le, le→not-lt, not-le→lt, le-trans}
 use Rattle.spans.proofs.Ends.{all-append, All, AtMost, UpTo, upTo-more, rising-at}
 use Rattle.spans.proofs.Sets.{sound-rising, sound-mod}
-use Rattle.spans.proofs.Points.{numbers-of, pair-rises, number-at, upTo-last, drop-sound}
+use Rattle.spans.proofs.Points.{numbers-of, drop-pair, pair-rises, number-at, upTo-last, drop-sound}
 use Rattle.overlay.proofs.Less.{higher-first, higher-second, higher-both, cut-none, cut-skip}
-
--- the pair at place k, and what stands past it
-pub drop-two : (l : List Float) (k : ℕ) → k + 2 ≤ length l → drop k l ≡ getD l k nan ∷ getD l (k + 1) nan ∷ drop (k + 2) l
-drop-two l k h = drop-cons l k nan (omega arith) ∙ ap (λ (m : List Float). getD l k nan ∷ m) (drop-cons l (suc k) nan (omega arith)
-    ∙ ap₂ (λ (i j : ℕ). getD l i nan ∷ drop j l) (sym (add-one k)) (two k))
-  where
-    two : (k : ℕ) → suc (suc k) ≡ k + 2
-    two k = omega arith
 
 -- ---- the loop of `cut_pair`
 pub record Cutting (rest : List Float) (from hi : Float) (before : List Float) (n : ℕ) (lo : Float) (j end : ℕ) (out : List Float) : Type 0 where
@@ -89,7 +81,7 @@ module _ (rest : List Float) (from hi : Float) (before : List Float) (n : ℕ) (
 
     first : cutBy lo hi (drop j rest) ≡ pairIf lo (lowerOf hi x) ++ cutBy (higherOf lo y) hi (drop (j + 2) rest)
     unfolding cutBy
-    first = ap (cutBy lo hi) (drop-two rest j pair-fits)
+    first = ap (cutBy lo hi) (drop-pair rest j pair-fits)
 
     -- nothing is left past a pair that reaches hi
     none-left : le hi y ≡ true → cutBy (higherOf lo y) hi (drop (j + 2) rest) ≡ []
@@ -171,12 +163,12 @@ less-start a b before = record {
 }
 
 pub less-done : (a b before : List Float) (i j n : ℕ) (out : List Float) → length a ≤ i → Lessening a b before i j n out
-    → Written (lessOf a b) before (length a + length b) out n
+    → Filled (λ l. l ≡ lessOf a b) before (length a + length b) out n
 unfolding lessOf
 less-done a b before i j n out h s = record {
   size = s .size;
   most = omega (arith, s .most, s .iMost, s .jMost);
-  ends = sym (append-nil (take n out)) ∙ ap (λ (l : List Float). take n out ++ lessOf l b) (sym (drop-of-length-le a h)) ∙ s .ends;
+  list = sym (append-nil (take n out)) ∙ ap (λ (l : List Float). take n out ++ lessOf l b) (sym (drop-of-length-le a h)) ∙ s .ends;
 }
 
 -- pairs that end at or below the start take nothing
@@ -223,6 +215,6 @@ module _ (a b before : List Float) (i j n : ℕ) (out : List Float) (sa : sound 
             ap (λ (l : List Float). l ++ lessOf (drop (i + 2) a) b) (c .ends)
             ∙ append-assoc (take n out) (cutBy lo hi (drop j b)) (lessOf (drop (i + 2) a) b)
             ∙ ap (λ (l : List Float). take n out ++ (l ++ lessOf (drop (i + 2) a) b)) (sym (skip-front lo hi nh b j (s .jWhole) (s .jMost) (s .passed h)))
-            ∙ ap (λ (l : List Float). take n out ++ lessOf l b) (sym (drop-two a i pair-in))
+            ∙ ap (λ (l : List Float). take n out ++ lessOf l b) (sym (drop-pair a i pair-in))
             ∙ s .ends;
       }

@@ -10,12 +10,6 @@ use Rattle.spans.specs.Steps.{UpTo}
 use Rattle.spans.specs.declared.Place.{Place}
 use Rattle.overlay.specs.Overlay.{cutBy}
 
--- the list stands in the first r cells, at most `limit`
-pub record Written (list before : List Float) (limit : ℕ) (after : List Float) (r : ℕ) : Type 0 where
-  pub size : length after ≡ length before
-  pub most : r ≤ limit
-  pub ends : take r after ≡ list
-
 -- what `cut_pair` asks: a pair, and room for what is left of it past the first n ends
 pub record Ready (rest : List Float) (from hi : Float) (before : List Float) (n : ℕ) : Type 0 where
   pub restSound : sound rest ≡ true

@@ -7,17 +7,7 @@ use native.Mathlib.Decide.{decLt}
 use native.Mathlib.Numerals.{add-one}
 use lib.ListN.{length, getD, set, length-set}
 use lib.Ieee.{Float, nan}
-use Rattle.rearranging.specs.Pairs.{Rearranged, same, keep, swap, then, SamePairs, foldPairs}
-
--- a value gathered over the pairs is the same for every order, where two pairs may change places
-pub fold-rearranged : {A : Type 0} (f : Float → Float → A → A) (v : A)
-    → ((a b c d : Float) (x : A) → f a b (f c d x) ≡ f c d (f a b x))
-    → {l m : List Float} → Rearranged l m → foldPairs f v l ≡ foldPairs f v m
-unfolding foldPairs
-fold-rearranged f v h same = refl
-fold-rearranged f v h (keep {lo} {hi} r) = ap (f lo hi) (fold-rearranged f v h r)
-fold-rearranged f v h (swap {a} {b} {c} {d} {l}) = h a b c d (foldPairs f v l)
-fold-rearranged f v h (then r s) = fold-rearranged f v h r ∙ fold-rearranged f v h s
+use Rattle.rearranging.specs.Pairs.{Rearranged, same, keep, swap, then, SamePairs}
 
 -- ---- two pairs that change places
 -- the pair in front of l with the pair at cell q of l

@@ -15,9 +15,3 @@ pub data Rearranged : List Float → List Float → Type 0 where
 pub record SamePairs (before after : List Float) : Type 0 where
   pub size : length after ≡ length before
   pub pairs : Rearranged before after
-
--- a value gathered over the pairs of a list, from its end
-unfoldable pub foldPairs : {A : Type 0} → (Float → Float → A → A) → A → List Float → A
-foldPairs f a [] = a
-foldPairs f a (lo ∷ []) = a
-foldPairs f a (lo ∷ hi ∷ l) = f lo hi (foldPairs f a l)

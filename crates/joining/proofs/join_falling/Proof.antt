@@ -41,7 +41,7 @@ falls-requires c κs =
 insert-requires : tie.Need-insert-requires Inv-loop μ-loop
 insert-requires c κs =
     let i = c .before .before .before .before .before .before .before .loop .inv in
-    (omega (arith, i .filled .size, i .filled .most, i .passedMost, i .passedEven, c .before .before .before .before .before .before .before .before .before .before .pre .0, c .before .before .before .before .before .before .before .before .before .before .pre .1), i .filled .list .isSound)
+    (omega (arith, i .filled .size, i .filled .most, i .passedMost, i .passedEven, c .before .before .before .before .before .before .before .before .before .before .pre .0, c .before .before .before .before .before .before .before .before .before .before .pre .1), i .filled .list .list .isSound)
 
 sub-k : tie.Need-sub-k Inv-loop μ-loop
 sub-k c = search needs
@@ -52,7 +52,7 @@ loop-less c = search needs
 loop-again : tie.Need-loop-again Inv-loop μ-loop
 loop-again c =
     let i = c .before .before .before .before .before .before .before .before .before .before .loop .inv in
-    back-step _ _ _ _ _ _ _ (omega arith) i (c .before .before .insert .ensures)
+    back-step _ _ _ _ _ _ _ (c .before .before .before .before .before .before .before .before .before .before .before .before .before .pre .0) (omega arith) i (c .before .before .insert .ensures)
 
 same-length : tie.Need-same-length Inv-loop μ-loop
 same-length c = search needs

@@ -40,7 +40,7 @@ falls-requires c κs =
 insert-requires : tie.Need-insert-requires Inv-loop μ-loop
 insert-requires c κs =
     let i = c .before .before .before .before .before .before .before .loop .inv in
-    (omega (arith, i .filled .size, i .filled .most, i .passedEven, c .before .before .before .before .before .before .before .before .before .before .pre .0, c .before .before .before .before .before .before .before .before .before .before .pre .1), i .filled .list .isSound)
+    (omega (arith, i .filled .size, i .filled .most, i .passedEven, c .before .before .before .before .before .before .before .before .before .before .pre .0, c .before .before .before .before .before .before .before .before .before .before .pre .1), i .filled .list .list .isSound)
 
 add-k : tie.Need-add-k Inv-loop μ-loop
 add-k c = search needs

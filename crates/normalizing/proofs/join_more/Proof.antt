@@ -4,7 +4,7 @@ use mathlib.Core.Path.{_≡_}
 use Prim.Native.Nat.{_+_, _≤_}
 use lib.ListN.{length}
 use Rattle.spans.specs.Spans.{retained}
-use Rattle.joining.proofs.Passes.{retained-even, retained-most}
+use Rattle.spans.proofs.Normal.{retained-even, retained-most}
 use Rattle.normalizing.proofs.Join.{gathered-count, joined-more}
 use borrow.Author.Needs.{needs}
 use Rattle.normalizing.proofs.join_more.Statement.{statement}

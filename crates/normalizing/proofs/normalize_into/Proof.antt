@@ -81,7 +81,7 @@ same-length-4 c = search needs
 
 returns-4 : tie.Need-returns-4
 returns-4 c =
-    back-more _ _ _ _ _ _ _ _ (c .before .before .before .before .before .before .before .before .before .before .before .before .before .before .before .join-rising .ensures .filled .size) (c .before .before .before .before .before .before .before .before .join-falling .ensures) (c .before .before .join-more2 .ensures)
+    back-more _ _ _ _ _ _ _ _ (c .before .before .before .before .before .before .before .before .before .before .before .before .before .before .before .before .before .before .before .pre .0) (c .before .before .before .before .before .before .before .before .before .before .before .before .before .before .before .join-rising .ensures .filled .size) (c .before .before .before .before .before .before .before .before .join-falling .ensures) (c .before .before .join-more2 .ensures)
 
 pub normalize-into-spec : {M : Type 1} → statement M
 normalize-into-spec =
