@@ -1,1 +1,2 @@
 pub mod Hitting
+pub mod Material

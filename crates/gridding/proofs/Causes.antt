@@ -1,5 +1,5 @@
 -- The answer of `grid` is given by document 01's causes: the tests in doubles, which are those of the Rust, find the same causes as whole numbers do. Assumes nothing.
-use mathlib.Core.Path.{_≡_, refl, sym, ap, _∙_}
+use mathlib.Core.Path.{_≡_, refl, sym, ap, _∙_, subst}
 use mathlib.Core.Logic.{inl, inr}
 use mathlib.Core.Bool.{Bool, true, false, cond, not, true≢false}
 use mathlib.Core.List.{List}
@@ -14,7 +14,7 @@ use Rattle.grid.specs.Axes.{byDigit, worldAxis, alongOf, cellsAlong}
 use Rattle.grid.specs.Grid.{whole}
 use Rattle.gridding.specs.Grid.{anyAbove, isMm, sizesOf, extentsOf, misdescribed, raysOf, tooFine, gridOver, gridOf}
 use Rattle.grid.specs.Rays.{rayCount}
-use Rattle.gridding.specs.Causes.{Misdescribed, Crowded, OverBudget, TooFine, dimsIn, gridIn, gridCauses, ByCauses, units-not-mm}
+use Rattle.gridding.specs.Causes.{Misdescribed, Crowded, OverBudget, TooFine, dimsIn, gridIn, gridCauses, ByCauses, GridPost, units-not-mm}
 use Rattle.grid.specs.declared.Vec3.{Vec3}
 use Rattle.grid.specs.declared.WorldAxis.{WorldAxis}
 use Rattle.grid.specs.declared.DexelStockSpec.{DexelStockSpec}
@@ -173,3 +173,6 @@ module _ (s : DexelStockSpec) (units : List ℕ) where
           let p = passes s (sizesOf s) e in
           let l = p .few-rays in
           over (no-clause s (sizesOf s) units m p) (omega arith)
+
+  pub grid-post : (r : Gridded) → r ≡ gridOf s units → GridPost s units r
+  grid-post r e = record { is = e; by = subst (ByCauses s units) (sym e) grid-by-causes }

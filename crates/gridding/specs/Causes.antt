@@ -10,7 +10,7 @@ use Rattle.doubles.specs.Constants.{million, millionth, plusZero}
 use Rattle.refusal.specs.Refusal.{Cause, cause, Due, NoneDue}
 use Rattle.grid.specs.Axes.{alongOf, cellsAlong, stepAlong}
 use Rattle.grid.specs.Grid.{whole}
-use Rattle.gridding.specs.Grid.{leastSize, sizesOf, extentsOf, dimsOf, raysOf, gridWith, leastStep}
+use Rattle.gridding.specs.Grid.{leastSize, sizesOf, extentsOf, dimsOf, raysOf, gridWith, leastStep, gridOf}
 use Rattle.grid.specs.Rays.{rayCount}
 use Rattle.grid.specs.declared.Vec3.{Vec3}
 use Rattle.grid.specs.declared.WorldAxis.{WorldAxis}
@@ -71,6 +71,11 @@ gridCauses s units =
 abbrev pub ByCauses : DexelStockSpec → (units : List ℕ) → Gridded → Type 0
 ByCauses s units (Refused k) = Due (gridCauses s units) k
 ByCauses s units (Accepted g) = NoneDue (gridCauses s units) × (g ≡ gridIn s)
+
+-- what `grid` promises: the Rust's answer, number for number, and that it is document 01's, by its causes
+pub record GridPost (s : DexelStockSpec) (units : List ℕ) (r : Gridded) : Type 0 where
+  pub is : r ≡ gridOf s units
+  pub by : ByCauses s units r
 
 -- what holds of a description and the grid that `grid` accepts it with
 pub record GridFacts (s : DexelStockSpec) (g : DexelGrid) : Type 0 where

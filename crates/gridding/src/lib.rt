@@ -1,6 +1,7 @@
 // The grid of a blank: its description tested, its cells and steps worked out.
 ghost use mathlib.Core.Path.{_≡_};
-ghost use Rattle.gridding.specs.Grid.{anyBelow, anyAbove, isMm, misdescribed, cellsOf, dimsOf, gridWith, magnitudeOf, tooFine, gridOver, gridOf};
+ghost use Rattle.gridding.specs.Grid.{anyBelow, anyAbove, isMm, misdescribed, cellsOf, dimsOf, gridWith, magnitudeOf, tooFine, gridOver};
+ghost use Rattle.gridding.specs.Causes.{GridPost};
 use grid::DexelGrid;
 use grid::DexelStockSpec;
 use grid::Gridded;
@@ -150,7 +151,7 @@ fn grid_over(spec: DexelStockSpec, extents: Vec3, dims: Vec3) -> Gridded
 
 // The grids that a description asks for, or why it is refused: 1, 2, 3 or 4.
 pub fn grid(spec: DexelStockSpec, units: &[u8]) -> Gridded
-    ensures { λ r. ⌜ r ≡ gridOf spec (now (units .entry)) ⌝ }
+    ensures { λ r. ⌜ GridPost spec (now (units .entry)) r ⌝ }
 {
     if !is_mm(units) {
         return Gridded::Refused(1);

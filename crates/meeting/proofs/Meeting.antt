@@ -68,7 +68,7 @@ pub overlaps-none : (n : ℕ) (spans : List Float) (links : List ℕ) (k : ℕ) 
 overlaps-none n spans links k s e = ap (λ (l : List Float). overlapsOf l s) (no-ends n spans links k e) ∙ overlaps-nil s
 
 -- in a rising list the last end is above all that one of its ends is above
-last-above : (x y : Float) (l : List Float) → rising (y ∷ l) ≡ true → lt x y ≡ true → lt x (lastOf y l) ≡ true
+pub last-above : (x y : Float) (l : List Float) → rising (y ∷ l) ≡ true → lt x y ≡ true → lt x (lastOf y l) ≡ true
 unfolding lastOf rising
 last-above x y [] r h = h
 last-above x y (z ∷ l) r h = last-above x z l (and-right (lt y z) (rising (z ∷ l)) r) (lt-trans x y z h (and-left (lt y z) (rising (z ∷ l)) r))

@@ -27,3 +27,7 @@ unfoldable pub overlapsOf : List Float → Pair → Bool
 overlapsOf [] s = false
 overlapsOf (lo ∷ []) s = false
 overlapsOf (lo ∷ hi ∷ l) s = lt (largerOf lo (s .lo)) (smallerOf hi (s .hi)) || (lt hi (s .hi) && overlapsOf l s)
+
+-- the pair as a list of its two ends, so that `holds` is its point set
+abbrev pub endsOf : Pair → List Float
+endsOf s = s .lo ∷ s .hi ∷ []

@@ -13,7 +13,7 @@ enum-known-g : tie.Need-enum-known-g
 enum-known-g c = search needs
 
 commit-grid-requires : tie.Need-commit-grid-requires
-commit-grid-requires c κs = grid-facts _ _ _ (sym (c .before .before .before .before .before .before .grid .ensures) ∙ c .before .before .before .before .g .given .1)
+commit-grid-requires c κs = grid-facts _ _ _ (sym (c .before .before .before .before .before .before .grid .ensures .is) ∙ c .before .before .before .before .g .given .1)
 
 enum-known-k : tie.Need-enum-known-k
 enum-known-k c = search needs
@@ -30,10 +30,10 @@ same-length-3 c = search needs
 returns : tie.Need-returns
 returns c =
     let a = c .before .before .before .before .before .before .before .before .before .before .before .before .before .before .before .before .before .before .before .before .args in
-    grid-accepted (a .spec) (a .units .now) (stock (a .spans .now) (a .links .now) (a .heads .now) (a .generation) (a .intervals)) (a .changes .now) (a .pairs .now) (a .base) _ _ (c .before .before .before .before .before .before .commit-grid .result .answer) (sym (c .before .before .before .before .before .before .before .before .before .before .before .before .before .grid .ensures) ∙ c .before .before .before .before .before .before .before .before .before .before .before .g .given .1) (c .before .before .before .before .before .before .commit-grid .ensures)
+    grid-accepted (a .spec) (a .units .now) (stock (a .spans .now) (a .links .now) (a .heads .now) (a .generation) (a .intervals)) (a .changes .now) (a .pairs .now) (a .base) _ _ (c .before .before .before .before .before .before .commit-grid .result .answer) (sym (c .before .before .before .before .before .before .before .before .before .before .before .before .before .grid .ensures .is) ∙ c .before .before .before .before .before .before .before .before .before .before .before .g .given .1) (c .before .before .before .before .before .before .commit-grid .ensures)
 
 returns-2 : tie.Need-returns-2
-returns-2 c = let a = c .before .before .before .before .before .before .before .before .before .before .args in grid-refused (a .spec) (a .units .now) (stock (a .spans .now) (a .links .now) (a .heads .now) (a .generation) (a .intervals)) (a .changes .now) (a .pairs .now) (a .base) _ (sym (c .before .before .before .grid .ensures) ∙ c .before .k .given .1)
+returns-2 c = let a = c .before .before .before .before .before .before .before .before .before .before .args in grid-refused (a .spec) (a .units .now) (stock (a .spans .now) (a .links .now) (a .heads .now) (a .generation) (a .intervals)) (a .changes .now) (a .pairs .now) (a .base) _ (sym (c .before .before .before .grid .ensures .is) ∙ c .before .k .given .1)
 
 pub commit-changes-on-spec : {M : Type 1} → statement M
 commit-changes-on-spec =

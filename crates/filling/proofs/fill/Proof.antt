@@ -13,7 +13,7 @@ enum-known-g : tie.Need-enum-known-g
 enum-known-g c = search needs
 
 fill-grid-requires : tie.Need-fill-grid-requires
-fill-grid-requires c κs = grid-facts _ _ _ (sym (c .before .before .before .before .before .before .grid .ensures) ∙ c .before .before .before .before .g .given .1)
+fill-grid-requires c κs = grid-facts _ _ _ (sym (c .before .before .before .before .before .before .grid .ensures .is) ∙ c .before .before .before .before .g .given .1)
 
 enum-known-k : tie.Need-enum-known-k
 enum-known-k c = search needs
@@ -31,10 +31,10 @@ returns : tie.Need-returns
 returns c =
     let a = c .before .before .before .before .before .before .before .before .before .before .before .before .before .before .before .before .before .before in
     let s = cells (a .args .spans .now) (a .args .links .now) (a .args .heads .now) in
-    fill-accepted (a .args .spec) (a .args .units .now) s _ _ (c .before .before .before .before .before .before .fill-grid .result) (sym (c .before .before .before .before .before .before .before .before .before .before .before .before .before .grid .ensures) ∙ c .before .before .before .before .before .before .before .before .before .before .before .g .given .1) (c .before .before .before .before .before .before .fill-grid .ensures)
+    fill-accepted (a .args .spec) (a .args .units .now) s _ _ (c .before .before .before .before .before .before .fill-grid .result) (sym (c .before .before .before .before .before .before .before .before .before .before .before .before .before .grid .ensures .is) ∙ c .before .before .before .before .before .before .before .before .before .before .before .g .given .1) (c .before .before .before .before .before .before .fill-grid .ensures)
 
 returns-2 : tie.Need-returns-2
-returns-2 c = let a = c .before .before .before .before .before .before .before .before in let s = cells (a .args .spans .now) (a .args .links .now) (a .args .heads .now) in fill-refused (a .args .spec) (a .args .units .now) s _ (sym (c .before .before .before .grid .ensures) ∙ c .before .k .given .1)
+returns-2 c = let a = c .before .before .before .before .before .before .before .before in let s = cells (a .args .spans .now) (a .args .links .now) (a .args .heads .now) in fill-refused (a .args .spec) (a .args .units .now) s _ (sym (c .before .before .before .grid .ensures .is) ∙ c .before .k .given .1)
 
 pub fill-spec : {M : Type 1} → statement M
 fill-spec =

@@ -1,6 +1,7 @@
 -- `gridding::grid` meets its contract. Assumes nothing.
 use Rattle.gridding.specs.Grid.{gridOf}
 use borrow.Author.Needs.{needs}
+use Rattle.gridding.proofs.Causes.{grid-post}
 use Rattle.gridding.proofs.grid.Statement.{statement}
 use Rattle.gridding.proofs.grid.Tie as tie
 
@@ -9,7 +10,7 @@ is-mm-requires c κs = search needs
 
 returns : tie.Need-returns
 unfolding gridOf
-returns c = rw (← c .before .is-mm .ensures, c .if1 .taken)
+returns c = grid-post _ _ _ (rw (← c .before .is-mm .ensures, c .if1 .taken))
 
 is-misdescribed-requires : tie.Need-is-misdescribed-requires
 is-misdescribed-requires c κs = search needs
@@ -18,7 +19,7 @@ returns-2 : tie.Need-returns-2
 unfolding gridOf
 returns-2 c =
     let t = c .before .before .before .before .before .before .before .before .before .before in
-    rw (← t .before .is-mm .ensures, t .if1 .left, ← c .before .is-misdescribed .ensures, c .if2 .taken)
+    grid-post _ _ _ (rw (← t .before .is-mm .ensures, t .if1 .left, ← c .before .is-misdescribed .ensures, c .if2 .taken))
 
 dims-requires : tie.Need-dims-requires
 dims-requires c κs = search needs
@@ -31,7 +32,8 @@ unfolding gridOf
 returns-3 c =
     let u = c .before .before in
     let t = u .before .before .before .before .before .before .before .before .before .before in
-    rw (← t .before .is-mm .ensures, t .if1 .left, ← u .before .is-misdescribed .ensures, u .if2 .left, ← c .before .dims .ensures, ← c .grid-over .ensures)
+    grid-post _ _ _
+    (rw (← t .before .is-mm .ensures, t .if1 .left, ← u .before .is-misdescribed .ensures, u .if2 .left, ← c .before .dims .ensures, ← c .grid-over .ensures))
 
 pub grid-spec : {M : Type 1} → statement M
 grid-spec =

@@ -21,7 +21,7 @@ returns c =
     let s = cells (a .args .spans .now) (a .args .links .now) (a .args .heads .now) in
     let k : Kernel = record { frame = frameOf (a .args .axis); guard = a .args .guard } in
     let p = profileOf (a .args .shape) (a .args .cutter) in
-    sweep-refused (a .args .spec) (a .args .units .now) k p s (a .args .intervals) (a .args .chords .now) (a .args .budget) (a .args .log .now) _ (sym (c .before .before .before .grid .ensures) ∙ c .before .n .given .1)
+    sweep-refused (a .args .spec) (a .args .units .now) k p s (a .args .intervals) (a .args .chords .now) (a .args .budget) (a .args .log .now) _ (sym (c .before .before .before .grid .ensures .is) ∙ c .before .n .given .1)
 
 enum-known-g : tie.Need-enum-known-g
 enum-known-g c = search needs
@@ -33,7 +33,7 @@ profile-of-requires : tie.Need-profile-of-requires
 profile-of-requires c κs = search needs
 
 sweep-grid-requires : tie.Need-sweep-grid-requires
-sweep-grid-requires c κs = grid-facts _ _ _ (sym (c .before .before .before .before .before .before .grid .ensures) ∙ c .before .before .before .before .g .given .1)
+sweep-grid-requires c κs = grid-facts _ _ _ (sym (c .before .before .before .before .before .before .grid .ensures .is) ∙ c .before .before .before .before .g .given .1)
 
 same-length : tie.Need-same-length
 same-length c = search needs
@@ -45,7 +45,7 @@ returns-2 c =
     let f = c .before .before .before .before .before .frame .result in
     let p = c .before .before .before .before .profile-of .result in
     let k : Kernel = record { frame = f; guard = a .args .guard } in
-    let h = sym (c .before .before .before .before .before .before .before .before .before .grid .ensures) ∙ c .before .before .before .before .before .before .before .g .given .1 in
+    let h = sym (c .before .before .before .before .before .before .before .before .before .grid .ensures .is) ∙ c .before .before .before .before .before .before .before .g .given .1 in
     same-tool (a .args .spec) (a .args .units .now) s (a .args .intervals) (a .args .guard) (a .args .chords .now) (a .args .budget) (a .args .log .now) _ (c .before .before .sweep-grid .result) f (frameOf (a .args .axis)) p (profileOf (a .args .shape) (a .args .cutter)) (c .before .before .before .before .before .frame .ensures) (c .before .before .before .before .profile-of .ensures)
     (sweep-accepted (a .args .spec) (a .args .units .now) k p s (a .args .intervals) (a .args .chords .now) (a .args .budget) (a .args .log .now) _ _ (c .before .before .sweep-grid .result) h (c .before .before .sweep-grid .ensures))
 
