@@ -16,6 +16,7 @@ use Rattle.visits.specs.declared.Cursor.{Cursor}
 use Rattle.visits.specs.declared.Progress.{Progress}
 use Rattle.visits.specs.declared.Progress.the-variants.{At, Stopped}
 use Rattle.visits.specs.declared.Track.{Track}
+use Rattle.grid.specs.declared.WorldAxis.{WorldAxis}
 use Rattle.across.specs.Across.{hitOf}
 use Rattle.across.specs.Section.{sectionOf}
 use Rattle.lanes.specs.declared.Profile.{Profile}
@@ -199,7 +200,7 @@ module _ (n : ℕ) (t : Track) (p : Profile) (l : Lane) (spans : List Float) (li
   unfolding rayEntry entryFor
   entry-on x h = rw h
 
-pub entry-length : (axis index : ℕ) (x : Hits) → length (entryOf axis index x) ≡ 6
+pub entry-length : (axis : WorldAxis) (index : ℕ) (x : Hits) → length (entryOf axis index x) ≡ 6
 unfolding entryOf
 entry-length axis index x = refl
 
@@ -304,7 +305,7 @@ unfolding each Sixes
 sixes-each zero f h from = tt
 sixes-each (suc n) f h from = sixes-append (f from) (each f (suc from) n) (h from) (sixes-each n f h (suc from))
 
-entry-sixes : (axis index : ℕ) (x : RayHit) → (entryFor axis index x ≡ []) ⊎ (length (entryFor axis index x) ≡ 6)
+entry-sixes : (axis : WorldAxis) (index : ℕ) (x : RayHit) → (entryFor axis index x ≡ []) ⊎ (length (entryFor axis index x) ≡ 6)
 unfolding entryFor entryOf
 entry-sixes axis index Off = inl refl
 entry-sixes axis index (On h) = inr refl

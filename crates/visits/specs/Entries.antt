@@ -4,6 +4,7 @@ use Prim.Native.Nat.{ℕ, zero, suc, _+_, _-_, _*_}
 use lib.Ieee.{Float}
 use lib.ListN.{getD}
 use Rattle.grid.specs.Grid.{whole}
+use Rattle.grid.specs.declared.WorldAxis.{WorldAxis}
 use Rattle.lists.specs.Reading.{listFrom}
 use Rattle.across.specs.Section.{sectionOf}
 use Rattle.across.specs.Across.{hitOf}
@@ -18,10 +19,10 @@ use Rattle.across.specs.declared.RayHit.the-variants.{On, Off}
 use Rattle.visits.specs.declared.Track.{Track}
 
 -- document 01's log entry: axis, index, outer, inner
-unfoldable pub entryOf : (axis index : ℕ) → Hits → List Float
-entryOf axis index h = whole axis ∷ whole index ∷ h .outer .lo ∷ h .outer .hi ∷ h .inner .lo ∷ h .inner .hi ∷ []
+unfoldable pub entryOf : WorldAxis → (index : ℕ) → Hits → List Float
+entryOf axis index h = whole (axis .0) ∷ whole index ∷ h .outer .lo ∷ h .outer .hi ∷ h .inner .lo ∷ h .inner .hi ∷ []
 
-unfoldable pub entryFor : (axis index : ℕ) → RayHit → List Float
+unfoldable pub entryFor : WorldAxis → (index : ℕ) → RayHit → List Float
 entryFor axis index Off = []
 entryFor axis index (On h) = entryOf axis index h
 

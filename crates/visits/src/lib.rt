@@ -7,6 +7,7 @@ ghost use Rattle.visits.specs.Entries.{entryOf, rayEntry, rowEntries, re
 ghost use Rattle.visits.specs.Walk.{Walks, RayReady, Ready};
 use across::Hits;
 use across::RayHit;
+use grid::WorldAxis;
 use lanes::Lane;
 use lanes::Profile;
 use lanes::Rect;
@@ -24,20 +25,20 @@ pub enum Progress {
 
 // The rays of a world axis: the number of the first, the rays of a row and the rows.
 pub struct Track {
-    pub axis: u8,
+    pub axis: WorldAxis,
     pub first: u64,
     pub row: u64,
     pub rows: u64,
 }
 
 // Writes an entry at cell `at`.
-fn put(log: &mut [f64], at: usize, axis: u8, index: u64, h: Hits)
+fn put(log: &mut [f64], at: usize, axis: WorldAxis, index: u64, h: Hits)
     requires { ⌜ at + 6 ≤ length (now log) ⌝ }
     ensures { λ _. ⌜ now (log .exit) ≡ take at (now (log .entry)) ++ (entryOf axis index h ++ drop (at + 6) (now (log .entry))) ⌝ }
 {
     let o = h.outer;
     let i = h.inner;
-    log[at] = std::num::nearest_u64_to_f64(axis as u64);
+    log[at] = std::num::nearest_u64_to_f64(axis.0 as u64);
     log[at + 1] = std::num::nearest_u64_to_f64(index);
     log[at + 2] = o.lo;
     log[at + 3] = o.hi;

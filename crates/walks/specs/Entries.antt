@@ -25,7 +25,7 @@ use Rattle.chords.specs.Chords.{chordOf}
 
 -- the rays of a world axis: the number of the first, the cells of a row and the rows
 unfoldable pub trackOf : DexelGrid → WorldAxis → Track
-trackOf g a = record { axis = a .0; first = offset g a; row = cellsAlong g (crossOf a .u); rows = cellsAlong g (crossOf a .v) }
+trackOf g a = record { axis = a; first = offset g a; row = cellsAlong g (crossOf a .u); rows = cellsAlong g (crossOf a .v) }
 
 -- what a sweep is made on and with
 pub record Setting : Type 0 where

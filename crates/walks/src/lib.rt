@@ -25,7 +25,7 @@ fn track_of(g: DexelGrid, axis: WorldAxis) -> Track
 {
     let w = grid::cross(axis);
     Track {
-        axis: axis.0,
+        axis,
         first: grid_rays::ray_offset(g, axis),
         row: grid::cells_along(g, w.u),
         rows: grid::cells_along(g, w.v),
