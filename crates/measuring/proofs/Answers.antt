@@ -19,7 +19,7 @@ use Rattle.store.specs.Updates.{Cells, SoundStore}
 use Rattle.stock.specs.Stock.{SoundCells, Tells, short}
 use Rattle.stock.proofs.Causes.{due-first, due-second, none-in-both}
 use Rattle.stock.proofs.Answers.{accepted, refused}
-use Rattle.measuring.specs.Volume.{volumeAlong, AddsAlong, boxVolume, boundsBy, volumeOf, MeasuresRays, storeCauses, volumeCauses, Measures}
+use Rattle.measuring.specs.Volume.{volumeAlong, AddsAlong, boxVolume, boundsBy, MeasuresRays, storeCauses, volumeCauses, Measures}
 use Rattle.measuring.specs.declared.AxisVolume.{AxisVolume}
 use Rattle.measuring.specs.declared.AxisSums.{AxisSums}
 use Rattle.measuring.specs.declared.DexelVolume.{DexelVolume}
@@ -28,21 +28,23 @@ use Rattle.measuring.specs.declared.Measured.the-variants.{Accepted as T
 use Rattle.measuring.proofs.Lengths.{after-z}
 
 module _ (spec : DexelStockSpec) (g : DexelGrid) (c : Cells) (intervals : ℕ) where
-  pub measure-short : (r : Bool) → r ≡ short spec g c → r ≡ true → Measures (storeCauses spec g c intervals) (volumeOf spec g c) (Declined 12)
+  pub measure-short : (r : Bool) → r ≡ short spec g c → r ≡ true → Measures (storeCauses spec g c intervals) spec g c intervals (Declined 12)
   unfolding Due
   measure-short r e t = inl (sym e ∙ t, refl)
 
-  pub measure-bad : (r s : Bool) → r ≡ short spec g c → r ≡ false → Tells (SoundStore (spec .«max_intervals») (2 * rayCount g) intervals c) s → not s ≡ true → Measures (storeCauses spec g c intervals) (volumeOf spec g c) (Declined 11)
+  pub measure-bad : (r s : Bool) → r ≡ short spec g c → r ≡ false → Tells (SoundStore (spec .«max_intervals») (2 * rayCount g) intervals c) s → not s ≡ true → Measures (storeCauses spec g c intervals) spec g c intervals (Declined 11)
   unfolding Due
   measure-bad r s e f t h = inr ((λ u. clash (short spec g c) u (sym e ∙ f)), inl ((λ p. clash s (t .1 (p .store)) (not-true s h)), refl))
 
-  pub measure-done : (r s : Bool) → r ≡ short spec g c → r ≡ false → Tells (SoundStore (spec .«max_intervals») (2 * rayCount g) intervals c) s → not s ≡ false → (m : Measured) → MeasuresRays spec g c m → Measures (storeCauses spec g c intervals) (volumeOf spec g c) m
+  pub measure-done : (r s : Bool) → r ≡ short spec g c → r ≡ false → Tells (SoundStore (spec .«max_intervals») (2 * rayCount g) intervals c) s → not s ≡ false → (m : Measured) → MeasuresRays spec g c m → Measures (storeCauses spec g c intervals) spec g c intervals m
   unfolding Due NoneDue
   measure-done r s e f t h (Declined k) m = inr ((λ u. clash (short spec g c) u (sym e ∙ f)), inl ((λ p. m .1 (p .valid)), m .0))
-  measure-done r s e f t h (Told w) m = (
-    ((λ u. clash (short spec g c) u (sym e ∙ f)), ((λ (no-sound : SoundCells spec g c intervals → ⊥). no-sound (record { store = t .0 (not-false s h); valid = m .0 })), tt)),
-    m .1,
-  )
+  measure-done r s e f t h (Told w) m =
+      let isSound : SoundCells spec g c intervals = record { store = t .0 (not-false s h); valid = m .0 } in (
+        ((λ u. clash (short spec g c) u (sym e ∙ f)), ((λ (no-sound : SoundCells spec g c intervals → ⊥). no-sound isSound), tt)),
+        isSound,
+        m .1,
+      )
 
 -- ---- the rays of a store
 module _ (spec : DexelStockSpec) (g : DexelGrid) (c : Cells) where
@@ -60,12 +62,12 @@ module _ (spec : DexelStockSpec) (g : DexelGrid) (c : Cells) where
   )
 
 module _ (spec : DexelStockSpec) (units : List ℕ) (c : Cells) (intervals : ℕ) where
-  pub volume-accepted : (g : DexelGrid) (r : Measured) → gridOf spec units ≡ Griddable g → Measures (storeCauses spec g c intervals) (volumeOf spec g c) r → Measures (volumeCauses spec units c intervals) (volumeOf spec (gridIn spec) c) r
-  volume-accepted g r h f = let a = accepted spec units g h in at r (a .0) (subst (λ (x : DexelGrid). Measures (storeCauses spec x c intervals) (volumeOf spec x c) r) (a .1) f)
+  pub volume-accepted : (g : DexelGrid) (r : Measured) → gridOf spec units ≡ Griddable g → Measures (storeCauses spec g c intervals) spec g c intervals r → Measures (volumeCauses spec units c intervals) spec (gridIn spec) c intervals r
+  volume-accepted g r h f = let a = accepted spec units g h in at r (a .0) (subst (λ (x : DexelGrid). Measures (storeCauses spec x c intervals) spec x c intervals r) (a .1) f)
     where
-      at : (r : Measured) → NoneDue (gridCauses spec units) → Measures (storeCauses spec (gridIn spec) c intervals) (volumeOf spec (gridIn spec) c) r → Measures (volumeCauses spec units c intervals) (volumeOf spec (gridIn spec) c) r
+      at : (r : Measured) → NoneDue (gridCauses spec units) → Measures (storeCauses spec (gridIn spec) c intervals) spec (gridIn spec) c intervals r → Measures (volumeCauses spec units c intervals) spec (gridIn spec) c intervals r
       at (Declined k) n f = due-second (gridCauses spec units) (storeCauses spec (gridIn spec) c intervals) k n f
-      at (Told w) n f = (none-in-both (gridCauses spec units) (storeCauses spec (gridIn spec) c intervals) n (f .0), f .1)
+      at (Told w) n f = (none-in-both (gridCauses spec units) (storeCauses spec (gridIn spec) c intervals) n (f .0), f .1, f .2)
 
-  pub volume-refused : (k : ℕ) → gridOf spec units ≡ NoGrid k → Measures (volumeCauses spec units c intervals) (volumeOf spec (gridIn spec) c) (Declined k)
+  pub volume-refused : (k : ℕ) → gridOf spec units ≡ NoGrid k → Measures (volumeCauses spec units c intervals) spec (gridIn spec) c intervals (Declined k)
   volume-refused k h = due-first (gridCauses spec units) (storeCauses spec (gridIn spec) c intervals) k (refused spec units k h)

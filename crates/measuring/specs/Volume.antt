@@ -90,10 +90,10 @@ MeasuresRays spec g c (Accepted w) = ValidTo spec g c (rayCount g) × (w ≡ vol
 abbrev pub storeCauses : DexelStockSpec → DexelGrid → Cells → ℕ → List Cause
 storeCauses spec g c intervals = cause 12 (short spec g c ≡ true) ∷ cause 11 (SoundCells spec g c intervals → ⊥) ∷ []
 
--- a refused call gives the number that is due; an accepted one, with no cause, the volume
-abbrev pub Measures : List Cause → DexelVolume → Measured → Type 0
-Measures causes v (Refused k) = Due causes k
-Measures causes v (Accepted w) = NoneDue causes × (w ≡ v)
+-- a refused call gives the number that is due; an accepted one, with no cause, has a sound store and gives its volume
+abbrev pub Measures : List Cause → DexelStockSpec → DexelGrid → Cells → (intervals : ℕ) → Measured → Type 0
+Measures causes spec g c intervals (Refused k) = Due causes k
+Measures causes spec g c intervals (Accepted w) = NoneDue causes × SoundCells spec g c intervals × (w ≡ volumeOf spec g c)
 
 -- document 01's order for `volume`: 1, 2, 3, 4, 12, 11
 abbrev pub volumeCauses : DexelStockSpec → (units : List ℕ) → Cells → ℕ → List Cause

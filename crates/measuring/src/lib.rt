@@ -5,7 +5,7 @@ ghost use Rattle.grid.specs.Rays.{rayCount, offset};
 ghost use Rattle.gridding.specs.Causes.{GridFacts, gridIn};
 ghost use Rattle.store.specs.Updates.{cells};
 ghost use Rattle.stock.specs.Stock.{ValidTo, Chained};
-ghost use Rattle.measuring.specs.Volume.{AddsRay, AddsAlong, boxVolume, boundsBy, volumeOf, MeasuresRays, Measures, storeCauses, volumeCauses};
+ghost use Rattle.measuring.specs.Volume.{AddsRay, AddsAlong, boxVolume, boundsBy, MeasuresRays, Measures, storeCauses, volumeCauses};
 use grid::DexelGrid;
 use grid::DexelStockSpec;
 use grid::Gridded;
@@ -189,7 +189,7 @@ fn measure(
 ) -> Measured
     requires { ⌜ GridFacts spec g ⌝ }
     ensures { λ r. ⌜ Measures (storeCauses spec g (cells (now (spans .entry)) (now (links .entry)) (now (heads .entry))) intervals)
-        (volumeOf spec g (cells (now (spans .entry)) (now (links .entry)) (now (heads .entry)))) r ⌝ }
+        spec g (cells (now (spans .entry)) (now (links .entry)) (now (heads .entry))) intervals r ⌝ }
 {
     if stock::is_short(spec, g, spans, links, heads) {
         return Measured::Refused(12);
@@ -210,7 +210,7 @@ pub fn volume(
     intervals: u64,
 ) -> Measured
     ensures { λ r. ⌜ Measures (volumeCauses spec (now (units .entry)) (cells (now (spans .entry)) (now (links .entry)) (now (heads .entry))) intervals)
-        (volumeOf spec (gridIn spec) (cells (now (spans .entry)) (now (links .entry)) (now (heads .entry)))) r ⌝ }
+        spec (gridIn spec) (cells (now (spans .entry)) (now (links .entry)) (now (heads .entry))) intervals r ⌝ }
 {
     match gridding::grid(spec, units) {
         Gridded::Accepted(g) => measure(spec, g, spans, links, heads, intervals),

@@ -100,6 +100,7 @@ module _ (s : Setting) (intervals : ℕ) (chords : List Float) where
               chained = sound-chained (s .spec) (s .grid) (s .cells) intervals (room-of (s .spec) (s .grid) (s .cells) (sym e ∙ t)) (w .0 good);
               valid = w .0 good .valid;
             },
+            w .0 good,
           )
 
 -- ---- the log after a refusal
@@ -154,18 +155,19 @@ module _ (s : Setting) (chords : List Float) (budget : ℕ) (log mid : List Floa
       apart : _≡_ {A = ℕ} 8 16 → ⊥
       apart z = omega arith
 
-  pub visit-answer : (x : Progress) → Walks budget (sweepEntries s chords) origin log x mid → Sweeps (visitCauses s chords budget (length log)) s chords log (endLog x mid) (endOf x)
+  pub visit-answer : (intervals : ℕ) → SoundCells (s .spec) (s .grid) (s .cells) intervals → (x : Progress) → Walks budget (sweepEntries s chords) origin log x mid → Sweeps (visitCauses s chords budget (length log)) s intervals chords log (endLog x mid) (endOf x)
   unfolding NoneDue logOf
-  visit-answer (Stopped k) w =
+  visit-answer intervals isSound (Stopped k) w =
       let o = walk-stop budget (length log) (sweepEntries s chords) 0 [] k (w .walked) in
       let z : length mid - 0 ≡ length mid = omega arith in
       (visit-due k (w .walked) o, ap (λ (n : ℕ). replicate n plusZero) (z ∙ w .same) ∙ cleared k log o)
-  visit-answer (At d) w =
+  visit-answer intervals isSound (At d) w =
       let r = walk-done budget (length log) (sweepEntries s chords) 0 [] (d .visits) (take (d .at) mid) (w .walked) in
       let l : length (logOf s chords) ≡ d .at = sym (ap length (r .1)) ∙ length-take-le (d .at) mid (w .room) in
       let z : 0 + length (sweepEntries s chords) ≡ length (sweepEntries s chords) = omega arith in (
         ((λ (q : walkOf s chords budget (length log) ≡ Stop 8). done-no-stop _ (d .visits) 8 (take (d .at) mid) (w .walked) q), ((λ (q : walkOf s chords budget (length log) ≡ Stop 16). done-no-stop _ (d .visits) 16 (take (d .at) mid) (w .walked) q), tt)),
         record {
+          isSound = isSound;
           entries = omega (arith, l, log-length s chords);
           visits = r .0 ∙ z ∙ sweep-length s chords;
           log = ap (λ (m : List Float). m ++ replicate (length mid - d .at) plusZero) (r .1) ∙ ap (λ (n : ℕ). logOf s chords ++ replicate n plusZero) (ap (λ (n : ℕ). n - d .at) (w .same) ∙ ap (λ (n : ℕ). length log - n) (sym l));
@@ -174,46 +176,46 @@ module _ (s : Setting) (chords : List Float) (budget : ℕ) (log mid : List Floa
 
 -- ---- the sweep over a grid that is accepted
 module _ (s : Setting) (intervals : ℕ) (chords : List Float) (budget : ℕ) (log : List Float) where
-  pub grid-declined : (ready : SweepCheck) (k : ℕ) → Checks s intervals chords ready → ready ≡ Declined k → Sweeps (causesIn s intervals chords budget (length log)) s chords log log (Refused k)
+  pub grid-declined : (ready : SweepCheck) (k : ℕ) → Checks s intervals chords ready → ready ≡ Declined k → Sweeps (causesIn s intervals chords budget (length log)) s intervals chords log log (Refused k)
   grid-declined ready k c h =
       let d : Due (settingCauses s intervals chords) k = subst (Checks s intervals chords) h c in
       (due-first (settingCauses s intervals chords) (visitCauses s chords budget (length log)) k d, setting-kept k log s intervals chords d)
 
-  pub admitted : (ready : SweepCheck) → Checks s intervals chords ready → ready ≡ Admitted → NoneDue (settingCauses s intervals chords) × Sweepable (s .spec) (s .grid) (s .cells)
+  pub admitted : (ready : SweepCheck) → Checks s intervals chords ready → ready ≡ Admitted → Checks s intervals chords Admitted
   admitted ready c h = subst (Checks s intervals chords) h c
 
-  after-setting : (after : List Float) (r : Swept) → NoneDue (settingCauses s intervals chords) → Sweeps (visitCauses s chords budget (length log)) s chords log after r → Sweeps (causesIn s intervals chords budget (length log)) s chords log after r
+  after-setting : (after : List Float) (r : Swept) → NoneDue (settingCauses s intervals chords) → Sweeps (visitCauses s chords budget (length log)) s intervals chords log after r → Sweeps (causesIn s intervals chords budget (length log)) s intervals chords log after r
   after-setting after (Refused k) n f = (due-second (settingCauses s intervals chords) (visitCauses s chords budget (length log)) k n (f .0), f .1)
   after-setting after (Accepted t) n f = (none-in-both (settingCauses s intervals chords) (visitCauses s chords budget (length log)) n (f .0), f .1)
 
   pub grid-swept : (ready : SweepCheck) (x : Progress) (mid after : List Float) (r : Swept) → Checks s intervals chords ready → ready ≡ Admitted → Walks budget (sweepEntries s chords) (record { visits = 0; at = 0 }) log x mid
-      → (r ≡ endOf x) × (after ≡ endLog x mid) → Sweeps (causesIn s intervals chords budget (length log)) s chords log after r
+      → (r ≡ endOf x) × (after ≡ endLog x mid) → Sweeps (causesIn s intervals chords budget (length log)) s intervals chords log after r
   grid-swept ready x mid after r c h w e =
       after-setting after r (admitted ready c h .0)
-      (subst (λ (y : Swept). Sweeps (visitCauses s chords budget (length log)) s chords log after y) (sym (e .0))
-      (subst (λ (l : List Float). Sweeps (visitCauses s chords budget (length log)) s chords log l (endOf x)) (sym (e .1)) (visit-answer s chords budget log mid x w)))
+      (subst (λ (y : Swept). Sweeps (visitCauses s chords budget (length log)) s intervals chords log after y) (sym (e .0))
+      (subst (λ (l : List Float). Sweeps (visitCauses s chords budget (length log)) s intervals chords log l (endOf x)) (sym (e .1)) (visit-answer s chords budget log mid intervals (admitted ready c h .2) x w)))
 
 -- ---- the sweep
 module _ (spec : DexelStockSpec) (units : List ℕ) (k : Kernel) (p : Profile) (c : Cells) (intervals : ℕ) (chords : List Float) (budget : ℕ) (log : List Float) where
   abbrev here : Setting
   here = setting spec (gridIn spec) k p c
 
-  pub sweep-refused : (n : ℕ) → gridOf spec units ≡ NoGrid n → Sweeps (sweepCauses units here intervals chords budget (length log)) here chords log log (Refused n)
+  pub sweep-refused : (n : ℕ) → gridOf spec units ≡ NoGrid n → Sweeps (sweepCauses units here intervals chords budget (length log)) here intervals chords log log (Refused n)
   sweep-refused n h =
       let d = refused spec units n h in
       (due-first (gridCauses spec units) (causesIn here intervals chords budget (length log)) n d, grid-kept n log spec units d)
 
-  after-grid : (after : List Float) (r : Swept) → NoneDue (gridCauses spec units) → Sweeps (causesIn here intervals chords budget (length log)) here chords log after r
-      → Sweeps (sweepCauses units here intervals chords budget (length log)) here chords log after r
+  after-grid : (after : List Float) (r : Swept) → NoneDue (gridCauses spec units) → Sweeps (causesIn here intervals chords budget (length log)) here intervals chords log after r
+      → Sweeps (sweepCauses units here intervals chords budget (length log)) here intervals chords log after r
   after-grid after (Refused n) a f = (due-second (gridCauses spec units) (causesIn here intervals chords budget (length log)) n a (f .0), f .1)
   after-grid after (Accepted t) a f = (none-in-both (gridCauses spec units) (causesIn here intervals chords budget (length log)) a (f .0), f .1)
 
   pub sweep-accepted : (g : DexelGrid) (after : List Float) (r : Swept) → gridOf spec units ≡ Griddable g
-      → Sweeps (causesIn (setting spec g k p c) intervals chords budget (length log)) (setting spec g k p c) chords log after r
-      → Sweeps (sweepCauses units here intervals chords budget (length log)) here chords log after r
+      → Sweeps (causesIn (setting spec g k p c) intervals chords budget (length log)) (setting spec g k p c) intervals chords log after r
+      → Sweeps (sweepCauses units here intervals chords budget (length log)) here intervals chords log after r
   sweep-accepted g after r h f =
       let a = accepted spec units g h in
-      after-grid after r (a .0) (subst (λ (x : DexelGrid). Sweeps (causesIn (setting spec x k p c) intervals chords budget (length log)) (setting spec x k p c) chords log after r) (a .1) f)
+      after-grid after r (a .0) (subst (λ (x : DexelGrid). Sweeps (causesIn (setting spec x k p c) intervals chords budget (length log)) (setting spec x k p c) intervals chords log after r) (a .1) f)
 
 -- the same frame and the same profile give the same answer
 module _ (spec : DexelStockSpec) (units : List ℕ) (c : Cells) (intervals : ℕ) (guard : Float) (chords : List Float) (budget : ℕ) (log after : List Float) (r : Swept) where
@@ -221,7 +223,7 @@ module _ (spec : DexelStockSpec) (units : List ℕ) (c : Cells) (intervals : ℕ
   with f p = setting spec (gridIn spec) (record { frame = f; guard = guard }) p c
 
   abbrev SweptWith : Frame → Profile → Type 0
-  SweptWith f p = Sweeps (sweepCauses units (with f p) intervals chords budget (length log)) (with f p) chords log after r
+  SweptWith f p = Sweeps (sweepCauses units (with f p) intervals chords budget (length log)) (with f p) intervals chords log after r
 
   pub same-tool : (f h : Frame) (p q : Profile) → f ≡ h → p ≡ q → SweptWith f p → SweptWith h q
   same-tool f h p q e k t = subst (λ (x : Frame). SweptWith x q) e (subst (SweptWith f) k t)

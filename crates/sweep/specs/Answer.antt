@@ -65,20 +65,22 @@ sweepCauses units s intervals chords budget len = gridCauses (s .spec) units ++ 
 unfoldable pub refusedLog : ℕ → List Float → List Float
 refusedLog k log = cond (eqb k 8 || eqb k 16) (replicate (length log) plusZero) log
 
--- an accepted sweep: the number of entries and the visit total; the entries in order and zeros past them
-pub record Logs (s : Setting) (chords before after : List Float) (t : Totals) : Type 0 where
+-- an accepted sweep: its store is sound; the number of entries and the visit total; the entries in order and zeros past them
+pub record Logs (s : Setting) (intervals : ℕ) (chords before after : List Float) (t : Totals) : Type 0 where
+  pub isSound : SoundCells (s .spec) (s .grid) (s .cells) intervals
   pub entries : t .entries ≡ entryCount (sweepEntries s chords)
   pub visits : t .visits ≡ visitTotal s chords
   pub log : after ≡ logOf s chords ++ replicate (length before - length (logOf s chords)) plusZero
 
 -- a refused call gives the number that is due
-abbrev pub Sweeps : List Cause → Setting → (chords before after : List Float) → Swept → Type 0
-Sweeps causes s chords before after (Refused k) = Due causes k × (after ≡ refusedLog k before)
-Sweeps causes s chords before after (Accepted t) = NoneDue causes × Logs s chords before after t
+abbrev pub Sweeps : List Cause → Setting → (intervals : ℕ) → (chords before after : List Float) → Swept → Type 0
+Sweeps causes s intervals chords before after (Refused k) = Due causes k × (after ≡ refusedLog k before)
+Sweeps causes s intervals chords before after (Accepted t) = NoneDue causes × Logs s intervals chords before after t
 
--- the answer of the check of a setting; one that is admitted can be swept
+-- the answer of the check of a setting; one that is admitted has a sound store and can be swept
 abbrev pub Checks : Setting → (intervals : ℕ) → (chords : List Float) → SweepCheck → Type 0
-Checks s intervals chords Admitted = NoneDue (settingCauses s intervals chords) × Sweepable (s .spec) (s .grid) (s .cells)
+Checks s intervals chords Admitted =
+    NoneDue (settingCauses s intervals chords) × Sweepable (s .spec) (s .grid) (s .cells) × SoundCells (s .spec) (s .grid) (s .cells) intervals
 Checks s intervals chords (Declined k) = Due (settingCauses s intervals chords) k
 
 -- the end of a walk as an answer, and the log with what is not an entry zero

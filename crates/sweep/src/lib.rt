@@ -109,7 +109,7 @@ fn sweep_grid(
 ) -> Swept
     requires { ⌜ GridFacts spec g ⌝ }
     ensures { λ r. ⌜ Sweeps (causesIn (setting spec g k p (cells (now (spans .entry)) (now (links .entry)) (now (heads .entry)))) intervals (now (chords .entry)) budget (length (now (log .entry))))
-        (setting spec g k p (cells (now (spans .entry)) (now (links .entry)) (now (heads .entry)))) (now (chords .entry)) (now (log .entry)) (now (log .exit)) r ⌝ }
+        (setting spec g k p (cells (now (spans .entry)) (now (links .entry)) (now (heads .entry)))) intervals (now (chords .entry)) (now (log .entry)) (now (log .exit)) r ⌝ }
 {
     let ready = check_sweep(spec, g, k, p, chords, spans, links, heads, intervals);
     match ready {
@@ -140,7 +140,7 @@ pub fn sweep(
     log: &mut [f64],
 ) -> Swept
     ensures { λ r. ⌜ Sweeps (sweepCauses (now (units .entry)) (settingOf spec axis shape cutter guard (cells (now (spans .entry)) (now (links .entry)) (now (heads .entry)))) intervals (now (chords .entry)) budget (length (now (log .entry))))
-        (settingOf spec axis shape cutter guard (cells (now (spans .entry)) (now (links .entry)) (now (heads .entry)))) (now (chords .entry)) (now (log .entry)) (now (log .exit)) r ⌝ }
+        (settingOf spec axis shape cutter guard (cells (now (spans .entry)) (now (links .entry)) (now (heads .entry)))) intervals (now (chords .entry)) (now (log .entry)) (now (log .exit)) r ⌝ }
 {
     match gridding::grid(spec, units) {
         Gridded::Refused(n) => {
