@@ -16,8 +16,9 @@ use Rattle.store.specs.Updates.{Room, pairsFreed}
 use Rattle.store.proofs.FreePlaces.{free-records}
 use Rattle.store.proofs.Updating.{freed-all}
 use Rattle.stock.specs.Stock.{Stock, SoundStock, Tells, short}
+use Rattle.stock.proofs.Causes.{due-first}
 use Rattle.changes.specs.Changes.{changesOf, AllGood}
-use Rattle.changes.specs.Steps.{ChecksAll}
+use Rattle.changes.specs.Steps.{badCauses, ChecksAll}
 use Rattle.changes.specs.declared.Cursor.{Cursor}
 use Rattle.changes.specs.declared.Checked.{Checked}
 use Rattle.changes.specs.declared.Checked.the-variants.{Next, Bad}
@@ -32,8 +33,7 @@ module _ (spec : DexelStockSpec) (g : DexelGrid) (s : Stock) (changes : List ℕ
   -- ---- 13, 10, 15
   module _ (r : Checked) (ens : ChecksAll spec g (s .cells) pairs (changesOf changes pairs) r) where
     pub bad-list : r ≡ Bad → Judges (listCauses spec g s changes pairs) spec g s changes pairs (Refused 13)
-    unfolding Due
-    bad-list e = inl (subst (ChecksAll spec g (s .cells) pairs (changesOf changes pairs)) e ens, refl)
+    bad-list e = due-first (badCauses (AllGood spec g (s .cells) pairs 0 (changesOf changes pairs))) _ 13 (subst (ChecksAll spec g (s .cells) pairs (changesOf changes pairs)) e ens)
 
     module _ (cur : Cursor) (e : r ≡ Next cur) (room : Room (spec .«max_intervals») (2 * rayCount g) (s .cells)) (sound : SoundStock spec g s) where
       told : ChecksAll spec g (s .cells) pairs (changesOf changes pairs) (Next cur)

@@ -16,6 +16,7 @@ use Rattle.stock.specs.Stock.{Stock, SoundStock, possibleIn, certainIn, short}
 use Rattle.stock.specs.declared.Committed.{Committed}
 use Rattle.stock.specs.declared.Committed.the-variants.{Changed, Refused}
 use Rattle.changes.specs.Changes.{Change, changesOf, rayOf, AllGood}
+use Rattle.changes.specs.Steps.{badCauses}
 use Rattle.applying.specs.Passes.{updatesIn}
 
 -- the intervals after the changes
@@ -29,10 +30,8 @@ Unsound spec g s changes pairs = (SoundStock spec g s → ⊥) ⊎ ((length chan
 -- of a sound store: 13 a change that `validate` turns away, or whose lists reach past the lent pairs; 10 intervals after the commit above `max_intervals`; 15 generation at its maximum
 abbrev pub listCauses : DexelStockSpec → DexelGrid → Stock → List ℕ → List Float → List Cause
 listCauses spec g s changes pairs =
-    cause 13 (AllGood spec g (s .cells) pairs 0 (changesOf changes pairs) → ⊥)
-    ∷ cause 10 (spec .«max_intervals» < intervalsAfter spec g s changes pairs)
-    ∷ cause 15 (s .generation ≡ 2 ^ 64 - 1)
-    ∷ []
+    badCauses (AllGood spec g (s .cells) pairs 0 (changesOf changes pairs))
+    ++ (cause 10 (spec .«max_intervals» < intervalsAfter spec g s changes pairs) ∷ cause 15 (s .generation ≡ 2 ^ 64 - 1) ∷ [])
 
 -- once `grid` accepts: 12 too few records or heads, 11, 14 base generation differs, then 13, 10, 15
 abbrev pub changeCauses : DexelStockSpec → DexelGrid → (base : ℕ) → Stock → List ℕ → List Float → List Cause

@@ -21,6 +21,7 @@ use Rattle.changes.specs.declared.ChangeHead.{ChangeHead}
 use Rattle.changes.specs.declared.Cursor.{Cursor}
 use Rattle.changes.specs.declared.Checked.the-variants.{Next, Bad}
 use Rattle.spans.proofs.Sets.{equal-length}
+use Rattle.changes.proofs.Tests.{bad-due, due-bad}
 
 pub part-length : (pairs : List Float) (at n : ℕ) → at + 2 * n ≤ length pairs → length (part pairs at n) ≡ 2 * n
 part-length pairs at n h = length-take-le (2 * n) (drop at pairs) (omega (arith, length-drop at pairs))
@@ -76,8 +77,8 @@ module _ (spec : DexelStockSpec) (g : DexelGrid) (c : Cells) (changes : List ℕ
 
   pub bad-change : (k : ℕ) (cur : Cursor) (h : ChangeHead) → Passed k cur → k < length changes / 6 → h ≡ headAt changes k → Checks spec g c pairs h cur Bad → ChecksAll spec g c pairs (changesOf changes pairs) Bad
   unfolding AllGood
-  bad-change k cur h p l e n = λ all.
-      n (subst (λ (x : ChangeHead). Good spec g c pairs (cur .from) (changeBy x pairs (cur .at))) (sym e)
+  bad-change k cur h p l e n = bad-due _ λ all.
+      due-bad _ n (subst (λ (x : ChangeHead). Good spec g c pairs (cur .from) (changeBy x pairs (cur .at))) (sym e)
       (subst (AllGood spec g c pairs (cur .from)) (rest-is k (cur .at) l) (p .back all) .0))
 
   pub next-change : (k : ℕ) (cur next : Cursor) (h : ChangeHead) → Passed k cur → k < length changes / 6 → h ≡ headAt changes k → Checks spec g c pairs h cur (Next next) → Passed (k + 1) next

@@ -1,7 +1,8 @@
 -- What the tests of a change tell, one after the other.
 use mathlib.Core.Path.{_≡_, sym, ap, _∙_, subst}
 use mathlib.Core.Bool.{Bool, true, false, not}
-use mathlib.Core.List.{List}
+use mathlib.Core.List.{List, []}
+use mathlib.Core.Logic.{inl, inr}
 use Prim.Native.Nat.{ℕ, _+_, _-_, _*_, _%_, _/_, _^_, _≤_, _<_}
 use native.Mathlib.Omega.{arith}
 use lib.Dec.{leb}
@@ -9,6 +10,8 @@ use lib.Ieee.{Float}
 use lib.ListN.{length}
 use borrow.Author.Tests.{leb-true, le-leb}
 use Rattle.doubles.proofs.Bools.{not-true, not-false, clash}
+use Rattle.refusal.specs.Refusal.{cause, Due}
+use Rattle.refusal.proofs.Laws.{first}
 use Rattle.grid.specs.Axes.{worldAxis}
 use Rattle.grid.specs.Rays.{raysAlong}
 use Rattle.grid.specs.declared.DexelStockSpec.{DexelStockSpec}
@@ -17,8 +20,8 @@ use Rattle.store.specs.Updates.{Cells}
 use Rattle.stock.specs.Stock.{Tells}
 use Rattle.ray_changes.specs.Cuts.{Cuts}
 use Rattle.ray_changes.proofs.Tests.{never}
-use Rattle.changes.specs.Changes.{end4, rayOf, Names, changeBy}
-use Rattle.changes.specs.Steps.{pairsIn, cursorOf, Checks}
+use Rattle.changes.specs.Changes.{end4, rayOf, Names, changeBy, Good}
+use Rattle.changes.specs.Steps.{pairsIn, cursorOf, numberOf, badCauses, Checks}
 use Rattle.changes.specs.declared.ChangeHead.{ChangeHead}
 use Rattle.changes.specs.declared.Cursor.{Cursor}
 use Rattle.changes.specs.declared.Checked.the-variants.{Next, Bad}
@@ -62,24 +65,33 @@ module _ (g : DexelGrid) (axis index from : ℕ) where
     (λ p. le-leb from ray (omega (arith, p .ascends, f))),
   )
 
+-- ---- 13
+pub bad-due : (good : Type 0) → (good → ⊥) → Due (badCauses good) (numberOf Bad)
+bad-due good n = first (cause 13 (good → ⊥)) [] n
+
+pub due-bad : (good : Type 0) → Due (badCauses good) (numberOf Bad) → good → ⊥
+unfolding Due
+due-bad good (inl d) = d .0
+due-bad good (inr d) = absurd (d .1)
+
 -- ---- `check_change`
 module _ (spec : DexelStockSpec) (g : DexelGrid) (c : Cells) (pairs : List Float) (h : ChangeHead) (cur : Cursor) where
   pub change-long : (r : Bool) → length pairs % 2 ≡ 0 → cur .at % 2 ≡ 0 → cur .at ≤ length pairs → Tells (pairsIn h ≤ (length pairs - cur .at) / 2) r → not r ≡ true → Checks spec g c pairs h cur Bad
-  change-long r even-p even-a l t n = λ k. clash r (t .1 (let w = k .within in omega arith)) (not-true r n)
+  change-long r even-p even-a l t n = bad-due _ (λ (k : Good spec g c pairs (cur .from) (changeBy h pairs (cur .at))). clash r (t .1 (let w = k .within in omega arith)) (not-true r n))
 
   pub change-fits : (r : Bool) → length pairs % 2 ≡ 0 → cur .at % 2 ≡ 0 → cur .at ≤ length pairs → Tells (pairsIn h ≤ (length pairs - cur .at) / 2) r → not r ≡ false → changeBy h pairs (cur .at) .past ≤ length pairs
   change-fits r even-p even-a l t n = let w = t .0 (not-false r n) in omega arith
 
   pub change-unnamed : (r : Bool) → Tells (Names g (h .axis) (h .index) (cur .from)) r → not r ≡ true → Checks spec g c pairs h cur Bad
-  change-unnamed r t n = λ k. clash r (t .1 (k .names)) (not-true r n)
+  change-unnamed r t n = bad-due _ (λ (k : Good spec g c pairs (cur .from) (changeBy h pairs (cur .at))). clash r (t .1 (k .names)) (not-true r n))
 
   pub change-uncut : (ray : ℕ) (r : Bool) → ray ≡ rayOf g (h .axis) (h .index)
       → Tells (Cuts spec g c ray (changeBy h pairs (cur .at) .possible-before) (changeBy h pairs (cur .at) .certain-before) (changeBy h pairs (cur .at) .possible-after) (changeBy h pairs (cur .at) .certain-after)) r
       → not r ≡ true → Checks spec g c pairs h cur Bad
   change-uncut ray r e t n =
-      λ k. clash r
+      bad-due _ (λ (k : Good spec g c pairs (cur .from) (changeBy h pairs (cur .at))). clash r
       (t .1 (subst (λ (x : ℕ). Cuts spec g c x (changeBy h pairs (cur .at) .possible-before) (changeBy h pairs (cur .at) .certain-before) (changeBy h pairs (cur .at) .possible-after) (changeBy h pairs (cur .at) .certain-after)) (sym e) (k .cuts)))
-      (not-true r n)
+      (not-true r n))
 
   pub change-done : (ray : ℕ) (r : Bool) (next : Cursor) → ray ≡ rayOf g (h .axis) (h .index) → changeBy h pairs (cur .at) .past ≤ length pairs → Names g (h .axis) (h .index) (cur .from)
       → Tells (Cuts spec g c ray (changeBy h pairs (cur .at) .possible-before) (changeBy h pairs (cur .at) .certain-before) (changeBy h pairs (cur .at) .possible-after) (changeBy h pairs (cur .at) .certain-after)) r

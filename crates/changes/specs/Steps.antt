@@ -1,9 +1,10 @@
 -- What the functions that check a change list ask and answer.
 use mathlib.Core.Path.{_≡_}
-use mathlib.Core.List.{List}
+use mathlib.Core.List.{List, [], _∷_}
 use Prim.Native.Nat.{ℕ, _+_, _*_, _%_, _≤_}
 use lib.ListN.{length}
 use lib.Ieee.{Float}
+use Rattle.refusal.specs.Refusal.{Cause, cause, Due}
 use Rattle.grid.specs.declared.DexelStockSpec.{DexelStockSpec}
 use Rattle.grid.specs.declared.DexelGrid.{DexelGrid}
 use Rattle.store.specs.Updates.{Cells, pairsFreed, pairsLaid}
@@ -32,13 +33,22 @@ pub record Stands (pairs : List Float) (cur : Cursor) : Type 0 where
   pub within : cur .at ≤ length pairs
   pub sums : 2 * (cur .before + cur .after) ≤ cur .at
 
+-- document 01's number for each answer: 13 for a change that `validate` turns away, or whose lists reach past the lent pairs; none where the check goes on
+abbrev pub numberOf : Checked → ℕ
+numberOf (Next n) = 0
+numberOf Bad = 13
+
+-- the cause of 13: not all that is asked of the changes holds
+abbrev pub badCauses : Type 0 → List Cause
+badCauses good = cause 13 (good → ⊥) ∷ []
+
 -- the answer on one change
 abbrev pub Checks : DexelStockSpec → DexelGrid → Cells → List Float → ChangeHead → Cursor → Checked → Type 0
-Checks spec g c pairs h cur Bad = Good spec g c pairs (cur .from) (changeBy h pairs (cur .at)) → ⊥
+Checks spec g c pairs h cur Bad = Due (badCauses (Good spec g c pairs (cur .from) (changeBy h pairs (cur .at)))) (numberOf Bad)
 Checks spec g c pairs h cur (Next n) = Good spec g c pairs (cur .from) (changeBy h pairs (cur .at)) × (n ≡ onward g h cur)
 
 -- the answer on all changes: where they are good, the sums are those of the pairs that the updates free and lay, which the lent pairs hold
 abbrev pub ChecksAll : DexelStockSpec → DexelGrid → Cells → List Float → List Change → Checked → Type 0
-ChecksAll spec g c pairs ds Bad = AllGood spec g c pairs 0 ds → ⊥
+ChecksAll spec g c pairs ds Bad = Due (badCauses (AllGood spec g c pairs 0 ds)) (numberOf Bad)
 ChecksAll spec g c pairs ds (Next n) =
     AllGood spec g c pairs 0 ds × (n .before ≡ pairsFreed (spec .«max_intervals») c (updatesOf g ds)) × (n .after ≡ pairsLaid (updatesOf g ds)) × (2 * n .after ≤ length pairs)
