@@ -11,20 +11,20 @@ use lib.Ieee.{Float, nan}
 use Rattle.doubles.specs.Constants.{plusZero}
 use Rattle.refusal.specs.Refusal.{Due, NoneDue}
 use Rattle.doubles.proofs.Bools.{and-left, and-right, or-neither, both, not-true}
-use Rattle.spans.specs.Spans.{holds}
-use Rattle.spans.specs.Spans.{Within}
+use Rattle.spans.specs.Spans.{holds, Within}
 use Rattle.validity.specs.Ray.{ValidRay}
-use Rattle.taking.specs.Taking.{eitherHit, cellsOf, handed, Spared}
+use Rattle.taking.specs.Taking.{eitherHit, cellsOf, handed, Spared, Exact}
 use Rattle.merge.specs.Merge.{Mergeable, workPairs, MergeAnswer}
-use Rattle.taking.specs.Steps.{part, newList, Ready, Merging, Placed, Normal, Given, Lists, Exact}
+use Rattle.taking.specs.Steps.{part, newList, Ready, Merging, Placed, Normal, Given, Lists}
 use Rattle.overlay.specs.Overlay.{lessOf}
+use Rattle.overlay.proofs.Less.{less-list}
 use Rattle.taking.specs.declared.Part.{Part}
 use Rattle.taking.specs.declared.Parts.{Parts}
 use Rattle.merge.specs.declared.Merged.the-variants.{Refused}
 use Rattle.merge.specs.declared.Merged.the-variants.{Lists as Answered}
 use Rattle.merge.proofs.Rays.{bounded-within}
 use Rattle.taking.proofs.Places.{part-kept, handed-still, handed-new}
-use Rattle.taking.proofs.Sparing.{spared-same}
+use Rattle.taking.proofs.Sparing.{becomes-spared, less-both-list}
 
 -- ---- the lists are brought into the work buffer
 module _ (possible certain outer inner w w₁ w₂ w₃ w₄ : List Float) (at no ni : ℕ) (given : Given possible certain outer inner w)
@@ -65,26 +65,36 @@ module _ (possible certain outer inner w w₁ w₂ w₃ w₄ : List Float) (at n
     inner = record { room = omega (arith, sizes .3, room, o .most, i .most); isSound = i .list .isSound };
   }
 
+  -- the lists that normalising makes of the hits
+  abbrev outers : List Float
+  outers = part (at + length possible + length certain) no w₃
+
+  abbrev inners : List Float
+  inners = part (at + length possible + length certain + no) ni w₄
+
   pub lists : (after : List Float) (r : Parts) → Merging at (length possible) (length certain) no ni w₄ after r → Lists possible certain outer inner w after r
-  lists after r m = record {
-    size = m .between .size ∙ sizes .3;
-    room = omega (arith, m .room, room);
-    possibleLeft = subst (λ (l : List Float). Spared possible (holds inner) (r .possible) (newList (r .possible) l 0 after)) possible-at
-        (spared-same possible-at (λ x. i .list .points x) (m .possibleLeft));
-    certainLeft = subst (λ (l : List Float). Spared certain (eitherHit outer inner) (r .certain) (newList (r .certain) l (cellsOf (r .possible)) after)) certain-at
-        (spared-same certain-at
-        (λ x. ap₂ (λ (a b : Bool). a || b) (ap (λ (l : List Float). holds l x) outer-at ∙ o .list .points x) (i .list .points x)) (m .certainLeft));
-    exact = record {
-      outerNormal = part (at + length possible + length certain) no w₃;
-      innerNormal = part (at + length possible + length certain + no) ni w₄;
-      outerIs = o .list;
-      innerIs = i .list;
-      possibleIs = ap (λ (l : List Float). newList (r .possible) l 0 after) (sym possible-at) ∙ m .possibleIs
-          ∙ ap (λ (l : List Float). lessOf l (part (at + length possible + length certain + no) ni w₄)) possible-at;
-      certainIs = ap (λ (l : List Float). newList (r .certain) l (cellsOf (r .possible)) after) (sym certain-at) ∙ m .certainIs
-          ∙ ap₂ (λ (l k : List Float). lessOf (lessOf l k) (part (at + length possible + length certain + no) ni w₄)) certain-at outer-at;
-    };
-  }
+  lists after r m =
+      let possible-is : newList (r .possible) possible 0 after ≡ lessOf possible inners = rw possible-at at (m .possibleIs) in
+      let certain-is : newList (r .certain) certain (cellsOf (r .possible)) after ≡ lessOf (lessOf certain outers) inners =
+      rw (certain-at, outer-at) at (m .certainIs) in
+      record {
+        size = m .between .size ∙ sizes .3;
+        room = omega (arith, m .room, room);
+        possibleLeft = becomes-spared possible (lessOf possible inners) (newList (r .possible) possible 0 after) (holds inners) (holds inner) (r .possible)
+            (less-list possible inners (given .possibleSound) (i .list .isSound)) (i .list .points) (rw possible-at at (m .possibleBecomes)) possible-is;
+        certainLeft = becomes-spared certain (lessOf (lessOf certain outers) inners) (newList (r .certain) certain (cellsOf (r .possible)) after)
+            (eitherHit outers inners) (eitherHit outer inner) (r .certain)
+            (less-both-list certain outers inners (given .certainSound) (o .list .isSound) (i .list .isSound))
+            (λ x. ap₂ _||_ (o .list .points x) (i .list .points x)) (rw (certain-at, outer-at) at (m .certainBecomes)) certain-is;
+        exact = record {
+          outerNormal = outers;
+          innerNormal = inners;
+          outerIs = o .list;
+          innerIs = i .list;
+          possibleIs = possible-is;
+          certainIs = certain-is;
+        };
+      }
 
 -- ---- the rest of the buffer is cleared
 module _ (w after : List Float) (n : ℕ) (fit : n ≤ length w) (cleared : after ≡ take n w ++ replicate (length w - n) plusZero) where

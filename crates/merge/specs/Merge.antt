@@ -8,8 +8,7 @@ use Rattle.doubles.specs.Constants.{plusZero}
 use Rattle.refusal.specs.Refusal.{Cause, cause, Due, NoneDue}
 use Rattle.spans.specs.Spans.{holds}
 use Rattle.validity.specs.Ray.{ValidRay}
-use Rattle.taking.specs.Taking.{eitherHit, cellsOf, handed, Spared}
-use Rattle.taking.specs.Steps.{Exact}
+use Rattle.taking.specs.Taking.{eitherHit, cellsOf, handed, Spared, Exact}
 use Rattle.taking.specs.declared.Part.{Part}
 use Rattle.merge.specs.declared.Merged.{Merged}
 use Rattle.merge.specs.declared.Merged.the-variants.{Lists, Refused}

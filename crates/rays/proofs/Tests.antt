@@ -15,7 +15,7 @@ passes b r e n = sym e ∙ not-false r n
 -- a comparison tells whether the inner list lies within the outer one
 pub covers-tells : (outer inner : List Float) (r : Bool) → Covers outer inner r → (r ≡ true → Within outer inner) × (Within outer inner → r ≡ true)
 covers-tells outer inner true f = ((λ e. f), (λ w. refl))
-covers-tells outer inner false f = ((λ e. absurd (clash false e refl)), (λ w. absurd (clash (holds outer (f .0)) (w (f .0) (f .1)) (f .2))))
+covers-tells outer inner false f = ((λ e. absurd (clash false e refl)), (λ w. absurd (clash (holds outer (f .0)) (w (f .0) (f .2)) (f .3))))
 
 module _ (lo hi : Float) (p q : List Float) where
   -- a test fails whose b a valid ray brings with it

@@ -2,7 +2,7 @@
 use mathlib.Core.Path.{_≡_, refl, sym, _∙_, ap}
 use mathlib.Core.List.{List, _++_, append-nil}
 use borrow.Rule.Slice.PartMut.{putMid}
-use mathlib.Core.Bool.{Bool, true, false, true≢false, false≢true}
+use mathlib.Core.Bool.{true, false}
 use Prim.Native.Nat.{ℕ, _+_, _-_, _*_, _≤_, _<_}
 use borrow.Author.Tests.{le-leb}
 use native.Mathlib.Omega.{arith}
@@ -10,10 +10,10 @@ use lib.ListN.{length, getD, take, drop, length-drop, length-append, drop-of-len
 use lib.Seq.{length-take-le, getD-take, getD-drop, drop-drop, drop-at, take-all, ext-getD}
 use lib.Ieee.{Float, nan}
 use Rattle.spans.specs.Spans.{holds}
-use Rattle.doubles.proofs.Bools.{or-left, or-right}
 use Rattle.spans.specs.Steps.{Copied, Filled}
-use Rattle.taking.specs.Taking.{Moves, eitherHit, handed}
-use Rattle.taking.specs.Steps.{part, Lies, Between, Placed, Normal, Subtracted}
+use Rattle.overlay.specs.Overlay.{lessOf}
+use Rattle.taking.specs.Taking.{handed}
+use Rattle.taking.specs.Steps.{part, Lies, Between, WrittenAt, Placed, Normal}
 use Rattle.taking.specs.declared.Part.{Part}
 
 pub part-length : (at n : ℕ) (w : List Float) → at + n ≤ length w → length (part at n w) ≡ n
@@ -131,10 +131,11 @@ module _ (at : ℕ) (w ys : List Float) (fit : at ≤ length w) (size : length y
     list = record { isSound = rw tail-drop (f .list .isSound); points = λ p. rw tail-drop (f .list .points p) };
   }
 
-  pub subtracted : (a n b m r : ℕ) → at ≤ a → at ≤ b
-      → Subtracted (part (a - at) n (take (length w - at) (drop at w))) (part (b - at) m (take (length w - at) (drop at w))) 0 n m (take (length w - at) (drop at w)) ys r
-      → Subtracted (part a n w) (part b m w) at n m w back r
-  subtracted a n b m r ha hb s = record {
+  pub written-back : (a n b m r : ℕ) → at ≤ a → at ≤ b
+      → WrittenAt (lessOf (part (a - at) n (take (length w - at) (drop at w))) (part (b - at) m (take (length w - at) (drop at w)))) 0 (n + m) (n + m)
+      (take (length w - at) (drop at w)) ys r
+      → WrittenAt (lessOf (part a n w) (part b m w)) at (at + n + m) (n + m) w back r
+  written-back a n b m r ha hb s = record {
     between = record {
       size = tail-size;
       front = tail-front;
@@ -142,12 +143,6 @@ module _ (at : ℕ) (w ys : List Float) (fit : at ≤ length w) (size : length y
     };
     most = s .most;
     ends = rw (tail-drop, ← part-drop at a n w ha, ← part-drop at b m w hb, ← lent) (s .ends);
-    list = record {
-      isSound = rw tail-drop (s .list .isSound);
-      points = λ p.
-          rw (tail-drop, ← part-drop at a n w ha, ← part-drop at b m w hb, ← lent)
-          (s .list .points p);
-    };
   }
 
 -- ---- the list that is handed back
@@ -157,17 +152,6 @@ module _ (p : Part) (before work : List Float) (at : ℕ) where
 
   pub handed-new : p .moved ≡ true → at + 2 * p .pairs ≤ length work → part at (2 * p .pairs) work ≡ handed p before work at
   handed-new h k = rw (h, le-leb (at + 2 * p .pairs) (length work) k)
-
--- ---- whether a list is hit
-module _ (list outer inner : List Float) where
-  pub hit-outer : (r : Bool) → r ≡ true → Moves list (holds outer) r → Moves list (eitherHit outer inner) true
-  hit-outer true h m = (m .0, m .1, or-left (holds outer (m .0)) (holds inner (m .0)) (m .2))
-  hit-outer false h m = absurd (false≢true h)
-
-  pub hit-inner : (r : Bool) → r ≡ false → Moves list (holds outer) r → (s : Bool) → Moves list (holds inner) s → Moves list (eitherHit outer inner) s
-  hit-inner true h m s n = absurd (true≢false h)
-  hit-inner false h m true n = (n .0, n .1, or-right (holds outer (n .0)) (holds inner (n .0)) (n .2))
-  hit-inner false h m false n = λ p k. rw (m p k, n p k)
 
 -- a list in the part from cell `to` on
 pub lies-tail : (to at n : ℕ) (w : List Float) → to ≤ at → Lies at n w → Lies (at - to) n (take (length w - to) (drop to w))

@@ -1,97 +1,141 @@
 -- Lists less their hits.
-use mathlib.Core.Path.{_≡_, refl, sym, _∙_, ap, ap₂, subst, fun-ext}
-use mathlib.Core.Bool.{Bool, true, false, not, _&&_, _||_, true≢false, false≢true}
+use mathlib.Core.Path.{_≡_, refl, sym, _∙_, ap, ap₂, subst}
+use mathlib.Core.Bool.{Bool, true, false, not, _&&_}
 use mathlib.Core.List.{List}
+use mathlib.Core.Logic.{inl, inr}
 use Prim.Native.Nat.{ℕ, _+_, _*_, _/_, _%_, _≤_}
 use native.Mathlib.Omega.{arith}
 use lib.ListN.{length}
 use lib.Ieee.{Float}
-use Rattle.spans.specs.Spans.{holds, sound, ListOf}
-use Rattle.doubles.proofs.Bools.{and-not-or, or-neither}
-use Rattle.spans.proofs.Sets.{sound-mod}
+use Rattle.doubles.proofs.Bools.{and-right, and-not-or, or-neither, not-true, not-false, by-cases, clash}
+use Rattle.spans.specs.Spans.{holds, sound, equal, ListOf}
+use Rattle.spans.proofs.Sets.{sound-mod, equal-holds, same-set}
 use Rattle.overlay.specs.Overlay.{lessOf}
-use Rattle.overlay.proofs.Less.{less-apart}
-use Rattle.taking.specs.Taking.{Moves, eitherHit, spared, cellsOf, Spared}
-use Rattle.taking.specs.Steps.{part, Lies, Between, Subtracted, Shortened, newList, Reduced, Ready, Merging}
+use Rattle.overlay.proofs.Less.{less-list, less-apart, less-moves}
+use Rattle.covering.specs.Covering.{Meets}
+use Rattle.taking.specs.Taking.{eitherHit, spared, cellsOf, Spared}
+use Rattle.taking.specs.Steps.{part, Lies, WrittenAt, lessHits, Becomes, newList, Reduced, Ready, Merging}
 use Rattle.taking.specs.declared.Part.{Part}
 use Rattle.taking.proofs.Places.{part-length, part-past, part-front, between-both, between-same, lies-past}
 
--- the same list and the same hits by points
-pub spared-same : {a b : List Float} {hit hit′ : Float → Bool} {r : Part} {l : List Float} → a ≡ b → ((p : Float) → hit p ≡ hit′ p) → Spared a hit r l → Spared b hit′ r l
-spared-same {a} {b} {hit} {hit′} {r} {l} e h s = subst (λ (x : List Float). Spared x hit′ r l) e (subst (λ (f : Float → Bool). Spared a f r l) (fun-ext h) s)
+-- ---- whether a boundary moves
+-- a sound list is equal to itself
+equal-self : (a : List Float) → sound a ≡ true → equal a a ≡ true
+equal-self a s = same-set a a s s (λ p n. refl)
 
--- ---- one list
--- where no point is hit, the list stays
-pub reduced-still : (a : List Float) (hit : Float → Bool) (exact : List Float) → a ≡ exact → (to end limit : ℕ) (w : List Float) (n : ℕ) → length a ≡ n → sound a ≡ true → (r : Bool) → r ≡ false → Moves a hit r
-    → Reduced a hit exact to end limit w w (record { moved = false; pairs = n / 2 })
-reduced-still a hit exact x to end limit w n e s true h m = absurd (true≢false h)
-reduced-still a hit exact x to end limit w n e s false h m = record {
-  between = between-same to end w;
-  most = omega arith;
-  is = x;
-  spared = record {
-    moves = m;
-    list = record { isSound = s; points = λ p. same (holds a p) (hit p) (m p) };
-    pairs = omega (arith, sound-mod a s);
-  };
-}
-  where
-    same : (x y : Bool) → (x ≡ true → y ≡ false) → x ≡ (x && not y)
-    same true y f = sym (ap not (f refl))
-    same false y f = refl
+module _ (a l : List Float) (hit : Float → Bool) (left : ListOf (spared a hit) l) where
+  -- where no boundary moves, no point is hit; where one does, some point is
+  pub still-unhit : equal a l ≡ true → (p : Float) → holds a p ≡ true → hit p ≡ false
+  still-unhit e p h = not-true (hit p) (and-right (holds a p) (not (hit p)) (sym (left .points p) ∙ sym (equal-holds a l e p) ∙ h))
 
-pub reduced-moved : (a : List Float) (hit : Float → Bool) (exact : List Float) (to end limit : ℕ) (before after : List Float) (r : ℕ) (b : Bool) → b ≡ true → Moves a hit b → Between to end before after
-    → r ≤ limit → to + r ≤ length after → part to r after ≡ exact → ListOf (spared a hit) (part to r after) → Reduced a hit exact to end limit before after (record { moved = true; pairs = r / 2 })
-reduced-moved a hit exact to end limit before after r false h m x k f z l = absurd (false≢true h)
-reduced-moved a hit exact to end limit before after r true h m x k f z l =
-    let long : length (part to r after) ≡ r = part-length to r after f in
-    let even : r % 2 ≡ 0 = subst (λ (n : ℕ). n % 2 ≡ 0) long (sound-mod (part to r after) (l .isSound)) in
-    let twice : 2 * (r / 2) ≡ r = omega arith in
+  pub moved-hit : sound a ≡ true → equal a l ≡ false → ¬ ((p : Float) → holds a p ≡ true → hit p ≡ false)
+  moved-hit s e f = clash (equal a l) (same-set a l s (left .isSound) (λ p n. same (holds a p) (hit p) (f p) ∙ sym (left .points p))) e
+    where
+      same : (x y : Bool) → (x ≡ true → y ≡ false) → x ≡ (x && not y)
+      same true y f = sym (ap not (f refl))
+      same false y f = refl
+
+-- less the outer and then the inner hits: the points in neither
+pub less-both-list : (a o i : List Float) → sound a ≡ true → sound o ≡ true → sound i ≡ true → ListOf (spared a (eitherHit o i)) (lessOf (lessOf a o) i)
+less-both-list a o i sa so si =
+    let first = less-list a o sa so in
+    let second = less-list (lessOf a o) i (first .isSound) si in
     record {
-      between = x;
-      most = omega arith;
-      is = ap (λ (k : ℕ). part to k after) twice ∙ z;
-      spared = record { moves = m; list = rw twice l; pairs = rw twice long };
+      isSound = second .isSound;
+      points = λ p. second .points p ∙ ap (λ (b : Bool). b && not (holds i p)) (first .points p) ∙ and-not-or (holds a p) (holds o p) (holds i p);
     }
 
--- where no point is hit, the exact list is the old one
-pub stays-one : (a b : List Float) → sound a ≡ true → sound b ≡ true → (r : Bool) → r ≡ false → Moves a (holds b) r → a ≡ lessOf a b
-stays-one a b sa sb true h m = absurd (true≢false h)
-stays-one a b sa sb false h m = sym (less-apart a b sa sb m)
+module _ (a b : List Float) (sa : sound a ≡ true) (sb : sound b ≡ true) where
+  -- where no boundary moves, each end stays as it is
+  pub less-still : equal a (lessOf a b) ≡ true → lessOf a b ≡ a
+  less-still e = less-apart a b sa sb (still-unhit a (lessOf a b) (holds b) (less-list a b sa sb) e)
 
-pub stays-both : (a o i : List Float) → sound a ≡ true → sound o ≡ true → sound i ≡ true → (r : Bool) → r ≡ false → Moves a (eitherHit o i) r → a ≡ lessOf (lessOf a o) i
-stays-both a o i sa so si true h m = absurd (true≢false h)
-stays-both a o i sa so si false h m =
-    sym (ap (λ (l : List Float). lessOf l i) (less-apart a o sa so (λ p k. or-neither (holds o p) (holds i p) (m p k) .0)) ∙ less-apart a i sa si (λ p k. or-neither (holds o p) (holds i p) (m p k) .1))
+  pub meets-moves : (r : Bool) → Meets a b r → r ≡ not (equal a (lessOf a b))
+  meets-moves true (p, e, h, k) = sym (ap not (less-moves a b sa sb p h k))
+  meets-moves false f = sym (ap not (ap (equal a) (less-apart a b sa sb f) ∙ equal-self a sa))
+
+module _ (a o i : List Float) (sa : sound a ≡ true) (so : sound o ≡ true) (si : sound i ≡ true) where
+  unhit : equal a (lessOf (lessOf a o) i) ≡ true → (p : Float) → holds a p ≡ true → (holds o p ≡ false) × (holds i p ≡ false)
+  unhit e p h =
+      or-neither (holds o p) (holds i p) (still-unhit a (lessOf (lessOf a o) i) (eitherHit o i) (less-both-list a o i sa so si) e p h)
+
+  outer-apart : equal a (lessOf (lessOf a o) i) ≡ true → lessOf a o ≡ a
+  outer-apart e = less-apart a o sa so (λ p h. unhit e p h .0)
+
+  pub both-still : equal a (lessOf (lessOf a o) i) ≡ true → lessOf (lessOf a o) i ≡ a
+  both-still e = ap (λ (l : List Float). lessOf l i) (outer-apart e) ∙ less-apart a i sa si (λ p h. unhit e p h .1)
+
+  -- a boundary moves by the outer hits; it moves by the inner ones alone
+  pub both-outer : (r : Bool) → r ≡ not (equal a (lessOf a o)) → r ≡ true → true ≡ not (equal a (lessOf (lessOf a o) i))
+  both-outer r e h = elim (by-cases (equal a (lessOf (lessOf a o) i))) [
+    | inr f ↦ sym (ap not f)
+    | inl t ↦ absurd (clash (equal a (lessOf a o)) (ap (equal a) (outer-apart t) ∙ equal-self a sa) (not-true (equal a (lessOf a o)) (sym e ∙ h)))
+  ]
+
+  pub both-inner : (r : Bool) → r ≡ not (equal a (lessOf a o)) → r ≡ false → (s : Bool) → s ≡ not (equal a (lessOf a i))
+      → s ≡ not (equal a (lessOf (lessOf a o) i))
+  both-inner r e h s f = f ∙ ap (λ (l : List Float). not (equal a (lessOf l i))) (sym (less-still a o sa so (not-false (equal a (lessOf a o)) (sym e ∙ h))))
+
+-- ---- one list
+module _ (a list : List Float) (sa : sound a ≡ true) (sl : sound list ≡ true) (to end limit : ℕ) where
+  pub reduced-still : (w : List Float) (n : ℕ) → length a ≡ n → list ≡ a → Reduced a list to end limit w w (record { moved = false; pairs = n / 2 })
+  reduced-still w n e x = record {
+    between = between-same to end w;
+    most = omega arith;
+    is = sym x;
+    becomes = record {
+      moves = sym (ap not (ap (equal a) x ∙ equal-self a sa));
+      pairs = ap length x ∙ omega (arith, sound-mod a sa);
+    };
+  }
+
+  pub reduced-moved : (before after : List Float) (r : ℕ) → equal a list ≡ false → to + limit ≤ length before
+      → WrittenAt list to end limit before after r → Reduced a list to end limit before after (record { moved = true; pairs = r / 2 })
+  reduced-moved before after r m f x =
+      let long : length list ≡ r = ap length (sym (x .ends)) ∙ part-length to r after (omega (arith, x .most, x .between .size)) in
+      let even : r % 2 ≡ 0 = subst (λ (n : ℕ). n % 2 ≡ 0) long (sound-mod list sl) in
+      let twice : 2 * (r / 2) ≡ r = omega arith in
+      record {
+        between = x .between;
+        most = omega (arith, x .most);
+        is = ap (λ (k : ℕ). part to k after) twice ∙ x .ends;
+        becomes = record { moves = sym (ap not m); pairs = long ∙ sym twice };
+      }
+
+-- what becomes of a list, by the points that are hit
+pub becomes-spared : (a list l : List Float) (hit hit′ : Float → Bool) (r : Part) → ListOf (spared a hit) list → ((p : Float) → hit p ≡ hit′ p)
+    → Becomes a list r → l ≡ list → Spared a hit′ r l
+becomes-spared a list l hit hit′ r left same b e = rw e (record {
+  moves = b .moves;
+  list = record { isSound = left .isSound; points = λ p. left .points p ∙ ap (λ (x : Bool). holds a p && not x) (same p) };
+  pairs = b .pairs;
+})
 
 -- less the outer hits, then less the inner ones
 module _ (w w₁ w₂ : List Float) (to t c nc no ni m r : ℕ) (in-c : Lies c nc w) (in-o : Lies (c + nc) no w) (in-i : Lies (c + nc + no) ni w)
     (apart : to + ni ≤ t) (room : t + nc + no ≤ c)
-    (first : Subtracted (part c nc w) (part (c + nc) no w) t nc no w w₁ m) where
+    (first : WrittenAt (lessOf (part c nc w) (part (c + nc) no w)) t (t + nc + no) (nc + no) w w₁ m) where
   inner-kept : part (c + nc + no) ni w₁ ≡ part (c + nc + no) ni w
   inner-kept = part-past t (t + nc + no) w w₁ (first .between) (c + nc + no) ni (in-i .room) (omega arith)
 
   pub second-lies : Lies t m w₁ × Lies (c + nc + no) ni w₁ × (to + ni ≤ t) × (to + m ≤ c + nc + no)
   second-lies = (
-    record { room = omega (arith, in-i .room, first .between .size, first .most); isSound = first .list .isSound },
+    record {
+      room = omega (arith, in-i .room, first .between .size, first .most);
+      isSound = rw (first .ends) (less-list (part c nc w) (part (c + nc) no w) (in-c .isSound) (in-o .isSound) .isSound);
+    },
     lies-past t (t + nc + no) w w₁ (first .between) (c + nc + no) ni (omega arith) in-i,
     apart,
     omega (arith, first .most),
   )
 
-  pub both-shortened : Subtracted (part t m w₁) (part (c + nc + no) ni w₁) to m ni w₁ w₂ r
-      → Shortened (part c nc w) (eitherHit (part (c + nc) no w) (part (c + nc + no) ni w)) (lessOf (lessOf (part c nc w) (part (c + nc) no w)) (part (c + nc + no) ni w)) to (t + nc + no) (nc + no + ni) w w₂ r
-  both-shortened second = record {
-    between = between-both t (t + nc + no) to (to + m + ni) to (t + nc + no) w w₁ w₂ (first .between) (second .between) (omega arith) (omega arith) (omega arith) (omega (arith, first .most));
+  pub both-written : WrittenAt (lessOf (part t m w₁) (part (c + nc + no) ni w₁)) to (to + m + ni) (m + ni) w₁ w₂ r
+      → WrittenAt (lessHits c nc no ni w) to (t + nc + no) (nc + no + ni) w w₂ r
+  both-written second = record {
+    between = between-both t (t + nc + no) to (to + m + ni) to (t + nc + no) w w₁ w₂ (first .between) (second .between)
+        (omega arith) (omega arith) (omega arith) (omega (arith, first .most));
     most = omega (arith, first .most, second .most);
     ends = second .ends ∙ ap₂ lessOf (first .ends) inner-kept;
-    list = record {
-      isSound = second .list .isSound;
-      points = λ p.
-          second .list .points p
-          ∙ ap₂ (λ (x y : Bool). x && not y) (first .list .points p) (ap (λ (l : List Float). holds l p) inner-kept)
-          ∙ and-not-or (holds (part c nc w) p) (holds (part (c + nc) no w) p) (holds (part (c + nc + no) ni w) p);
-    };
   }
 
 -- ---- both lists of a ray
@@ -103,7 +147,7 @@ cells-of-moved r a to w w′ f = go (r .moved) refl
     go false e = rw e
 
 module _ (at np nc no ni : ℕ) (w w₁ w₂ : List Float) (p q : Part) (ready : Ready at np nc no ni w)
-    (first : Reduced (part at np w) (holds (part (at + np + nc + no) ni w)) (lessOf (part at np w) (part (at + np + nc + no) ni w)) 0 (np + ni) (np + ni) w w₁ p) where
+    (first : Reduced (part at np w) (lessOf (part at np w) (part (at + np + nc + no) ni w)) 0 (np + ni) (np + ni) w w₁ p) where
   still : (k n : ℕ) → at ≤ k → k + n ≤ length w → part k n w₁ ≡ part k n w
   still k n h fit = part-past 0 (np + ni) w w₁ (first .between) k n fit (omega (arith, ready .room))
 
@@ -118,26 +162,25 @@ module _ (at np nc no ni : ℕ) (w w₁ w₂ : List Float) (p q : Part) (ready :
   )
 
   pub merging : (used : ℕ) → used ≡ cellsOf p
-      → Reduced (part (at + np) nc w₁) (eitherHit (part (at + np + nc) no w₁) (part (at + np + nc + no) ni w₁)) (lessOf (lessOf (part (at + np) nc w₁) (part (at + np + nc) no w₁)) (part (at + np + nc + no) ni w₁)) used (np + 2 * ni + nc + no) (nc + no + ni) w₁ w₂ q
+      → Reduced (part (at + np) nc w₁) (lessHits (at + np) nc no ni w₁) used (np + 2 * ni + nc + no) (nc + no + ni) w₁ w₂ q
       → Merging at np nc no ni w w₂ (record { possible = p; certain = q })
-  merging used e second = record {
-    between = between-both 0 (np + ni) used (np + 2 * ni + nc + no) 0 at w w₁ w₂ (first .between) (second .between) (omega arith) (omega arith) (omega (arith, ready .room)) (omega (arith, ready .room));
-    room = omega (arith, first .most, second .most, ready .room);
-    possibleIs = sym (cells-of-moved p (part at np w) 0 w₁ w₂ (λ h. part-front used (np + 2 * ni + nc + no) w₁ w₂ (second .between) 0 (2 * p .pairs) (fits h) (inside h))) ∙ first .is;
-    certainIs =
-        let cs = still (at + np) nc (omega arith) (ready .certain .room) in
-        ap₂ (λ (l : List Float) (k : ℕ). newList q l k w₂) (sym cs) (sym e) ∙ second .is
-        ∙ ap₂ lessOf (ap₂ lessOf cs (still (at + np + nc) no (omega arith) (ready .outer .room))) (still (at + np + nc + no) ni (omega arith) (ready .inner .room));
-    possibleLeft = subst (Spared (part at np w) (holds (part (at + np + nc + no) ni w)) p)
-        (cells-of-moved p (part at np w) 0 w₁ w₂ (λ h. part-front used (np + 2 * ni + nc + no) w₁ w₂ (second .between) 0 (2 * p .pairs) (fits h) (inside h)))
-        (first .spared);
-    certainLeft = subst (λ (k : ℕ). Spared (part (at + np) nc w) (eitherHit (part (at + np + nc) no w) (part (at + np + nc + no) ni w)) q (newList q (part (at + np) nc w) k w₂)) e
-        (subst (λ (l : List Float). Spared (part (at + np) nc w) (eitherHit (part (at + np + nc) no w) (part (at + np + nc + no) ni w)) q (newList q l used w₂))
-        (still (at + np) nc (omega arith) (ready .certain .room))
-        (spared-same (still (at + np) nc (omega arith) (ready .certain .room))
-        (λ x. ap₂ (λ (l m : List Float). holds l x || holds m x) (still (at + np + nc) no (omega arith) (ready .outer .room)) (still (at + np + nc + no) ni (omega arith) (ready .inner .room)))
-        (second .spared)));
-  }
+  merging used e last =
+      let second : Reduced (part (at + np) nc w) (lessHits (at + np) nc no ni w) used (np + 2 * ni + nc + no) (nc + no + ni) w₁ w₂ q =
+      rw (
+        still (at + np) nc (omega arith) (ready .certain .room),
+        still (at + np + nc) no (omega arith) (ready .outer .room),
+        still (at + np + nc + no) ni (omega arith) (ready .inner .room),
+      ) at last in
+      record {
+        between = between-both 0 (np + ni) used (np + 2 * ni + nc + no) 0 at w w₁ w₂ (first .between) (second .between)
+            (omega arith) (omega arith) (omega (arith, ready .room)) (omega (arith, ready .room));
+        room = omega (arith, first .most, second .most, ready .room);
+        possibleIs = sym (cells-of-moved p (part at np w) 0 w₁ w₂ (λ h.
+            part-front used (np + 2 * ni + nc + no) w₁ w₂ (second .between) 0 (2 * p .pairs) (fits h) (inside h))) ∙ first .is;
+        certainIs = ap (λ (k : ℕ). newList q (part (at + np) nc w) k w₂) (sym e) ∙ second .is;
+        possibleBecomes = first .becomes;
+        certainBecomes = second .becomes;
+      }
     where
       moved-cells : p .moved ≡ true → cellsOf p ≡ 2 * p .pairs
       moved-cells h = rw h

@@ -1,22 +1,19 @@
 -- The loops of `cut_at` and `subtract_at`: those of crate `overlay`, with all lists in one buffer.
-use mathlib.Core.Path.{_≡_, refl, sym, _∙_, ap, ap₂, subst}
+use mathlib.Core.Path.{_≡_, refl, sym, _∙_, ap, subst}
 use mathlib.Core.Bool.{true, false}
 use mathlib.Core.List.{List}
-use Prim.Native.Nat.{ℕ, _+_, _-_, _%_, _≤_, _<_}
+use Prim.Native.Nat.{ℕ, _+_, _-_, _≤_, _<_}
 use native.Mathlib.Omega.{arith}
-use lib.ListN.{length, getD, take, drop, length-drop}
+use lib.ListN.{length, getD, drop, length-drop}
 use lib.Seq.{ext-getD, getD-drop}
-use lib.Ieee.{Float, nan, lt, le}
-use Rattle.spans.specs.Spans.{sound}
+use lib.Ieee.{Float, nan, le}
 use Rattle.spans.specs.Steps.{Put}
 use Rattle.spans.specs.declared.Place.{Place}
 use Rattle.spans.proofs.Sets.{sound-mod}
 use Rattle.overlay.specs.Overlay.{higherOf, lessOf}
-use Rattle.overlay.specs.Steps.{Cut, Written}
 use Rattle.overlay.specs.Steps.{Ready as CutReady}
-use Rattle.overlay.proofs.Less.{less-list}
 use Rattle.overlay.proofs.Cutting.{Cutting, cut-start, cut-last, cut-end, cut-step, Lessening, less-start, less-ready, less-step, less-done}
-use Rattle.taking.specs.Steps.{part, Lies, CutAt, Subtracted}
+use Rattle.taking.specs.Steps.{part, Lies, CutAt, WrittenAt}
 use Rattle.taking.proofs.Places.{part-length, part-cell}
 
 -- ---- the loop of `cut_at`
@@ -108,14 +105,17 @@ module _ (w₀ : List Float) (a n b m : ℕ) (la : Lies a n w₀) (lb : Lies b m
     pub subtracting-most : j ≤ m
     subtracting-most = omega (arith, s .less .jMost, second-size)
 
-    pub subtracting-done : n ≤ i → Subtracted (part a n w₀) (part b m w₀) 0 n m w₀ w r
+    pub subtracting-done : n ≤ i → WrittenAt (lessOf (part a n w₀) (part b m w₀)) 0 (n + m) (n + m) w₀ w r
     subtracting-done h =
         let d = less-done (part a n w₀) (part b m w₀) w₀ i j r w (omega (arith, first-size)) (s .less) in
         record {
-          between = record { size = s .less .size; front = λ q k. absurd (omega arith); past = λ q k. s .past q (omega (arith, s .less .iMost, s .less .jMost, first-size, second-size)) };
+          between = record {
+            size = s .less .size;
+            front = λ q k. absurd (omega arith);
+            past = λ q k. s .past q (omega (arith, s .less .iMost, s .less .jMost, first-size, second-size));
+          };
           most = omega (arith, d .most, first-size, second-size);
           ends = d .ends;
-          list = rw (d .ends) (less-list (part a n w₀) (part b m w₀) (la .isSound) (lb .isSound));
         }
 
     module _ (more : i < n) where

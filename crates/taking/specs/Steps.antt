@@ -1,16 +1,15 @@
 -- What the inner steps of a merge ask and leave.
 use mathlib.Core.Path.{_≡_}
-use mathlib.Core.Bool.{Bool, true, cond, _&&_, not}
+use mathlib.Core.Bool.{true, cond, not}
 use mathlib.Core.List.{List}
 use Prim.Native.Nat.{ℕ, _+_, _*_, _%_, _≤_, _<_}
 use lib.ListN.{length, take, drop, getD}
 use lib.Ieee.{Float, nan}
-use Rattle.spans.specs.Spans.{holds, sound, ListOf}
+use Rattle.spans.specs.Spans.{holds, sound, equal, ListOf}
 use Rattle.spans.specs.declared.Place.{Place}
 use Rattle.overlay.specs.Overlay.{lessOf}
 use Rattle.overlay.specs.Steps.{Cut}
-use Rattle.overlay.specs.Steps.{Ready as CutReady}
-use Rattle.taking.specs.Taking.{eitherHit, spared, cellsOf, Spared}
+use Rattle.taking.specs.Taking.{eitherHit, cellsOf, Spared, Exact}
 use Rattle.taking.specs.declared.Part.{Part}
 use Rattle.taking.specs.declared.Parts.{Parts}
 
@@ -34,30 +33,31 @@ pub record CutAt (at m : ℕ) (from hi : Float) (before : List Float) (n : ℕ) 
   pub cut : Cut (part at m before) from hi before n after r
   pub past : (q : ℕ) → n + r .passed + 2 ≤ q → getD after q nan ≡ getD before q nan
 
--- the sound list of the points of a that are not in b stands at `to`, r cells long
-pub record Subtracted (a b : List Float) (to n m : ℕ) (before after : List Float) (r : ℕ) : Type 0 where
-  pub between : Between to (to + n + m) before after
-  pub most : r ≤ n + m
-  pub ends : part to r after ≡ lessOf a b
-  pub list : ListOf (λ p. holds a p && not (holds b p)) (part to r after)
-
--- the sound list of the points of a that no hit has stands at `to`, r cells long, at most `limit`; only cells from `to` to `end` changed
-pub record Shortened (a : List Float) (hit : Float → Bool) (exact : List Float) (to end limit : ℕ) (before after : List Float) (r : ℕ) : Type 0 where
+-- the list stands at `to`, r cells long, at most `limit`; only cells from `to` to `end` changed
+pub record WrittenAt (list : List Float) (to end limit : ℕ) (before after : List Float) (r : ℕ) : Type 0 where
   pub between : Between to end before after
   pub most : r ≤ limit
-  pub ends : part to r after ≡ exact
-  pub list : ListOf (spared a hit) (part to r after)
+  pub ends : part to r after ≡ list
+
+-- the list of n cells at c less the outer hits behind it, of o cells, and then less the inner ones behind those, of i cells
+abbrev pub lessHits : (c n o i : ℕ) → List Float → List Float
+lessHits c n o i w = lessOf (lessOf (part c n w) (part (c + n) o w)) (part (c + n + o) i w)
+
+-- what a part says of a list and the one that becomes of it: whether a boundary moved, and how many pairs that one has
+pub record Becomes (a list : List Float) (r : Part) : Type 0 where
+  pub moves : r .moved ≡ not (equal a list)
+  pub pairs : length list ≡ 2 * r .pairs
 
 -- the list after a step: the new one at cell `to`, or the old one
 abbrev pub newList : Part → List Float → ℕ → List Float → List Float
 newList r a to w = cond (r .moved) (part to (2 * r .pairs) w) a
 
--- the list less the hits: only cells from `to` to `end` changed, and the new list has at most `limit` cells
-pub record Reduced (a : List Float) (hit : Float → Bool) (exact : List Float) (to end limit : ℕ) (before after : List Float) (r : Part) : Type 0 where
+-- what becomes of the list a: only cells from `to` to `end` changed, and a new list has at most `limit` cells
+pub record Reduced (a list : List Float) (to end limit : ℕ) (before after : List Float) (r : Part) : Type 0 where
   pub between : Between to end before after
   pub most : cellsOf r ≤ limit
-  pub is : newList r a to after ≡ exact
-  pub spared : Spared a hit r (newList r a to after)
+  pub is : newList r a to after ≡ list
+  pub becomes : Becomes a list r
 
 -- the ray's lists and the normalized hits stand one after the other from cell `at` on: possible of np cells, certain of nc, outer of no, inner of ni
 pub record Ready (at np nc no ni : ℕ) (w : List Float) : Type 0 where
@@ -72,11 +72,9 @@ pub record Merging (at np nc no ni : ℕ) (before after : List Float) (r : Parts
   pub between : Between 0 at before after
   pub room : cellsOf (r .possible) + cellsOf (r .certain) ≤ at
   pub possibleIs : newList (r .possible) (part at np before) 0 after ≡ lessOf (part at np before) (part (at + np + nc + no) ni before)
-  pub certainIs : newList (r .certain) (part (at + np) nc before) (cellsOf (r .possible)) after
-      ≡ lessOf (lessOf (part (at + np) nc before) (part (at + np + nc) no before)) (part (at + np + nc + no) ni before)
-  pub possibleLeft : Spared (part at np before) (holds (part (at + np + nc + no) ni before)) (r .possible) (newList (r .possible) (part at np before) 0 after)
-  pub certainLeft : Spared (part (at + np) nc before) (eitherHit (part (at + np + nc) no before) (part (at + np + nc + no) ni before)) (r .certain)
-      (newList (r .certain) (part (at + np) nc before) (cellsOf (r .possible)) after)
+  pub certainIs : newList (r .certain) (part (at + np) nc before) (cellsOf (r .possible)) after ≡ lessHits (at + np) nc no ni before
+  pub possibleBecomes : Becomes (part at np before) (lessOf (part at np before) (part (at + np + nc + no) ni before)) (r .possible)
+  pub certainBecomes : Becomes (part (at + np) nc before) (lessHits (at + np) nc no ni before) (r .certain)
 
 -- the list stands at `at`, and the cells in front of it are as before
 pub record Placed (list : List Float) (at : ℕ) (before after : List Float) : Type 0 where
@@ -98,15 +96,6 @@ pub record Given (possible certain outer inner work : List Float) : Type 0 where
   pub outerWhole : length outer % 2 ≡ 0
   pub innerWhole : length inner % 2 ≡ 0
   pub room : 4 * (length possible + length certain) + 8 * (length outer + length inner) ≤ length work
-
--- The lists after a merge, end by end: the old ones less the sound lists that normalising gives of the hits. Which zero stands at an end of those is left to normalising.
-pub record Exact (possible certain outer inner possibleAfter certainAfter : List Float) : Type 0 where
-  pub outerNormal : List Float
-  pub innerNormal : List Float
-  pub outerIs : ListOf (holds outer) outerNormal
-  pub innerIs : ListOf (holds inner) innerNormal
-  pub possibleIs : possibleAfter ≡ lessOf possible innerNormal
-  pub certainIs : certainAfter ≡ lessOf (lessOf certain outerNormal) innerNormal
 
 -- both lists less the hits, the new ones at the start of the buffer
 pub record Lists (possible certain outer inner before after : List Float) (r : Parts) : Type 0 where

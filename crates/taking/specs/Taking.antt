@@ -1,12 +1,13 @@
 -- What hits take from a list.
 use mathlib.Core.Path.{_≡_}
-use mathlib.Core.Bool.{Bool, true, false, cond, not, _&&_, _||_}
+use mathlib.Core.Bool.{Bool, cond, not, _&&_, _||_}
 use mathlib.Core.List.{List}
 use Prim.Native.Nat.{ℕ, _+_, _*_}
 use lib.Dec.{leb}
 use lib.ListN.{length, take, drop}
 use lib.Ieee.{Float}
-use Rattle.spans.specs.Spans.{holds, ListOf}
+use Rattle.spans.specs.Spans.{holds, equal, ListOf}
+use Rattle.overlay.specs.Overlay.{lessOf}
 use Rattle.taking.specs.declared.Part.{Part}
 
 -- the points that certain loses; possible loses those of the inner hits alone
@@ -17,11 +18,6 @@ eitherHit outer inner p = holds outer p || holds inner p
 abbrev pub spared : List Float → (Float → Bool) → Float → Bool
 spared list hit p = holds list p && not (hit p)
 
--- a list moves where some point of it lies in a hit
-abbrev pub Moves : List Float → (Float → Bool) → Bool → Type 0
-Moves list hit true = (p : Float) × (holds list p ≡ true) × (hit p ≡ true)
-Moves list hit false = (p : Float) → holds list p ≡ true → hit p ≡ false
-
 -- the cells that a list takes in the work buffer: none where it did not move
 abbrev pub cellsOf : Part → ℕ
 cellsOf part = cond (part .moved) (2 * part .pairs) 0
@@ -30,8 +26,18 @@ cellsOf part = cond (part .moved) (2 * part .pairs) 0
 abbrev pub handed : Part → List Float → List Float → ℕ → List Float
 handed part before work at = cond (part .moved && leb (at + 2 * part .pairs) (length work)) (take (2 * part .pairs) (drop at work)) before
 
--- a list and what becomes of it
+-- a list and what becomes of it: whether a boundary of it moved, which points are left, and how many pairs
 pub record Spared (before : List Float) (hit : Float → Bool) (part : Part) (after : List Float) : Type 0 where
-  pub moves : Moves before hit (part .moved)
+  pub moves : part .moved ≡ not (equal before after)
   pub list : ListOf (spared before hit) after
   pub pairs : length after ≡ 2 * part .pairs
+
+-- Both lists after a merge, end by end: the old ones less the lists that normalising makes of the hits. The Rust takes what certain then has in
+-- common with possible, which is certain itself, since certain lies within possible and of two equal ends the first is kept.
+pub record Exact (possible certain outer inner possibleAfter certainAfter : List Float) : Type 0 where
+  pub outerNormal : List Float
+  pub innerNormal : List Float
+  pub outerIs : ListOf (holds outer) outerNormal
+  pub innerIs : ListOf (holds inner) innerNormal
+  pub possibleIs : possibleAfter ≡ lessOf possible innerNormal
+  pub certainIs : certainAfter ≡ lessOf (lessOf certain outerNormal) innerNormal

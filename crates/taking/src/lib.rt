@@ -1,12 +1,13 @@
 // What the hits of one ray take from its lists, worked out in a buffer.
 ghost use mathlib.Core.Path.{_≡_};
-ghost use Prim.Native.Nat.{_+_, _-_, _*_, _/_, _%_, _^_, _≤_, _<_};
+ghost use mathlib.Core.Bool.{not};
+ghost use Prim.Native.Nat.{_+_, _-_, _*_, _/_, _^_, _≤_, _<_};
 ghost use lib.ListN.{length};
-ghost use Rattle.spans.specs.Spans.{holds};
-ghost use Rattle.taking.specs.Taking.{Moves, eitherHit, cellsOf};
+ghost use Rattle.spans.specs.Spans.{equal};
+ghost use Rattle.taking.specs.Taking.{cellsOf};
 ghost use Rattle.overlay.specs.Overlay.{lessOf};
 ghost use Rattle.overlay.specs.Steps.{Ready as CutReady};
-ghost use Rattle.taking.specs.Steps.{part, Lies, CutAt, Subtracted, Shortened, Reduced, Ready, Merging};
+ghost use Rattle.taking.specs.Steps.{part, Lies, CutAt, WrittenAt, lessHits, Reduced, Ready, Merging};
 use spans::Place;
 
 // One list after a merge: whether it moved, and how many pairs it has.
@@ -20,10 +21,10 @@ pub struct Parts {
     pub certain: Part,
 }
 
-// Whether the list of n cells at a and that of m cells at b share a point.
+// Whether the list of n cells at a shares a point with that of m cells at b, and so loses it where the second is taken away.
 pub fn share_point(w: &[f64], a: usize, n: usize, b: usize, m: usize) -> bool
     requires { ⌜ Lies a n (now w) × Lies b m (now w) ⌝ }
-    ensures { λ r. ⌜ Moves (part a n (now (w .entry))) (holds (part b m (now (w .entry)))) r ⌝ }
+    ensures { λ r. ⌜ r ≡ not (equal (part a n (now (w .entry))) (lessOf (part a n (now (w .entry))) (part b m (now (w .entry))))) ⌝ }
 {
     let e = a + n;
     let f = b + m;
@@ -58,7 +59,8 @@ fn cut_at(w: &mut [f64], at: usize, m: usize, n: usize, from: f64, hi: f64) -> P
 // Writes the list of n cells at a less that of m cells at b to the start of w.
 pub fn subtract_at(w: &mut [f64], a: usize, n: usize, b: usize, m: usize) -> usize
     requires { ⌜ Lies a n (now w) × Lies b m (now w) × (m ≤ a) × (n ≤ b) ⌝ }
-    ensures { λ r. ⌜ Subtracted (part a n (now (w .entry))) (part b m (now (w .entry))) 0 n m (now (w .entry)) (now (w .exit)) r ⌝ }
+    ensures { λ r. ⌜ WrittenAt (lessOf (part a n (now (w .entry))) (part b m (now (w .entry)))) 0 (n + m) (n + m)
+        (now (w .entry)) (now (w .exit)) r ⌝ }
 {
     let mut i = 0;
     let mut j = 0;
@@ -77,7 +79,8 @@ pub fn subtract_at(w: &mut [f64], a: usize, n: usize, b: usize, m: usize) -> usi
 // The same, to cell `to` of w.
 fn subtract_to(w: &mut [f64], to: usize, a: usize, n: usize, b: usize, m: usize) -> usize
     requires { ⌜ Lies a n (now w) × Lies b m (now w) × (to + m ≤ a) × (to + n ≤ b) ⌝ }
-    ensures { λ r. ⌜ Subtracted (part a n (now (w .entry))) (part b m (now (w .entry))) to n m (now (w .entry)) (now (w .exit)) r ⌝ }
+    ensures { λ r. ⌜ WrittenAt (lessOf (part a n (now (w .entry))) (part b m (now (w .entry)))) to (to + n + m) (n + m)
+        (now (w .entry)) (now (w .exit)) r ⌝ }
 {
     subtract_at(&mut w[to..], a - to, n, b - to, m)
 }
@@ -96,7 +99,8 @@ pub fn cells(p: Part) -> usize
 // Possible less the inner hits.
 fn take_inner(w: &mut [f64], a: usize, n: usize, b: usize, m: usize) -> Part
     requires { ⌜ Lies a n (now w) × Lies b m (now w) × (m ≤ a) × (n ≤ b) ⌝ }
-    ensures { λ r. ⌜ Reduced (part a n (now (w .entry))) (holds (part b m (now (w .entry)))) (lessOf (part a n (now (w .entry))) (part b m (now (w .entry)))) 0 (n + m) (n + m) (now (w .entry)) (now (w .exit)) r ⌝ }
+    ensures { λ r. ⌜ Reduced (part a n (now (w .entry))) (lessOf (part a n (now (w .entry))) (part b m (now (w .entry)))) 0 (n + m) (n + m)
+        (now (w .entry)) (now (w .exit)) r ⌝ }
 {
     if !share_point(w, a, n, b, m) {
         return Part {
@@ -114,7 +118,7 @@ fn take_inner(w: &mut [f64], a: usize, n: usize, b: usize, m: usize) -> Part
 // Whether some point of certain, nc cells at c, lies in an outer or an inner hit; those stand behind it.
 pub fn is_hit(w: &[f64], c: usize, nc: usize, no: usize, ni: usize) -> bool
     requires { ⌜ Lies c nc (now w) × Lies (c + nc) no (now w) × Lies (c + nc + no) ni (now w) ⌝ }
-    ensures { λ r. ⌜ Moves (part c nc (now (w .entry))) (eitherHit (part (c + nc) no (now (w .entry))) (part (c + nc + no) ni (now (w .entry)))) r ⌝ }
+    ensures { λ r. ⌜ r ≡ not (equal (part c nc (now (w .entry))) (lessHits c nc no ni (now (w .entry)))) ⌝ }
 {
     let o = c + nc;
     if share_point(w, c, nc, o, no) {
@@ -134,8 +138,7 @@ pub fn subtract_both(
     ni: usize,
 ) -> usize
     requires { ⌜ Lies c nc (now w) × Lies (c + nc) no (now w) × Lies (c + nc + no) ni (now w) × (to + ni ≤ t) × (t + nc + no ≤ c) ⌝ }
-    ensures { λ r. ⌜ Shortened (part c nc (now (w .entry))) (eitherHit (part (c + nc) no (now (w .entry))) (part (c + nc + no) ni (now (w .entry))))
-        (lessOf (lessOf (part c nc (now (w .entry))) (part (c + nc) no (now (w .entry)))) (part (c + nc + no) ni (now (w .entry)))) to (t + nc + no) (nc + no + ni) (now (w .entry)) (now (w .exit)) r ⌝ }
+    ensures { λ r. ⌜ WrittenAt (lessHits c nc no ni (now (w .entry))) to (t + nc + no) (nc + no + ni) (now (w .entry)) (now (w .exit)) r ⌝ }
 {
     let o = c + nc;
     let i = o + no;
@@ -146,8 +149,8 @@ pub fn subtract_both(
 // Certain less the outer and the inner hits, to cell `to`, by way of cell t.
 fn take_both(w: &mut [f64], to: usize, t: usize, c: usize, nc: usize, no: usize, ni: usize) -> Part
     requires { ⌜ Lies c nc (now w) × Lies (c + nc) no (now w) × Lies (c + nc + no) ni (now w) × (to + ni ≤ t) × (t + nc + no ≤ c) ⌝ }
-    ensures { λ r. ⌜ Reduced (part c nc (now (w .entry))) (eitherHit (part (c + nc) no (now (w .entry))) (part (c + nc + no) ni (now (w .entry))))
-        (lessOf (lessOf (part c nc (now (w .entry))) (part (c + nc) no (now (w .entry)))) (part (c + nc + no) ni (now (w .entry)))) to (t + nc + no) (nc + no + ni) (now (w .entry)) (now (w .exit)) r ⌝ }
+    ensures { λ r. ⌜ Reduced (part c nc (now (w .entry))) (lessHits c nc no ni (now (w .entry))) to (t + nc + no) (nc + no + ni)
+        (now (w .entry)) (now (w .exit)) r ⌝ }
 {
     if !is_hit(w, c, nc, no, ni) {
         return Part {

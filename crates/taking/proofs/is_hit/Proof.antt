@@ -1,5 +1,5 @@
 -- `taking::is_hit` meets its contract.
-use Rattle.taking.proofs.Places.{hit-outer, hit-inner}
+use Rattle.taking.proofs.Sparing.{both-outer, both-inner}
 use borrow.Author.Needs.{needs}
 use Rattle.taking.proofs.is_hit.Statement.{statement}
 use Rattle.taking.proofs.is_hit.Tie as tie
@@ -12,8 +12,8 @@ share-point-requires c κs = search needs
 
 returns : tie.Need-returns
 returns c =
-    let a = c .before .before .before .args in
-    hit-outer _ _ _ (c .before .share-point .result) (c .if1 .taken) (c .before .share-point .ensures)
+    let s = c .before .before .before in
+    both-outer _ _ _ (s .pre .0 .isSound) (s .pre .1 .isSound) (s .pre .2 .isSound) (c .before .share-point .result) (c .before .share-point .ensures) (c .if1 .taken)
 
 add-share-point : tie.Need-add-share-point
 add-share-point c = search needs
@@ -22,7 +22,11 @@ share-point-requires-2 : tie.Need-share-point-requires-2
 share-point-requires-2 c κs = search needs
 
 returns-2 : tie.Need-returns-2
-returns-2 c = hit-inner _ _ _ (c .before .before .share-point .result) (c .before .if1 .left) (c .before .before .share-point .ensures) (c .share-point2 .result) (c .share-point2 .ensures)
+returns-2 c =
+    let s = c .before .before .before .before in
+    let y = c .before .before .share-point in
+    both-inner _ _ _ (s .pre .0 .isSound) (s .pre .1 .isSound) (s .pre .2 .isSound) (y .result) (y .ensures) (c .before .if1 .left)
+    (c .share-point2 .result) (c .share-point2 .ensures)
 
 pub is-hit-spec : {M : Type 1} → statement M
 is-hit-spec =

@@ -1,14 +1,12 @@
 -- `taking::share_point` meets its contract.
 use mathlib.Core.Path.{_≡_, ap, subst₂}
-use mathlib.Core.Bool.{Bool, true, false}
 use mathlib.Core.List.{List}
 use Prim.Native.Nat.{ℕ, _+_, _-_}
 use lib.ListN.{take, drop}
 use lib.Ieee.{Float}
-use Rattle.spans.specs.Spans.{holds}
 use Rattle.covering.specs.Covering.{Meets}
-use Rattle.taking.specs.Taking.{Moves}
 use Rattle.taking.specs.Steps.{part}
+use Rattle.taking.proofs.Sparing.{meets-moves}
 use borrow.Author.Needs.{needs}
 use native.Mathlib.Omega.{arith}
 use Rattle.taking.proofs.share_point.Statement.{statement}
@@ -19,10 +17,6 @@ one a n w = ap (λ (k : ℕ). take k (drop a w)) (back a n)
   where
     back : (a n : ℕ) → a + n - a ≡ n
     back a n = omega arith
-
-told : (x y : List Float) (r : Bool) → Meets x y r → Moves x (holds y) r
-told x y true m = m
-told x y false m = m
 
 add-e : tie.Need-add-e
 add-e c = search needs
@@ -62,8 +56,9 @@ meets-requires c κs =
 
 returns : tie.Need-returns
 returns c =
-    let a = c .before .before .before .before .args in
-    told _ _ (c .meets .result)
+    let s = c .before .before .before .before in
+    let a = s .args in
+    meets-moves (part (a .a) (a .n) (a .w .now)) (part (a .b) (a .m) (a .w .now)) (s .pre .0 .isSound) (s .pre .1 .isSound) (c .meets .result)
     (subst₂ (λ (x y : List Float). Meets x y (c .meets .result)) (one (a .a) (a .n) (a .w .now)) (one (a .b) (a .m) (a .w .now)) (c .meets .ensures))
 
 pub share-point-spec : {M : Type 1} → statement M

@@ -1,5 +1,5 @@
 -- `taking::subtract_both` meets its contract.
-use Rattle.taking.proofs.Sparing.{second-lies, both-shortened}
+use Rattle.taking.proofs.Sparing.{second-lies, both-written}
 use borrow.Author.Needs.{needs}
 use Rattle.taking.proofs.subtract_both.Statement.{statement}
 use Rattle.taking.proofs.subtract_both.Tie as tie
@@ -30,7 +30,7 @@ returns c =
     let y = z .before .before .before .before in
     let s = y .before .before .before in
     let a = s .args in
-    both-shortened (a .w .now) (y .subtract-to .last .0) (z .subtract-to2 .last .0) (a .to) (a .t) (a .c) (a .nc) (a .no) (a .ni) (y .subtract-to .result) (z .subtract-to2 .result)
+    both-written (a .w .now) (y .subtract-to .last .0) (z .subtract-to2 .last .0) (a .to) (a .t) (a .c) (a .nc) (a .no) (a .ni) (y .subtract-to .result) (z .subtract-to2 .result)
     (s .pre .0) (s .pre .1) (s .pre .2) (s .pre .3) (s .pre .4) (y .subtract-to .ensures) (z .subtract-to2 .ensures)
 
 pub subtract-both-spec : {M : Type 1} → statement M

@@ -1,19 +1,21 @@
 -- `taking::take_inner` meets its contract.
 use mathlib.Core.Path.{_≡_}
-use Prim.Native.Nat.{ℕ, _+_}
-use Rattle.doubles.proofs.Bools.{not-true, not-false}
-use Rattle.spans.specs.Spans.{holds}
+use mathlib.Core.Bool.{true}
+use Prim.Native.Nat.{_+_}
+use Rattle.doubles.proofs.Bools.{not-true, not-false, found, found-not}
+use Rattle.spans.specs.Spans.{sound}
 use Rattle.taking.specs.Steps.{part}
 use Rattle.taking.proofs.Places.{part-length}
-use Rattle.taking.proofs.Sparing.{reduced-still, reduced-moved, stays-one}
+use Rattle.taking.proofs.Sparing.{reduced-still, reduced-moved, less-still}
 use Rattle.overlay.specs.Overlay.{lessOf}
+use Rattle.overlay.proofs.Less.{less-list}
 use borrow.Author.Needs.{needs}
 use native.Mathlib.Omega.{arith}
 use Rattle.taking.proofs.take_inner.Statement.{statement}
 use Rattle.taking.proofs.take_inner.Tie as tie
 
-none : (n : ℕ) → 0 + n ≡ n
-none n = omega arith
+inner-sound : (s : tie.Start) → let a = s .args in sound (lessOf (part (a .a) (a .n) (a .w .now)) (part (a .b) (a .m) (a .w .now))) ≡ true
+inner-sound s = less-list _ _ (s .pre .0 .isSound) (s .pre .1 .isSound) .isSound
 
 share-point-requires : tie.Need-share-point-requires
 share-point-requires c κs = search needs
@@ -26,9 +28,9 @@ returns c =
     let s = c .before .before .before .before in
     let a = s .args in
     let h = c .before .share-point in
-    reduced-still (part (a .a) (a .n) (a .w .now)) (holds (part (a .b) (a .m) (a .w .now))) (lessOf (part (a .a) (a .n) (a .w .now)) (part (a .b) (a .m) (a .w .now)))
-    (stays-one (part (a .a) (a .n) (a .w .now)) (part (a .b) (a .m) (a .w .now)) (s .pre .0 .isSound) (s .pre .1 .isSound) (h .result) (not-true (h .result) (c .if1 .taken)) (h .ensures)) 0 (a .n + a .m) (a .n + a .m) (a .w .now) (a .n)
-    (part-length (a .a) (a .n) (a .w .now) (s .pre .0 .room)) (s .pre .0 .isSound) (h .result) (not-true (h .result) (c .if1 .taken)) (h .ensures)
+    reduced-still (part (a .a) (a .n) (a .w .now)) (lessOf (part (a .a) (a .n) (a .w .now)) (part (a .b) (a .m) (a .w .now))) (s .pre .0 .isSound) (inner-sound s)
+    0 (a .n + a .m) (a .n + a .m) (a .w .now) (a .n) (part-length (a .a) (a .n) (a .w .now) (s .pre .0 .room))
+    (less-still _ _ (s .pre .0 .isSound) (s .pre .1 .isSound) (not-false _ (found-not (h .result) _ (h .ensures) (c .if1 .taken))))
 
 subtract-at-requires : tie.Need-subtract-at-requires
 subtract-at-requires c κs = search needs
@@ -43,10 +45,9 @@ returns-2 c =
     let s = c .before .before .before .before .before .before .before .before in
     let a = s .args in
     let h = d .before .share-point in
-    let z = y .subtract-at .ensures in
-    reduced-moved (part (a .a) (a .n) (a .w .now)) (holds (part (a .b) (a .m) (a .w .now))) (lessOf (part (a .a) (a .n) (a .w .now)) (part (a .b) (a .m) (a .w .now))) 0 (a .n + a .m) (a .n + a .m) (a .w .now) (y .subtract-at .last .0) (y .subtract-at .result)
-    (h .result) (not-false (h .result) (d .if1 .left)) (h .ensures) (rw (none (a .n)) at (z .between)) (z .most)
-    (omega (arith, z .most, z .between .size, s .pre .2, s .pre .0 .room)) (z .ends) (z .list)
+    reduced-moved (part (a .a) (a .n) (a .w .now)) (lessOf (part (a .a) (a .n) (a .w .now)) (part (a .b) (a .m) (a .w .now))) (s .pre .0 .isSound) (inner-sound s)
+    0 (a .n + a .m) (a .n + a .m) (a .w .now) (y .subtract-at .last .0) (y .subtract-at .result)
+    (not-true _ (found (h .result) _ (h .ensures) (d .if1 .left))) (omega (arith, s .pre .0 .room, s .pre .2)) (y .subtract-at .ensures)
 
 pub take-inner-spec : {M : Type 1} → statement M
 take-inner-spec =
