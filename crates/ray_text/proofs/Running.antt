@@ -138,6 +138,7 @@ module _ (lo hi : Float) (possible certain outer inner : List Float) (few· : Sm
         certainAfter = certainNew;
         possibleLeft = record { moves = left .possibleLeft .moves; same = kept p possible work 0; left = left .possibleLeft .list };
         certainLeft = record { moves = left .certainLeft .moves; same = kept c certain work (cellsOf p); left = left .certainLeft .list };
+        exact = left .exact;
         valid = left .valid;
         printed = refl;
       };

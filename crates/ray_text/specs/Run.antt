@@ -1,14 +1,14 @@
 -- What the program writes for an input, as document 01 defines it.
 use mathlib.Core.Path.{_≡_}
-use mathlib.Core.Bool.{Bool, false, _||_}
+use mathlib.Core.Bool.{Bool, false, not, _||_}
 use mathlib.Core.List.{List, [], _∷_}
 use Prim.Native.Nat.{ℕ, _%_, _≤_}
 use lib.ListN.{length}
 use lib.Ieee.{Float, binary64, ofBits}
 use Rattle.refusal.specs.Refusal.{Cause, cause, Due, NoneDue}
-use Rattle.spans.specs.Spans.{holds, ListOf}
+use Rattle.spans.specs.Spans.{holds, equal, ListOf}
 use Rattle.validity.specs.Ray.{ValidRay}
-use Rattle.taking.specs.Taking.{Moves, eitherHit, spared}
+use Rattle.taking.specs.Taking.{eitherHit, spared, Exact}
 use Rattle.ray_input.specs.Format.{letterP, letterC, letterO, letterI, bitsAt, pairs, total, readable}
 use Rattle.ray_output.specs.Output.{answerText, refusedText}
 use Rattle.ray_input.specs.Steps.{Appended}
@@ -32,13 +32,13 @@ outerIn s = pairs letterO s (total s)
 abbrev pub innerIn : List ℕ → List Float
 innerIn s = pairs letterI s (total s)
 
--- a list after the merge: the one sound list of the points that lie in no hit, and the list as it was read where no point does
+-- a list after the merge: whether a boundary moved, the list as it was read where none did, and the points, those that lie in no hit
 pub record After (list : List Float) (hit : Float → Bool) (moved : Bool) (after : List Float) : Type 0 where
-  pub moves : Moves list hit moved
+  pub moves : moved ≡ not (equal list after)
   pub same : moved ≡ false → after ≡ list
   pub left : ListOf (spared list hit) after
 
--- both lists after the merge, and their text
+-- both lists after the merge, end by end, and their text
 pub record Written (lo hi : Float) (possible certain outer inner : List Float) (text : List ℕ) : Type 0 where
   pub p : Bool
   pub c : Bool
@@ -46,6 +46,7 @@ pub record Written (lo hi : Float) (possible certain outer inner : List Float) (
   pub certainAfter : List Float
   pub possibleLeft : After possible (holds inner) p possibleAfter
   pub certainLeft : After certain (eitherHit outer inner) c certainAfter
+  pub exact : Exact possible certain outer inner possibleAfter certainAfter
   pub valid : ValidRay lo hi possibleAfter certainAfter
   pub printed : text ≡ answerText possibleAfter certainAfter (p || c)
 
