@@ -61,8 +61,8 @@ module _ (possible certain outer inner w w₁ w₂ w₃ w₄ : List Float) (at n
     room = omega (arith, o .most, i .most);
     possible = record { room = omega (arith, sizes .3, room); isSound = rw possible-at (given .possibleSound) };
     certain = record { room = omega (arith, sizes .3, room); isSound = rw certain-at (given .certainSound) };
-    outer = record { room = omega (arith, sizes .3, room, o .most); isSound = rw outer-at (o .list .isSound) };
-    inner = record { room = omega (arith, sizes .3, room, o .most, i .most); isSound = i .list .isSound };
+    outer = record { room = omega (arith, sizes .3, room, o .most); isSound = rw outer-at (o .list .list .isSound) };
+    inner = record { room = omega (arith, sizes .3, room, o .most, i .most); isSound = i .list .list .isSound };
   }
 
   -- the lists that normalising makes of the hits
@@ -81,11 +81,11 @@ module _ (possible certain outer inner w w₁ w₂ w₃ w₄ : List Float) (at n
         size = m .between .size ∙ sizes .3;
         room = omega (arith, m .room, room);
         possibleLeft = becomes-spared possible (lessOf possible inners) (newList (r .possible) possible 0 after) (holds inners) (holds inner) (r .possible)
-            (less-list possible inners (given .possibleSound) (i .list .isSound)) (i .list .points) (rw possible-at at (m .possibleBecomes)) possible-is;
+            (less-list possible inners (given .possibleSound) (i .list .list .isSound)) (i .list .list .points) (rw possible-at at (m .possibleBecomes)) possible-is;
         certainLeft = becomes-spared certain (lessOf (lessOf certain outers) inners) (newList (r .certain) certain (cellsOf (r .possible)) after)
             (eitherHit outers inners) (eitherHit outer inner) (r .certain)
-            (less-both-list certain outers inners (given .certainSound) (o .list .isSound) (i .list .isSound))
-            (λ x. ap₂ _||_ (o .list .points x) (i .list .points x)) (rw (certain-at, outer-at) at (m .certainBecomes)) certain-is;
+            (less-both-list certain outers inners (given .certainSound) (o .list .list .isSound) (i .list .list .isSound))
+            (λ x. ap₂ _||_ (o .list .list .points x) (i .list .list .points x)) (rw (certain-at, outer-at) at (m .certainBecomes)) certain-is;
         exact = record {
           outerNormal = outers;
           innerNormal = inners;

@@ -9,7 +9,7 @@ use native.Mathlib.Omega.{arith}
 use lib.ListN.{length, getD, take, drop, length-drop, length-append, drop-of-length-le, List·getD-append}
 use lib.Seq.{length-take-le, getD-take, getD-drop, drop-drop, drop-at, take-all, ext-getD}
 use lib.Ieee.{Float, nan}
-use Rattle.spans.specs.Spans.{holds}
+use Rattle.spans.specs.Spans.{NormalOf}
 use Rattle.spans.specs.Steps.{Copied, Filled}
 use Rattle.overlay.specs.Overlay.{lessOf}
 use Rattle.taking.specs.Taking.{handed}
@@ -123,12 +123,12 @@ module _ (at : ℕ) (w ys : List Float) (fit : at ≤ length w) (size : length y
       none : (q : ℕ) → q ≡ 0 + q
       none q = omega arith
 
-  pub normal : (s : List Float) (r : ℕ) → Filled (holds s) (take (length w - at) (drop at w)) (length s) ys r → Normal s at w back r
+  pub normal : (s : List Float) (r : ℕ) → Filled (NormalOf s) (take (length w - at) (drop at w)) (length s) ys r → Normal s at w back r
   normal s r f = record {
     size = tail-size;
     front = tail-front;
     most = f .most;
-    list = record { isSound = rw tail-drop (f .list .isSound); points = λ p. rw tail-drop (f .list .points p) };
+    list = rw tail-drop (f .list);
   }
 
   pub written-back : (a n b m r : ℕ) → at ≤ a → at ≤ b

@@ -115,7 +115,7 @@ module _ (w₀ : List Float) (a n b m : ℕ) (la : Lies a n w₀) (lb : Lies b m
             past = λ q k. s .past q (omega (arith, s .less .iMost, s .less .jMost, first-size, second-size));
           };
           most = omega (arith, d .most, first-size, second-size);
-          ends = d .ends;
+          ends = d .list;
         }
 
     module _ (more : i < n) where

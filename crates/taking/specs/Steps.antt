@@ -5,7 +5,7 @@ use mathlib.Core.List.{List}
 use Prim.Native.Nat.{ℕ, _+_, _*_, _%_, _≤_, _<_}
 use lib.ListN.{length, take, drop, getD}
 use lib.Ieee.{Float, nan}
-use Rattle.spans.specs.Spans.{holds, sound, equal, ListOf}
+use Rattle.spans.specs.Spans.{holds, sound, equal, NormalOf}
 use Rattle.spans.specs.declared.Place.{Place}
 use Rattle.overlay.specs.Overlay.{lessOf}
 use Rattle.overlay.specs.Steps.{Cut}
@@ -82,12 +82,12 @@ pub record Placed (list : List Float) (at : ℕ) (before after : List Float) : T
   pub front : (q : ℕ) → q < at → getD after q nan ≡ getD before q nan
   pub cells : part at (length list) after ≡ list
 
--- the sound list of arbitrary pairs stands at `at`, r cells long, and the cells in front of it are as before
+-- the list that normalising makes of the pairs stands at `at`, r cells long, and the cells in front of it are as before
 pub record Normal (spans : List Float) (at : ℕ) (before after : List Float) (r : ℕ) : Type 0 where
   pub size : length after ≡ length before
   pub front : (q : ℕ) → q < at → getD after q nan ≡ getD before q nan
   pub most : r ≤ length spans
-  pub list : ListOf (holds spans) (part at r after)
+  pub list : NormalOf spans (part at r after)
 
 -- what is asked of the lists to merge
 pub record Given (possible certain outer inner work : List Float) : Type 0 where

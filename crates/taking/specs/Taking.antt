@@ -6,7 +6,7 @@ use Prim.Native.Nat.{ℕ, _+_, _*_}
 use lib.Dec.{leb}
 use lib.ListN.{length, take, drop}
 use lib.Ieee.{Float}
-use Rattle.spans.specs.Spans.{holds, equal, ListOf}
+use Rattle.spans.specs.Spans.{holds, equal, ListOf, NormalOf}
 use Rattle.overlay.specs.Overlay.{lessOf}
 use Rattle.taking.specs.declared.Part.{Part}
 
@@ -37,7 +37,7 @@ pub record Spared (before : List Float) (hit : Float → Bool) (part : Part) (af
 pub record Exact (possible certain outer inner possibleAfter certainAfter : List Float) : Type 0 where
   pub outerNormal : List Float
   pub innerNormal : List Float
-  pub outerIs : ListOf (holds outer) outerNormal
-  pub innerIs : ListOf (holds inner) innerNormal
+  pub outerIs : NormalOf outer outerNormal
+  pub innerIs : NormalOf inner innerNormal
   pub possibleIs : possibleAfter ≡ lessOf possible innerNormal
   pub certainIs : certainAfter ≡ lessOf (lessOf certain outerNormal) innerNormal
