@@ -53,8 +53,7 @@ module _ (s : Pair) where
   overlap-point P (lo ∷ hi ∷ l) a b n u v h = elim (or-cases (lt (largerOf lo (s .lo)) (smallerOf hi (s .hi))) (lt hi (s .hi) && overlapsOf l s) h) [
     | inl k ↦
         let p = largerOf lo (s .lo) in
-        let under : (lt p hi && lt p (s .hi)) ≡ true = sym (lt-smaller hi (s .hi) (n .1 .0) v p) ∙ k in
-        (
+        let under : (lt p hi && lt p (s .hi)) ≡ true = sym (lt-smaller hi (s .hi) (n .1 .0) v p) ∙ k in (
           p,
           elim (larger-either lo (s .lo)) [ inl e ↦ subst P (sym e) (a .0) | inr e ↦ subst P (sym e) b ],
           or-left (within lo hi p) (holds l p) (both (le lo p) (lt p hi) (larger-left lo (s .lo) (n .0) u) (and-left (lt p hi) (lt p (s .hi)) under)),
