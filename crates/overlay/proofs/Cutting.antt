@@ -1,14 +1,12 @@
 -- The loops of `cut_pair` and `subtract_into`: what is written and what is still to come make up the whole list.
 use mathlib.Core.Path.{_≡_, refl, sym, _∙_, ap, ap₂, subst}
-use mathlib.Core.Logic.{inl, inr}
 use mathlib.Core.Bool.{true, false}
 use mathlib.Core.List.{List, [], _∷_, _++_, append-nil, append-assoc}
 use Prim.Native.Nat.{ℕ, zero, suc, _+_, _-_, _%_, _≤_, _<_}
 use native.Mathlib.Omega.{arith}
-use native.Mathlib.Numerals.{add-one}
 use native.Mathlib.Decide.{decLt}
 use lib.ListN.{length, getD, take, drop, length-drop, drop-of-length-le}
-use lib.Seq.{take-add, drop-cons}
+use lib.Seq.{take-add}
 use lib.Ieee.{Float, nan, lt, le}
 use Rattle.spans.specs.Spans.{sound}
 use Rattle.spans.specs.Steps.{Put, Filled, pairIf}
@@ -16,12 +14,11 @@ use Rattle.overlay.specs.Overlay.{higherOf, lowerOf, cutBy, lessOf}
 use Rattle.overlay.specs.Steps.{Ready, Cut}
 use Rattle.spans.specs.declared.Place.{Place}
 use Rattle.doubles.specs.Doubles.{Number}
-use Rattle.doubles.proofs.Bools.{by-cases}
 use Rattle.doubles.proofs.Order.{lt-number, lt→le, le→not-lt, not-le→lt, le-trans}
 use Rattle.spans.proofs.Ends.{all-append, All, AtMost, UpTo, upTo-more, rising-at}
 use Rattle.spans.proofs.Sets.{sound-rising, sound-mod}
 use Rattle.spans.proofs.Points.{numbers-of, drop-pair, pair-rises, number-at, upTo-last, drop-sound}
-use Rattle.overlay.proofs.Less.{higher-first, higher-second, higher-both, cut-none, cut-skip}
+use Rattle.overlay.proofs.Less.{higher-second, higher-both, cut-none, cut-skip}
 
 -- ---- the loop of `cut_pair`
 pub record Cutting (rest : List Float) (from hi : Float) (before : List Float) (n : ℕ) (lo : Float) (j end : ℕ) (out : List Float) : Type 0 where

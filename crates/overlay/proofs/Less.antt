@@ -2,8 +2,8 @@
 use mathlib.Core.Path.{_≡_, refl, sym, _∙_, ap, ap₂}
 use mathlib.Core.Logic.{inl, inr}
 use mathlib.Core.Bool.{Bool, true, false, not, _&&_, _||_, true≢false}
-use mathlib.Core.List.{List, [], _∷_, _++_, append-nil}
-use Prim.Native.Nat.{ℕ, _+_, _%_}
+use mathlib.Core.List.{List, [], _∷_, _++_}
+use Prim.Native.Nat.{_%_}
 use native.Mathlib.Omega.{arith}
 use lib.ListN.{length, length-append}
 use lib.Ieee.{Float, lt, le}
@@ -11,10 +11,10 @@ use Rattle.spans.specs.Spans.{within, holds, rising, sound, equal, less, ListOf
 use Rattle.spans.specs.Steps.{pairIf}
 use Rattle.overlay.specs.Overlay.{higherOf, lowerOf, cutBy, lessOf}
 use Rattle.doubles.specs.Doubles.{Number}
-use Rattle.doubles.proofs.Bools.{or-left, or-right, or-neither, and-left, and-right, and-false, both, by-cases, clash}
-use Rattle.doubles.proofs.Order.{lt-number, le-number, lt→le, lt→not-le, le→not-lt, not-lt→le, not-le→lt, le-refl, le-trans, le-lt-trans, lt-trans, lt-le-trans}
-use Rattle.spans.proofs.Ends.{not-not, oddN, All, all-append, all-map, Over, Under, AtMost, Above, above-less, rising-tail, rising-above, rising-cons, rising-append}
-use Rattle.spans.proofs.Sets.{oddN-mod, equal-holds, sound-rising, sound-even, sound-mod, sound-numbers, make-sound}
+use Rattle.doubles.proofs.Bools.{or-left, or-right, or-neither, and-left, and-right, and-true, both, by-cases, clash}
+use Rattle.doubles.proofs.Order.{lt-number, le-number, lt→le, lt→not-le, le→not-lt, not-lt→le, le-refl, le-trans, le-lt-trans, lt-trans, lt-le-trans}
+use Rattle.spans.proofs.Ends.{not-not, oddN, All, all-append, all-map, Over, AtMost, Above, above-less, rising-tail, rising-above, rising-append}
+use Rattle.spans.proofs.Sets.{oddN-mod, equal-holds, sound-rising, sound-even, make-sound}
 use Rattle.spans.proofs.Points.{or-false, holds-append, holds-above, empty-pair, numbers-of}
 
 -- ---- the higher and the lower of two ends
@@ -53,6 +53,13 @@ pair-holds lo hi p = elim (by-cases (lt lo hi)) [ inl t ↦ rw t (or-false (with
 
 pub pair-none : (lo hi : Float) → lt lo hi ≡ false → pairIf lo hi ≡ []
 pair-none lo hi h = rw h refl
+
+-- in one of two pairs and in c
+pub either : (u v c : Bool) → ((u && c) || (v && c)) ≡ ((u || v) && c)
+either true true true = refl
+either true true false = refl
+either true false c = or-false c
+either false v c = refl
 
 -- ---- one pair less a list
 module _ (hi : Float) (nh : Number hi) where
@@ -152,10 +159,6 @@ module _ (hi : Float) (nh : Number hi) where
       → holds (cutBy lo hi b) p ≡ (within lo hi p && not (holds b p))
   unfolding cutBy holds
   cut-holds lo [] p nl nb r e = pair-holds lo hi p ∙ sym (and-true (within lo hi p))
-    where
-      and-true : (a : Bool) → (a && true) ≡ a
-      and-true true = refl
-      and-true false = refl
   cut-holds lo (x ∷ []) p nl nb r e = absurd (true≢false e)
   cut-holds lo (x ∷ y ∷ b) p nl nb r e =
       let first = pairIf lo (lowerOf hi x) in
@@ -196,13 +199,7 @@ less-holds (lo ∷ []) b p na nb rb e = refl
 less-holds (lo ∷ hi ∷ a) b p na nb rb e =
     holds-append (cutBy lo hi b) (lessOf a b) p (oddN-mod (length (cutBy lo hi b)) (cut-even hi (na .1 .0) lo b))
     ∙ ap₂ _||_ (cut-holds hi (na .1 .0) lo b p (na .0) nb rb e) (less-holds a b p (na .1 .1) nb rb e)
-    ∙ parts (within lo hi p) (holds a p) (not (holds b p))
-  where
-    parts : (u v c : Bool) → ((u && c) || (v && c)) ≡ ((u || v) && c)
-    parts true true true = refl
-    parts true true false = refl
-    parts true false c = or-false c
-    parts false v c = refl
+    ∙ either (within lo hi p) (holds a p) (not (holds b p))
 
 -- the canonical form of the points of a that are not in b
 pub less-list : (a b : List Float) → sound a ≡ true → sound b ≡ true → ListOf (less a b) (lessOf a b)

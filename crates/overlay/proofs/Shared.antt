@@ -1,9 +1,9 @@
 -- `commonOf` is the sound list of the points in both a and b, and where two pairs stand apart nothing is added.
 use mathlib.Core.Path.{_≡_, refl, sym, _∙_, ap, ap₂}
 use mathlib.Core.Logic.{inl, inr}
-use mathlib.Core.Bool.{Bool, true, false, not, _&&_, _||_, true≢false, and-comm}
-use mathlib.Core.List.{List, [], _∷_, _++_, append-nil}
-use Prim.Native.Nat.{ℕ, _+_, _%_}
+use mathlib.Core.Bool.{Bool, true, false, _&&_, _||_}
+use mathlib.Core.List.{List, [], _∷_, _++_}
+use Prim.Native.Nat.{_%_}
 use native.Mathlib.Omega.{arith}
 use lib.ListN.{length, length-append}
 use lib.Ieee.{Float, lt, le}
@@ -12,11 +12,11 @@ use Rattle.spans.specs.Steps.{pairIf}
 use Rattle.overlay.specs.Overlay.{higherOf, lowerOf, sharedBy, commonOf}
 use Rattle.doubles.specs.Doubles.{Number, largerOf, smallerOf}
 use Rattle.doubles.proofs.Bools.{and-left, and-right, and-false, both, by-cases, clash}
-use Rattle.doubles.proofs.Order.{lt→le, lt→not-le, le→not-lt, le-refl, le-trans, le-lt-trans, lt-trans, lt-le-trans}
-use Rattle.spans.proofs.Ends.{not-not, oddN, All, all-append, all-map, Over, AtMost, Above, above-less, rising-tail, rising-above, rising-append}
+use Rattle.doubles.proofs.Order.{lt→le, le→not-lt, le-trans, lt-trans, lt-le-trans}
+use Rattle.spans.proofs.Ends.{All, all-append, all-map, Over, AtMost, Above, above-less, rising-tail, rising-above, rising-append}
 use Rattle.spans.proofs.Sets.{oddN-mod, sound-rising, make-sound}
-use Rattle.spans.proofs.Points.{or-false, holds-append, numbers-of}
-use Rattle.overlay.proofs.Less.{higher-first, higher-second, higher-both, lower-first, lower-second, lower-both, pair-all, pair-even, pair-rising, pair-holds, pair-none}
+use Rattle.spans.proofs.Points.{holds-append, numbers-of}
+use Rattle.overlay.proofs.Less.{higher-first, higher-second, higher-both, lower-first, lower-second, lower-both, pair-all, pair-even, pair-rising, pair-holds, pair-none, either}
 
 -- of two numbers, Rust's `max` and `min`
 pub larger-is : (x y : Float) → Number x → largerOf x y ≡ higherOf x y
@@ -29,9 +29,6 @@ smaller-is x y n = rw n refl
 
 -- one pair with another
 module _ (lo hi x y : Float) (nl : Number lo) (nh : Number hi) (nx : Number x) (ny : Number y) where
-  abbrev shared : List Float
-  shared = pairIf (largerOf lo x) (smallerOf hi y)
-
   pub shared-is : pairIf (largerOf lo x) (smallerOf hi y) ≡ pairIf (higherOf lo x) (lowerOf hi y)
   shared-is = ap₂ pairIf (larger-is lo x nl) (smaller-is hi y nh)
 
@@ -175,13 +172,7 @@ common-holds (x ∷ []) b p na nb = refl
 common-holds (lo ∷ hi ∷ a) b p na nb =
     holds-append (sharedBy lo hi b) (commonOf a b) p (oddN-mod (length (sharedBy lo hi b)) (by-even lo hi (na .0) (na .1 .0) b))
     ∙ ap₂ _||_ (by-holds lo hi (na .0) (na .1 .0) b p nb) (common-holds a b p (na .1 .1) nb)
-    ∙ parts (within lo hi p) (holds a p) (holds b p)
-  where
-    parts : (u v c : Bool) → ((u && c) || (v && c)) ≡ ((u || v) && c)
-    parts true true true = refl
-    parts true true false = refl
-    parts true false c = or-false c
-    parts false v c = refl
+    ∙ either (within lo hi p) (holds a p) (holds b p)
 
 pub common-list : (a b : List Float) → sound a ≡ true → sound b ≡ true → ListOf (common a b) (commonOf a b)
 common-list a b sa sb = record {

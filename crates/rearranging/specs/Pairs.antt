@@ -1,6 +1,6 @@
 -- Flat lists of pairs, lo0, hi0, lo1, hi1, .., and the same pairs in another order.
 use mathlib.Core.Path.{_≡_}
-use mathlib.Core.List.{List, [], _∷_}
+use mathlib.Core.List.{List, _∷_}
 use lib.ListN.{length}
 use lib.Ieee.{Float}
 

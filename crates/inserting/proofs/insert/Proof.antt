@@ -23,8 +23,6 @@ same-length c = search needs
 returns : tie.Need-returns
 returns c =
     let s = c .before .before .before .before .before .before in
-    let b = s .args .b .now in
-    let n = s .args .n in
     insert-last _ _ _ _ _ _ (omega (arith, s .pre .0)) (s .pre .1) (λ h. absurd (omega (arith, c .before .before .before .before .if1 .taken))) (c .before .before .put-pair .ensures)
 
 sub-last : tie.Need-sub-last
@@ -45,8 +43,6 @@ same-length-2 c = search needs
 returns-2 : tie.Need-returns-2
 returns-2 c =
     let s = c .before .before .before .before .before .before .before .before in
-    let b = s .args .b .now in
-    let n = s .args .n in
     insert-last _ _ _ _ _ _ (omega (arith, s .pre .0)) (s .pre .1) (λ h. c .before .before .before .before .if2 .taken) (c .before .before .put-pair2 .ensures)
 
 sub-if3 : tie.Need-sub-if3

@@ -93,7 +93,6 @@ same-length c = search needs
 returns : tie.Need-returns Inv-loop μ-loop
 returns c =
     let l = c .before in
-    let s = l .before .before .before .before in
     share-done _ _ _ _ _ _ _ (inl (c .loop-test .left)) (l .loop .inv)
 
 same-length-2 : tie.Need-same-length-2 Inv-loop μ-loop
@@ -102,7 +101,6 @@ same-length-2 c = search needs
 returns-2 : tie.Need-returns-2 Inv-loop μ-loop
 returns-2 c =
     let l = c .before .before in
-    let s = l .before .before .before .before in
     share-done _ _ _ _ _ _ _ (inr (c .if1 .taken)) (l .loop .inv)
 
 pub intersect-into-spec : {M : Type 1} → statement M
