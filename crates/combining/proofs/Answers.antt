@@ -42,7 +42,8 @@ module _ (a b before : List Float) (k : ℕ) (c : Checked (combineCauses a b (le
       filled-fits = omega (arith, checked-lists .2, f .most, f .size)
 
       pub accept-filled : (P : List Float → Type 0) → sound list ≡ true → P list → (after : List Float)
-          → after ≡ take n mid ++ replicate (length mid - n) plusZero → Answer P (combineCauses a b (length before)) before after (Pairs (n / 2))
+          → after ≡ take n mid ++ replicate (length mid - n) plusZero
+          → Answer P (combineCauses a b (length before)) before after (Pairs (n / 2))
       accept-filled P s l after z = (c .0 e, laid P mid after n filled-fits (rw (f .list) s) (rw (f .list) l) z)
 
 -- the number of a refusal, found before anything is written

@@ -1,6 +1,7 @@
 -- The pairs that a reader hands out one after the other are those of the list with lo < hi, in order.
 use mathlib.Core.Path.{_≡_, refl, sym, _∙_, ap, subst}
 use mathlib.Core.Logic.{inl, inr}
+use mathlib.Core.Bool.{true}
 use mathlib.Core.List.{List, [], _∷_}
 use Prim.Native.Nat.{ℕ, zero, suc, _+_, _-_, _≤_, _<_}
 use native.Mathlib.Omega.{arith}
@@ -31,6 +32,7 @@ first-pair n m x y lo hi h =
 
 -- a hit: what is retained starts with it, and goes on past its place
 record Hits (r : List Float) (n m : ℕ) (lo hi : Float) : Type 0 where
+  rises : lt lo hi ≡ true
   past : n + 2 ≤ m
   inside : m ≤ n + length r
   goes : retained r ≡ lo ∷ hi ∷ retained (drop (m - n) r)
@@ -43,11 +45,11 @@ hit (x ∷ y ∷ r) n m lo hi h = elim (by-cases (lt x y)) [
   | inl t ↦
       let e = first-pair (n + 2) m x y lo hi (rw t at h) in
       let two : m - n ≡ 2 = omega (arith, e .2) in
-      record { past = omega (arith, e .2); inside = omega (arith, e .2); goes = rw (t, two, e .0, e .1) }
+      record { rises = rw (e .0, e .1) at t; past = omega (arith, e .2); inside = omega (arith, e .2); goes = rw (t, two, e .0, e .1) }
   | inr t ↦
       let s = hit r (n + 2) m lo hi (rw t at h) in
       let two : m - n ≡ suc (suc (m - (n + 2))) = omega (arith, s .past) in
-      record { past = omega (arith, s .past); inside = omega (arith, s .inside); goes = rw (t, two) (s .goes) }
+      record { rises = s .rises; past = omega (arith, s .past); inside = omega (arith, s .inside); goes = rw (t, two) (s .goes) }
 ]
 
 -- none left: nothing is retained
@@ -60,17 +62,39 @@ ended (x ∷ y ∷ r) n m h = elim (by-cases (lt x y)) [
   | inr t ↦ rw t (ended r (n + 2) m (rw t at h))
 ]
 
-goes-on : (l : List Float) (n m : ℕ) → n ≤ m → drop (m - n) (drop n l) ≡ drop m l
-goes-on l n m h = drop-drop (m - n) n l ∙ ap (λ (k : ℕ). drop k l) (back n m h)
+-- the same of what stands from place n of a list on
+pub record HitAt (l : List Float) (n m : ℕ) (lo hi : Float) : Type 0 where
+  pub rises : lt lo hi ≡ true
+  pub past : n + 2 ≤ m
+  pub inside : m ≤ n + (length l - n)
+  pub goes : retained (drop n l) ≡ lo ∷ hi ∷ retained (drop m l)
+
+hit-at : (l : List Float) (n m : ℕ) (lo hi : Float) → hitOf n (drop n l) ≡ foundAs (Pair lo hi) m → HitAt l n m lo hi
+hit-at l n m lo hi h =
+    let s = hit (drop n l) n m lo hi h in
+    record {
+      rises = s .rises;
+      past = s .past;
+      inside = omega (arith, s .inside, length-drop n l);
+      goes = s .goes
+          ∙ ap (λ (k : List Float). lo ∷ hi ∷ retained k) (drop-drop (m - n) n l ∙ ap (λ (k : ℕ). drop k l) (back n m (s .past)));
+    }
   where
-    back : (n m : ℕ) → n ≤ m → n + (m - n) ≡ m
+    back : (n m : ℕ) → n + 2 ≤ m → n + (m - n) ≡ m
     back n m h = omega arith
+
+-- what `hit_from` answers, by its case
+module _ (l : List Float) (n : ℕ) (f : Found) (e : f ≡ hitOf n (drop n l)) where
+  pub found-pair : (lo hi : Float) → f .hit ≡ Pair lo hi → HitAt l n (f .at) lo hi
+  found-pair lo hi h = hit-at l n (f .at) lo hi (sym e ∙ ap (λ (x : Hit). foundAs x (f .at)) h)
+
+  pub found-end : f .hit ≡ End → retained (drop n l) ≡ []
+  found-end h = ended (drop n l) n (f .at) (sym e ∙ ap (λ (x : Hit). foundAs x (f .at)) h)
 
 pub handed-retained : {l : List Float} {n : ℕ} {out : List Float} → Handed l n out → out ≡ retained (drop n l)
 handed-retained {l} (none {n} {m} e) = sym (ended (drop n l) n m e)
 handed-retained {l} (more {n} {m} {lo} {hi} {rest} e h) =
-    let s = hit (drop n l) n m lo hi e in
-    sym (s .goes ∙ ap (λ (k : List Float). lo ∷ hi ∷ retained k) (goes-on l n m (omega (arith, s .past))) ∙ ap (λ (k : List Float). lo ∷ hi ∷ k) (sym (handed-retained h)))
+    sym (hit-at l n m lo hi e .goes ∙ ap (λ (k : List Float). lo ∷ hi ∷ k) (sym (handed-retained h)))
 
 -- a reader at the start hands out the pairs that are not dropped
 pub handed-all : {l out : List Float} → Handed l 0 out → out ≡ retained l
@@ -85,9 +109,8 @@ all-next : (l : List Float) (k n : ℕ) → length l - n < suc k → ((m : ℕ) 
     → (x : Hit) (m : ℕ) → hitOf n (drop n l) ≡ foundAs x m → Handed l n (retained (drop n l))
 all-next l k n h again End m e = subst (Handed l n) (sym (ended (drop n l) n m e)) (none e)
 all-next l k n h again (Pair lo hi) m e =
-    let s = hit (drop n l) n m lo hi e in
-    subst (Handed l n) (sym (s .goes ∙ ap (λ (r : List Float). lo ∷ hi ∷ retained r) (goes-on l n m (omega (arith, s .past)))))
-    (more e (again m (omega (arith, s .past, s .inside, length-drop n l))))
+    let s = hit-at l n m lo hi e in
+    subst (Handed l n) (sym (s .goes)) (more e (again m (omega (arith, s .past, s .inside))))
 
 all-from : (l : List Float) (k n : ℕ) → length l - n < k → Handed l n (retained (drop n l))
 all-from l zero n h = absurd (omega arith)

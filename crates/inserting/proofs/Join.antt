@@ -228,7 +228,8 @@ join-all : (P : Float → Type 0) (l : List Float) (i j : ℕ) (lo hi : Float) �
 join-all P l i j lo hi h a b =
     all-append P (take i l) (endIf (eqb (i % 2) 0) lo ++ (endIf (eqb (j % 2) 0) hi ++ drop j l)) (all-left P (take i l) (drop i l) (rw take-append-drop h))
     (all-append P (endIf (eqb (i % 2) 0) lo) (endIf (eqb (j % 2) 0) hi ++ drop j l) (all-endIf P (eqb (i % 2) 0) lo a)
-    (all-append P (endIf (eqb (j % 2) 0) hi) (drop j l) (all-endIf P (eqb (j % 2) 0) hi b) (all-right P (take j l) (drop j l) (rw take-append-drop h))))
+    (all-append P (endIf (eqb (j % 2) 0) hi) (drop j l) (all-endIf P (eqb (j % 2) 0) hi b)
+    (all-right P (take j l) (drop j l) (rw take-append-drop h))))
 
 -- ---- the step: what `insert` leaves
 pub insert-done : (b b′ : List Float) (n : ℕ) (lo hi : Float) (i j r : ℕ) → n ≤ length b → sound (take n b) ≡ true → lt lo hi ≡ true
@@ -238,7 +239,8 @@ insert-done b b′ n lo hi i j r fit s up ci cj m = record {
   most = m .most;
   list = rw (m .ends) (normal-pair (take n b) (joinAt (take n b) i j lo hi) lo hi s
       (record { isSound = join-sound b n lo hi i j fit s up cj ci; points = join-holds b n lo hi i j fit s up cj ci })
-      (join-all (λ e. List·Memᴰ e (take n b ++ pairIf lo hi)) (take n b) i j lo hi (kept (take n b) lo hi) (from-pair (take n b) lo hi up .0) (from-pair (take n b) lo hi up .1 .0)));
+      (join-all (λ e. List·Memᴰ e (take n b ++ pairIf lo hi)) (take n b) i j lo hi (kept (take n b) lo hi)
+      (from-pair (take n b) lo hi up .0) (from-pair (take n b) lo hi up .1 .0)));
   rest = m .rest;
 }
 
@@ -248,7 +250,8 @@ pub insert-last : (b b′ : List Float) (n : ℕ) (lo hi : Float) (r : ℕ) → 
 insert-last b b′ n lo hi r fit s last m = record {
   size = m .size;
   most = m .most;
-  list = normal-pair (take n b) (take r b′) lo hi s (put-list b b′ n lo hi r fit s (below-by-last b n lo fit (sound-rising (take n b) s) last) m)
+  list = normal-pair (take n b) (take r b′) lo hi s
+      (put-list b b′ n lo hi r fit s (below-by-last b n lo fit (sound-rising (take n b) s) last) m)
       (rw (m .ends) (all-in (take n b ++ pairIf lo hi)));
   rest = m .rest;
 }
@@ -336,7 +339,8 @@ module _ (b : List Float) (n : ℕ) (lo hi : Float) (fit : n ≤ length b) (s : 
       drawn : All (λ e. List·Memᴰ e (take n b ++ pairIf lo hi)) (take n (set b (n - 1) hi))
       drawn =
           let P : Float → Type 0 = λ e. List·Memᴰ e (take n b ++ pairIf lo hi) in
-          rw ends (all-append P (take (n - 1) b) (hi ∷ []) (all-left P (take (n - 1) b) (y ∷ []) (subst (All P) all-before (kept (take n b) lo hi)))
+          rw ends (all-append P (take (n - 1) b) (hi ∷ [])
+          (all-left P (take (n - 1) b) (y ∷ []) (subst (All P) all-before (kept (take n b) lo hi)))
           (from-pair (take n b) lo hi (le-lt-trans lo y hi reaches h) .1))
 
       sound-now : sound (take n (set b (n - 1) hi)) ≡ true

@@ -1,18 +1,16 @@
 -- What the passes over the pairs of a list keep.
 use mathlib.Core.Path.{_≡_, refl, sym, _∙_, ap, subst}
-use mathlib.Core.Logic.{inl, inr}
 use mathlib.Core.List.{List, [], _∷_, _++_, append-nil, append-assoc}
-use Prim.Native.Nat.{ℕ, zero, suc, _+_, _-_, _%_, _≤_, _<_}
+use Prim.Native.Nat.{ℕ, _+_, _-_, _%_, _≤_, _<_}
 use native.Mathlib.Omega.{arith}
-use native.Mathlib.Numerals.{add-one}
 use lib.ListN.{length, getD, take, drop, length-drop, drop-of-length-le}
-use lib.Seq.{length-take-le, take-all}
-use lib.Ieee.{Float, nan, lt}
+use lib.Seq.{length-take-le}
+use lib.Ieee.{Float, nan}
 use Rattle.spans.specs.Spans.{retained, NormalOf}
-use Rattle.spans.specs.Steps.{SameFrom, Put, Filled, pairIf}
+use Rattle.spans.specs.Steps.{SameFrom, Put, Filled}
 use Rattle.inserting.specs.Steps.{Joined}
+use Rattle.hits.proofs.Reading.{HitAt}
 use Rattle.joining.specs.Steps.{Begun, BegunBack, Front}
-use Rattle.doubles.proofs.Bools.{by-cases}
 use Rattle.spans.proofs.Points.{take-pair, drop-pair}
 use Rattle.spans.proofs.Normal.{normal-none, normal-then, normal-swap}
 use Rattle.spans.proofs.Sets.{sound-mod}
@@ -34,7 +32,8 @@ joining-step b₀ b b′ n k r fit s m = record {
   size = m .size ∙ s .size;
   whole = omega (arith, s .whole);
   room = omega (arith, s .room, m .most);
-  list = rw (take-pair b₀ k fit) (normal-then (take k b₀) (getD b₀ k nan ∷ getD b₀ (k + 1) nan ∷ []) (take n b) (take r b′) (rw (length-take-le k b₀ (omega arith)) (s .whole)) (s .list)
+  list = rw (take-pair b₀ k fit) (normal-then (take k b₀) (getD b₀ k nan ∷ getD b₀ (k + 1) nan ∷ []) (take n b) (take r b′)
+      (rw (length-take-le k b₀ (omega arith)) (s .whole)) (s .list)
       (rw (s .same k (omega arith), s .same (k + 1) (omega arith)) at (m .list)));
   same = λ q h. m .rest q (omega (arith, s .room)) ∙ s .same q (omega arith);
 }
@@ -49,70 +48,56 @@ joining-done b₀ b m n k h g s = record {
     same : (k m : ℕ) → k ≤ m → m ≤ k → k ≡ m
     same k m h g = omega arith
 
--- ---- the pairs that are not dropped
-retained-two : (l : List Float) (k : ℕ) → k % 2 ≡ 0 → suc k < length l
-    → retained (take (suc (suc k)) l) ≡ retained (take k l) ++ pairIf (getD l k nan) (getD l (suc k) nan)
-unfolding retained
-retained-two [] k e h = absurd (omega arith)
-retained-two (x ∷ []) k e h = absurd (omega arith)
-retained-two (x ∷ y ∷ l) zero e h = refl
-retained-two (x ∷ y ∷ l) (suc zero) e h = absurd (omega arith)
-retained-two (x ∷ y ∷ l) (suc (suc k)) e h = elim (by-cases (lt x y)) [
-  | inl t ↦ rw t (ap (λ (m : List Float). x ∷ y ∷ m) (retained-two l k (omega arith) (omega arith)))
-  | inr t ↦ rw t (retained-two l k (omega arith) (omega arith))
-]
-
-pub retained-more : (l : List Float) (k : ℕ) → k % 2 ≡ 0 → k + 2 ≤ length l
-    → retained (take (k + 2) l) ≡ retained (take k l) ++ pairIf (getD l k nan) (getD l (k + 1) nan)
-retained-more l k e h = rw (two k, add-one k) (retained-two l k e (omega arith))
-  where
-    two : (k : ℕ) → k + 2 ≡ suc (suc k)
-    two k = omega arith
-
+-- ---- the pairs that are not dropped, copied as they are found: with those from place k on they are all
 pub record Gathered (spans b₀ : List Float) (at n k : ℕ) (b : List Float) : Type 0 where
   pub size : length b ≡ length b₀
-  pub whole : k % 2 ≡ 0
   pub most : k ≤ length spans
   pub room : n ≤ at + k
-  pub ends : take n b ≡ take at b₀ ++ retained (take k spans)
+  pub ends : take n b ++ retained (drop k spans) ≡ take at b₀ ++ retained spans
 
 pub gather-start : (spans b : List Float) (at : ℕ) → Gathered spans b at at 0 b
-unfolding retained
-gather-start spans b at = record { size = refl; whole = omega arith; most = omega arith; room = omega arith; ends = sym (append-nil (take at b)) }
+gather-start spans b at = record { size = refl; most = omega arith; room = omega arith; ends = refl }
 
-pub gather-step : (spans b₀ b b′ : List Float) (at n k r : ℕ) → k + 2 ≤ length spans → Gathered spans b₀ at n k b
-    → Put b n (getD spans k nan) (getD spans (k + 1) nan) b′ r → Gathered spans b₀ at r (k + 2) b′
-gather-step spans b₀ b b′ at n k r fit s m = record {
-  size = m .size ∙ s .size;
-  whole = omega (arith, s .whole);
-  most = fit;
-  room = omega (arith, s .room, m .most);
-  ends = m .ends ∙ ap (λ (l : List Float). l ++ pairIf (getD spans k nan) (getD spans (k + 1) nan)) (s .ends)
-      ∙ append-assoc (take at b₀) (retained (take k spans)) (pairIf (getD spans k nan) (getD spans (k + 1) nan))
-      ∙ ap (_++_ (take at b₀)) (sym (retained-more spans k (s .whole) fit));
+pub gather-step : (spans b₀ b b′ : List Float) (at n k m r : ℕ) (lo hi : Float) → Gathered spans b₀ at n k b → HitAt spans k m lo hi
+    → Put b n lo hi b′ r → Gathered spans b₀ at r m b′
+gather-step spans b₀ b b′ at n k m r lo hi s f p = record {
+  size = p .size ∙ s .size;
+  most = omega (arith, f .inside, s .most);
+  room = omega (arith, f .past, s .room, p .most);
+  ends = ap (λ (l : List Float). l ++ retained (drop m spans)) (rw (f .rises) at (p .ends))
+      ∙ append-assoc (take n b) (lo ∷ hi ∷ []) (retained (drop m spans))
+      ∙ ap (_++_ (take n b)) (sym (f .goes)) ∙ s .ends;
 }
 
-pub gather-done : (spans b₀ b : List Float) (at n k : ℕ) → at + length spans ≤ length b₀ → length spans ≤ k → Gathered spans b₀ at n k b
-    → Front (take at b₀ ++ retained spans) b₀ b n
-gather-done spans b₀ b at n k fit h s =
-    let e : take n b ≡ take at b₀ ++ retained spans = s .ends ∙ ap (λ (l : List Float). take at b₀ ++ retained l) (take-all k spans h) in
+-- none is left from place k on
+pub gather-done : (spans b₀ b : List Float) (at n k : ℕ) → at + length spans ≤ length b₀ → Gathered spans b₀ at n k b
+    → retained (drop k spans) ≡ [] → Front (take at b₀ ++ retained spans) b₀ b n
+gather-done spans b₀ b at n k fit s none =
+    let e : take n b ≡ take at b₀ ++ retained spans = sym (append-nil (take n b)) ∙ ap (_++_ (take n b)) (sym none) ∙ s .ends in
     record {
       size = s .size;
       count = sym (length-take-le n b (omega (arith, s .size, s .room, s .most))) ∙ ap length e;
       ends = e;
     }
 
+pub gather-all : (spans b₀ b : List Float) (at n k : ℕ) → at + length spans ≤ length b₀ → length spans ≤ k → Gathered spans b₀ at n k b
+    → Front (take at b₀ ++ retained spans) b₀ b n
+unfolding retained
+gather-all spans b₀ b at n k fit h s = gather-done spans b₀ b at n k fit s (ap retained (drop-of-length-le spans {i = k} h))
+
 -- the sound list at the start of the buffer has whole pairs
 pub filled-even : (pairs b₀ b : List Float) (limit n : ℕ) → limit ≤ length b₀ → Filled (NormalOf pairs) b₀ limit b n → n % 2 ≡ 0
-filled-even pairs b₀ b limit n fit s = omega (arith, sound-mod (take n b) (s .list .list .isSound), length-take-le n b (omega (arith, s .most, s .size)))
+filled-even pairs b₀ b limit n fit s =
+    omega (arith, sound-mod (take n b) (s .list .list .isSound), length-take-le n b (omega (arith, s .most, s .size)))
 
 -- no pairs yet
 filled-none : (b : List Float) → Filled (NormalOf []) b 0 b 0
 filled-none b = record { size = refl; most = omega arith; list = normal-none }
 
 -- one pair more, worked into the list at the start of the buffer
-filled-step : (pairs b₀ b b′ : List Float) (limit limit′ n r : ℕ) (lo hi : Float) → length pairs % 2 ≡ 0 → Filled (NormalOf pairs) b₀ limit b n → Joined b n lo hi b′ r
-    → limit + 2 ≤ limit′ → Filled (NormalOf (pairs ++ (lo ∷ hi ∷ []))) b₀ limit′ b′ r
+filled-step : (pairs b₀ b b′ : List Float) (limit limit′ n r : ℕ) (lo hi : Float) → length pairs % 2 ≡ 0
+    → Filled (NormalOf pairs) b₀ limit b n → Joined b n lo hi b′ r → limit + 2 ≤ limit′
+    → Filled (NormalOf (pairs ++ (lo ∷ hi ∷ []))) b₀ limit′ b′ r
 filled-step pairs b₀ b b′ limit limit′ n r lo hi even s m fit = record {
   size = m .size ∙ s .size;
   most = omega (arith, s .most, m .most);
@@ -143,13 +128,14 @@ back-start spans b even = record {
     none : (k : ℕ) → k - k ≡ 0
     none k = omega arith
 
-pub back-step : (spans b₀ b b′ : List Float) (n k r : ℕ) → length spans % 2 ≡ 0 → 0 < k → BegunBack spans b₀ b (record { passed = k; end = n })
-    → Joined b n (getD spans (k - 2) nan) (getD spans (k - 1) nan) b′ r → BegunBack spans b₀ b′ (record { passed = k - 2; end = r })
+pub back-step : (spans b₀ b b′ : List Float) (n k r : ℕ) → length spans % 2 ≡ 0 → 0 < k
+    → BegunBack spans b₀ b (record { passed = k; end = n }) → Joined b n (getD spans (k - 2) nan) (getD spans (k - 1) nan) b′ r
+    → BegunBack spans b₀ b′ (record { passed = k - 2; end = r })
 back-step spans b₀ b b′ n k r even pos s m =
     let pair = getD spans (k - 2) nan ∷ getD spans (k - 1) nan ∷ [] in
     let whole : length (drop k spans) % 2 ≡ 0 = omega (arith, length-drop k spans, s .passedMost, s .passedEven) in
-    let f = filled-step (drop k spans) b₀ b b′ (length spans - k) (length spans - (k - 2)) n r (getD spans (k - 2) nan) (getD spans (k - 1) nan) whole (s .filled) m
-    (omega (arith, s .passedMost, s .passedEven)) in
+    let f = filled-step (drop k spans) b₀ b b′ (length spans - k) (length spans - (k - 2)) n r (getD spans (k - 2) nan)
+    (getD spans (k - 1) nan) whole (s .filled) m (omega (arith, s .passedMost, s .passedEven)) in
     record {
       passedMost = omega (arith, s .passedMost);
       passedEven = omega (arith, s .passedEven);

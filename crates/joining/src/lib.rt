@@ -6,18 +6,28 @@ ghost use lib.ListN.{length, take};
 ghost use Rattle.spans.specs.Spans.{retained, NormalOf};
 ghost use Rattle.spans.specs.Steps.{Filled};
 ghost use Rattle.joining.specs.Steps.{Begun, BegunBack, Front};
+use hits::Hit;
 use spans::Place;
 
 // Copies the pairs with lo < hi past the first n cells of `out`, in order.
 pub fn gather(spans: &[f64], out: &mut [f64], n: usize) -> usize
-    requires { ⌜ (length (now spans) % 2 ≡ 0) × (n + length (now spans) ≤ length (now out)) ⌝ }
+    requires { ⌜ n + length (now spans) ≤ length (now out) ⌝ }
     ensures { λ r. ⌜ Front (take n (now (out .entry)) ++ retained (now (spans .entry))) (now (out .entry)) (now (out .exit)) r ⌝ }
 {
     let mut m = n;
     let mut k = 0;
     while k < spans.len() {
-        m = spans::put_pair(out, m, spans[k], spans[k + 1]);
-        k += 2;
+        let found = hits::hit_from(spans, k);
+        let hit = found.hit;
+        match hit {
+            Hit::Pair(lo, hi) => {
+                m = spans::put_pair(out, m, lo, hi);
+                k = found.at;
+            }
+            Hit::End => {
+                return m;
+            }
+        }
     }
     m
 }

@@ -88,25 +88,29 @@ begun-more spans rest b₀ b b′ n k r e s f = record {
   size = f .size ∙ s .filled .size;
   most = omega (arith, f .most, s .filled .most, s .passedMost, ap length e, length-drop k spans);
   list = subst (λ (l : List Float). NormalOf l (take r b′)) (ap (_++_ (take k spans)) e ∙ take-append-drop k spans)
-      (normal-then (take k spans) rest (take n b) (take r b′) (rw (length-take-le k spans (s .passedMost)) (s .passedEven)) (s .filled .list) (f .list));
+      (normal-then (take k spans) rest (take n b) (take r b′) (rw (length-take-le k spans (s .passedMost)) (s .passedEven))
+      (s .filled .list) (f .list));
 }
 
-pub back-all : (spans b₀ b₁ b : List Float) (n k : ℕ) → length b₁ ≡ length b₀ → k ≡ 0 → BegunBack spans b₁ b (record { passed = k; end = n })
-    → Filled (NormalOf spans) b₀ (length spans) b n
+pub back-all : (spans b₀ b₁ b : List Float) (n k : ℕ) → length b₁ ≡ length b₀ → k ≡ 0
+    → BegunBack spans b₁ b (record { passed = k; end = n }) → Filled (NormalOf spans) b₀ (length spans) b n
 back-all spans b₀ b₁ b n k z e s = record {
   size = s .filled .size ∙ z;
   most = omega (arith, s .filled .most);
   list = subst (λ (q : ℕ). NormalOf (drop q spans) (take n b)) e (s .filled .list);
 }
 
-pub back-more : (spans b₀ b₁ b b′ : List Float) (n k r : ℕ) → length spans % 2 ≡ 0 → length b₁ ≡ length b₀ → BegunBack spans b₁ b (record { passed = k; end = n })
-    → Filled (NormalOf (take n b ++ take k spans)) b (n + length (take k spans)) b′ r → Filled (NormalOf spans) b₀ (length spans) b′ r
+pub back-more : (spans b₀ b₁ b b′ : List Float) (n k r : ℕ) → length spans % 2 ≡ 0 → length b₁ ≡ length b₀
+    → BegunBack spans b₁ b (record { passed = k; end = n })
+    → Filled (NormalOf (take n b ++ take k spans)) b (n + length (take k spans)) b′ r
+    → Filled (NormalOf spans) b₀ (length spans) b′ r
 back-more spans b₀ b₁ b b′ n k r even z s f =
     let front : length (take k spans) % 2 ≡ 0 = rw (length-take-le k spans (s .passedMost)) (s .passedEven) in
     let back : length (drop k spans) % 2 ≡ 0 = omega (arith, length-drop k spans, s .passedMost, s .passedEven) in
     record {
       size = f .size ∙ s .filled .size ∙ z;
       most = omega (arith, f .most, s .filled .most, s .passedMost, length-take-le k spans (s .passedMost));
-      list = subst (λ (l : List Float). NormalOf l (take r b′)) (take-append-drop k spans) (normal-swap (drop k spans) (take k spans) (take r b′) back front
+      list = subst (λ (l : List Float). NormalOf l (take r b′)) (take-append-drop k spans)
+          (normal-swap (drop k spans) (take k spans) (take r b′) back front
           (normal-then (drop k spans) (take k spans) (take n b) (take r b′) back (s .filled .list) (f .list)));
     }

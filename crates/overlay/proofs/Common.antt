@@ -43,9 +43,13 @@ unfolding commonOf
 share-done a b before i j n out h s = record {
   size = s .size;
   most = omega (arith, s .most, s .iMost, s .jMost);
-  list = sym (append-nil (take n out)) ∙ ap (λ (l : List Float). take n out ++ l) (sym (elim h [ inl k ↦ used k | inr k ↦ ap (commonOf (drop i a)) (drop-of-length-le b k) ∙ with-none (drop i a) ])) ∙ s .ends;
+  list = sym (append-nil (take n out))
+      ∙ ap (λ (l : List Float). take n out ++ l) (sym (elim h [ inl k ↦ used k | inr k ↦ spent k ])) ∙ s .ends;
 }
   where
+    spent : length b ≤ j → commonOf (drop i a) (drop j b) ≡ []
+    spent k = ap (commonOf (drop i a)) (drop-of-length-le b k) ∙ with-none (drop i a)
+
     used : length a ≤ i → commonOf (drop i a) (drop j b) ≡ []
     used k = ap (λ (l : List Float). commonOf l (drop j b)) (drop-of-length-le a k)
 
@@ -91,7 +95,9 @@ module _ (a b before : List Float) (i j n : ℕ) (out out′ : List Float) (r : 
   -- this pair of both, then the other pairs of b with this one of a, then the other pairs of a
   split : commonOf (drop i a) (drop j b) ≡ (pairIf (largerOf lo x) (smallerOf hi y) ++ sharedBy lo hi restB) ++ commonOf restA (drop j b)
   unfolding commonOf sharedBy
-  split = ap (λ (l : List Float). commonOf l (drop j b)) (drop-pair a i a-fits) ∙ ap (λ (l : List Float). sharedBy lo hi l ++ commonOf restA (drop j b)) (drop-pair b j b-fits)
+  split =
+      ap (λ (l : List Float). commonOf l (drop j b)) (drop-pair a i a-fits)
+      ∙ ap (λ (l : List Float). sharedBy lo hi l ++ commonOf restA (drop j b)) (drop-pair b j b-fits)
 
   next : (k : List Float) → commonOf (drop i a) (drop j b) ≡ pairIf (largerOf lo x) (smallerOf hi y) ++ k → take r out′ ++ k ≡ commonOf a b
   next k e =
@@ -125,7 +131,8 @@ module _ (a b before : List Float) (i j n : ℕ) (out out′ : List Float) (r : 
     most = omega (arith, m .most, s .most);
     ends = next (commonOf (drop i a) restB) (split
         ∙ append-assoc (pairIf (largerOf lo x) (smallerOf hi y)) (sharedBy lo hi restB) (commonOf restA (drop j b))
-        ∙ ap (λ (l : List Float). pairIf (largerOf lo x) (smallerOf hi y) ++ (sharedBy lo hi restB ++ l)) (ap (commonOf restA) (drop-pair b j b-fits)
+        ∙ ap (λ (l : List Float). pairIf (largerOf lo x) (smallerOf hi y) ++ (sharedBy lo hi restB ++ l))
+        (ap (commonOf restA) (drop-pair b j b-fits)
         ∙ past-front x y restA restB numbers-a (number-at b j sb g) ny
         (above-by-place a (i + 2) y a-fits (sound-rising a sa) (λ k. le-lt-trans y hi (getD a (i + 2) nan) (not-lt→le hi y nhi ny t) (rising-at a (i + 1) (i + 2) (sound-rising a sa) (omega arith) k))))
         ∙ ap (λ (l : List Float). pairIf (largerOf lo x) (smallerOf hi y) ++ commonOf l restB) (sym (drop-pair a i a-fits)));

@@ -46,7 +46,8 @@ unfolding retained
 retained-append [] b e = refl
 retained-append (x ∷ []) b e = absurd (omega arith)
 retained-append (x ∷ y ∷ a) b e =
-    retained-cons x y (a ++ b) ∙ ap (_++_ (pairIf x y)) (retained-append a b (omega arith)) ∙ sym (append-assoc (pairIf x y) (retained a) (retained b))
+    retained-cons x y (a ++ b) ∙ ap (_++_ (pairIf x y)) (retained-append a b (omega arith))
+    ∙ sym (append-assoc (pairIf x y) (retained a) (retained b))
     ∙ ap (λ (l : List Float). l ++ retained b) (sym (retained-cons x y a))
 
 retained-twice : (l : List Float) → retained (retained l) ≡ retained l
@@ -65,7 +66,8 @@ retained-rising [] r e = refl
 retained-rising (x ∷ []) r e = absurd (true≢false e)
 retained-rising (x ∷ y ∷ l) r e =
     rw (rising-above x (y ∷ l) r .0)
-    (ap (λ (m : List Float). x ∷ y ∷ m) (retained-rising l (rising-tail y l (rising-tail x (y ∷ l) r)) (sym (not-not (oddN (length l))) ∙ e)))
+    (ap (λ (m : List Float). x ∷ y ∷ m)
+    (retained-rising l (rising-tail y l (rising-tail x (y ∷ l) r)) (sym (not-not (oddN (length l))) ∙ e)))
 
 pub retained-sound : (l : List Float) → sound l ≡ true → retained l ≡ l
 retained-sound l s = retained-rising l (sound-rising l s) (sound-even l s)
@@ -89,8 +91,8 @@ retained-most (x ∷ y ∷ l) = elim (by-cases (lt x y)) [
 ]
 
 -- ---- other pairs with the same points, among which each end is found again
-pub normal-same : (a b l : List Float) → ((p : Float) → holds a p ≡ holds b p) → ((e : Float) → List·Memᴰ e (retained a) → List·Memᴰ e (retained b))
-    → NormalOf a l → NormalOf b l
+pub normal-same : (a b l : List Float) → ((p : Float) → holds a p ≡ holds b p)
+    → ((e : Float) → List·Memᴰ e (retained a) → List·Memᴰ e (retained b)) → NormalOf a l → NormalOf b l
 normal-same a b l points ends n = record {
   list = record { isSound = n .list .isSound; points = λ p. n .list .points p ∙ points p };
   drawn = all-map (λ e. List·Memᴰ e (retained a)) (λ e. List·Memᴰ e (retained b)) ends l (n .drawn);
@@ -119,7 +121,10 @@ normal-swap a b l ea eb = normal-same (a ++ b) (b ++ a) l
 pub normal-retained : (a b l : List Float) → length a % 2 ≡ 0 → NormalOf (a ++ retained b) l → NormalOf (a ++ b) l
 normal-retained a b l even = normal-same (a ++ retained b) (a ++ b) l
     (λ p. holds-both a (retained b) even p ∙ ap (_||_ (holds a p)) (retained-holds b p) ∙ sym (holds-both a b even p))
-    (λ e h. elim (end-cases a (retained b) even e h) [ inl m ↦ end-left a b even e m | inr m ↦ end-right a b even e (rw (retained-twice b) at m) ])
+    (λ e h. elim (end-cases a (retained b) even e h) [
+      | inl m ↦ end-left a b even e m
+      | inr m ↦ end-right a b even e (rw (retained-twice b) at m)
+    ])
 
 -- pairs normalised with the list of those in front of them
 pub normal-then : (a b l m : List Float) → length a % 2 ≡ 0 → NormalOf a l → NormalOf (l ++ b) m → NormalOf (a ++ b) m
@@ -139,8 +144,8 @@ unfolding sound rising holds
 normal-none = record { list = record { isSound = refl; points = λ p. refl }; drawn = tt }
 
 -- a sound list and one pair more: each end is one of the list's, or one of the pair's where it is not dropped
-pub normal-pair : (l m : List Float) (lo hi : Float) → sound l ≡ true → ListOf (λ p. holds l p || within lo hi p) m → All (λ e. List·Memᴰ e (l ++ pairIf lo hi)) m
-    → NormalOf (l ++ (lo ∷ hi ∷ [])) m
+pub normal-pair : (l m : List Float) (lo hi : Float) → sound l ≡ true → ListOf (λ p. holds l p || within lo hi p) m
+    → All (λ e. List·Memᴰ e (l ++ pairIf lo hi)) m → NormalOf (l ++ (lo ∷ hi ∷ [])) m
 unfolding holds retained
 normal-pair l m lo hi s is d = record {
   list = record {

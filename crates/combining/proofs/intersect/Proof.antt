@@ -21,7 +21,8 @@ clear-from-requires : tie.Need-clear-from-requires
 clear-from-requires c κs =
     let d = c .before .before .before in
     let a = d .before .before .before .before .before .before .before .args in
-    filled-fits (a .a .now) (a .b .now) (a .out .now) _ (d .before .before .before .checked .ensures) (d .before .before .if1 .left) _ _ _ (d .intersect-into .ensures)
+    filled-fits (a .a .now) (a .b .now) (a .out .now) _ (d .before .before .before .checked .ensures) (d .before .before .if1 .left) _ _ _
+    (d .intersect-into .ensures)
 
 returns-2 : tie.Need-returns-2
 returns-2 c =
@@ -31,8 +32,8 @@ returns-2 c =
     let e = d .before .before .if1 .left in
     let both = checked-lists (a .a .now) (a .b .now) (a .out .now) _ k e in
     let l = common-list (a .a .now) (a .b .now) (both .0) (both .1) in
-    accept-filled (a .a .now) (a .b .now) (a .out .now) _ k e _ _ _ (d .intersect-into .ensures) (CommonOf (a .a .now) (a .b .now)) (l .isSound) (record { list = l; ends = refl }) _
-    (c .before .before .clear-from .ensures)
+    accept-filled (a .a .now) (a .b .now) (a .out .now) _ k e _ _ _ (d .intersect-into .ensures) (CommonOf (a .a .now) (a .b .now))
+    (l .isSound) (record { list = l; ends = refl }) _ (c .before .before .clear-from .ensures)
 
 pub intersect-spec : {M : Type 1} → statement M
 intersect-spec =

@@ -3,7 +3,8 @@ use borrow.Author.Needs.{needs}
 use native.Mathlib.Omega.{arith}
 use Prim.Native.Nat.{_-_}
 use lib.ListN.{length}
-use Rattle.joining.proofs.Passes.{Gathered, gather-start, gather-step, gather-done}
+use Rattle.hits.proofs.Reading.{found-pair, found-end}
+use Rattle.joining.proofs.Passes.{Gathered, gather-start, gather-step, gather-done, gather-all}
 use Rattle.joining.proofs.gather.Statement.{statement}
 use Rattle.joining.proofs.gather.Tie as tie
 
@@ -16,38 +17,43 @@ abbrev μ-loop : tie.MeasureT-loop
 loop-holds : tie.Need-loop-holds Inv-loop μ-loop
 loop-holds c = gather-start _ _ _
 
-mul-put-pair : tie.Need-mul-put-pair Inv-loop μ-loop
-mul-put-pair c = search needs
+hit-from-requires : tie.Need-hit-from-requires Inv-loop μ-loop
+hit-from-requires c κs = search needs
 
-shared-slice-read-put-pair : tie.Need-shared-slice-read-put-pair Inv-loop μ-loop
-shared-slice-read-put-pair c = search needs
-
-add-put-pair : tie.Need-add-put-pair Inv-loop μ-loop
-add-put-pair c = search needs
-
-mul-put-pair-2 : tie.Need-mul-put-pair-2 Inv-loop μ-loop
-mul-put-pair-2 c = search needs
-
-shared-slice-read-put-pair-2 : tie.Need-shared-slice-read-put-pair-2 Inv-loop μ-loop
-shared-slice-read-put-pair-2 c = search needs
+enum-known-hit : tie.Need-enum-known-hit Inv-loop μ-loop
+enum-known-hit c = search needs
 
 put-pair-requires : tie.Need-put-pair-requires Inv-loop μ-loop
-put-pair-requires c κs = search needs
-
-add-k : tie.Need-add-k Inv-loop μ-loop
-add-k c = search needs
+put-pair-requires c κs =
+    let f = c .before .before .before .before in
+    let l = f .before .before in
+    let s = found-pair _ _ (f .hit-from .result) (f .hit-from .ensures) _ _ (c .before .before .hit .given .1) in
+    omega (arith, s .past, s .inside, l .loop .inv .size, l .loop .inv .most, l .loop .inv .room, l .before .before .before .pre)
 
 loop-less : tie.Need-loop-less Inv-loop μ-loop
-loop-less c = search needs
+loop-less c =
+    let f = c .before .before .before .before .before .before .before in
+    let s = found-pair _ _ (f .hit-from .result) (f .hit-from .ensures) _ _ (c .before .before .before .before .before .hit .given .1) in
+    omega (arith, s .past, f .before .loop-test .taken)
 
 loop-again : tie.Need-loop-again Inv-loop μ-loop
-loop-again c = gather-step _ _ _ _ _ _ _ _ (omega arith) (c .before .before .before .before .before .before .before .loop .inv) (c .before .before .put-pair .ensures)
+loop-again c =
+    let f = c .before .before .before .before .before .before .before in
+    let s = found-pair _ _ (f .hit-from .result) (f .hit-from .ensures) _ _ (c .before .before .before .before .before .hit .given .1) in
+    gather-step _ _ _ _ _ _ _ _ _ _ _ (f .before .before .loop .inv) s (c .before .before .put-pair .ensures)
 
-same-length : tie.Need-same-length Inv-loop μ-loop
-same-length c = search needs
+enum-told : tie.Need-enum-told Inv-loop μ-loop
+enum-told c = search needs
 
 returns : tie.Need-returns Inv-loop μ-loop
-returns c = gather-done _ _ _ _ _ _ (omega arith) (c .loop-test .left) (c .before .loop .inv)
+returns c =
+    let f = c .before .before in
+    let l = f .before .before in
+    gather-done _ _ _ _ _ _ (omega (arith, l .before .before .before .pre)) (l .loop .inv)
+    (found-end _ _ (f .hit-from .result) (f .hit-from .ensures) (c .enum-told .given .1))
+
+returns-2 : tie.Need-returns-2 Inv-loop μ-loop
+returns-2 c = gather-all _ _ _ _ _ _ (omega (arith, c .before .before .before .before .pre)) (c .loop-test .left) (c .before .loop .inv)
 
 pub gather-spec : {M : Type 1} → statement M
 gather-spec =
@@ -56,14 +62,13 @@ gather-spec =
     Inv-loop
     μ-loop
     loop-holds
-    mul-put-pair
-    shared-slice-read-put-pair
-    add-put-pair
-    mul-put-pair-2
-    shared-slice-read-put-pair-2
+    hit-from-requires
+    enum-known-hit
     put-pair-requires
-    add-k
     loop-less
     loop-again
-    same-length
-    returns)
+    enum-told
+    (λ c. search needs)
+    returns
+    (λ c. search needs)
+    returns-2)

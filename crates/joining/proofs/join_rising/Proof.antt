@@ -34,13 +34,17 @@ shared-slice-read-hi c = search needs
 
 falls-requires : tie.Need-falls-requires Inv-loop μ-loop
 falls-requires c κs =
-    let i = c .before .before .before .before .loop .inv in
-    (filled-even _ _ _ _ _ (omega (arith, i .passedMost, c .before .before .before .before .before .before .before .pre .1)) (i .filled), omega (arith, i .filled .size, i .filled .most, i .passedMost, c .before .before .before .before .before .before .before .pre .1))
+    let l = c .before .before .before .before in
+    let i = l .loop .inv in
+    let room = l .before .before .before .pre .1 in
+    (filled-even _ _ _ _ _ (omega (arith, i .passedMost, room)) (i .filled), omega (arith, i .filled .size, i .filled .most, room))
 
 insert-requires : tie.Need-insert-requires Inv-loop μ-loop
 insert-requires c κs =
-    let i = c .before .before .before .before .before .before .before .loop .inv in
-    (omega (arith, i .filled .size, i .filled .most, i .passedEven, c .before .before .before .before .before .before .before .before .before .before .pre .0, c .before .before .before .before .before .before .before .before .before .before .pre .1), i .filled .list .list .isSound)
+    let l = c .before .before .before .before .before .before .before in
+    let i = l .loop .inv in
+    let asked = l .before .before .before .pre in
+    (omega (arith, i .filled .size, i .filled .most, i .passedEven, asked .0, asked .1), i .filled .list .list .isSound)
 
 add-k : tie.Need-add-k Inv-loop μ-loop
 add-k c = search needs
@@ -50,8 +54,9 @@ loop-less c = search needs
 
 loop-again : tie.Need-loop-again Inv-loop μ-loop
 loop-again c =
-    let i = c .before .before .before .before .before .before .before .before .before .before .loop .inv in
-    begun-step _ _ _ _ _ _ _ (omega (arith, i .passedEven, c .before .before .before .before .before .before .before .before .before .before .before .before .before .pre .0)) i (c .before .before .insert .ensures)
+    let l = c .before .before .before .before .before .before .before .before .before .before in
+    begun-step _ _ _ _ _ _ _ (omega (arith, l .loop .inv .passedEven, l .before .before .before .pre .0)) (l .loop .inv)
+    (c .before .before .insert .ensures)
 
 same-length : tie.Need-same-length Inv-loop μ-loop
 same-length c = search needs

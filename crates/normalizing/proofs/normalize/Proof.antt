@@ -23,7 +23,8 @@ returns c =
 returns-2 : tie.Need-returns-2
 returns-2 c =
     let s = c .before .before .before .before in
-    refuse-bad (NormalOf (s .args .spans .now)) (Short s) (Bad s) (s .args .out .now) (λ h. omega (arith, c .before .if1 .left)) (omega (arith, c .if2 .taken))
+    refuse-bad (NormalOf (s .args .spans .now)) (Short s) (Bad s) (s .args .out .now)
+    (λ h. omega (arith, c .before .if1 .left)) (omega (arith, c .if2 .taken))
 
 normalize-into-requires : tie.Need-normalize-into-requires
 normalize-into-requires c κs = search needs
@@ -42,7 +43,8 @@ returns-3 c =
     accept (NormalOf (s .args .spans .now)) (Short s) (Bad s) (s .args .out .now) (c .before .before .clear-from .last .0) (f .result / 2)
     (λ h. omega (arith, t .before .if1 .left)) (λ h. omega (arith, t .if2 .left))
     (laid (NormalOf (s .args .spans .now)) (f .last .1 .0) (c .before .before .clear-from .last .0) (f .result)
-    (omega (arith, f .ensures .most, f .ensures .size, t .if2 .left, t .before .if1 .left)) (f .ensures .list .list .isSound) (f .ensures .list) (c .before .before .clear-from .ensures))
+    (omega (arith, f .ensures .most, f .ensures .size, t .if2 .left, t .before .if1 .left)) (f .ensures .list .list .isSound)
+    (f .ensures .list) (c .before .before .clear-from .ensures))
 
 pub normalize-spec : {M : Type 1} → statement M
 normalize-spec =

@@ -60,7 +60,10 @@ same-length-3 : tie.Need-same-length-3
 same-length-3 c = search needs
 
 returns-3 : tie.Need-returns-3
-returns-3 c = back-all _ _ _ _ _ _ (c .before .before .before .before .before .before .before .before .before .before .join-rising .ensures .filled .size) (c .if3 .taken) (c .before .before .before .join-falling .ensures)
+returns-3 c =
+    let down = c .before .before .before in
+    let up = down .before .before .before .before .before .before .before in
+    back-all _ _ _ _ _ _ (up .join-rising .ensures .filled .size) (c .if3 .taken) (down .join-falling .ensures)
 
 slice-aggregate-join-more : tie.Need-slice-aggregate-join-more
 slice-aggregate-join-more c = sym (length-take-le _ _ (c .before .before .before .before .join-falling .ensures .passedMost))
@@ -81,7 +84,10 @@ same-length-4 c = search needs
 
 returns-4 : tie.Need-returns-4
 returns-4 c =
-    back-more _ _ _ _ _ _ _ _ (c .before .before .before .before .before .before .before .before .before .before .before .before .before .before .before .before .before .before .before .pre .0) (c .before .before .before .before .before .before .before .before .before .before .before .before .before .before .before .join-rising .ensures .filled .size) (c .before .before .before .before .before .before .before .before .join-falling .ensures) (c .before .before .join-more2 .ensures)
+    let down = c .before .before .before .before .before .before .before .before in
+    let up = down .before .before .before .before .before .before .before in
+    back-more _ _ _ _ _ _ _ _ (up .before .before .before .before .pre .0) (up .join-rising .ensures .filled .size)
+    (down .join-falling .ensures) (c .before .before .join-more2 .ensures)
 
 pub normalize-into-spec : {M : Type 1} → statement M
 normalize-into-spec =
