@@ -1,2 +1,3 @@
--- Laws that several proofs of `ray_text` cite.
+-- Laws that several proofs of `ray_text` cite, and document 01's example.
 pub mod Running
+pub mod Example

@@ -1,2 +1,3 @@
--- The definitions that the contracts of `ray_text` cite.
+-- The definitions that the contracts of `ray_text` cite, and document 01's example.
 pub mod Run
+pub mod Example
