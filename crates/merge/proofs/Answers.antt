@@ -72,7 +72,8 @@ module _ (possible certain outer inner w w₁ w₂ w₃ w₄ : List Float) (at n
   abbrev inners : List Float
   inners = part (at + length possible + length certain + no) ni w₄
 
-  pub lists : (after : List Float) (r : Parts) → Merging at (length possible) (length certain) no ni w₄ after r → Lists possible certain outer inner w after r
+  pub lists : (after : List Float) (r : Parts) → Merging at (length possible) (length certain) no ni w₄ after r
+      → Lists possible certain outer inner w after r
   lists after r m =
       let possible-is : newList (r .possible) possible 0 after ≡ lessOf possible inners = rw possible-at at (m .possibleIs) in
       let certain-is : newList (r .certain) certain (cellsOf (r .possible)) after ≡ lessOf (lessOf certain outers) inners =
@@ -80,11 +81,9 @@ module _ (possible certain outer inner w w₁ w₂ w₃ w₄ : List Float) (at n
       record {
         size = m .between .size ∙ sizes .3;
         room = omega (arith, m .room, room);
-        possibleLeft = becomes-spared possible (lessOf possible inners) (newList (r .possible) possible 0 after) (holds inners) (holds inner) (r .possible)
-            (less-list possible inners (given .possibleSound) (i .list .list .isSound)) (i .list .list .points) (rw possible-at at (m .possibleBecomes)) possible-is;
-        certainLeft = becomes-spared certain (lessOf (lessOf certain outers) inners) (newList (r .certain) certain (cellsOf (r .possible)) after)
-            (eitherHit outers inners) (eitherHit outer inner) (r .certain)
-            (less-both-list certain outers inners (given .certainSound) (o .list .list .isSound) (i .list .list .isSound))
+        possibleLeft = becomes-spared (less-list possible inners (given .possibleSound) (i .list .list .isSound)) (i .list .list .points)
+            (rw possible-at at (m .possibleBecomes)) possible-is;
+        certainLeft = becomes-spared (less-both-list certain outers inners (given .certainSound) (o .list .list .isSound) (i .list .list .isSound))
             (λ x. ap₂ _||_ (o .list .list .points x) (i .list .list .points x)) (rw (certain-at, outer-at) at (m .certainBecomes)) certain-is;
         exact = record {
           outerNormal = outers;

@@ -7,7 +7,7 @@ use Prim.Native.Nat.{ℕ, _+_, _*_, _/_, _%_, _≤_}
 use native.Mathlib.Omega.{arith}
 use lib.ListN.{length}
 use lib.Ieee.{Float}
-use Rattle.doubles.proofs.Bools.{and-right, and-not-or, or-neither, not-true, not-false, by-cases, clash}
+use Rattle.doubles.proofs.Bools.{and-right, and-not-or, or-neither, not-true, not-false, found-not, by-cases, clash}
 use Rattle.spans.specs.Spans.{holds, sound, equal, ListOf}
 use Rattle.spans.proofs.Sets.{sound-mod, equal-holds, same-set}
 use Rattle.overlay.specs.Overlay.{lessOf}
@@ -76,22 +76,22 @@ module _ (a o i : List Float) (sa : sound a ≡ true) (so : sound o ≡ true) (s
       → s ≡ not (equal a (lessOf (lessOf a o) i))
   both-inner r e h s f = f ∙ ap (λ (l : List Float). not (equal a (lessOf l i))) (sym (less-still a o sa so (not-false (equal a (lessOf a o)) (sym e ∙ h))))
 
--- ---- one list
-module _ (a list : List Float) (sa : sound a ≡ true) (sl : sound list ≡ true) (to end limit : ℕ) where
-  pub reduced-still : (w : List Float) (n : ℕ) → length a ≡ n → list ≡ a → Reduced a list to end limit w w (record { moved = false; pairs = n / 2 })
-  reduced-still w n e x = record {
-    between = between-same to end w;
-    most = omega arith;
-    is = sym x;
-    becomes = record {
-      moves = sym (ap not (ap (equal a) x ∙ equal-self a sa));
-      pairs = ap length x ∙ omega (arith, sound-mod a sa);
-    };
-  }
+-- ---- one list, by a test t whether a boundary of it moves
+module _ {a list : List Float} (sa : sound a ≡ true) (sl : sound list ≡ true) {to end limit : ℕ} (t : Bool) (told : t ≡ not (equal a list)) where
+  pub reduced-still : {w : List Float} {n : ℕ} → not t ≡ true → length a ≡ n → (equal a list ≡ true → list ≡ a)
+      → Reduced a list to end limit w w (record { moved = false; pairs = n / 2 })
+  reduced-still {w} h e stays =
+      let x : list ≡ a = stays (not-false (equal a list) (found-not t (not (equal a list)) told h)) in
+      record {
+        between = between-same to end w;
+        most = omega arith;
+        is = sym x;
+        becomes = record { moves = sym (not-true t h) ∙ told; pairs = ap length x ∙ omega (arith, sound-mod a sa) };
+      }
 
-  pub reduced-moved : (before after : List Float) (r : ℕ) → equal a list ≡ false → to + limit ≤ length before
-      → WrittenAt list to end limit before after r → Reduced a list to end limit before after (record { moved = true; pairs = r / 2 })
-  reduced-moved before after r m f x =
+  pub reduced-moved : {before after : List Float} {r : ℕ} → not t ≡ false → to + limit ≤ length before → WrittenAt list to end limit before after r
+      → Reduced a list to end limit before after (record { moved = true; pairs = r / 2 })
+  reduced-moved {before} {after} {r} h f x =
       let long : length list ≡ r = ap length (sym (x .ends)) ∙ part-length to r after (omega (arith, x .most, x .between .size)) in
       let even : r % 2 ≡ 0 = subst (λ (n : ℕ). n % 2 ≡ 0) long (sound-mod list sl) in
       let twice : 2 * (r / 2) ≡ r = omega arith in
@@ -99,20 +99,20 @@ module _ (a list : List Float) (sa : sound a ≡ true) (sl : sound list ≡ true
         between = x .between;
         most = omega (arith, x .most);
         is = ap (λ (k : ℕ). part to k after) twice ∙ x .ends;
-        becomes = record { moves = sym (ap not m); pairs = long ∙ sym twice };
+        becomes = record { moves = sym (not-false t h) ∙ told; pairs = long ∙ sym twice };
       }
 
 -- what becomes of a list, by the points that are hit
-pub becomes-spared : (a list l : List Float) (hit hit′ : Float → Bool) (r : Part) → ListOf (spared a hit) list → ((p : Float) → hit p ≡ hit′ p)
+pub becomes-spared : {a list l : List Float} {hit hit′ : Float → Bool} {r : Part} → ListOf (spared a hit) list → ((p : Float) → hit p ≡ hit′ p)
     → Becomes a list r → l ≡ list → Spared a hit′ r l
-becomes-spared a list l hit hit′ r left same b e = rw e (record {
+becomes-spared {a} left same b e = rw e (record {
   moves = b .moves;
   list = record { isSound = left .isSound; points = λ p. left .points p ∙ ap (λ (x : Bool). holds a p && not x) (same p) };
   pairs = b .pairs;
 })
 
 -- less the outer hits, then less the inner ones
-module _ (w w₁ w₂ : List Float) (to t c nc no ni m r : ℕ) (in-c : Lies c nc w) (in-o : Lies (c + nc) no w) (in-i : Lies (c + nc + no) ni w)
+module _ {w w₁ : List Float} {t c nc no ni m : ℕ} (to : ℕ) (in-c : Lies c nc w) (in-o : Lies (c + nc) no w) (in-i : Lies (c + nc + no) ni w)
     (apart : to + ni ≤ t) (room : t + nc + no ≤ c)
     (first : WrittenAt (lessOf (part c nc w) (part (c + nc) no w)) t (t + nc + no) (nc + no) w w₁ m) where
   inner-kept : part (c + nc + no) ni w₁ ≡ part (c + nc + no) ni w
@@ -129,9 +129,9 @@ module _ (w w₁ w₂ : List Float) (to t c nc no ni m r : ℕ) (in-c : Lies c n
     omega (arith, first .most),
   )
 
-  pub both-written : WrittenAt (lessOf (part t m w₁) (part (c + nc + no) ni w₁)) to (to + m + ni) (m + ni) w₁ w₂ r
+  pub both-written : {w₂ : List Float} {r : ℕ} → WrittenAt (lessOf (part t m w₁) (part (c + nc + no) ni w₁)) to (to + m + ni) (m + ni) w₁ w₂ r
       → WrittenAt (lessHits c nc no ni w) to (t + nc + no) (nc + no + ni) w w₂ r
-  both-written second = record {
+  both-written {w₂} second = record {
     between = between-both t (t + nc + no) to (to + m + ni) to (t + nc + no) w w₁ w₂ (first .between) (second .between)
         (omega arith) (omega arith) (omega arith) (omega (arith, first .most));
     most = omega (arith, first .most, second .most);
@@ -139,21 +139,23 @@ module _ (w w₁ w₂ : List Float) (to t c nc no ni m r : ℕ) (in-c : Lies c n
   }
 
 -- ---- both lists of a ray
-cells-of-moved : (r : Part) (a : List Float) (to : ℕ) (w w′ : List Float) → (r .moved ≡ true → part to (2 * r .pairs) w′ ≡ part to (2 * r .pairs) w) → newList r a to w ≡ newList r a to w′
-cells-of-moved r a to w w′ f = go (r .moved) refl
+-- a list that stays where it was written
+list-kept : (r : Part) (a : List Float) (to : ℕ) (w w′ : List Float) → (r .moved ≡ true → part to (2 * r .pairs) w′ ≡ part to (2 * r .pairs) w)
+    → newList r a to w ≡ newList r a to w′
+list-kept r a to w w′ f = go (r .moved) refl
   where
     go : (b : Bool) → r .moved ≡ b → newList r a to w ≡ newList r a to w′
     go true e = rw e (sym (f e))
     go false e = rw e
 
-module _ (at np nc no ni : ℕ) (w w₁ w₂ : List Float) (p q : Part) (ready : Ready at np nc no ni w)
+module _ {at np nc no ni : ℕ} {w w₁ : List Float} {p : Part} (ready : Ready at np nc no ni w)
     (first : Reduced (part at np w) (lessOf (part at np w) (part (at + np + nc + no) ni w)) 0 (np + ni) (np + ni) w w₁ p) where
   still : (k n : ℕ) → at ≤ k → k + n ≤ length w → part k n w₁ ≡ part k n w
   still k n h fit = part-past 0 (np + ni) w w₁ (first .between) k n fit (omega (arith, ready .room))
 
-  pub both-lie : (used : ℕ) → used ≡ cellsOf p
+  pub both-lie : {used : ℕ} → used ≡ cellsOf p
       → Lies (at + np) nc w₁ × Lies (at + np + nc) no w₁ × Lies (at + np + nc + no) ni w₁ × (used + ni ≤ np + 2 * ni) × (np + 2 * ni + nc + no ≤ at + np)
-  both-lie used e = (
+  both-lie e = (
     lies-past 0 (np + ni) w w₁ (first .between) (at + np) nc (omega (arith, ready .room)) (ready .certain),
     lies-past 0 (np + ni) w w₁ (first .between) (at + np + nc) no (omega (arith, ready .room)) (ready .outer),
     lies-past 0 (np + ni) w w₁ (first .between) (at + np + nc + no) ni (omega (arith, ready .room)) (ready .inner),
@@ -161,10 +163,10 @@ module _ (at np nc no ni : ℕ) (w w₁ w₂ : List Float) (p q : Part) (ready :
     omega (arith, ready .room),
   )
 
-  pub merging : (used : ℕ) → used ≡ cellsOf p
+  pub merging : {used : ℕ} {w₂ : List Float} {q : Part} → used ≡ cellsOf p
       → Reduced (part (at + np) nc w₁) (lessHits (at + np) nc no ni w₁) used (np + 2 * ni + nc + no) (nc + no + ni) w₁ w₂ q
       → Merging at np nc no ni w w₂ (record { possible = p; certain = q })
-  merging used e last =
+  merging {used} {w₂} {q} e last =
       let second : Reduced (part (at + np) nc w) (lessHits (at + np) nc no ni w) used (np + 2 * ni + nc + no) (nc + no + ni) w₁ w₂ q =
       rw (
         still (at + np) nc (omega arith) (ready .certain .room),
@@ -175,7 +177,7 @@ module _ (at np nc no ni : ℕ) (w w₁ w₂ : List Float) (p q : Part) (ready :
         between = between-both 0 (np + ni) used (np + 2 * ni + nc + no) 0 at w w₁ w₂ (first .between) (second .between)
             (omega arith) (omega arith) (omega (arith, ready .room)) (omega (arith, ready .room));
         room = omega (arith, first .most, second .most, ready .room);
-        possibleIs = sym (cells-of-moved p (part at np w) 0 w₁ w₂ (λ h.
+        possibleIs = sym (list-kept p (part at np w) 0 w₁ w₂ (λ h.
             part-front used (np + 2 * ni + nc + no) w₁ w₂ (second .between) 0 (2 * p .pairs) (fits h) (inside h))) ∙ first .is;
         certainIs = ap (λ (k : ℕ). newList q (part (at + np) nc w) k w₂) (sym e) ∙ second .is;
         possibleBecomes = first .becomes;

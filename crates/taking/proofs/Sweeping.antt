@@ -21,14 +21,15 @@ pub record CuttingAt (at m : ℕ) (from hi : Float) (w₀ : List Float) (n : ℕ
   pub cutting : Cutting (part at m w₀) from hi w₀ n lo j end w
   pub past : (q : ℕ) → n + j ≤ q → getD w q nan ≡ getD w₀ q nan
 
-module _ (at m : ℕ) (from hi : Float) (w₀ : List Float) (n : ℕ) (fit : at + m ≤ length w₀) (front : n ≤ at) (ready : CutReady (part at m w₀) from hi w₀ n) where
+module _ {at m : ℕ} {from hi : Float} {w₀ : List Float} {n : ℕ} (fit : at + m ≤ length w₀) (front : n ≤ at)
+    (ready : CutReady (part at m w₀) from hi w₀ n) where
   size : length (part at m w₀) ≡ m
   size = part-length at m w₀ fit
 
   pub cutting-start : CuttingAt at m from hi w₀ n from 0 n w₀
   cutting-start = record { cutting = cut-start (part at m w₀) from hi w₀ n ready; past = λ q h. refl }
 
-  module _ (lo : Float) (j end : ℕ) (w : List Float) (s : CuttingAt at m from hi w₀ n lo j end w) where
+  module _ {lo : Float} {j end : ℕ} {w : List Float} (s : CuttingAt at m from hi w₀ n lo j end w) where
     pub cutting-room : end + 2 ≤ length w
     cutting-room = omega (arith, s .cutting .most, s .cutting .jMost, s .cutting .size, ready .room, size)
 
@@ -46,9 +47,12 @@ module _ (at m : ℕ) (from hi : Float) (w₀ : List Float) (n : ℕ) (fit : at 
       later : (x : Float) → Put w end lo x w′ r → (q : ℕ) → n + j + 2 ≤ q → getD w′ q nan ≡ getD w₀ q nan
       later x p q h = p .rest q (omega (arith, s .cutting .most)) ∙ s .past q (omega arith)
 
-      pub cutting-last : Put w end lo hi w′ r → (j < m → le hi (getD w (at + j) nan) ≡ true) → CutAt at m from hi w₀ n w′ (record { passed = j; end = r })
+      pub cutting-last : Put w end lo hi w′ r → (j < m → le hi (getD w (at + j) nan) ≡ true)
+          → CutAt at m from hi w₀ n w′ (record { passed = j; end = r })
       cutting-last p next = record {
-        cut = cut-last (part at m w₀) from hi w₀ n lo j end w w′ r ready (s .cutting) p (λ h. let g : j < m = omega (arith, size) in subst (λ (x : Float). le hi x ≡ true) (cell j (omega arith) g) (next g));
+        cut = cut-last (part at m w₀) from hi w₀ n lo j end w w′ r ready (s .cutting) p (λ h.
+            let g : j < m = omega (arith, size) in
+            subst (λ (x : Float). le hi x ≡ true) (cell j (omega arith) g) (next g));
         past = λ q h. later hi p q (omega arith);
       }
 
@@ -67,25 +71,29 @@ module _ (at m : ℕ) (from hi : Float) (w₀ : List Float) (n : ℕ) (fit : at 
 
         pub cutting-end : le hi (getD w (at + j + 1) nan) ≡ true → CutAt at m from hi w₀ n w′ (record { passed = j; end = r })
         cutting-end e = record {
-          cut = cut-end (part at m w₀) from hi w₀ n lo j end w w′ r ready (s .cutting) inside (rw x-is at below) (rw x-is at p) (rw y-is at e);
+          cut = cut-end (part at m w₀) from hi w₀ n lo j end w w′ r ready (s .cutting) inside
+              (rw x-is at below) (rw x-is at p) (rw y-is at e);
           past = λ q k. later (getD w (at + j) nan) p q (omega arith);
         }
 
-        pub cutting-step : le hi (getD w (at + j + 1) nan) ≡ false → CuttingAt at m from hi w₀ n (higherOf lo (getD w (at + j + 1) nan)) (j + 2) r w′
+        pub cutting-step : le hi (getD w (at + j + 1) nan) ≡ false
+            → CuttingAt at m from hi w₀ n (higherOf lo (getD w (at + j + 1) nan)) (j + 2) r w′
         cutting-step e = record {
-          cutting = rw y-is (cut-step (part at m w₀) from hi w₀ n lo j end w w′ r ready (s .cutting) inside (rw x-is at below) (rw x-is at p) (rw y-is at e));
+          cutting = rw y-is (cut-step (part at m w₀) from hi w₀ n lo j end w w′ r ready (s .cutting) inside
+              (rw x-is at below) (rw x-is at p) (rw y-is at e));
           past = λ q k. later (getD w (at + j) nan) p q (omega arith);
         }
 
-pub passed-most : (at m : ℕ) (from hi : Float) (w : List Float) (n : ℕ) (w′ : List Float) (r : Place) → at + m ≤ length w → CutAt at m from hi w n w′ r → r .passed ≤ m
-passed-most at m from hi w n w′ r h c = omega (arith, c .cut .passedMost, part-length at m w h)
+pub passed-most : {at m : ℕ} {from hi : Float} {w : List Float} {n : ℕ} {w′ : List Float} {r : Place} → at + m ≤ length w
+    → CutAt at m from hi w n w′ r → r .passed ≤ m
+passed-most {at} {m} {w = w} h c = omega (arith, c .cut .passedMost, part-length at m w h)
 
 -- ---- the loop of `subtract_at`
 pub record Subtracting (w₀ : List Float) (a n b m i j r : ℕ) (w : List Float) : Type 0 where
   pub less : Lessening (part a n w₀) (part b m w₀) w₀ i j r w
   pub past : (q : ℕ) → i + j ≤ q → getD w q nan ≡ getD w₀ q nan
 
-module _ (w₀ : List Float) (a n b m : ℕ) (la : Lies a n w₀) (lb : Lies b m w₀) (ma : m ≤ a) (nb : n ≤ b) where
+module _ {w₀ : List Float} {a n b m : ℕ} (la : Lies a n w₀) (lb : Lies b m w₀) (ma : m ≤ a) (nb : n ≤ b) where
   first-size : length (part a n w₀) ≡ n
   first-size = part-length a n w₀ (la .room)
 
@@ -98,7 +106,7 @@ module _ (w₀ : List Float) (a n b m : ℕ) (la : Lies a n w₀) (lb : Lies b m
   pub subtracting-start : Subtracting w₀ a n b m 0 0 0 w₀
   subtracting-start = record { less = less-start (part a n w₀) (part b m w₀) w₀; past = λ q h. refl }
 
-  module _ (i j r : ℕ) (w : List Float) (s : Subtracting w₀ a n b m i j r w) where
+  module _ {i j r : ℕ} {w : List Float} (s : Subtracting w₀ a n b m i j r w) where
     pub subtracting-size : length w ≡ length w₀
     subtracting-size = s .less .size
 
@@ -129,7 +137,9 @@ module _ (w₀ : List Float) (a n b m : ℕ) (la : Lies a n w₀) (lb : Lies b m
       lo-is = s .past (a + i) (omega (arith, subtracting-most)) ∙ sym (part-cell a n w₀ i more)
 
       hi-is : getD w (a + i + 1) nan ≡ getD (part a n w₀) (i + 1) nan
-      hi-is = ap (λ (k : ℕ). getD w k nan) (next a i) ∙ s .past (a + (i + 1)) (omega (arith, subtracting-most)) ∙ sym (part-cell a n w₀ (i + 1) (omega (arith, two-more)))
+      hi-is =
+          ap (λ (k : ℕ). getD w k nan) (next a i) ∙ s .past (a + (i + 1)) (omega (arith, subtracting-most))
+          ∙ sym (part-cell a n w₀ (i + 1) (omega (arith, two-more)))
         where
           next : (a i : ℕ) → a + i + 1 ≡ a + (i + 1)
           next a i = omega arith
@@ -148,15 +158,19 @@ module _ (w₀ : List Float) (a n b m : ℕ) (la : Lies a n w₀) (lb : Lies b m
           assoc : (b j q : ℕ) → b + j + q ≡ b + (j + q)
           assoc b j q = omega arith
 
-      pub subtracting-ready : (b + j + (m - j) ≤ length w) × (r ≤ b + j) × CutReady (part (b + j) (m - j) w) (getD w (a + i) nan) (getD w (a + i + 1) nan) w r
+      pub subtracting-ready : (b + j + (m - j) ≤ length w) × (r ≤ b + j)
+          × CutReady (part (b + j) (m - j) w) (getD w (a + i) nan) (getD w (a + i + 1) nan) w r
       subtracting-ready = (
         omega (arith, subtracting-size, subtracting-most, lb .room),
         omega (arith, s .less .most, s .less .iMost, first-size),
-        rw (rest-is, lo-is, hi-is) (less-ready (part a n w₀) (part b m w₀) w₀ i j r w (la .isSound) (lb .isSound) both-fit (s .less) in-first),
+        rw (rest-is, lo-is, hi-is)
+            (less-ready (part a n w₀) (part b m w₀) w₀ i j r w (la .isSound) (lb .isSound) both-fit (s .less) in-first),
       )
 
-      pub subtracting-step : (w′ : List Float) (p : Place) → CutAt (b + j) (m - j) (getD w (a + i) nan) (getD w (a + i + 1) nan) w r w′ p → Subtracting w₀ a n b m (i + 2) (j + p .passed) (p .end) w′
+      pub subtracting-step : (w′ : List Float) (p : Place) → CutAt (b + j) (m - j) (getD w (a + i) nan) (getD w (a + i + 1) nan) w r w′ p
+          → Subtracting w₀ a n b m (i + 2) (j + p .passed) (p .end) w′
       subtracting-step w′ p c = record {
-        less = less-step (part a n w₀) (part b m w₀) w₀ i j r w (la .isSound) (lb .isSound) both-fit (s .less) in-first w′ p (rw (rest-is, lo-is, hi-is) at (c .cut));
+        less = less-step (part a n w₀) (part b m w₀) w₀ i j r w (la .isSound) (lb .isSound) both-fit (s .less) in-first w′ p
+            (rw (rest-is, lo-is, hi-is) at (c .cut));
         past = λ q h. c .past q (omega (arith, s .less .most)) ∙ s .past q (omega arith);
       }

@@ -20,21 +20,6 @@ good c =
     let t = c .before .before in
     record { outerWhole = t .before .if2 .left; innerWhole = t .if3 .left; ray = v .ensures .0 (not-false (v .result) (c .if4 .left)) }
 
-add-if1 : tie.Need-add-if1
-add-if1 c = search needs
-
-mul-if1 : tie.Need-mul-if1
-mul-if1 c = search needs
-
-add-if1-2 : tie.Need-add-if1-2
-add-if1-2 c = search needs
-
-mul-if1-2 : tie.Need-mul-if1-2
-mul-if1-2 c = search needs
-
-add-if1-3 : tie.Need-add-if1-3
-add-if1-3 c = search needs
-
 returns : tie.Need-returns
 returns c =
     let a = c .before .before .before .before .before .before .args in
@@ -49,9 +34,6 @@ returns-3 : tie.Need-returns-3
 returns-3 c =
     let a = c .before .before .before .before .before .before .before .before .args in
     refuse-bad (a .lo) (a .hi) (a .possible .now) (a .certain .now) (a .outer .now) (a .inner .now) (a .work .now) (not-short (c .before .before)) (λ m. c .if3 .taken (m .innerWhole))
-
-valid-ray-requires : tie.Need-valid-ray-requires
-valid-ray-requires c κs = search needs
 
 returns-4 : tie.Need-returns-4
 returns-4 c =
@@ -72,23 +54,11 @@ merge-lists-requires c κs =
       room = omega (arith, sound-mod (s .args .possible .now) (m .ray .possible-sound), sound-mod (s .args .certain .now) (m .ray .certain-sound), m .outerWhole, m .innerWhole, e .before .before .before .before .if1 .left);
     }
 
-cells-requires : tie.Need-cells-requires
-cells-requires c κs = search needs
-
-cells-requires-2 : tie.Need-cells-requires-2
-cells-requires-2 c κs = search needs
-
 add-clear-from : tie.Need-add-clear-from
 add-clear-from c =
     let j = c .before in
     let y = j .before .before .before .before .before .before in
     record { fits = omega (arith, c .cells2 .ensures, j .cells .ensures, y .merge-lists .ensures .room, y .before .before .before .before .before .before .before .before .before .before .before .before .good .1 .1 .1 .1 .1 .1 .0 .0) }
-
-clear-from-requires : tie.Need-clear-from-requires
-clear-from-requires c κs = search needs
-
-same-length : tie.Need-same-length
-same-length c = search needs
 
 returns-5 : tie.Need-returns-5
 returns-5 c =
@@ -106,20 +76,20 @@ pub merge-spec : {M : Type 1} → statement M
 merge-spec =
     tie.close
     (tie.spec
-    add-if1
-    mul-if1
-    add-if1-2
-    mul-if1-2
-    add-if1-3
+    (λ c. search needs)
+    (λ c. search needs)
+    (λ c. search needs)
+    (λ c. search needs)
+    (λ c. search needs)
     returns
     returns-2
     returns-3
-    valid-ray-requires
+    (λ c κs. search needs)
     returns-4
     merge-lists-requires
-    cells-requires
-    cells-requires-2
+    (λ c κs. search needs)
+    (λ c κs. search needs)
     add-clear-from
-    clear-from-requires
-    same-length
+    (λ c κs. search needs)
+    (λ c. search needs)
     returns-5)

@@ -19,31 +19,10 @@ returns-2 c =
     let a = c .before .before .before .args in
     (handed-short (a .p) (a .before .now) (a .work .now) (a .at) (omega (arith, c .if2 .taken)), λ _. refl)
 
-sub-if3 : tie.Need-sub-if3
-sub-if3 c = search needs
-
 returns-3 : tie.Need-returns-3
 returns-3 c =
     let a = c .before .before .before .before .args in
     (handed-short (a .p) (a .before .now) (a .work .now) (a .at) (omega (arith, c .if3 .taken, c .before .if2 .left)), λ _. refl)
-
-mul-end : tie.Need-mul-end
-mul-end c = search needs
-
-add-end : tie.Need-add-end
-add-end c = search needs
-
-mul-result : tie.Need-mul-result
-mul-result c = search needs
-
-sub-result : tie.Need-sub-result
-sub-result c = search needs
-
-part-result-start : tie.Need-part-result-start
-part-result-start c = search needs
-
-part-result-end : tie.Need-part-result-end
-part-result-end c = search needs
 
 returns-4 : tie.Need-returns-4
 returns-4 c =
@@ -59,12 +38,12 @@ handed-back-spec =
     (tie.spec
     returns
     returns-2
-    sub-if3
+    (λ c. search needs)
     returns-3
-    mul-end
-    add-end
-    mul-result
-    sub-result
-    part-result-start
-    part-result-end
+    (λ c. search needs)
+    (λ c. search needs)
+    (λ c. search needs)
+    (λ c. search needs)
+    (λ c. search needs)
+    (λ c. search needs)
     returns-4)

@@ -5,7 +5,16 @@ use mathlib.Core.Path.{_≡_}
 use mathlib.Core.Logic.{⊎-elim}
 use Prim.Native.Nat.{_+_, _-_, _≤_}
 use lib.ListN.{length}
-use Rattle.taking.proofs.Sweeping.{CuttingAt, cutting-start, cutting-room, cutting-size, pair-in, cutting-last, cutting-end, cutting-step}
+use Rattle.taking.proofs.Sweeping.{
+  CuttingAt,
+  cutting-start,
+  cutting-room,
+  cutting-size,
+  pair-in,
+  cutting-last,
+  cutting-end,
+  cutting-step,
+}
 use Rattle.taking.proofs.cut_at.Statement.{statement}
 use Rattle.taking.proofs.cut_at.Tie as tie
 
@@ -18,26 +27,17 @@ abbrev μ-loop : tie.MeasureT-loop
 size : (l : tie.At-loop Inv-loop μ-loop) → length (l .loop .w) ≡ length (l .before .before .args .w .now)
 size l =
     let s = l .before .before in
-    let a = s .args in
-    cutting-size (a .at) (a .m) (a .from) (a .hi) (a .w .now) (a .n) (s .pre .0) (s .pre .1) (s .pre .2) (l .loop .lo) (l .loop .j) (l .loop .end) (l .loop .w) (l .loop .inv)
+    cutting-size (s .pre .0) (s .pre .1) (s .pre .2) (l .loop .inv)
 
 room : (l : tie.At-loop Inv-loop μ-loop) → l .loop .end + 2 ≤ length (l .loop .w)
 room l =
     let s = l .before .before in
-    let a = s .args in
-    cutting-room (a .at) (a .m) (a .from) (a .hi) (a .w .now) (a .n) (s .pre .0) (s .pre .1) (s .pre .2) (l .loop .lo) (l .loop .j) (l .loop .end) (l .loop .w) (l .loop .inv)
+    cutting-room (s .pre .0) (s .pre .1) (s .pre .2) (l .loop .inv)
 
 loop-holds : tie.Need-loop-holds Inv-loop μ-loop
 loop-holds c =
     let s = c .before in
-    let a = s .args in
-    cutting-start (a .at) (a .m) (a .from) (a .hi) (a .w .now) (a .n) (s .pre .0) (s .pre .1) (s .pre .2)
-
-add-x : tie.Need-add-x Inv-loop μ-loop
-add-x c = search needs
-
-mul-x : tie.Need-mul-x Inv-loop μ-loop
-mul-x c = search needs
+    cutting-start (s .pre .0) (s .pre .1) (s .pre .2)
 
 slice-read-x : tie.Need-slice-read-x Inv-loop μ-loop
 slice-read-x c = let l = c .before .before in omega (arith, size l, l .before .before .pre .0, c .before .loop-test .taken)
@@ -46,11 +46,7 @@ two : (l : tie.In-loop Inv-loop μ-loop) → let k = l .before in k .loop .j + 2
 two c =
     let l = c .before in
     let s = l .before .before in
-    let a = s .args in
-    pair-in (a .at) (a .m) (a .from) (a .hi) (a .w .now) (a .n) (s .pre .0) (s .pre .1) (s .pre .2) (l .loop .lo) (l .loop .j) (l .loop .end) (l .loop .w) (l .loop .inv) (c .loop-test .taken)
-
-add-y : tie.Need-add-y Inv-loop μ-loop
-add-y c = search needs
+    pair-in (s .pre .0) (s .pre .1) (s .pre .2) (l .loop .inv) (c .loop-test .taken)
 
 add-y-2 : tie.Need-add-y-2 Inv-loop μ-loop
 add-y-2 c = let l = c .before .before .before in omega (arith, two (c .before .before), size l, l .before .before .pre .0)
@@ -71,37 +67,23 @@ returns : tie.Need-returns Inv-loop μ-loop
 returns c =
     let l = c .before .before .before .before .before .before .before .before .before in
     let s = l .before .before in
-    let a = s .args in
-    cutting-end (a .at) (a .m) (a .from) (a .hi) (a .w .now) (a .n) (s .pre .0) (s .pre .1) (s .pre .2) (l .loop .lo) (l .loop .j) (l .loop .end) (l .loop .w) (l .loop .inv) _ _ (c .before .before .before .before .before .before .before .before .loop-test .taken) (c .before .before .before .before .before .before .if1 .left) (c .before .before .before .put-pair .ensures) (c .if2 .taken)
-
-higher-requires : tie.Need-higher-requires Inv-loop μ-loop
-higher-requires c κs = search needs
-
-add-j : tie.Need-add-j Inv-loop μ-loop
-add-j c = search needs
-
-loop-less : tie.Need-loop-less Inv-loop μ-loop
-loop-less c = search needs
+    let y = c .before .before .before in
+    cutting-end (s .pre .0) (s .pre .1) (s .pre .2) (l .loop .inv) _ _ (y .before .before .before .before .before .loop-test .taken)
+    (y .before .before .before .if1 .left) (y .put-pair .ensures) (c .if2 .taken)
 
 loop-again : tie.Need-loop-again Inv-loop μ-loop
 loop-again c =
     let l = c .before .before .before .before .before .before .before .before .before .before in
     let s = l .before .before in
-    let a = s .args in
-    rw (c .higher .ensures) (cutting-step (a .at) (a .m) (a .from) (a .hi) (a .w .now) (a .n) (s .pre .0) (s .pre .1) (s .pre .2) (l .loop .lo) (l .loop .j) (l .loop .end) (l .loop .w) (l .loop .inv) _ _ (c .before .before .before .before .before .before .before .before .before .loop-test .taken) (c .before .before .before .before .before .before .before .if1 .left) (c .before .before .before .before .put-pair .ensures) (c .before .if2 .left))
-
-put-pair-requires-2 : tie.Need-put-pair-requires-2 Inv-loop μ-loop
-put-pair-requires-2 c κs = search needs
-
-same-length-2 : tie.Need-same-length-2 Inv-loop μ-loop
-same-length-2 c = search needs
+    let y = c .before .before .before .before in
+    rw (c .higher .ensures) (cutting-step (s .pre .0) (s .pre .1) (s .pre .2) (l .loop .inv) _ _
+    (y .before .before .before .before .before .loop-test .taken) (y .before .before .before .if1 .left) (y .put-pair .ensures) (c .before .if2 .left))
 
 returns-2 : tie.Need-returns-2 Inv-loop μ-loop
 returns-2 c =
     let l = c .before .before .before .before .before in
     let s = l .before .before in
-    let a = s .args in
-    cutting-last (a .at) (a .m) (a .from) (a .hi) (a .w .now) (a .n) (s .pre .0) (s .pre .1) (s .pre .2) (l .loop .lo) (l .loop .j) (l .loop .end) (l .loop .w) (l .loop .inv) _ _ (c .before .before .put-pair2 .ensures)
+    cutting-last (s .pre .0) (s .pre .1) (s .pre .2) (l .loop .inv) _ _ (c .before .before .put-pair2 .ensures)
     (⊎-elim (λ w g. absurd (omega (arith, w .left))) (λ w g. w .2 .taken) (c .before .before .before .before .loop-test .came))
 
 pub cut-at-spec : {M : Type 1} → statement M
@@ -111,20 +93,20 @@ cut-at-spec =
     Inv-loop
     μ-loop
     loop-holds
-    add-x
-    mul-x
+    (λ c. search needs)
+    (λ c. search needs)
     slice-read-x
-    add-y
+    (λ c. search needs)
     add-y-2
     mul-y
     slice-read-y
     put-pair-requires
     same-length
     returns
-    higher-requires
-    add-j
-    loop-less
+    (λ c κs. search needs)
+    (λ c. search needs)
+    (λ c. search needs)
     loop-again
-    put-pair-requires-2
-    same-length-2
+    (λ c κs. search needs)
+    (λ c. search needs)
     returns-2)

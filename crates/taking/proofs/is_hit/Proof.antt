@@ -4,22 +4,11 @@ use borrow.Author.Needs.{needs}
 use Rattle.taking.proofs.is_hit.Statement.{statement}
 use Rattle.taking.proofs.is_hit.Tie as tie
 
-add-o : tie.Need-add-o
-add-o c = search needs
-
-share-point-requires : tie.Need-share-point-requires
-share-point-requires c κs = search needs
-
 returns : tie.Need-returns
 returns c =
     let s = c .before .before .before in
-    both-outer _ _ _ (s .pre .0 .isSound) (s .pre .1 .isSound) (s .pre .2 .isSound) (c .before .share-point .result) (c .before .share-point .ensures) (c .if1 .taken)
-
-add-share-point : tie.Need-add-share-point
-add-share-point c = search needs
-
-share-point-requires-2 : tie.Need-share-point-requires-2
-share-point-requires-2 c κs = search needs
+    let y = c .before .share-point in
+    both-outer _ _ _ (s .pre .0 .isSound) (s .pre .1 .isSound) (s .pre .2 .isSound) (y .result) (y .ensures) (c .if1 .taken)
 
 returns-2 : tie.Need-returns-2
 returns-2 c =
@@ -30,5 +19,4 @@ returns-2 c =
 
 pub is-hit-spec : {M : Type 1} → statement M
 is-hit-spec =
-    tie.close
-    (tie.spec add-o share-point-requires returns add-share-point share-point-requires-2 returns-2)
+    tie.close (tie.spec (λ c. search needs) (λ c κs. search needs) returns (λ c. search needs) (λ c κs. search needs) returns-2)

@@ -1,5 +1,5 @@
 -- `taking::share_point` meets its contract.
-use mathlib.Core.Path.{_≡_, ap, subst₂}
+use mathlib.Core.Path.{_≡_, ap}
 use mathlib.Core.List.{List}
 use Prim.Native.Nat.{ℕ, _+_, _-_}
 use lib.ListN.{take, drop}
@@ -18,36 +18,6 @@ one a n w = ap (λ (k : ℕ). take k (drop a w)) (back a n)
     back : (a n : ℕ) → a + n - a ≡ n
     back a n = omega arith
 
-add-e : tie.Need-add-e
-add-e c = search needs
-
-add-f : tie.Need-add-f
-add-f c = search needs
-
-mul-meets : tie.Need-mul-meets
-mul-meets c = search needs
-
-sub-meets : tie.Need-sub-meets
-sub-meets c = search needs
-
-part-meets-start : tie.Need-part-meets-start
-part-meets-start c = search needs
-
-part-meets-end : tie.Need-part-meets-end
-part-meets-end c = search needs
-
-mul-meets-2 : tie.Need-mul-meets-2
-mul-meets-2 c = search needs
-
-sub-meets-2 : tie.Need-sub-meets-2
-sub-meets-2 c = search needs
-
-part-meets-start-2 : tie.Need-part-meets-start-2
-part-meets-start-2 c = search needs
-
-part-meets-end-2 : tie.Need-part-meets-end-2
-part-meets-end-2 c = search needs
-
 meets-requires : tie.Need-meets-requires
 meets-requires c κs =
     let s = c .before .before .before in
@@ -58,22 +28,23 @@ returns : tie.Need-returns
 returns c =
     let s = c .before .before .before .before in
     let a = s .args in
-    meets-moves (part (a .a) (a .n) (a .w .now)) (part (a .b) (a .m) (a .w .now)) (s .pre .0 .isSound) (s .pre .1 .isSound) (c .meets .result)
-    (subst₂ (λ (x y : List Float). Meets x y (c .meets .result)) (one (a .a) (a .n) (a .w .now)) (one (a .b) (a .m) (a .w .now)) (c .meets .ensures))
+    let told : Meets (part (a .a) (a .n) (a .w .now)) (part (a .b) (a .m) (a .w .now)) (c .meets .result) =
+    rw (one (a .a) (a .n) (a .w .now), one (a .b) (a .m) (a .w .now)) at (c .meets .ensures) in
+    meets-moves _ _ (s .pre .0 .isSound) (s .pre .1 .isSound) (c .meets .result) told
 
 pub share-point-spec : {M : Type 1} → statement M
 share-point-spec =
     tie.close
     (tie.spec
-    add-e
-    add-f
-    mul-meets
-    sub-meets
-    part-meets-start
-    part-meets-end
-    mul-meets-2
-    sub-meets-2
-    part-meets-start-2
-    part-meets-end-2
+    (λ c. search needs)
+    (λ c. search needs)
+    (λ c. search needs)
+    (λ c. search needs)
+    (λ c. search needs)
+    (λ c. search needs)
+    (λ c. search needs)
+    (λ c. search needs)
+    (λ c. search needs)
+    (λ c. search needs)
     meets-requires
     returns)

@@ -2,7 +2,17 @@
 use mathlib.Core.Path.{_≡_}
 use Prim.Native.Nat.{_+_, _-_, _≤_}
 use lib.ListN.{length}
-use Rattle.taking.proofs.Sweeping.{Subtracting, subtracting-start, subtracting-size, subtracting-most, subtracting-done, passed-most, two-more, subtracting-ready, subtracting-step}
+use Rattle.taking.proofs.Sweeping.{
+  Subtracting,
+  subtracting-start,
+  subtracting-size,
+  subtracting-most,
+  subtracting-done,
+  passed-most,
+  two-more,
+  subtracting-ready,
+  subtracting-step,
+}
 use borrow.Author.Needs.{needs}
 use native.Mathlib.Omega.{arith}
 use Rattle.taking.proofs.subtract_at.Statement.{statement}
@@ -17,39 +27,26 @@ abbrev μ-loop : tie.MeasureT-loop
 size : (l : tie.At-loop Inv-loop μ-loop) → length (l .loop .w) ≡ length (l .before .before .args .w .now)
 size l =
     let s = l .before .before in
-    let a = s .args in
-    subtracting-size (a .w .now) (a .a) (a .n) (a .b) (a .m) (s .pre .0) (s .pre .1) (s .pre .2) (s .pre .3) (l .loop .i) (l .loop .j) (l .loop .r) (l .loop .w) (l .loop .inv)
+    subtracting-size (s .pre .0) (s .pre .1) (s .pre .2) (s .pre .3) (l .loop .inv)
 
 passed : (l : tie.At-loop Inv-loop μ-loop) → l .loop .j ≤ l .before .before .args .m
 passed l =
     let s = l .before .before in
-    let a = s .args in
-    subtracting-most (a .w .now) (a .a) (a .n) (a .b) (a .m) (s .pre .0) (s .pre .1) (s .pre .2) (s .pre .3) (l .loop .i) (l .loop .j) (l .loop .r) (l .loop .w) (l .loop .inv)
+    subtracting-most (s .pre .0) (s .pre .1) (s .pre .2) (s .pre .3) (l .loop .inv)
 
 two : (c : tie.In-loop Inv-loop μ-loop) → let l = c .before in l .loop .i + 2 ≤ l .before .before .args .n
 two c =
     let l = c .before in
     let s = l .before .before in
-    let a = s .args in
-    two-more (a .w .now) (a .a) (a .n) (a .b) (a .m) (s .pre .0) (s .pre .1) (s .pre .2) (s .pre .3) (l .loop .i) (l .loop .j) (l .loop .r) (l .loop .w) (l .loop .inv) (c .loop-test .taken)
+    two-more (s .pre .0) (s .pre .1) (s .pre .2) (s .pre .3) (l .loop .inv) (c .loop-test .taken)
 
 loop-holds : tie.Need-loop-holds Inv-loop μ-loop
 loop-holds c =
     let s = c .before in
-    let a = s .args in
-    subtracting-start (a .w .now) (a .a) (a .n) (a .b) (a .m) (s .pre .0) (s .pre .1) (s .pre .2) (s .pre .3)
-
-add-lo : tie.Need-add-lo Inv-loop μ-loop
-add-lo c = search needs
-
-mul-lo : tie.Need-mul-lo Inv-loop μ-loop
-mul-lo c = search needs
+    subtracting-start (s .pre .0) (s .pre .1) (s .pre .2) (s .pre .3)
 
 slice-read-lo : tie.Need-slice-read-lo Inv-loop μ-loop
 slice-read-lo c = let l = c .before .before in omega (arith, size l, l .before .before .pre .0 .room, c .before .loop-test .taken)
-
-add-hi : tie.Need-add-hi Inv-loop μ-loop
-add-hi c = search needs
 
 add-hi-2 : tie.Need-add-hi-2 Inv-loop μ-loop
 add-hi-2 c = let l = c .before .before in omega (arith, two (c .before), size l, l .before .before .pre .0 .room)
@@ -70,28 +67,21 @@ cut-at-requires : tie.Need-cut-at-requires Inv-loop μ-loop
 cut-at-requires c κs =
     let l = c .before .before .before .before in
     let s = l .before .before in
-    let a = s .args in
-    subtracting-ready (a .w .now) (a .a) (a .n) (a .b) (a .m) (s .pre .0) (s .pre .1) (s .pre .2) (s .pre .3) (l .loop .i) (l .loop .j) (l .loop .r) (l .loop .w) (l .loop .inv) (c .before .before .before .loop-test .taken)
+    subtracting-ready (s .pre .0) (s .pre .1) (s .pre .2) (s .pre .3) (l .loop .inv) (c .before .before .before .loop-test .taken)
 
 add-j : tie.Need-add-j Inv-loop μ-loop
 add-j c =
     let l = c .before .before .before .before .before .before .before .before in
-    let a = l .before .before .args in
-    let p = passed-most (a .b + l .loop .j) (a .m - l .loop .j) _ _ _ _ _ _ (omega (arith, passed l, size l, l .before .before .pre .1 .room)) (c .before .before .before .cut-at .ensures) in
+    let p = passed-most (omega (arith, passed l, size l, l .before .before .pre .1 .room)) (c .before .before .before .cut-at .ensures) in
     record { fits = omega (arith, p, passed l, l .before .before .fits .m .fits) }
-
-add-i : tie.Need-add-i Inv-loop μ-loop
-add-i c = search needs
-
-loop-less : tie.Need-loop-less Inv-loop μ-loop
-loop-less c = search needs
 
 loop-again : tie.Need-loop-again Inv-loop μ-loop
 loop-again c =
     let l = c .before .before .before .before .before .before .before .before in
     let s = l .before .before in
-    let a = s .args in
-    subtracting-step (a .w .now) (a .a) (a .n) (a .b) (a .m) (s .pre .0) (s .pre .1) (s .pre .2) (s .pre .3) (l .loop .i) (l .loop .j) (l .loop .r) (l .loop .w) (l .loop .inv) (c .before .before .before .before .before .before .before .loop-test .taken) _ _ (c .before .before .before .cut-at .ensures)
+    let y = c .before .before .before in
+    subtracting-step (s .pre .0) (s .pre .1) (s .pre .2) (s .pre .3) (l .loop .inv) (y .before .before .before .before .loop-test .taken) _ _
+    (y .cut-at .ensures)
 
 same-length : tie.Need-same-length Inv-loop μ-loop
 same-length c = size (c .before)
@@ -100,8 +90,7 @@ returns : tie.Need-returns Inv-loop μ-loop
 returns c =
     let l = c .before in
     let s = l .before .before in
-    let a = s .args in
-    subtracting-done (a .w .now) (a .a) (a .n) (a .b) (a .m) (s .pre .0) (s .pre .1) (s .pre .2) (s .pre .3) (l .loop .i) (l .loop .j) (l .loop .r) (l .loop .w) (l .loop .inv) (c .loop-test .left)
+    subtracting-done (s .pre .0) (s .pre .1) (s .pre .2) (s .pre .3) (l .loop .inv) (c .loop-test .left)
 
 pub subtract-at-spec : {M : Type 1} → statement M
 subtract-at-spec =
@@ -110,10 +99,10 @@ subtract-at-spec =
     Inv-loop
     μ-loop
     loop-holds
-    add-lo
-    mul-lo
+    (λ c. search needs)
+    (λ c. search needs)
     slice-read-lo
-    add-hi
+    (λ c. search needs)
     add-hi-2
     mul-hi
     slice-read-hi
@@ -121,8 +110,8 @@ subtract-at-spec =
     sub-cut-at
     cut-at-requires
     add-j
-    add-i
-    loop-less
+    (λ c. search needs)
+    (λ c. search needs)
     loop-again
     same-length
     returns)

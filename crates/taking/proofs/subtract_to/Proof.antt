@@ -5,24 +5,6 @@ use native.Mathlib.Omega.{arith}
 use Rattle.taking.proofs.subtract_to.Statement.{statement}
 use Rattle.taking.proofs.subtract_to.Tie as tie
 
-mul-subtract-at : tie.Need-mul-subtract-at
-mul-subtract-at c = search needs
-
-sub-subtract-at : tie.Need-sub-subtract-at
-sub-subtract-at c = search needs
-
-part-subtract-at-start : tie.Need-part-subtract-at-start
-part-subtract-at-start c = search needs
-
-part-subtract-at-end : tie.Need-part-subtract-at-end
-part-subtract-at-end c = search needs
-
-sub-subtract-at-2 : tie.Need-sub-subtract-at-2
-sub-subtract-at-2 c = search needs
-
-sub-subtract-at-3 : tie.Need-sub-subtract-at-3
-sub-subtract-at-3 c = search needs
-
 subtract-at-requires : tie.Need-subtract-at-requires
 subtract-at-requires c κs =
     let s = c .before .before in
@@ -32,9 +14,6 @@ subtract-at-requires c κs =
       omega (arith, s .pre .2),
       omega (arith, s .pre .3),
     )
-
-same-length : tie.Need-same-length
-same-length c = search needs
 
 returns : tie.Need-returns
 returns c =
@@ -48,12 +27,12 @@ pub subtract-to-spec : {M : Type 1} → statement M
 subtract-to-spec =
     tie.close
     (tie.spec
-    mul-subtract-at
-    sub-subtract-at
-    part-subtract-at-start
-    part-subtract-at-end
-    sub-subtract-at-2
-    sub-subtract-at-3
+    (λ c. search needs)
+    (λ c. search needs)
+    (λ c. search needs)
+    (λ c. search needs)
+    (λ c. search needs)
+    (λ c. search needs)
     subtract-at-requires
-    same-length
+    (λ c. search needs)
     returns)
