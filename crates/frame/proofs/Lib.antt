@@ -1,3 +1,2 @@
 pub mod Axes
 pub mod Turning
-pub mod Examples

@@ -6,4 +6,3 @@ pub mod Causes
 pub mod Extents
 pub mod Facts
 pub mod Lookup
-pub mod Examples

@@ -4,14 +4,14 @@
 use mathlib.Core.Path.{_≡_}
 use mathlib.Core.List.{List, [], _∷_, _++_}
 use Prim.Native.Nat.{ℕ}
-use lib.Ieee.{Float, neg}
+use lib.Ieee.{Float, binary64, neg, ofBits}
 use lib.ListN.{replicate}
 use Rattle.doubles.specs.Constants.{plusZero}
 use Rattle.doubles.specs.Doubles.{ratio}
-use Rattle.gridding.specs.Examples.{cube, ten}
 use Rattle.frame.specs.declared.Axis.the-variants.{PosZ}
 use Rattle.cutter.specs.declared.CutterShape.the-variants.{Flat}
 use Rattle.cutter.specs.declared.PreparedCutter.{PreparedCutter}
+use Rattle.grid.specs.declared.Vec3.{Vec3}
 use Rattle.grid.specs.declared.DexelStockSpec.{DexelStockSpec}
 use Rattle.gridding.specs.Causes.{gridIn}
 use Rattle.store.specs.Updates.{Cells, cells}
@@ -27,8 +27,14 @@ halves n = ratio n 2
 abbrev pub below : ℕ → Float
 below n = neg (ratio n 2)
 
+abbrev pub ten : Float
+ten = ofBits binary64 0x4024_0000_0000_0000
+
+abbrev pub corner : Float → Vec3
+corner x = record { x = x; y = x; z = x }
+
 unfoldable pub blank : DexelStockSpec
-blank = cube ten ten 3 6
+blank = record { version = 1; «min_mm» = corner plusZero; «max_mm» = corner ten; «cell_size_mm» = ten; «max_rays» = 3; «max_intervals» = 6 }
 
 unfoldable pub flat : PreparedCutter
 unfolding ratio

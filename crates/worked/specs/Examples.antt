@@ -1,0 +1,110 @@
+-- DOCUMENT 01'S EXAMPLES marked (p), in its order, as one table; `examples-right` in proofs/Examples.antt claims them all.
+-- Each row is stated over what the function's contract cites.
+use mathlib.Core.Path.{_≡_}
+use mathlib.Core.Bool.{Bool, true, false}
+use mathlib.Core.List.{List, [], _∷_}
+use Prim.Native.Nat.{ℕ, _*_}
+use lib.Ieee.{Float, nan, neg}
+use Rattle.doubles.specs.Doubles.{ratio}
+use Rattle.spans.specs.Spans.{NormalOf, Within, Outside}
+use Rattle.overlay.specs.Overlay.{lessOf, commonOf}
+use Rattle.grid.specs.Rays.{rayCount}
+use Rattle.grid.specs.declared.Vec3.{Vec3}
+use Rattle.grid.specs.declared.DexelStockSpec.{DexelStockSpec}
+use Rattle.grid.specs.declared.DexelGrid.{DexelGrid}
+use Rattle.grid.specs.declared.Gridded.the-variants.{Accepted}
+use Rattle.gridding.specs.Causes.{mm}
+use Rattle.gridding.specs.Grid.{gridOf}
+use Rattle.polygons.specs.declared.Strip.the-variants.{Hit}
+use Rattle.strips.specs.Strip.{diskStrip}
+use Rattle.cutter.specs.declared.CutterShape.{CutterShape}
+use Rattle.cutter.specs.declared.CutterShape.the-variants.{Ball}
+use Rattle.cutter.specs.declared.PreparedCutter.{PreparedCutter}
+use Rattle.cutter.specs.declared.ProfileSlice.the-variants.{Cutting}
+use Rattle.cutter.specs.Cutter.{radiusAt}
+use Rattle.frame.specs.declared.Pair.{Pair}
+use Rattle.frame.specs.Frame.{frame, localAxis, worldOf}
+
+-- what is asked, and last what it must come to
+pub data Example : Type 0 where
+  normalizes : (pairs want : List Float) → Example
+  subtracts intersects : (a b want : List Float) → Example
+  contains : (outer inner : List Float) (want : Bool) → Example
+  grids : (to size : Float) (cells : ℕ) (step : Float) (rays : ℕ) → Example
+  disk : (x y radius y0 y1 lo hi : Float) → Example
+  radius-at : (shape : CutterShape) (cutter : PreparedCutter) (height want : Float) → Example
+  turns : (sign : Float) (pair want : Pair) → Example
+
+abbrev pub corner : Float → Vec3
+corner x = record { x = x; y = x; z = x }
+
+-- the box from 0 to `to` along each axis, with the budgets that so many rays need
+abbrev pub box : (to size : Float) (rays : ℕ) → DexelStockSpec
+box to size rays =
+    record {
+      version = 1;
+      «min_mm» = corner (ratio 0 1);
+      «max_mm» = corner to;
+      «cell_size_mm» = size;
+      «max_rays» = rays;
+      «max_intervals» = 2 * rays;
+    }
+
+-- the grid with these cells and this step along each axis
+abbrev pub even : (cells : ℕ) (step : Float) → DexelGrid
+even n step = record { c0 = n; c1 = n; c2 = n; s0 = step; s1 = step; s2 = step }
+
+abbrev pub Right : Example → Type 0
+Right (normalizes pairs want) = NormalOf pairs want
+Right (subtracts a b want) = lessOf a b ≡ want
+Right (intersects a b want) = commonOf a b ≡ want
+Right (contains outer inner true) = Within outer inner
+Right (contains outer inner false) = Outside outer inner
+Right (grids to size cells step rays) = (gridOf (box to size rays) mm ≡ Accepted (even cells step)) × (rayCount (even cells step) ≡ rays)
+Right (disk x y radius y0 y1 lo hi) = diskStrip (record { x = x; y = y }) radius y0 y1 ≡ Hit lo hi
+Right (radius-at shape cutter height want) = radiusAt shape cutter height ≡ Cutting want
+Right (turns sign pair want) = worldOf (frame 0 sign) (localAxis 1) pair ≡ want
+
+abbrev pub AllRight : List Example → Type 0
+AllRight [] = Unit {0}
+AllRight (e ∷ es) = Right e × AllRight es
+
+-- a whole number as a double
+abbrev pub num : ℕ → Float
+num n = ratio n 1
+
+-- radius 5 and tip height 5, on a shank of diameter 8
+abbrev pub ball : PreparedCutter
+ball =
+    record {
+      «diameter_mm» = num 10;
+      «cutting_length_mm» = num 10;
+      «overall_length_mm» = num 50;
+      «neck_diameter_mm» = num 8;
+      «shank_diameter_mm» = num 8;
+      radius = num 5;
+      «tip_height» = num 5;
+      slope = num 0;
+      shoulder = num 10;
+    }
+
+abbrev pub pair : (lo hi : Float) → Pair
+pair lo hi = record { lo = lo; hi = hi }
+
+unfoldable pub examples : List Example
+unfolding ratio neg
+examples =
+    normalizes (num 3 ∷ num 4 ∷ num 1 ∷ num 2 ∷ num 2 ∷ num 3 ∷ []) (num 1 ∷ num 4 ∷ [])
+    ∷ normalizes (num 1 ∷ num 1 ∷ nan ∷ num 2 ∷ num 2 ∷ num 1 ∷ []) []
+    ∷ normalizes (num 1 ∷ num 2 ∷ num 3 ∷ num 4 ∷ []) (num 1 ∷ num 2 ∷ num 3 ∷ num 4 ∷ [])
+    ∷ subtracts (num 0 ∷ num 2 ∷ num 3 ∷ num 5 ∷ []) (num 1 ∷ num 4 ∷ []) (num 0 ∷ num 1 ∷ num 4 ∷ num 5 ∷ [])
+    ∷ subtracts (num 0 ∷ num 1 ∷ []) (num 1 ∷ num 2 ∷ []) (num 0 ∷ num 1 ∷ [])
+    ∷ subtracts (num 0 ∷ num 10 ∷ []) (num 0 ∷ num 10 ∷ []) []
+    ∷ intersects (num 0 ∷ num 2 ∷ num 3 ∷ num 5 ∷ []) (num 1 ∷ num 4 ∷ []) (num 1 ∷ num 2 ∷ num 3 ∷ num 4 ∷ [])
+    ∷ contains (num 0 ∷ num 2 ∷ num 3 ∷ num 5 ∷ []) (num 1 ∷ num 4 ∷ []) false
+    ∷ contains (num 0 ∷ num 2 ∷ num 3 ∷ num 5 ∷ []) [] true
+    ∷ grids (num 10) (num 3) 4 (ratio 5 2) 48
+    ∷ disk (num 0) (num 0) (num 5) (num 3) (num 7) (neg (num 4)) (num 4)
+    ∷ radius-at Ball ball (num 2) (num 4)
+    ∷ turns (neg (num 1)) (pair (num 1) (num 2)) (pair (neg (num 2)) (neg (num 1)))
+    ∷ []
