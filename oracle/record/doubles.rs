@@ -3,7 +3,7 @@
 //     rustc -O -o target/record_doubles oracle/record/doubles.rs && target/record_doubles > crates/doubles_vectors/stdin
 //
 // A row: the function's number in two hexadecimal digits, three arguments and the answer in 16 digits each. The answers are those of
-// Rust's f64 (max, min, clamp, floor, ceil, abs, sqrt, total_cmp and `as` on x86-64), with two points settled as document 01 has them:
+// Rust's f64 (max, min, clamp, floor, ceil, abs, sqrt, total_cmp, `as`, `<`, `<=`, `*` and `/` on x86-64), with two points settled as document 01 has them:
 // where two zeros meet in larger or smaller the first argument is kept, and every NaN is the one 7ff8000000000000, above all else in the order.
 use std::io::Write;
 
@@ -22,6 +22,10 @@ const TOTAL_CMP: u64 = 8;
 const TO_U64: u64 = 9;
 const BITS_OF: u64 = 10;
 const OF_BITS: u64 = 11;
+const LT: u64 = 12;
+const LE: u64 = 13;
+const MUL: u64 = 14;
+const DIV: u64 = 15;
 
 fn bits(x: f64) -> u64 {
     if x.is_nan() { NAN } else { x.to_bits() }
@@ -76,7 +80,11 @@ fn answer(op: u64, a: u64, b: u64, c: u64) -> u64 {
         TOTAL_CMP => total(x, y),
         TO_U64 => x as u64,
         BITS_OF => bits(a as f64),
-        _ => (x == b as f64) as u64,
+        OF_BITS => (x == b as f64) as u64,
+        LT => (x < y) as u64,
+        LE => (x <= y) as u64,
+        MUL => bits(x * y),
+        _ => bits(x / y),
     }
 }
 
@@ -121,6 +129,12 @@ impl<W: Write> Recorder<W> {
 
     fn two(&mut self, a: u64, b: u64) {
         for op in [LARGER, SMALLER, TOTAL_CMP] {
+            self.row(op, a, b, 0);
+        }
+    }
+
+    fn order_and_arithmetic(&mut self, a: u64, b: u64) {
+        for op in [LT, LE, MUL, DIV] {
             self.row(op, a, b, 0);
         }
     }
@@ -195,6 +209,28 @@ fn main() {
         let n = r.next() >> (r.next() % 64);
         r.row(BITS_OF, n, 0, 0);
         r.row(OF_BITS, bits(n as f64), n, 0);
+    }
+    // order, product and quotient: the edges, random arguments
+    for &a in &few {
+        for &b in &few {
+            r.order_and_arithmetic(a, b);
+        }
+    }
+    for _ in 0..250 {
+        let (a, b) = (r.any(), r.any());
+        r.order_and_arithmetic(a, b);
+        r.order_and_arithmetic(a, a ^ 1 << 63);
+    }
+    // numbers of the worked grid, and fractions
+    let epsilons = 128.0 * f64::EPSILON;
+    for (x, y) in [(10.0, 3.0), (10.0, 4.0), (128.0, f64::EPSILON), (epsilons, 1e6)] {
+        r.order_and_arithmetic(bits(x), bits(y));
+    }
+    for x in [10.0 / 3.0, 2.9, -2.9, 2.25] {
+        r.one(bits(x));
+    }
+    for x in [5.0, -5.0] {
+        r.row(CLAMP, bits(x), bits(1.0), bits(3.0));
     }
     r.out.flush().unwrap();
 }

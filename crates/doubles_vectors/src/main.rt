@@ -1,4 +1,4 @@
-// Holds the functions of `doubles` to recorded answers of the machine's own arithmetic, read from standard input.
+// Holds the functions on doubles, and `<`, `<=`, `*` and `/`, to recorded answers of the machine's own arithmetic, read from standard input.
 //
 // A row has 71 bytes: the function's number in two hexadecimal digits, three arguments and the answer in 16 digits each, a space
 // before each of these four, and a newline. An argument that the function does not take is 0. The one NaN is 7ff8000000000000.
@@ -15,7 +15,14 @@ fn order_number(o: doubles::Ordering) -> u64 {
     }
 }
 
-// The answer of a function of doubles, as bits.
+fn number_of(b: bool) -> u64 {
+    if b {
+        return 1;
+    }
+    0
+}
+
+// The answer of a function of doubles.
 fn double_answer(op: u64, x: f64, y: f64, z: f64) -> f64 {
     if op == 0 {
         return extremes::larger(x, y);
@@ -35,19 +42,29 @@ fn double_answer(op: u64, x: f64, y: f64, z: f64) -> f64 {
     if op == 5 {
         return doubles::abs(x);
     }
-    square_root::sqrt(x)
+    if op == 6 {
+        return square_root::sqrt(x);
+    }
+    if op == 14 {
+        return x * y;
+    }
+    x / y
 }
 
-// The answer of each function. `bits_of` and `of_bits` are tried on a whole number's double, made without the other.
-fn answer(op: u64, a: u64, b: u64, c: u64) -> u64 {
-    if op < 7 {
-        return bit_patterns::bits_of(double_answer(
-            op,
-            bit_patterns::of_bits(a),
-            bit_patterns::of_bits(b),
-            bit_patterns::of_bits(c),
-        ));
+// Whether the test of this number holds. `of_bits` is tried on a whole number's double, made without it.
+fn holds(op: u64, a: u64, b: u64) -> bool {
+    let x = bit_patterns::of_bits(a);
+    if op == 11 {
+        return x == std::num::nearest_u64_to_f64(b);
     }
+    if op == 12 {
+        return x < bit_patterns::of_bits(b);
+    }
+    x <= bit_patterns::of_bits(b)
+}
+
+// The answer of each function. `bits_of` is tried on a whole number's double, made without `of_bits`.
+fn answer(op: u64, a: u64, b: u64, c: u64) -> u64 {
     if op == 7 {
         return bit_patterns::order_key(bit_patterns::of_bits(a));
     }
@@ -63,11 +80,15 @@ fn answer(op: u64, a: u64, b: u64, c: u64) -> u64 {
     if op == 10 {
         return bit_patterns::bits_of(std::num::nearest_u64_to_f64(a));
     }
-    if bit_patterns::of_bits(a) == std::num::nearest_u64_to_f64(b) {
-        1
-    } else {
-        0
+    if op > 10 && op < 14 {
+        return number_of(holds(op, a, b));
     }
+    bit_patterns::bits_of(double_answer(
+        op,
+        bit_patterns::of_bits(a),
+        bit_patterns::of_bits(b),
+        bit_patterns::of_bits(c),
+    ))
 }
 
 fn compared(text: &[u8]) -> Outcome {
@@ -76,7 +97,7 @@ fn compared(text: &[u8]) -> Outcome {
     if !replay::read_words(text, 3, &mut w) {
         return Outcome::Unread;
     }
-    replay::told(k, 12, answer(k, w[0], w[1], w[2]) == w[3])
+    replay::told(k, 16, answer(k, w[0], w[1], w[2]) == w[3])
 }
 
 // The turns are counted down, since a proved loop has to end and nothing says that the input does.
@@ -96,7 +117,7 @@ fn counted() -> Tally {
 
 fn main() {
     replay::print(
-        b"larger smaller clamp floor ceil abs sqrt order_key total_cmp to_u64 bits_of of_bits",
+        b"larger smaller clamp floor ceil abs sqrt order_key total_cmp to_u64 bits_of of_bits lt le mul div",
         counted(),
     );
 }
