@@ -5,4 +5,3 @@ pub mod Total
 pub mod Held
 pub mod Whole
 pub mod Greatest
-pub mod Examples
