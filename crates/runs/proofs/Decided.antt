@@ -14,7 +14,7 @@ use lib.ListN.{length}
 use lib.Ieee.{Float}
 use Rattle.doubles.proofs.Bools.{or-cases, or-left, clash, not-true, not-false}
 use Rattle.refusal.specs.Refusal.{Cause, Due, NoneDue}
-use Rattle.spans.specs.Spans.{All, Double, Point, within, holds, ListOf}
+use Rattle.spans.specs.Spans.{All, Double, Point, within, holds, sound, ListOf}
 use Rattle.spans.proofs.Points.{or-assoc}
 use Rattle.grid.specs.Rays.{rayCount}
 use Rattle.grid.specs.declared.DexelStockSpec.{DexelStockSpec}
@@ -22,10 +22,11 @@ use Rattle.grid.specs.declared.DexelGrid.{DexelGrid}
 use Rattle.runs.specs.Logs.{Ray, Kind, possible, certain, Entry, entries, workNeeded, namesOne, names, HitKind, outer, inner, loOf, hiOf, pairsOn, taken, Commit}
 use Rattle.runs.specs.Model.{Sets, without, Changes, Count, none, counted, skipped, sumTo, sumOver, pairs, Intervals, Lent, Short, Bad, NoRay, TooManyRays, TooManyIntervals, causes, Answer, changed, refused, Judged}
 use Rattle.runs.specs.Counts.{hitBy, startsLeft, hitsOn, changesRay, raysChanged, pairsLeft}
-use Rattle.runs.proofs.Unique.{count-unique, intervals-unique}
+use Rattle.runs.proofs.Unique.{count-unique, intervals-unique, intervals-points}
 use Rattle.runs.proofs.Meets.{kept-unhit, unhit-points}
 use Rattle.runs.proofs.Starts.{pairs-left}
 use Rattle.runs.proofs.Less.{less, less-list, same-list}
+use Rattle.runs.proofs.Doubles.{less-doubles}
 
 -- ---- the points that a log takes, as those of one flat list
 
@@ -165,6 +166,17 @@ module _ (g : DexelGrid) (s : Sets g) (lists : Ray g → Kind → List Float) (e
     each = left-list;
     number = ap (sumOver g) (fun-ext (λ r. ap₂ _+_ (sym (one-count r possible)) (sym (one-count r certain))));
   }
+
+  -- where the ends of the lists and of the hits are doubles, the points alone settle this number: whichever sound lists of doubles have the points
+  -- of the sets as they would be, it is the number of their pairs
+  pub left-number : ((r : Ray g) (k : Kind) → All Double (lists r k)) → ((r : Ray g) (k : Kind) → All Double (hitsOn g es r k))
+      → {n : ℕ} → Intervals g (without g s es) n → (others : Ray g → Kind → List Float) → ((r : Ray g) (k : Kind) → All Double (others r k))
+      → ((r : Ray g) (k : Kind) → sound (others r k) ≡ true) → ((r : Ray g) (k : Kind) (p : Float) → Point p → holds (others r k) p ≡ without g s es r k p)
+      → n ≡ pairs g others
+  unfolding intervals-counted
+  left-number dl dh a others d o h =
+      intervals-unique g (without g s es) a intervals-counted
+      ∙ intervals-points g (without g s es) intervals-counted (λ r k. less-doubles (lists r k) (hitsOn g es r k) (dl r k) (dh r k)) others d o h
 
 -- ---- the order
 

@@ -7,12 +7,12 @@ use Prim.Native.Nat.{ℕ, zero, suc, _+_, _<_}
 use native.Mathlib.Omega.{arith}
 use native.Mathlib.Decide.{decLt}
 use borrow.Author.Tests.{eqb-true}
-use lib.Dec.{lit<, eqb}
+use lib.Dec.{T, lit<, eqb}
 use lib.ListN.{length, getD, replicate}
-use lib.Ieee.{Float, nan, inf, lt, le, eq, neg, ofInt, ofBits, toUnsigned, isNan, sub, add, mul, div}
+use lib.Ieee.{Float, nan, inf, binary64, fits, lt, le, eq, neg, ofInt, ofBits, toUnsigned, isNan, sub, add, mul, div}
 use Rattle.doubles.specs.Doubles.{ratio, largerOf, ceilOf, absOf}
 use Rattle.doubles.proofs.Bools.{or-cases, and-left, and-right, clash, not-true}
-use Rattle.spans.specs.Spans.{holds, sound, equal, ListOf}
+use Rattle.spans.specs.Spans.{All, Double, holds, sound, equal, ListOf}
 use Rattle.doubles.proofs.Order.{lt-number, eq-refl}
 use Rattle.spans.proofs.Pieces.{agree, by-ends, of-list, in-left, in-right, both-of}
 use Rattle.grid.specs.Axes.{byDigit}
@@ -33,6 +33,7 @@ use Rattle.filling.specs.Uncut.{uncut as uncutCells, uncutSpans, uncutLinks, un
 use Rattle.runs.specs.Lent.{listIn, lentStore}
 use Rattle.runs.proofs.Unique.{judged-unsound}
 use Rattle.runs.proofs.Less.{less}
+use Rattle.runs.proofs.Doubles.{DoubleCells, list-doubles, hits-doubles}
 use Rattle.runs.proofs.Decided.{tests, answerBy, judged, left-list}
 use Rattle.runs.proofs.Lent.{lent-laws, demand3-lent}
 use Rattle.runs.proofs.Plain.{Plain, Valid, answers, final}
@@ -49,14 +50,35 @@ naming : map (λ log. map (namesOne grid) (entries log))
 unfolding namesOne entries ratio eq neg ofInt byDigit
 naming = refl
 
+-- ---- doubles, by a test
+
+all-fit : List Float → Bool
+unfolding fits
+all-fit [] = true
+all-fit (x ∷ l) = fits binary64 x && all-fit l
+
+all-doubles : (l : List Float) → all-fit l ≡ true → All Double l
+unfolding all-fit
+all-doubles [] h = tt
+all-doubles (x ∷ l) h = (subst T (sym (and-left (fits binary64 x) (all-fit l) h)) tt, all-doubles l (and-right (fits binary64 x) (all-fit l) h))
+
+cells-doubles : (l : List Float) → All Double l → DoubleCells l
+unfolding fits
+cells-doubles [] d i = tt
+cells-doubles (x ∷ l) d zero = d .0
+cells-doubles (x ∷ l) d (suc i) = cells-doubles l (d .1) i
+
+by-fit : (l : List Float) → all-fit l ≡ true → DoubleCells l
+by-fit l h = cells-doubles l (all-doubles l h)
+
 -- ---- a run on full rays. The log hits the ray along axis 1, which is ray 1.
 
 abbrev uncut : ℕ → Plain grid
 uncut n = record { lists = λ r k. num 0 ∷ num 10 ∷ []; generation = 0; lent = record { records = n; heads = 6 } }
 
 full : (n : ℕ) → Valid grid (uncut n)
-unfolding sound lt ofInt
-full n = record { isSound = λ r k. refl; within = λ r p t. t }
+unfolding sound lt ofInt all-fit fits
+full n = record { isSound = λ r k. refl; doubles = λ r k. all-doubles (num 0 ∷ num 10 ∷ []) refl; within = λ r p t. t }
 
 -- the ray changes once; the same log again is accepted and changes nothing, even with no ray allowed
 twice : answers (box 8) grid (uncut 8) (commit 0 1 66 ∷ commit 0 0 66 ∷ []) ≡ changed 1 ∷ changed 0 ∷ []
@@ -250,7 +272,7 @@ answer-on s c =
     (tests (box 8) grid (lentStore (box 8) grid .lent s) (λ r k. listIn (box 8) s (r .0) k) (s .generation) c)
     (changed (raysChanged grid (λ r k. listIn (box 8) s (r .0) k) (entries (c .log))))
 
-module _ (s : Stock) (S : SoundStock (box 8) grid s) (c : Commit) where
+module _ (s : Stock) (S : SoundStock (box 8) grid s) (ds : DoubleCells (s .cells .spans)) (c : Commit) (dc : DoubleCells (c .log)) where
   -- the lists of the stock are those of its sets
   lists-on : (r : Ray grid) (k : Kind) → ListOf (points grid (lentStore (box 8) grid) s r k) (listIn (box 8) s (r .0) k)
   unfolding points
@@ -260,7 +282,8 @@ module _ (s : Stock) (S : SoundStock (box 8) grid s) (c : Commit) where
       → Judged (box 8) grid (lentStore (box 8) grid .lent s) (¬ SoundStock (box 8) grid s) (points grid (lentStore (box 8) grid) s) (s .generation) c a
   judged-on a e = judged-unsound (box 8) grid (lentStore (box 8) grid .lent s) (¬ SoundStock (box 8) grid s) (λ n. n S) (points grid (lentStore (box 8) grid) s) (s .generation) c a
       (subst (λ (b : Answer). Judged (box 8) grid (lentStore (box 8) grid .lent s) ⊥ (points grid (lentStore (box 8) grid) s) (s .generation) c b) e
-      (judged (box 8) grid (lentStore (box 8) grid .lent s) (points grid (lentStore (box 8) grid) s) (λ r k. listIn (box 8) s (r .0) k) lists-on (s .generation) c))
+      (judged (box 8) grid (lentStore (box 8) grid .lent s) (points grid (lentStore (box 8) grid) s) (λ r k. listIn (box 8) s (r .0) k) lists-on (s .generation) c
+      (λ r k. list-doubles (box 8) s ds (r .0) k) (hits-doubles grid (c .log) dc)))
 
   refuses : (k : ℕ) → answer-on s c ≡ refused k → Committed (box 8) grid (lentStore (box 8) grid) s c (refused k) s
   unfolding Left
@@ -357,11 +380,32 @@ first-lists r k = cut-lists r k ∙ first-less r k ∙ ap₂ less (sym (filled-l
 third-lists : (r : Ray grid) (k : Kind) → listIn (box 8) cut-again (r .0) k ≡ less (listIn (box 8) cut (r .0) k) (hitsOn grid (entries (innerWider .log)) r k)
 third-lists r k = again-lists r k ∙ third-less r k ∙ ap₂ less (sym (cut-lists r k)) (sym (third-hits r k))
 
+-- every cell is a double
+filled-doubles : DoubleCells (filled .cells .spans)
+unfolding all-fit ofInt
+filled-doubles = by-fit (filled .cells .spans) refl
+
+cut-doubles : DoubleCells (cut .cells .spans)
+unfolding all-fit ofInt
+cut-doubles = by-fit (cut .cells .spans) refl
+
+first-doubles : DoubleCells (commit 0 1 66 .log)
+unfolding all-fit ofInt
+first-doubles = by-fit (commit 0 1 66 .log) refl
+
+second-doubles : DoubleCells (notAllowed .log)
+unfolding all-fit ofInt
+second-doubles = by-fit (notAllowed .log) refl
+
+third-doubles : DoubleCells (innerWider .log)
+unfolding all-fit ofInt
+third-doubles = by-fit (innerWider .log) refl
+
 three-run : Run (box 8) grid (lentStore (box 8) grid) filled threeLogs threeAnswers cut-again
 three-run =
-    next (cuts-to filled filled-sound (commit 0 1 66) 1 cut first-answer cut-sound first-lists refl refl)
-    (next (refuses cut cut-sound notAllowed 9 second-answer)
-    (next (cuts-to cut cut-sound innerWider 1 cut-again third-answer again-sound third-lists refl refl) done))
+    next (cuts-to filled filled-sound filled-doubles (commit 0 1 66) first-doubles 1 cut first-answer cut-sound first-lists refl refl)
+    (next (refuses cut cut-sound cut-doubles notAllowed second-doubles 9 second-answer)
+    (next (cuts-to cut cut-sound cut-doubles innerWider third-doubles 1 cut-again third-answer again-sound third-lists refl refl) done))
 
 -- what demand 3 says of it
 three-settled : Settled (box 8) grid (lentStore (box 8) grid) filled threeLogs threeAnswers cut-again

@@ -7,6 +7,7 @@ pub mod Lent
 pub mod Meets
 pub mod Starts
 pub mod Less
+pub mod Doubles
 pub mod Decided
 pub mod Plain
 pub mod Examples

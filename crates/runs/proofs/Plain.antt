@@ -1,5 +1,5 @@
--- `Committed` can be met: over a store that is nothing but its lists and numbers, every list of commits has a run from a sound store, and it is
--- worked out here. So neither the run nor demand 3 is empty.
+-- `Committed` can be met: over a store that is nothing but its lists and numbers, every list of commits whose logs are doubles has a run from a
+-- sound store, and it is worked out here. So neither the run nor demand 3 is empty.
 use mathlib.Core.Path.{_≡_, refl, sym, ap, _∙_}
 use mathlib.Core.Bool.{true, false, not}
 use mathlib.Core.List.{List, [], _∷_}
@@ -7,7 +7,7 @@ use mathlib.Core.Logic.{inl, inr}
 use Prim.Native.Nat.{ℕ, suc}
 use lib.Ieee.{Float}
 use Rattle.doubles.proofs.Bools.{or-right, and-left, and-right, both, by-cases, clash, not-true}
-use Rattle.spans.specs.Spans.{holds, sound, ListOf}
+use Rattle.spans.specs.Spans.{All, Double, holds, sound, ListOf}
 use Rattle.grid.specs.declared.DexelStockSpec.{DexelStockSpec}
 use Rattle.grid.specs.declared.DexelGrid.{DexelGrid}
 use Rattle.runs.specs.Logs.{Ray, Kind, possible, certain, entries, outer, inner, pairsOn, taken, Commit}
@@ -16,6 +16,7 @@ use Rattle.runs.specs.Counts.{hitsOn, raysChanged}
 use Rattle.runs.specs.Runs.{Reading, Lawful, points, Cut, Left, Committed, Run, done, next}
 use Rattle.runs.proofs.Unique.{judged-unsound}
 use Rattle.runs.proofs.Less.{less}
+use Rattle.runs.proofs.Doubles.{DoubleCells, hits-doubles, less-doubles}
 use Rattle.runs.proofs.Decided.{tests, answerBy, judged, left-list}
 
 pub record Plain (g : DexelGrid) : Type 0 where
@@ -25,7 +26,13 @@ pub record Plain (g : DexelGrid) : Type 0 where
 
 pub record Valid (g : DexelGrid) (s : Plain g) : Type 0 where
   pub isSound : (r : Ray g) (k : Kind) → sound (s .lists r k) ≡ true
+  pub doubles : (r : Ray g) (k : Kind) → All Double (s .lists r k)
   pub within : (r : Ray g) (p : Float) → holds (s .lists r certain) p ≡ true → holds (s .lists r possible) p ≡ true
+
+-- the logs are slices of doubles
+abbrev pub DoubleLogs : List Commit → Type 0
+DoubleLogs [] = Unit {0}
+DoubleLogs (c ∷ cs) = DoubleCells (c .log) × DoubleLogs cs
 
 abbrev pub plain : (g : DexelGrid) → Reading g
 plain g = record {
@@ -66,7 +73,7 @@ module _ (spec : DexelStockSpec) (g : DexelGrid) where
 
   -- ---- it is a run
 
-  module _ (s : Plain g) (v : Valid g s) (c : Commit) where
+  module _ (s : Plain g) (v : Valid g s) (c : Commit) (d : DoubleCells (c .log)) where
     listed : (r : Ray g) (k : Kind) → ListOf (points g (plain g) s r k) (s .lists r k)
     unfolding points
     listed r k = record { isSound = v .isSound r k; points = λ p. refl }
@@ -96,7 +103,11 @@ module _ (spec : DexelStockSpec) (g : DexelGrid) where
     cuts : (n : ℕ) → Cut g (plain g) s c (after s c (changed n))
     unfolding points after
     cuts n = record {
-      sound = record { isSound = λ r k. new r k .isSound; within = inside-still };
+      sound = record {
+        isSound = λ r k. new r k .isSound;
+        doubles = λ r k. less-doubles (s .lists r k) (hitsOn g (entries (c .log)) r k) (v .doubles r k) (hits-doubles g (c .log) d r k);
+        within = inside-still;
+      };
       exactly = λ r k p. new r k .points p;
       generation = refl;
       lent = refl;
@@ -116,12 +127,12 @@ module _ (spec : DexelStockSpec) (g : DexelGrid) where
     unfolding answer
     committed = record {
       answers = judged-unsound spec g (s .lent) (¬ Valid g s) (λ n. n v) (points g (plain g) s) (s .generation) c (answer s c)
-          (judged spec g (s .lent) (points g (plain g) s) (s .lists) listed (s .generation) c);
+          (judged spec g (s .lent) (points g (plain g) s) (s .lists) listed (s .generation) c (v .doubles) (hits-doubles g (c .log) d));
       leaves = leaves (answer s c);
     }
 
   -- every list of commits has a run
-  pub runs : (s : Plain g) → Valid g s → (cs : List Commit) → Run spec g (plain g) s cs (answers s cs) (final s cs)
+  pub runs : (s : Plain g) → Valid g s → (cs : List Commit) → DoubleLogs cs → Run spec g (plain g) s cs (answers s cs) (final s cs)
   unfolding answers final
-  runs s v [] = done
-  runs s v (c ∷ cs) = next (committed s v c) (runs (after s c (answer s c)) (still-valid s v c (answer s c)) cs)
+  runs s v [] d = done
+  runs s v (c ∷ cs) d = next (committed s v c (d .0)) (runs (after s c (answer s c)) (still-valid s v c (d .0) (answer s c)) cs (d .1))

@@ -7,8 +7,9 @@ use Prim.Native.Nat.{ℕ, suc, _+_, _/_, _<_}
 use native.Mathlib.Bridge.{le-prop}
 use lib.Ieee.{Float}
 use Rattle.refusal.proofs.Laws.{due-unique, none-due}
-use Rattle.spans.specs.Spans.{equal, ListOf}
-use Rattle.spans.proofs.Sets.{same-set, equal-length}
+use lib.ListN.{length}
+use Rattle.spans.specs.Spans.{All, Double, Point, holds, sound, equal, ListOf}
+use Rattle.spans.proofs.Sets.{same-set, same-points, equal-length}
 use Rattle.grid.specs.Rays.{rayCount}
 use Rattle.grid.specs.declared.DexelStockSpec.{DexelStockSpec}
 use Rattle.grid.specs.declared.DexelGrid.{DexelGrid}
@@ -41,6 +42,22 @@ pub intervals-unique : (g : DexelGrid) (s : Sets g) {n m : ℕ} → Intervals g 
 intervals-unique g s a b =
     a .number ∙ pairs-same g (a .lists) (b .lists) (λ r k. one-list (s r k) (a .lists r k) (b .lists r k) (a .each r k) (b .each r k))
     ∙ sym (b .number)
+
+-- two sound lists of doubles with the same points have as many pairs
+pub points-pairs : (a b : List Float) → All Double a → All Double b → sound a ≡ true → sound b ≡ true
+    → ((p : Float) → Point p → holds a p ≡ holds b p) → length a / 2 ≡ length b / 2
+points-pairs a b da db sa sb h = ap (λ (n : ℕ). n / 2) (equal-length a b (same-points a b da db sa sb h))
+
+-- so the number of intervals of lists of doubles is settled by the points alone: other sound lists of doubles with these points have as many pairs
+pub intervals-points : (g : DexelGrid) (s : Sets g) {n : ℕ} (a : Intervals g s n) → ((r : Ray g) (k : Kind) → All Double (a .lists r k))
+    → (lists : Ray g → Kind → List Float) → ((r : Ray g) (k : Kind) → All Double (lists r k)) → ((r : Ray g) (k : Kind) → sound (lists r k) ≡ true)
+    → ((r : Ray g) (k : Kind) (p : Float) → Point p → holds (lists r k) p ≡ s r k p) → n ≡ pairs g lists
+unfolding pairs
+intervals-points g s a da lists dl sl h =
+    a .number ∙ ap (sumOver g) (fun-ext λ r. ap₂ _+_ (same r possible) (same r certain))
+  where
+    same : (r : Ray g) (k : Kind) → length (a .lists r k) / 2 ≡ length (lists r k) / 2
+    same r k = points-pairs (a .lists r k) (lists r k) (da r k) (dl r k) (a .each r k .isSound) (sl r k) (λ p e. a .each r k .points p ∙ sym (h r k p e))
 
 only-part : {A U : Type 0} → A ⊎ ⊥ → A ⊎ U
 only-part (inl a) = inl a
