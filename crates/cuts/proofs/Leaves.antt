@@ -17,21 +17,22 @@ use Rattle.runs.specs.Model.{none as none-counted}
 use Rattle.runs.specs.Counts.{pairsLeft}
 use Rattle.runs.specs.Runs.{points, Cut}
 use Rattle.runs.specs.Lent.{listNumber, listIn, lentStore}
+use Rattle.runs.proofs.Doubles.{Doubles}
 use Rattle.cuts.specs.Merges.{LeftOf, Merges, cutStock, listsOf}
 use Rattle.cuts.proofs.Valid.{still-valid}
 use Rattle.cuts.proofs.Asked.{merges-ascend, merges-count, merges-leave, number-possible, number-certain}
 use Rattle.cuts.proofs.Totals.{each, total-left}
 
 module _ (spec : DexelStockSpec) (g : DexelGrid) (s : Stock) (sound : SoundStock spec g s) (room : Room (spec .«max_intervals») (2 * rayCount g) (s .cells))
-    (es : List Entry) (us : List Update) (m : ℕ) (asked : Merges g (listsOf spec g s) es 0 us m) where
+    (es : List Entry) (d : Doubles g (listsOf spec g s) es) (us : List Update) (m : ℕ) (asked : Merges g (listsOf spec g s) es 0 us m) where
   pub ascend : Ascending (2 * rayCount g) 0 us
-  ascend = merges-ascend g (listsOf spec g s) es asked
+  ascend = merges-ascend g (listsOf spec g s) es (each spec g s sound es) asked
 
   pub freed-less : pairsFreed (spec .«max_intervals») (s .cells) us ≤ s .intervals
   freed-less = freed-all (sound .store) room ascend .fewer
 
   pub intervals-left : s .intervals - pairsFreed (spec .«max_intervals») (s .cells) us + pairsLaid us ≡ pairsLeft g (listsOf spec g s) es
-  intervals-left = total-left spec g s sound es asked freed-less
+  intervals-left = total-left spec g s sound es d asked freed-less
 
   -- the rays that change
   pub changed-rays : Count g (Changes g (λ r k. holds (listsOf spec g s r k)) es) (rayCount g) m
@@ -47,7 +48,7 @@ module _ (spec : DexelStockSpec) (g : DexelGrid) (s : Stock) (sound : SoundStock
     -- each list afterwards
     list-left : (r : Ray g) (k : Kind) → LeftOf g (listsOf spec g s) es r k (listIn spec (cutStock spec s us) (r .0) k)
     unfolding listIn
-    list-left r k = subst (LeftOf g (listsOf spec g s) es r k) (sym (now (r .0) (r .1) k)) (merges-leave g (listsOf spec g s) es (each spec g s sound es) asked (r .0) (r .1) (omega arith) k)
+    list-left r k = subst (LeftOf g (listsOf spec g s) es r k) (sym (now (r .0) (r .1) k)) (merges-leave g (listsOf spec g s) es (each spec g s sound es) d asked (r .0) (r .1) (omega arith) k)
       where
         below : (i : ℕ) (k : Kind) → i < rayCount g → listNumber i k < 2 * rayCount g
         below i possible h = omega (arith, number-possible i)

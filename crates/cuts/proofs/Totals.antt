@@ -20,11 +20,12 @@ use Rattle.runs.specs.Model.{without, sumTo, sumOver, pairs}
 use Rattle.runs.specs.Counts.{startsLeft, hitsOn, pairsLeft}
 use Rattle.runs.specs.Lent.{listIn}
 use Rattle.runs.proofs.Decided.{without-hits}
+use Rattle.runs.proofs.Doubles.{Doubles}
 use Rattle.runs.proofs.Less.{same-list}
 use Rattle.runs.proofs.Starts.{pairs-left}
 use Rattle.runs.proofs.Lent.{list-places, lent-laws}
 use Rattle.cuts.specs.Merges.{LeftOf, Merges, none, same, new}
-use Rattle.cuts.proofs.Asked.{number-possible, number-certain, kept-left}
+use Rattle.cuts.proofs.Asked.{number-possible, number-certain, exact-possible, exact-certain, kept-left}
 
 -- a sum over rays goes by their number
 pub sum-at : (g : DexelGrid) (f : Ray g → ℕ) (i j : ℕ) (h : i ≤ rayCount g) → i ≡ j → (k : j ≤ rayCount g) → sumTo g f i h ≡ sumTo g f j k
@@ -76,28 +77,31 @@ module _ (spec : DexelStockSpec) (g : DexelGrid) (s : Stock) (sound : SoundStock
       (same-list (without g (λ r k. holds (listIn spec s (r .0) k)) es r k) (λ p. holds (listIn spec s (r .0) k) p && not (holds (hitsOn g es r k) p)) l
       (λ p. without-hits g r (λ r k. holds (listIn spec s (r .0) k)) es k p) a)
 
-  totals : {ray m : ℕ} {us : List Update} → Merges g (λ r k. listIn spec s (r .0) k) es ray us m → (h : ray ≤ rayCount g)
-      → sumOver g left + sumTo g old ray h + pairsFreed (spec .«max_intervals») (s .cells) us ≡ sumTo g left ray h + sumOver g old + pairsLaid us
-  totals (none {ray = ray} e) h =
-      omega (arith, sum-at g left ray (rayCount g) h e (le-refl (rayCount g)), sum-at g old ray (rayCount g) h e (le-refl (rayCount g)), freed-nothing (spec .«max_intervals») s, laid-nothing)
-  totals (same {ray = ray} i e t) h =
-      let p = one-pairs (ray, i) possible (listIn spec s ray possible) (kept-left g (λ r k. listIn spec s (r .0) k) es each (ray, i) e possible) in
-      let c = one-pairs (ray, i) certain (listIn spec s ray certain) (kept-left g (λ r k. listIn spec s (r .0) k) es each (ray, i) e certain) in
-      omega (arith, totals t i, sum-next g left ray h i, sum-next g old ray h i, old-is (ray, i) _ _ refl refl, left-is (ray, i) _ _ p c)
-  totals (new {ray = ray} {p = p} {c = c} {us = us} i e a b t) h =
-      let lo = one-pairs (ray, i) possible p a in
-      let hi = one-pairs (ray, i) certain c b in
-      let laid : left (ray, i) ≡ length p / 2 + length c / 2 = left-is (ray, i) (length p / 2) (length c / 2) lo hi in
-      let x : length (listIn spec s ray possible) / 2 ≡ length (placesOf (spec .«max_intervals») (s .cells .links) (s .cells .heads) (2 * ray)) = list-places spec g s ray possible ∙ ap (λ (j : ℕ). length (placesOf (spec .«max_intervals») (s .cells .links) (s .cells .heads) j)) (number-possible ray) in
-      let y : length (listIn spec s ray certain) / 2 ≡ length (placesOf (spec .«max_intervals») (s .cells .links) (s .cells .heads) (2 * ray + 1)) = list-places spec g s ray certain ∙ ap (λ (j : ℕ). length (placesOf (spec .«max_intervals») (s .cells .links) (s .cells .heads) j)) (number-certain ray) in
-      let freed : old (ray, i) ≡ length (placesOf (spec .«max_intervals») (s .cells .links) (s .cells .heads) (2 * ray)) + length (placesOf (spec .«max_intervals») (s .cells .links) (s .cells .heads) (2 * ray + 1)) = old-is (ray, i) _ _ x y in
-      omega (arith, totals t i, sum-next g left ray h i, sum-next g old ray h i, laid, freed, freed-next-two (spec .«max_intervals») s (update (2 * ray) p) (update (2 * ray + 1) c) us, laid-next-two (update (2 * ray) p) (update (2 * ray + 1) c) us)
+  module _ (d : Doubles g (λ r k. listIn spec s (r .0) k) es) where
+    totals : {ray m : ℕ} {us : List Update} → Merges g (λ r k. listIn spec s (r .0) k) es ray us m → (h : ray ≤ rayCount g)
+        → sumOver g left + sumTo g old ray h + pairsFreed (spec .«max_intervals») (s .cells) us ≡ sumTo g left ray h + sumOver g old + pairsLaid us
+    totals (none {ray = ray} e) h =
+        omega (arith, sum-at g left ray (rayCount g) h e (le-refl (rayCount g)), sum-at g old ray (rayCount g) h e (le-refl (rayCount g)), freed-nothing (spec .«max_intervals») s, laid-nothing)
+    totals (same {ray = ray} i e t) h =
+        let p = one-pairs (ray, i) possible (listIn spec s ray possible) (kept-left g (λ r k. listIn spec s (r .0) k) es each d (ray, i) e possible) in
+        let c = one-pairs (ray, i) certain (listIn spec s ray certain) (kept-left g (λ r k. listIn spec s (r .0) k) es each d (ray, i) e certain) in
+        omega (arith, totals t i, sum-next g left ray h i, sum-next g old ray h i, old-is (ray, i) _ _ refl refl, left-is (ray, i) _ _ p c)
+    totals (new {ray = ray} {p = p} {c = c} {us = us} i e x t) h =
+        let a = exact-possible g (λ r k. listIn spec s (r .0) k) es (ray, i) p c x (each (ray, i) possible .isSound) in
+        let b = exact-certain g (λ r k. listIn spec s (r .0) k) es (ray, i) p c x (each (ray, i) certain .isSound) in
+        let lo = one-pairs (ray, i) possible p a in
+        let hi = one-pairs (ray, i) certain c b in
+        let laid : left (ray, i) ≡ length p / 2 + length c / 2 = left-is (ray, i) (length p / 2) (length c / 2) lo hi in
+        let fp : length (listIn spec s ray possible) / 2 ≡ length (placesOf (spec .«max_intervals») (s .cells .links) (s .cells .heads) (2 * ray)) = list-places spec g s ray possible ∙ ap (λ (j : ℕ). length (placesOf (spec .«max_intervals») (s .cells .links) (s .cells .heads) j)) (number-possible ray) in
+        let fc : length (listIn spec s ray certain) / 2 ≡ length (placesOf (spec .«max_intervals») (s .cells .links) (s .cells .heads) (2 * ray + 1)) = list-places spec g s ray certain ∙ ap (λ (j : ℕ). length (placesOf (spec .«max_intervals») (s .cells .links) (s .cells .heads) j)) (number-certain ray) in
+        let freed : old (ray, i) ≡ length (placesOf (spec .«max_intervals») (s .cells .links) (s .cells .heads) (2 * ray)) + length (placesOf (spec .«max_intervals») (s .cells .links) (s .cells .heads) (2 * ray + 1)) = old-is (ray, i) _ _ fp fc in
+        omega (arith, totals t i, sum-next g left ray h i, sum-next g old ray h i, laid, freed, freed-next-two (spec .«max_intervals») s (update (2 * ray) p) (update (2 * ray + 1) c) us, laid-next-two (update (2 * ray) p) (update (2 * ray + 1) c) us)
 
-  -- THE LAW OF THE TOTAL
-  pub total-left : {m : ℕ} {us : List Update} → Merges g (λ r k. listIn spec s (r .0) k) es 0 us m → pairsFreed (spec .«max_intervals») (s .cells) us ≤ s .intervals
-      → s .intervals - pairsFreed (spec .«max_intervals») (s .cells) us + pairsLaid us ≡ pairsLeft g (λ r k. listIn spec s (r .0) k) es
-  unfolding pairsLeft pairs left old sumTo
-  total-left {us = us} t less =
-      let sum = totals t (omega arith) in
-      let now : s .intervals ≡ sumOver g old = lent-laws spec g .all-pairs s sound in
-      omega (arith, sum, now, less)
+    -- THE LAW OF THE TOTAL
+    pub total-left : {m : ℕ} {us : List Update} → Merges g (λ r k. listIn spec s (r .0) k) es 0 us m → pairsFreed (spec .«max_intervals») (s .cells) us ≤ s .intervals
+        → s .intervals - pairsFreed (spec .«max_intervals») (s .cells) us + pairsLaid us ≡ pairsLeft g (λ r k. listIn spec s (r .0) k) es
+    unfolding pairsLeft pairs left old sumTo
+    total-left {us = us} t less =
+        let sum = totals t (omega arith) in
+        let now : s .intervals ≡ sumOver g old = lent-laws spec g .all-pairs s sound in
+        omega (arith, sum, now, less)

@@ -9,7 +9,8 @@ use Rattle.grid.specs.declared.DexelStockSpec.{DexelStockSpec}
 use Rattle.grid.specs.declared.DexelGrid.{DexelGrid}
 use Rattle.store.specs.Updates.{Update, update, applied, pairsFreed, pairsLaid}
 use Rattle.stock.specs.Stock.{Stock}
-use Rattle.runs.specs.Logs.{Ray, Kind, possible, certain, Entry}
+use Rattle.taking.specs.Taking.{Exact}
+use Rattle.runs.specs.Logs.{Ray, Kind, possible, certain, Entry, outer, inner, pairsOn}
 use Rattle.runs.specs.Model.{Sets, without, Changes}
 use Rattle.runs.specs.Lent.{listIn}
 
@@ -21,12 +22,16 @@ setsOf g lists r k = holds (lists r k)
 abbrev pub LeftOf : (g : DexelGrid) → (Ray g → Kind → List Float) → List Entry → Ray g → Kind → List Float → Type 0
 LeftOf g lists es r k l = ListOf (without g (setsOf g lists) es r k) l
 
+-- p and c are both lists of the ray after the log, end by end: they are the sound lists of what it leaves (`exact-left` in proofs)
+abbrev pub ExactOf : (g : DexelGrid) → (Ray g → Kind → List Float) → List Entry → Ray g → (p c : List Float) → Type 0
+ExactOf g lists es r p c = Exact (lists r possible) (lists r certain) (pairsOn g es r outer) (pairsOn g es r inner) p c
+
 -- the updates of the rays from `ray` to the last one, in order, and how many of these rays change
 pub data Merges (g : DexelGrid) (lists : Ray g → Kind → List Float) (es : List Entry) : (ray : ℕ) → List Update → (changed : ℕ) → Type 0 where
   none : {ray : ℕ} → ray ≡ rayCount g → Merges g lists es ray [] 0
   same : {ray m : ℕ} {us : List Update} (h : ray < rayCount g) → ¬ Changes g (setsOf g lists) es (ray, h) → Merges g lists es (suc ray) us m → Merges g lists es ray us m
   new : {ray m : ℕ} {p c : List Float} {us : List Update} (h : ray < rayCount g) → Changes g (setsOf g lists) es (ray, h)
-      → LeftOf g lists es (ray, h) possible p → LeftOf g lists es (ray, h) certain c → Merges g lists es (suc ray) us m
+      → ExactOf g lists es (ray, h) p c → Merges g lists es (suc ray) us m
       → Merges g lists es ray (update (2 * ray) p ∷ update (2 * ray + 1) c ∷ us) (suc m)
 
 -- the stock after an accepted log with these updates: freed first, all of them, then laid in order

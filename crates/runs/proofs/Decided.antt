@@ -26,7 +26,7 @@ use Rattle.runs.proofs.Unique.{count-unique, intervals-unique, interval
 use Rattle.runs.proofs.Meets.{kept-unhit, unhit-points}
 use Rattle.runs.proofs.Starts.{pairs-left}
 use Rattle.runs.proofs.Less.{less, less-list, same-list}
-use Rattle.runs.proofs.Doubles.{less-doubles}
+use Rattle.runs.proofs.Doubles.{Doubles, less-doubles}
 
 -- ---- the points that a log takes, as those of one flat list
 
@@ -124,9 +124,9 @@ module _ (g : DexelGrid) (s : Sets g) (lists : Ray g → Kind → List Float) (e
       )
 
   -- the same where the ends of the lists and of the hits are doubles, by the points alone
-  module _ (dl : (r : Ray g) (k : Kind) → All Double (lists r k)) (dh : (r : Ray g) (k : Kind) → All Double (hitsOn g es r k)) where
+  module _ (d : Doubles g lists es) where
     stays-points : (r : Ray g) (k : Kind) → ((p : Float) → Point p → without g s es r k p ≡ s r k p) → hitBy (lists r k) (hitsOn g es r k) ≡ false
-    stays-points r k f = unhit-points (lists r k) (hitsOn g es r k) (each r k .isSound) (dl r k) (dh r k)
+    stays-points r k f = unhit-points (lists r k) (hitsOn g es r k) (each r k .isSound) (d .of-lists r k) (d .of-hits r k)
         (λ p h. ap (λ (b : Bool). b && not (holds (hitsOn g es r k) p)) (each r k .points p) ∙ sym (without-hits g r s es k p) ∙ f p h ∙ sym (each r k .points p))
 
     pub changes-by : (r : Ray g) → Decides (Changes g s es r) (changesRay g lists es r)
@@ -169,14 +169,13 @@ module _ (g : DexelGrid) (s : Sets g) (lists : Ray g → Kind → List Float) (e
 
   -- where the ends of the lists and of the hits are doubles, the points alone settle this number: whichever sound lists of doubles have the points
   -- of the sets as they would be, it is the number of their pairs
-  pub left-number : ((r : Ray g) (k : Kind) → All Double (lists r k)) → ((r : Ray g) (k : Kind) → All Double (hitsOn g es r k))
-      → {n : ℕ} → Intervals g (without g s es) n → (others : Ray g → Kind → List Float) → ((r : Ray g) (k : Kind) → All Double (others r k))
+  pub left-number : Doubles g lists es → {n : ℕ} → Intervals g (without g s es) n → (others : Ray g → Kind → List Float) → ((r : Ray g) (k : Kind) → All Double (others r k))
       → ((r : Ray g) (k : Kind) → sound (others r k) ≡ true) → ((r : Ray g) (k : Kind) (p : Float) → Point p → holds (others r k) p ≡ without g s es r k p)
       → n ≡ pairs g others
   unfolding intervals-counted
-  left-number dl dh a others d o h =
+  left-number d a others e o h =
       intervals-unique g (without g s es) a intervals-counted
-      ∙ intervals-points g (without g s es) intervals-counted (λ r k. less-doubles (lists r k) (hitsOn g es r k) (dl r k) (dh r k)) others d o h
+      ∙ intervals-points g (without g s es) intervals-counted (λ r k. less-doubles (lists r k) (hitsOn g es r k) (d .of-lists r k) (d .of-hits r k)) others e o h
 
 -- ---- the order
 
@@ -219,7 +218,7 @@ module _ (spec : DexelStockSpec) (g : DexelGrid) (b : Lent) where
       ∷ []
 
   module _ (s : Sets g) (lists : Ray g → Kind → List Float) (each : (r : Ray g) (k : Kind) → ListOf (s r k) (lists r k)) (n : ℕ) (c : Commit)
-      (dl : (r : Ray g) (k : Kind) → All Double (lists r k)) (dh : (r : Ray g) (k : Kind) → All Double (hitsOn g (entries (c .log)) r k)) where
+      (d : Doubles g lists (entries (c .log))) where
     short-by : Decides (Short spec g b c) (ltb (b .records) (spec .«max_intervals») || (ltb (b .heads) (2 * rayCount g) || ltb (c .work) (workNeeded (spec .«max_intervals») (c .log))))
     unfolding Short
     short-by =
@@ -239,7 +238,7 @@ module _ (spec : DexelStockSpec) (g : DexelGrid) (b : Lent) where
     pub rays-by : Decides (TooManyRays g s c) (ltb (c .allowance) (raysChanged g lists (entries (c .log))))
     unfolding TooManyRays
     rays-by =
-        let x = rays-counted g s lists each (entries (c .log)) dl dh in
+        let x = rays-counted g s lists each (entries (c .log)) d in
         let d = less-than (c .allowance) (raysChanged g lists (entries (c .log))) in (
           (λ h. (raysChanged g lists (entries (c .log)), x, d .0 h)),
           (λ h y. d .1 h (subst (λ (m : ℕ). c .allowance < m) (count-unique (y .1) x) (y .2))),
@@ -264,5 +263,5 @@ module _ (spec : DexelStockSpec) (g : DexelGrid) (b : Lent) where
     unfolding Judged
     judged = elim (due-by (causes spec g b ⊥ s n c) (tests lists n c) (changed (raysChanged g lists (entries (c .log)))) all-decided) [
       | inl (k, e, x) ↦ subst (λ (a : Answer). Judged spec g b ⊥ s n c a) (sym e) x
-      | inr (e, x) ↦ subst (λ (a : Answer). Judged spec g b ⊥ s n c a) (sym e) (x, rays-counted g s lists each (entries (c .log)) dl dh)
+      | inr (e, x) ↦ subst (λ (a : Answer). Judged spec g b ⊥ s n c a) (sym e) (x, rays-counted g s lists each (entries (c .log)) d)
     ]

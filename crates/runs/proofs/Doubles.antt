@@ -63,6 +63,18 @@ module _ (g : DexelGrid) (log : List Float) (d : DoubleCells log) (r : Ray g) wh
   hits-doubles possible = pairs-doubles inner
   hits-doubles certain = all-append Double (pairsOn g (entries log) r outer) (pairsOn g (entries log) r inner) (pairs-doubles outer) (pairs-doubles inner)
 
+-- ---- both
+
+-- each end of a list, and of a hit on its ray, is a double
+pub record Doubles (g : DexelGrid) (lists : Ray g → Kind → List Float) (es : List Entry) : Type 0 where
+  pub of-lists : (r : Ray g) (k : Kind) → All Double (lists r k)
+  pub of-hits : (r : Ray g) (k : Kind) → All Double (hitsOn g es r k)
+
+-- so it is where a store and a log stand in slices of doubles
+pub all-doubles : (spec : DexelStockSpec) (g : DexelGrid) (s : Stock) (log : List Float) → DoubleCells (s .cells .spans) → DoubleCells log
+    → Doubles g (λ r k. listIn spec s (r .0) k) (entries log)
+all-doubles spec g s log ds dl = record { of-lists = λ r k. list-doubles spec s ds (r .0) k; of-hits = hits-doubles g log dl }
+
 -- ---- what hits leave of a list
 
 one-of : (b : Bool) (x y : Float) → Double x → Double y → Double (cond b x y)

@@ -33,7 +33,7 @@ use Rattle.filling.specs.Uncut.{uncut as uncutCells, uncutSpans, uncutLinks, un
 use Rattle.runs.specs.Lent.{listIn, lentStore}
 use Rattle.runs.proofs.Unique.{judged-unsound}
 use Rattle.runs.proofs.Less.{less}
-use Rattle.runs.proofs.Doubles.{DoubleCells, list-doubles, hits-doubles}
+use Rattle.runs.proofs.Doubles.{DoubleCells, all-doubles}
 use Rattle.runs.proofs.Decided.{tests, answerBy, judged, left-list}
 use Rattle.runs.proofs.Lent.{lent-laws, demand3-lent}
 use Rattle.runs.proofs.Plain.{Plain, Valid, answers, final}
@@ -57,10 +57,10 @@ unfolding fits
 all-fit [] = true
 all-fit (x ∷ l) = fits binary64 x && all-fit l
 
-all-doubles : (l : List Float) → all-fit l ≡ true → All Double l
+fit-doubles : (l : List Float) → all-fit l ≡ true → All Double l
 unfolding all-fit
-all-doubles [] h = tt
-all-doubles (x ∷ l) h = (subst T (sym (and-left (fits binary64 x) (all-fit l) h)) tt, all-doubles l (and-right (fits binary64 x) (all-fit l) h))
+fit-doubles [] h = tt
+fit-doubles (x ∷ l) h = (subst T (sym (and-left (fits binary64 x) (all-fit l) h)) tt, fit-doubles l (and-right (fits binary64 x) (all-fit l) h))
 
 cells-doubles : (l : List Float) → All Double l → DoubleCells l
 unfolding fits
@@ -69,7 +69,7 @@ cells-doubles (x ∷ l) d zero = d .0
 cells-doubles (x ∷ l) d (suc i) = cells-doubles l (d .1) i
 
 by-fit : (l : List Float) → all-fit l ≡ true → DoubleCells l
-by-fit l h = cells-doubles l (all-doubles l h)
+by-fit l h = cells-doubles l (fit-doubles l h)
 
 -- ---- a run on full rays. The log hits the ray along axis 1, which is ray 1.
 
@@ -78,7 +78,7 @@ uncut n = record { lists = λ r k. num 0 ∷ num 10 ∷ []; generation = 0; lent
 
 full : (n : ℕ) → Valid grid (uncut n)
 unfolding sound lt ofInt all-fit fits
-full n = record { isSound = λ r k. refl; doubles = λ r k. all-doubles (num 0 ∷ num 10 ∷ []) refl; within = λ r p t. t }
+full n = record { isSound = λ r k. refl; doubles = λ r k. fit-doubles (num 0 ∷ num 10 ∷ []) refl; within = λ r p t. t }
 
 -- the ray changes once; the same log again is accepted and changes nothing, even with no ray allowed
 twice : answers (box 8) grid (uncut 8) (commit 0 1 66 ∷ commit 0 0 66 ∷ []) ≡ changed 1 ∷ changed 0 ∷ []
@@ -283,7 +283,7 @@ module _ (s : Stock) (S : SoundStock (box 8) grid s) (ds : DoubleCells (s .cells
   judged-on a e = judged-unsound (box 8) grid (lentStore (box 8) grid .lent s) (¬ SoundStock (box 8) grid s) (λ n. n S) (points grid (lentStore (box 8) grid) s) (s .generation) c a
       (subst (λ (b : Answer). Judged (box 8) grid (lentStore (box 8) grid .lent s) ⊥ (points grid (lentStore (box 8) grid) s) (s .generation) c b) e
       (judged (box 8) grid (lentStore (box 8) grid .lent s) (points grid (lentStore (box 8) grid) s) (λ r k. listIn (box 8) s (r .0) k) lists-on (s .generation) c
-      (λ r k. list-doubles (box 8) s ds (r .0) k) (hits-doubles grid (c .log) dc)))
+      (all-doubles (box 8) grid s (c .log) ds dc)))
 
   refuses : (k : ℕ) → answer-on s c ≡ refused k → Committed (box 8) grid (lentStore (box 8) grid) s c (refused k) s
   unfolding Left

@@ -6,11 +6,10 @@ use mathlib.Core.Logic.{inl, inr, _↔_}
 use lib.Ieee.{Float, lt, le}
 use Rattle.doubles.proofs.Bools.{or-cases, or-left, or-right, and-left, and-right, both, by-cases, clash}
 use Rattle.doubles.proofs.Order.{lt-number, le-number, le-refl, lt→le, not-lt→le, le-lt-trans}
-use Rattle.spans.specs.Spans.{All, within, holds, rising, sound}
-use Rattle.spans.specs.Spans.{Double, Point, Apart}
+use Rattle.spans.specs.Spans.{All, Double, Point, within, holds, rising, sound, equal, ListOf, Apart}
 use Rattle.doubles.specs.Doubles.{Number}
 use Rattle.spans.proofs.Ends.{rising-tail, rising-above}
-use Rattle.spans.proofs.Sets.{sound-rising}
+use Rattle.spans.proofs.Sets.{sound-rising, equal-holds, same-set}
 use Rattle.runs.specs.Counts.{meets, hitBy}
 
 -- two pairs that meet have a point in common, which is a lo of one of them
@@ -126,3 +125,13 @@ kept-unhit l hits s = (to, from)
       | inl x ↦ both (holds l p) (not (holds hits p)) x (ap not (no-hit l hits t p x)) ∙ sym x
       | inr x ↦ ap (λ (b : Bool). b && not (holds hits p)) x ∙ sym x
     ]
+
+-- a boundary of a sound list moves exactly when a hit has a point of it
+pub moves-hit : (l hits m : List Float) → sound l ≡ true → ListOf (λ p. holds l p && not (holds hits p)) m → not (equal l m) ≡ hitBy l hits
+moves-hit l hits m s k = elim (by-cases (equal l m)) [
+  | inl e ↦ ap not e ∙ sym (kept-unhit l hits s .0 (λ p. sym (k .points p) ∙ sym (equal-holds l m e p)))
+  | inr e ↦ elim (by-cases (hitBy l hits)) [
+    | inl t ↦ ap not e ∙ sym t
+    | inr t ↦ absurd (clash (equal l m) (same-set l m s (k .isSound) (λ p n. sym (kept-unhit l hits s .1 t p) ∙ sym (k .points p))) e)
+  ]
+]

@@ -16,7 +16,7 @@ use Rattle.runs.specs.Counts.{hitsOn, raysChanged}
 use Rattle.runs.specs.Runs.{Reading, Lawful, points, Cut, Left, Committed, Run, done, next}
 use Rattle.runs.proofs.Unique.{judged-unsound}
 use Rattle.runs.proofs.Less.{less}
-use Rattle.runs.proofs.Doubles.{DoubleCells, hits-doubles, less-doubles}
+use Rattle.runs.proofs.Doubles.{DoubleCells, Doubles, hits-doubles, less-doubles}
 use Rattle.runs.proofs.Decided.{tests, answerBy, judged, left-list}
 
 pub record Plain (g : DexelGrid) : Type 0 where
@@ -127,7 +127,8 @@ module _ (spec : DexelStockSpec) (g : DexelGrid) where
     unfolding answer
     committed = record {
       answers = judged-unsound spec g (s .lent) (¬ Valid g s) (λ n. n v) (points g (plain g) s) (s .generation) c (answer s c)
-          (judged spec g (s .lent) (points g (plain g) s) (s .lists) listed (s .generation) c (v .doubles) (hits-doubles g (c .log) d));
+          (judged spec g (s .lent) (points g (plain g) s) (s .lists) listed (s .generation) c
+          (record { of-lists = v .doubles; of-hits = hits-doubles g (c .log) d }));
       leaves = leaves (answer s c);
     }
 

@@ -2,46 +2,35 @@
 use mathlib.Core.Path.{_≡_, refl, sym, ap, ap₂, _∙_, subst}
 use mathlib.Core.Bool.{Bool, true, false, cond, not, _&&_, _||_}
 use mathlib.Core.List.{List, _∷_}
-use mathlib.Core.Logic.{inl, inr}
 use Prim.Native.Nat.{ℕ, zero, suc, _+_, _-_, _*_, _/_, _%_, _≤_, _<_}
 use native.Mathlib.Omega.{arith}
 use lib.ListN.{length, take, drop, getD, set, length-append, length-drop, length-set}
 use native.Mathlib.Numerals.{add-one}
 use lib.Seq.{take-at, sets, sets-eq, length-sets}
 use lib.Ieee.{Float, nan, le, lt}
-use Rattle.doubles.proofs.Bools.{by-cases, clash}
-use Rattle.spans.specs.Spans.{holds, sound}
-use Rattle.taking.specs.Taking.{Moves, Spared, eitherHit, cellsOf}
+use Rattle.spans.specs.Spans.{holds, sound, ListOf}
+use Rattle.taking.specs.Taking.{Spared, eitherHit, cellsOf}
 use Rattle.taking.specs.Steps.{Given, Lists, newList}
 use Rattle.taking.specs.declared.Part.{Part}
 use Rattle.taking.specs.declared.Parts.{Parts}
 use Rattle.lists.specs.Reading.{Copied}
-use Rattle.runs.specs.Counts.{hitBy}
-use Rattle.runs.proofs.Meets.{kept-unhit}
+use Rattle.runs.proofs.Meets.{moves-hit}
 use Rattle.runs.proofs.Starts.{pairs-left}
 use Rattle.log_hits.specs.Hits.{alikeAt, hitsFrom, takenFrom}
 use Rattle.log_hits.proofs.Any.{holds-any}
 use Rattle.log_hits.proofs.Taken.{taken-any}
 use Rattle.trial.specs.Trial.{likeFrom, Starts, Told, Tried, Holds}
 
--- a list moves exactly when a hit has a point of it
-moves-hit : (l hits : List Float) → sound l ≡ true → (hit : Float → Bool) → ((p : Float) → hit p ≡ holds hits p) → (m : Bool) → Moves l hit m → m ≡ hitBy l hits
-moves-hit l hits s hit same true (p, a, b) = elim (by-cases (hitBy l hits)) [
-  | inl t ↦ sym t
-  | inr f ↦ absurd (clash (holds l p && not (holds hits p)) (kept-unhit l hits s .1 f p ∙ a) (ap₂ (λ (x y : Bool). x && not y) a (sym (same p) ∙ b)))
-]
-moves-hit l hits s hit same false f = sym (kept-unhit l hits s .0 (λ p. go p (holds l p) refl))
-  where
-    go : (p : Float) (b : Bool) → holds l p ≡ b → (b && not (holds hits p)) ≡ b
-    go p true e = ap not (sym (same p) ∙ f p e)
-    go p false e = refl
-
+-- what becomes of a list, told from the list and the hits alone
 pub told : (l hits m : List Float) (part : Part) → sound l ≡ true → (hit : Float → Bool) → ((p : Float) → hit p ≡ holds hits p) → Spared l hit part m → Told l hits part
 told l hits m part s hit same k = record {
-  moved = moves-hit l hits s hit same (part .moved) (k .moves);
-  pairs = half (part .pairs) (length m) (k .pairs) ∙ pairs-left l hits m s (record { isSound = k .list .isSound; points = λ p. k .list .points p ∙ ap (λ (b : Bool). holds l p && not b) (same p) });
+  moved = k .moves ∙ moves-hit l hits m s left;
+  pairs = half (part .pairs) (length m) (k .pairs) ∙ pairs-left l hits m s left;
 }
   where
+    left : ListOf (λ p. holds l p && not (holds hits p)) m
+    left = record { isSound = k .list .isSound; points = λ p. k .list .points p ∙ ap (λ (b : Bool). holds l p && not b) (same p) }
+
     half : (x n : ℕ) → n ≡ 2 * x → x ≡ n / 2
     half x n e = omega arith
 
