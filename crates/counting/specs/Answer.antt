@@ -17,12 +17,18 @@ use Rattle.logs.specs.Named.{EachNamed}
 use Rattle.counting.specs.declared.Budgets.{Budgets}
 use Rattle.counting.specs.declared.Budgets.the-variants.{Kept, Rays, Intervals}
 
--- `Rays` is document 01's 9, one more changed ray than allowed; `Intervals` its 10, intervals after the commit above `max_intervals`; 9 comes first
-unfoldable pub budgetOf : (allowance intervals changed left : ℕ) → Budgets
-budgetOf allowance intervals changed left = cond (ltb allowance changed) Rays (cond (ltb intervals left) Intervals Kept)
+-- document 01's number of each answer; 0 where there is none
+abbrev pub numberOf : Budgets → ℕ
+numberOf Kept = 0
+numberOf Rays = 9
+numberOf Intervals = 10
+
+-- 9: one more changed ray than allowed; 10: intervals after the commit above `max_intervals`; 9 comes first
+unfoldable pub budgetOf : (allowance intervals changed left : ℕ) → ℕ
+budgetOf allowance intervals changed left = cond (ltb allowance changed) 9 (cond (ltb intervals left) 10 0)
 
 -- the same of a log on a store: the rays that it would change, and the pairs of all lists as they would then be
-abbrev pub budgetIn : (spec : DexelStockSpec) (g : DexelGrid) → Cells → (log : List Float) (allowance : ℕ) → Budgets
+abbrev pub budgetIn : (spec : DexelStockSpec) (g : DexelGrid) → Cells → (log : List Float) (allowance : ℕ) → ℕ
 budgetIn spec g c log allowance = budgetOf allowance (spec .«max_intervals») (raysChanged g (listsIn spec g c) (entries log)) (pairsLeft g (listsIn spec g c) (entries log))
 
 -- a log whose entries each name a ray, on a sound store with room

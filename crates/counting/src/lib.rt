@@ -6,7 +6,7 @@ ghost use Prim.Native.Nat.{_+_, _-_, _*_, _^_, _≤_, _<_};
 ghost use Rattle.grid.specs.Rays.{rayCount};
 ghost use Rattle.store.specs.Updates.{cells};
 ghost use Rattle.runs.specs.Logs.{entries, entryCount};
-ghost use Rattle.counting.specs.Answer.{budgetIn, Countable, Counting};
+ghost use Rattle.counting.specs.Answer.{numberOf, budgetIn, Countable, Counting};
 ghost use Rattle.counting.specs.Totals.{pairsOf, Counts, Totalled};
 ghost use Rattle.entry_order.specs.Places.{RunOf, Ascending};
 use grid::DexelGrid;
@@ -144,7 +144,7 @@ fn count_all(
     allowance: u64,
 ) -> Budgets
     requires { ⌜ Countable spec g (cells (now spans) (now links) (now heads)) intervals (now log) ⌝ }
-    ensures { λ r. ⌜ r ≡ budgetIn spec g (cells (now (spans .entry)) (now (links .entry)) (now (heads .entry))) (now (log .entry)) allowance ⌝ }
+    ensures { λ r. ⌜ numberOf r ≡ budgetIn spec g (cells (now (spans .entry)) (now (links .entry)) (now (heads .entry))) (now (log .entry)) allowance ⌝ }
 {
     let n = log.len() / 6;
     let ascending = entry_order::ascends(g, log);
@@ -193,7 +193,7 @@ pub fn budget(
     allowance: u64,
 ) -> Budgets
     requires { ⌜ Countable spec g (cells (now spans) (now links) (now heads)) intervals (now log) ⌝ }
-    ensures { λ r. ⌜ r ≡ budgetIn spec g (cells (now (spans .entry)) (now (links .entry)) (now (heads .entry))) (now (log .entry)) allowance ⌝ }
+    ensures { λ r. ⌜ numberOf r ≡ budgetIn spec g (cells (now (spans .entry)) (now (links .entry)) (now (heads .entry))) (now (log .entry)) allowance ⌝ }
 {
     let entries = (log.len() / 6) as u64;
     if allows_all(g, entries, allowance) {

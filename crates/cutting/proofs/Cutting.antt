@@ -15,6 +15,7 @@ use Rattle.stock.specs.Stock.{Stock}
 use Rattle.runs.specs.Logs.{entries, entryCount}
 use Rattle.runs.specs.Counts.{pairsLeft}
 use Rattle.runs.specs.Lent.{listIn, listsIn}
+use Rattle.runs.proofs.Doubles.{DoubleCells, Doubles, all-doubles}
 use Rattle.grouping.specs.Groups.{Groups}
 use Rattle.laying.specs.Updates.{updatesFrom, listsEnd}
 use Rattle.laying.specs.Steps.{AllFreeable, EachLayable, RaysLayable}
@@ -59,17 +60,21 @@ module _ (spec : DexelStockSpec) (g : DexelGrid) (c : Cells) (log w : List Float
     asked : Merges g (listsOf spec g some) (entries log) 0 us m
     asked = merged .merges some refl
 
-    in-order : Ascending (2 * rayCount g) 0 us
-    in-order = ascend spec g some (ready .sound) (ready .room) (entries log) us m asked
+    module _ (ds : DoubleCells (c .spans)) (dl : DoubleCells log) where
+      doubles : Doubles g (listsOf spec g some) (entries log)
+      doubles = all-doubles spec g some log ds dl
 
-    fits : ready .total - pairsFreed (spec .«max_intervals») c us + pairsLaid us ≤ spec .«max_intervals»
-    fits = omega (arith, intervals-left spec g some (ready .sound) (ready .room) (entries log) us m asked, few)
+      in-order : Ascending (2 * rayCount g) 0 us
+      in-order = ascend spec g some (ready .sound) (ready .room) (entries log) doubles us m asked
 
-    -- each update finds room once all lists are freed
-    each : EachLayable (spec .«max_intervals») (freedAll (spec .«max_intervals») c us) us
-    each =
-        let f : FreedAll (spec .«max_intervals») (2 * rayCount g) (ready .total) c us (freedAll (spec .«max_intervals») c us) = freed-all (ready .sound .store) (ready .room) in-order in
-        each-layable (f .isSound (ready .total - pairsFreed (spec .«max_intervals») c us) (omega (arith, f .fewer))) (kept-room (f .kept) (ready .room)) in-order (all-empty (ready .sound .store) (ready .room) in-order) fits
+      fits : ready .total - pairsFreed (spec .«max_intervals») c us + pairsLaid us ≤ spec .«max_intervals»
+      fits = omega (arith, intervals-left spec g some (ready .sound) (ready .room) (entries log) doubles us m asked, few)
+
+      -- each update finds room once all lists are freed
+      each : EachLayable (spec .«max_intervals») (freedAll (spec .«max_intervals») c us) us
+      each =
+          let f : FreedAll (spec .«max_intervals») (2 * rayCount g) (ready .total) c us (freedAll (spec .«max_intervals») c us) = freed-all (ready .sound .store) (ready .room) in-order in
+          each-layable (f .isSound (ready .total - pairsFreed (spec .«max_intervals») c us) (omega (arith, f .fewer))) (kept-room (f .kept) (ready .room)) in-order (all-empty (ready .sound .store) (ready .room) in-order) fits
 
     module _ (rays : ℕ) (e : rays ≡ rayCount g) where
       us-is : updatesFrom w₂ (rays + length log / 6) (rays + length log / 6 + 2 * rays) 0 rays ≡ us
@@ -97,11 +102,11 @@ module _ (spec : DexelStockSpec) (g : DexelGrid) (c : Cells) (log w : List Float
         d-is : d ≡ freedAll (spec .«max_intervals») c us
         d-is = freed (rays + length log / 6 + 2 * rays) ∙ ap (freedAll (spec .«max_intervals») c) us-is
 
-        pub layable : RaysLayable (spec .«max_intervals») d w₂ (rays + length log / 6) 0 rays (record { from = 0; at = rays + length log / 6 + 2 * rays })
-        layable = record {
+        pub layable : DoubleCells (c .spans) → DoubleCells log → RaysLayable (spec .«max_intervals») d w₂ (rays + length log / 6) 0 rays (record { from = 0; at = rays + length log / 6 + 2 * rays })
+        layable ds dl = record {
           in-sizes = omega (arith, sizes-room);
           in-lists = omega (arith, end-is, merged .ends);
-          each = subst (EachLayable (spec .«max_intervals») d) (sym us-is) (subst (λ (x : Cells). EachLayable (spec .«max_intervals») x us) (sym d-is) each);
+          each = subst (EachLayable (spec .«max_intervals») d) (sym us-is) (subst (λ (x : Cells). EachLayable (spec .«max_intervals») x us) (sym d-is) (each ds dl));
           cursor = no-cursor (spec .«max_intervals») d;
         }
 

@@ -1,5 +1,5 @@
 -- Which number is due after each test of a log commit.
-use mathlib.Core.Path.{_≡_, refl, sym, ap, _∙_}
+use mathlib.Core.Path.{_≡_, refl, sym, ap, ap₂, _∙_}
 use mathlib.Core.Bool.{Bool, true, false, not, cond, _||_}
 use mathlib.Core.List.{List}
 use mathlib.Core.Logic.{inl, inr}
@@ -24,52 +24,53 @@ use Rattle.runs.specs.Counts.{raysChanged, pairsLeft}
 use Rattle.runs.specs.Runs.{points}
 use Rattle.runs.specs.Lent.{listIn, listsIn, lentStore}
 use Rattle.runs.proofs.Decided.{rays-by, intervals-by}
+use Rattle.runs.proofs.Doubles.{Doubles}
 use Rattle.runs.proofs.Lent.{lent-laws}
 use Rattle.logs.specs.Named.{EachNamed, NamesAll}
 use Rattle.logs.proofs.Places.{each-no}
 use Rattle.cuts.specs.Merges.{listsOf}
-use Rattle.counting.specs.Answer.{budgetOf}
+use Rattle.counting.specs.Answer.{numberOf, budgetOf}
 use Rattle.counting.specs.declared.Budgets.{Budgets}
 use Rattle.counting.specs.declared.Budgets.the-variants.{Kept, Rays, Intervals}
 use Rattle.judging.specs.Tests.{commitOf, Passes, logCauses, Tested}
 
 -- ---- what `budget` says
 module _ (a n c l : ℕ) where
-  by-rays : (t : Bool) → ltb a c ≡ t → (u : Bool) → ltb n l ≡ u → budgetOf a n c l ≡ cond t Rays (cond u Intervals Kept)
+  by-rays : (t : Bool) → ltb a c ≡ t → (u : Bool) → ltb n l ≡ u → budgetOf a n c l ≡ cond t 9 (cond u 10 0)
   unfolding budgetOf
-  by-rays t e u f = ap (λ (t : Bool). cond t Rays (cond (ltb n l) Intervals Kept)) e ∙ ap (λ (u : Bool). cond t Rays (cond u Intervals Kept)) f
+  by-rays t e u f = ap₂ (λ (t u : Bool). cond t 9 (cond u 10 0)) e f
 
-  no-rays : Rays ≡ Kept → ⊥
-  no-rays e = let z : _≡_ {A = ℕ} 0 1 = cc in omega arith
+  nine-ten : _≡_ {A = ℕ} 9 10 → ⊥
+  nine-ten e = omega arith
 
-  no-intervals : Intervals ≡ Kept → ⊥
-  no-intervals e = let z : _≡_ {A = ℕ} 0 1 = cc in omega arith
+  nine-none : _≡_ {A = ℕ} 9 0 → ⊥
+  nine-none e = omega arith
 
-  other : Rays ≡ Intervals → ⊥
-  other e = let z : _≡_ {A = ℕ} 0 1 = cc in omega arith
+  ten-none : _≡_ {A = ℕ} 10 0 → ⊥
+  ten-none e = omega arith
 
-  pub rays-passed : Rays ≡ budgetOf a n c l → ltb a c ≡ true
+  pub rays-passed : 9 ≡ budgetOf a n c l → ltb a c ≡ true
   rays-passed e = go (ltb a c) refl (ltb n l) refl
     where
       go : (t : Bool) → ltb a c ≡ t → (u : Bool) → ltb n l ≡ u → ltb a c ≡ true
       go true p u q = p
-      go false p true q = absurd (other (e ∙ by-rays false p true q))
-      go false p false q = absurd (no-rays (e ∙ by-rays false p false q))
+      go false p true q = absurd (nine-ten (e ∙ by-rays false p true q))
+      go false p false q = absurd (nine-none (e ∙ by-rays false p false q))
 
-  pub intervals-passed : Intervals ≡ budgetOf a n c l → (ltb a c ≡ false) × (ltb n l ≡ true)
+  pub intervals-passed : 10 ≡ budgetOf a n c l → (ltb a c ≡ false) × (ltb n l ≡ true)
   intervals-passed e = go (ltb a c) refl (ltb n l) refl
     where
       go : (t : Bool) → ltb a c ≡ t → (u : Bool) → ltb n l ≡ u → (ltb a c ≡ false) × (ltb n l ≡ true)
-      go true p u q = absurd (other (sym (e ∙ by-rays true p u q)))
+      go true p u q = absurd (nine-ten (sym (e ∙ by-rays true p u q)))
       go false p true q = (p, q)
-      go false p false q = absurd (no-intervals (e ∙ by-rays false p false q))
+      go false p false q = absurd (ten-none (e ∙ by-rays false p false q))
 
-  pub both-kept : Kept ≡ budgetOf a n c l → (ltb a c ≡ false) × (ltb n l ≡ false)
+  pub both-kept : 0 ≡ budgetOf a n c l → (ltb a c ≡ false) × (ltb n l ≡ false)
   both-kept e = go (ltb a c) refl (ltb n l) refl
     where
       go : (t : Bool) → ltb a c ≡ t → (u : Bool) → ltb n l ≡ u → (ltb a c ≡ false) × (ltb n l ≡ false)
-      go true p u q = absurd (no-rays (sym (e ∙ by-rays true p u q)))
-      go false p true q = absurd (no-intervals (sym (e ∙ by-rays false p true q)))
+      go true p u q = absurd (nine-none (sym (e ∙ by-rays true p u q)))
+      go false p true q = absurd (ten-none (sym (e ∙ by-rays false p true q)))
       go false p false q = (p, q)
 
 -- ---- the causes one after the other
@@ -164,28 +165,28 @@ module _ (spec : DexelStockSpec) (g : DexelGrid) (s : Stock) (log : List Float) 
           unfolding listIn
           same-pairs = refl
 
-          module _ (b : Budgets) (e : b ≡ budgetOf allowance (spec .«max_intervals») (raysChanged g (listsIn spec g (s .cells)) (entries log)) (pairsLeft g (listsIn spec g (s .cells)) (entries log))) where
+          module _ (b : Budgets) (e : numberOf b ≡ budgetOf allowance (spec .«max_intervals») (raysChanged g (listsIn spec g (s .cells)) (entries log)) (pairsLeft g (listsIn spec g (s .cells)) (entries log))) where
             -- 9
-            pub rays-due : b ≡ Rays → Tested spec g s log allowance work 9
+            pub rays-due : Doubles g (listsOf spec g s) (entries log) → b ≡ Rays → Tested spec g s log allowance work 9
             unfolding causes Due
-            rays-due h =
-                let t = rays-passed allowance (spec .«max_intervals») (raysChanged g (listsIn spec g (s .cells)) (entries log)) (pairsLeft g (listsIn spec g (s .cells)) (entries log)) (sym h ∙ e) in
-                let d = rays-by spec g (lentStore spec g .lent s) (points g (lentStore spec g) s) (listsOf spec g s) (lists sound) (s .generation) (commitOf log allowance work) in
+            rays-due o h =
+                let t = rays-passed allowance (spec .«max_intervals») (raysChanged g (listsIn spec g (s .cells)) (entries log)) (pairsLeft g (listsIn spec g (s .cells)) (entries log)) (sym (ap numberOf h) ∙ e) in
+                let d = rays-by spec g (lentStore spec g .lent s) (points g (lentStore spec g) s) (listsOf spec g s) (lists sound) (s .generation) (commitOf log allowance work) o in
                 refused-by 8 (inr (enough room w, inr (good whole sound, inr (below, inr (each-no g log named, inl (d .0 (ap (ltb allowance) (sym same-rays) ∙ t), refl))))))
 
             -- 10
-            pub intervals-due : b ≡ Intervals → Tested spec g s log allowance work 10
+            pub intervals-due : Doubles g (listsOf spec g s) (entries log) → b ≡ Intervals → Tested spec g s log allowance work 10
             unfolding causes Due
-            intervals-due h =
-                let t = intervals-passed allowance (spec .«max_intervals») (raysChanged g (listsIn spec g (s .cells)) (entries log)) (pairsLeft g (listsIn spec g (s .cells)) (entries log)) (sym h ∙ e) in
-                let d = rays-by spec g (lentStore spec g .lent s) (points g (lentStore spec g) s) (listsOf spec g s) (lists sound) (s .generation) (commitOf log allowance work) in
-                let i = intervals-by spec g (lentStore spec g .lent s) (points g (lentStore spec g) s) (listsOf spec g s) (lists sound) (s .generation) (commitOf log allowance work) in
+            intervals-due o h =
+                let t = intervals-passed allowance (spec .«max_intervals») (raysChanged g (listsIn spec g (s .cells)) (entries log)) (pairsLeft g (listsIn spec g (s .cells)) (entries log)) (sym (ap numberOf h) ∙ e) in
+                let d = rays-by spec g (lentStore spec g .lent s) (points g (lentStore spec g) s) (listsOf spec g s) (lists sound) (s .generation) (commitOf log allowance work) o in
+                let i = intervals-by spec g (lentStore spec g .lent s) (points g (lentStore spec g) s) (listsOf spec g s) (lists sound) (s .generation) (commitOf log allowance work) o in
                 refused-by 9 (inr (enough room w, inr (good whole sound, inr (below, inr (each-no g log named, inr (d .1 (ap (ltb allowance) (sym same-rays) ∙ t .0), inl (i .0 (ap (ltb (spec .«max_intervals»)) (sym same-pairs) ∙ t .1), refl)))))))
 
             -- none
             pub all-passed : s .generation < 2 ^ 64 → b ≡ Kept → Tested spec g s log allowance work 0
             all-passed fits h =
-                let t = both-kept allowance (spec .«max_intervals») (raysChanged g (listsIn spec g (s .cells)) (entries log)) (pairsLeft g (listsIn spec g (s .cells)) (entries log)) (sym h ∙ e) in
+                let t = both-kept allowance (spec .«max_intervals») (raysChanged g (listsIn spec g (s .cells)) (entries log)) (pairsLeft g (listsIn spec g (s .cells)) (entries log)) (sym (ap numberOf h) ∙ e) in
                 record {
                   passed = λ z. record {
                     room = room;
@@ -204,11 +205,11 @@ module _ (spec : DexelStockSpec) (g : DexelGrid) (s : Stock) (log : List Float) 
                 under n h ne = omega arith
 
   -- no cause is present where every test is passed
-  pub passes-none : Passes spec g s log allowance work → NoneDue (logCauses spec g s (commitOf log allowance work))
+  pub passes-none : Doubles g (listsOf spec g s) (entries log) → Passes spec g s log allowance work → NoneDue (logCauses spec g s (commitOf log allowance work))
   unfolding causes NoneDue
-  passes-none p =
-      let d = rays-by spec g (lentStore spec g .lent s) (points g (lentStore spec g) s) (listsOf spec g s) (lists (p .sound)) (s .generation) (commitOf log allowance work) in
-      let i = intervals-by spec g (lentStore spec g .lent s) (points g (lentStore spec g) s) (listsOf spec g s) (lists (p .sound)) (s .generation) (commitOf log allowance work) in (
+  passes-none o p =
+      let d = rays-by spec g (lentStore spec g .lent s) (points g (lentStore spec g) s) (listsOf spec g s) (lists (p .sound)) (s .generation) (commitOf log allowance work) o in
+      let i = intervals-by spec g (lentStore spec g .lent s) (points g (lentStore spec g) s) (listsOf spec g s) (lists (p .sound)) (s .generation) (commitOf log allowance work) o in (
         enough (p .room) (p .work-room),
         (
           good (p .whole) (p .sound),

@@ -7,7 +7,7 @@ use borrow.Rule.Slice.PartMut.{putMid}
 use lib.ListN.{length, getD, take, drop, length-append, length-drop, List·getD-append}
 use lib.Seq.{length-take-le, getD-take, take-all, take-at, drop-at}
 use lib.Ieee.{Float, nan}
-use Rattle.spans.specs.Spans.{holds, ListOf}
+use Rattle.spans.specs.Spans.{NormalOf}
 use Rattle.spans.specs.Steps.{Filled}
 use Rattle.grid.specs.Rays.{rayCount}
 use Rattle.grid.specs.declared.DexelStockSpec.{DexelStockSpec}
@@ -53,7 +53,7 @@ module _ (l before : List Float) (at : ℕ) (after : List Float) (r : ℕ) (fit 
 
 -- hits that were copied, then made their sound list in the part from their place on
 pub hits-brought : (hits before w ys : List Float) (at e r : ℕ) → at + length hits ≤ length before → Copied hits before at w e
-    → length ys ≡ length (take (length w - at) (drop at w)) → Filled (holds (take (e - at) (take (length w - at) (drop at w)))) (take (length w - at) (drop at w)) (e - at) ys r
+    → length ys ≡ length (take (length w - at) (drop at w)) → Filled (NormalOf (take (e - at) (take (length w - at) (drop at w)))) (take (length w - at) (drop at w)) (e - at) ys r
     → Normal hits at before (putMid at (length w - at) w ys) r
 hits-brought hits before w ys at e r fit c size f =
     let p = copied-placed hits before at w e fit c in
@@ -84,7 +84,7 @@ module _ (possible certain outers inners : List Float) (s : ℕ) (w w₁ w₂ w�
     possibleIs = kept-in s (length possible) (omega arith) (omega arith)
         ∙ part-kept (s + length possible) s (length possible) w₁ w₂ (omega arith) (omega (arith, p .size)) (c .size) (c .front) ∙ p .cells;
     certainIs = kept-in (s + length possible) (length certain) (omega arith) (omega arith) ∙ c .cells;
-    outerHits = subst (ListOf (holds outers))
+    outerHits = subst (NormalOf outers)
         (sym (part-kept (s + length possible + length certain + no) (s + length possible + length certain) no w₃ w₄ (omega arith) (omega (arith, o .most, o .size, c .size, p .size)) (i .size) (i .front))) (o .list);
     innerHits = i .list;
   }

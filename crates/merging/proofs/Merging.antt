@@ -20,6 +20,7 @@ use Rattle.runs.specs.Logs.{Ray, Kind, possible, certain, Entry, entries, entry
 use Rattle.runs.specs.Model.{sumTo}
 use Rattle.runs.specs.Counts.{startsLeft, hitsOn, pairsLeft}
 use Rattle.runs.specs.Lent.{listIn}
+use Rattle.runs.proofs.Doubles.{DoubleCells, Doubles, all-doubles}
 use Rattle.numbers.specs.Numbers.{numberCell, numberAt, largestNumber}
 use Rattle.numbers.proofs.Cells.{number-put, number-same}
 use Rattle.laying.specs.Updates.{firstSize, possibleCells, certainCells, updatesFrom, listsEnd}
@@ -33,7 +34,7 @@ use Rattle.taking.proofs.Places.{part-same}
 use Rattle.merging.specs.Rays.{Bringable, RayMerged, limitOf}
 use Rattle.merging.specs.All.{firstOf, countOf, sizesAt, listsFrom, AllMergeable, AllMerged}
 use Rattle.merging.specs.declared.Change.{Change}
-use Rattle.merging.proofs.Told.{changes, changes-not, possible-left, certain-left, pairs-most}
+use Rattle.merging.proofs.Told.{changes, changes-not, new-exact, pairs-most}
 
 -- the stock of the cells; its small record does not count here
 abbrev pub stockOf : Cells → Stock
@@ -102,7 +103,7 @@ module _ (spec : DexelStockSpec) (g : DexelGrid) (c : Cells) (log before : List 
   module _ (total : ℕ) (snd : SoundCells spec g c total) (w w₁ w₂ : List Float) (ray q changed : ℕ) (x : Merging spec g c log before w ray q changed) (h : ray < rayCount g)
       (r : Change) (m : RayMerged spec g c log ray q w w₁ r)
       (put : w₂ ≡ set (set w₁ (sizesAt g log + 2 * ray) (numberCell (firstOf r))) (sizesAt g log + 2 * ray + 1) (numberCell (r .certain)))
-      (fit : q + limitOf spec log ≤ length w) (small : limitOf spec log ≤ largestNumber) where
+      (fit : q + limitOf spec log ≤ length w) (small : limitOf spec log ≤ largestNumber) (d : Doubles g (listsOf spec g (stockOf c)) (entries log)) where
     abbrev at : ℕ
     at = sizesAt g log + 2 * ray
 
@@ -110,7 +111,7 @@ module _ (spec : DexelStockSpec) (g : DexelGrid) (c : Cells) (log before : List 
     mid = set w₁ at (numberCell (firstOf r))
 
     size₂ : length w₂ ≡ length w
-    size₂ = ap length put ∙ length-set mid (at + 1) (numberCell (r .certain)) ∙ length-set w₁ at (numberCell (firstOf r)) ∙ m .size
+    size₂ = ap length put ∙ length-set mid (at + 1) (numberCell (r .certain)) ∙ length-set w₁ at (numberCell (firstOf r)) ∙ m .cut .size
 
     other : (k : ℕ) → (k ≡ at → ⊥) → (k ≡ at + 1 → ⊥) → getD w₂ k nan ≡ getD w₁ k nan
     other k a b =
@@ -118,24 +119,24 @@ module _ (spec : DexelStockSpec) (g : DexelGrid) (c : Cells) (log before : List 
         ∙ getD-set-other w₁ at k (numberCell (firstOf r)) nan a
 
     kept-front : (k : ℕ) → k < q → (k ≡ at → ⊥) → (k ≡ at + 1 → ⊥) → getD w₂ k nan ≡ getD w k nan
-    kept-front k l a b = other k a b ∙ m .front k l
+    kept-front k l a b = other k a b ∙ m .cut .front k l
 
     first-most : firstOf r ≤ largestNumber
     first-most = go (r .changed)
       where
         go : (b : Bool) → cond b (r .possible + 1) 0 ≤ largestNumber
-        go true = omega (arith, m .most)
+        go true = omega (arith, m .cut .most)
         go false = omega arith
 
     first-is : numberAt w₂ at ≡ firstOf r
     first-is =
         number-same w₂ mid at (ap (λ (l : List Float). getD l at nan) put ∙ getD-set-other mid (at + 1) at (numberCell (r .certain)) nan (λ (e : at ≡ at + 1). omega arith))
-        ∙ number-put w₁ at (firstOf r) (omega (arith, m .size, x .low)) first-most
+        ∙ number-put w₁ at (firstOf r) (omega (arith, m .cut .size, x .low)) first-most
 
     second-is : numberAt w₂ (at + 1) ≡ r .certain
     second-is =
         ap (λ (l : List Float). numberAt l (at + 1)) put
-        ∙ number-put mid (at + 1) (r .certain) (omega (arith, m .size, x .low, length-set w₁ at (numberCell (firstOf r)))) (omega (arith, m .most))
+        ∙ number-put mid (at + 1) (r .certain) (omega (arith, m .cut .size, x .low, length-set w₁ at (numberCell (firstOf r)))) (omega (arith, m .cut .most))
 
     abbrev next : ℕ
     next = q + (2 * r .possible + 2 * r .certain)
@@ -157,7 +158,7 @@ module _ (spec : DexelStockSpec) (g : DexelGrid) (c : Cells) (log before : List 
       -- a new list in v
       list-in : (i n : ℕ) → q ≤ i → i + n ≤ next → part i n v ≡ part i n w₁
       list-in i n a b =
-          part-same i n w₁ v (omega (arith, m .most, m .size)) (k .size ∙ size₂ ∙ sym (m .size))
+          part-same i n w₁ v (omega (arith, m .cut .most, m .cut .size)) (k .size ∙ size₂ ∙ sym (m .cut .size))
           (λ j d e. k .lists j (omega (arith, x .low)) (omega arith) ∙ other j (λ (f : j ≡ at). omega (arith, x .low)) (λ (f : j ≡ at + 1). omega (arith, x .low)))
 
       one-less : rayCount g - ray ≡ suc (rayCount g - (ray + 1))
@@ -175,7 +176,7 @@ module _ (spec : DexelStockSpec) (g : DexelGrid) (c : Cells) (log before : List 
       -- the ray does not change
       module _ (e : r .changed ≡ false) where
         same-place : q ≡ next
-        same-place = let z = m .none e in omega (arith, z .0, z .1)
+        same-place = let z = m .cut .none e in omega (arith, z .0, z .1)
 
         no-size : eqb (firstSize v (sizesAt g log) ray) 0 ≡ true
         no-size = eq-eqb (firstSize v (sizesAt g log) ray) 0 (first-in ∙ ap (λ (b : Bool). cond b (r .possible + 1) 0) e)
@@ -192,7 +193,7 @@ module _ (spec : DexelStockSpec) (g : DexelGrid) (c : Cells) (log before : List 
             → Merges g lists (entries log) ray (updatesFrom v (sizesAt g log) q ray (rayCount g - ray)) n
         stays n y =
             subst (λ (us : List Update). Merges g lists (entries log) ray us n) (sym same-updates)
-            (same h (changes-not spec g (stockOf c) total snd log ray h q w w₁ r m e) (subst (λ (i : ℕ). Merges g lists (entries log) i (updatesFrom v (sizesAt g log) next (ray + 1) left) n) (sym up-one) y))
+            (same h (changes-not spec g (stockOf c) total snd log ray h q w w₁ r m d e) (subst (λ (i : ℕ). Merges g lists (entries log) i (updatesFrom v (sizesAt g log) next (ray + 1) left) n) (sym up-one) y))
 
       -- the ray changes
       module _ (e : r .changed ≡ true) where
@@ -231,8 +232,7 @@ module _ (spec : DexelStockSpec) (g : DexelGrid) (c : Cells) (log before : List 
             → Merges g lists (entries log) ray (updatesFrom v (sizesAt g log) q ray (rayCount g - ray)) (suc n)
         moves n y =
             subst (λ (us : List Update). Merges g lists (entries log) ray us (suc n)) (sym new-updates)
-            (new h (changes spec g (stockOf c) total snd log ray h q w w₁ r m e) (possible-left spec g (stockOf c) total snd log ray h q w w₁ r m e)
-            (certain-left spec g (stockOf c) total snd log ray h q w w₁ r m e)
+            (new h (changes spec g (stockOf c) total snd log ray h q w w₁ r m d e) (new-exact spec g (stockOf c) total snd log ray h q w w₁ r m e)
             (subst (λ (i : ℕ). Merges g lists (entries log) i (updatesFrom v (sizesAt g log) next (ray + 1) left) n) (sym up-one) y))
 
       next-ends : listsEnd v (sizesAt g log) q ray (rayCount g - ray) ≡ listsEnd v (sizesAt g log) next (ray + 1) left
@@ -266,7 +266,7 @@ module _ (spec : DexelStockSpec) (g : DexelGrid) (c : Cells) (log before : List 
       low = omega (arith, x .low);
       room = λ l.
           let f = leftPairs g (listsOf spec g (stockOf c)) (entries log) in
-          omega (arith, x .room (le-of-lt h), sum-at g f (suc ray) (ray + 1) h (omega arith) l, sum-next g f ray (le-of-lt h) h, pairs-most spec g (stockOf c) total snd log ray h q w w₁ r m (omega (arith, m .size)));
+          omega (arith, x .room (le-of-lt h), sum-at g f (suc ray) (ray + 1) h (omega arith) l, sum-next g f ray (le-of-lt h) h, pairs-most spec g (stockOf c) total snd log ray h q w w₁ r m (omega (arith, m .cut .size)));
       few = count-most (r .changed);
       ends = λ v k. x .ends v (before-it v k) ∙ next-ends v k;
       rest = next-rest;
@@ -361,14 +361,14 @@ module _ (spec : DexelStockSpec) (g : DexelGrid) (c : Cells) (log before : List 
       fits .high,
     )
 
-    pub steps : ray < rays → length before < 2 ^ 64 → (w₁ w₂ : List Float) (r : Change) (k : ℕ) → RayMerged spec g c log ray q w w₁ r
+    pub steps : DoubleCells (c .spans) → DoubleCells log → ray < rays → length before < 2 ^ 64 → (w₁ w₂ : List Float) (r : Change) (k : ℕ) → RayMerged spec g c log ray q w w₁ r
         → w₂ ≡ set (set w₁ (rays + entryCount log + 2 * ray) (numberCell (firstOf r))) (rays + entryCount log + 2 * ray + 1) (numberCell (r .certain)) → k ≡ countOf r
         → Merging spec g c log before w₂ (ray + 1) (q + (2 * r .possible + 2 * r .certain)) (changed + k)
-    steps below addressed w₁ w₂ r k m put count =
+    steps ds dl below addressed w₁ w₂ r k m put count =
         subst (λ (n : ℕ). Merging spec g c log before w₂ (ray + 1) (q + (2 * r .possible + 2 * r .certain)) (changed + n)) (sym count)
         (merging-step spec g c log before total store w w₁ w₂ ray q changed x (omega arith) r m
         (put ∙ ap (λ (n : ℕ). set (set w₁ (n + entryCount log + 2 * ray) (numberCell (firstOf r))) (n + entryCount log + 2 * ray + 1) (numberCell (r .certain))) is)
-        (omega (arith, fits .high, fits .all, fits .long)) (omega (arith, pre .pairs)))
+        (omega (arith, fits .high, fits .all, fits .long)) (omega (arith, pre .pairs)) (all-doubles spec g (stockOf c) log ds dl))
 
     pub done : rays ≤ ray → AllMerged spec g c log before w changed
     done last = merging-done spec g c log before total store w ray q changed x (omega (arith, x .most)) (omega (arith, fits .high, fits .all))

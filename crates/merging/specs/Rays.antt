@@ -1,12 +1,12 @@
 -- What a merge leaves of one ray.
 use mathlib.Core.Path.{_≡_}
-use mathlib.Core.Bool.{Bool, true, false}
+use mathlib.Core.Bool.{Bool, true, false, not, _&&_}
 use mathlib.Core.List.{List}
-use mathlib.Core.Logic.{_⊎_}
 use Prim.Native.Nat.{ℕ, _+_, _*_, _≤_, _<_}
 use lib.ListN.{length, getD}
 use lib.Ieee.{Float, nan}
-use Rattle.spans.specs.Spans.{holds, ListOf}
+use Rattle.spans.specs.Spans.{equal, NormalOf}
+use Rattle.overlay.specs.Overlay.{lessOf}
 use Rattle.grid.specs.Rays.{rayCount}
 use Rattle.grid.specs.declared.DexelStockSpec.{DexelStockSpec}
 use Rattle.grid.specs.declared.DexelGrid.{DexelGrid}
@@ -15,28 +15,26 @@ use Rattle.store.specs.Updates.{Cells}
 use Rattle.stock.specs.Stock.{possibleIn, certainIn, Chained, ValidTo}
 use Rattle.logs.specs.Named.{pairsNamed}
 use Rattle.grouping.specs.Groups.{Grouped}
-use Rattle.taking.specs.Taking.{Moves, eitherHit, spared}
 use Rattle.taking.specs.Steps.{part}
 use Rattle.merging.specs.declared.Change.{Change}
 use Rattle.merging.specs.declared.Sizes.{Sizes}
 
--- some point of possible lies in an inner hit, or one of certain in an outer or an inner hit; or none does
-abbrev pub Touches : (possible certain : List Float) (hit either : Float → Bool) → Bool → Type 0
-Touches possible certain hit either true = Moves possible hit true ⊎ Moves certain either true
-Touches possible certain hit either false = Moves possible hit false × Moves certain either false
+-- a boundary of one of the lists moves when the hits are taken away: of possible by the inner ones, of certain by the outer and the inner ones
+abbrev pub moves : (possible certain outers inners : List Float) → Bool
+moves possible certain outers inners = not (equal possible (lessOf possible inners) && equal certain (lessOf (lessOf certain outers) inners))
 
--- the sound lists of what the hits leave of both lists stand from cell `at` on, possible's before certain's
-pub record NewLists (possible certain : List Float) (hit either : Float → Bool) (at : ℕ) (w : List Float) (r : Change) : Type 0 where
-  pub possibleLeft : ListOf (spared possible hit) (part at (2 * r .possible) w)
-  pub certainLeft : ListOf (spared certain either) (part (at + 2 * r .possible) (2 * r .certain) w)
+-- what the hits leave of both lists stands from cell `at` on, possible's before certain's
+pub record NewLists (possible certain outers inners : List Float) (at : ℕ) (w : List Float) (r : Change) : Type 0 where
+  pub possibleIs : part at (2 * r .possible) w ≡ lessOf possible inners
+  pub certainIs : part (at + 2 * r .possible) (2 * r .certain) w ≡ lessOf (lessOf certain outers) inners
 
 -- the new lists of a ray that changes stand from cell `from` on and have at most `limit` cells; the cells in front are as before
-pub record RayCut (possible certain : List Float) (hit either : Float → Bool) (from limit : ℕ) (before after : List Float) (r : Change) : Type 0 where
+pub record RayCut (possible certain outers inners : List Float) (from limit : ℕ) (before after : List Float) (r : Change) : Type 0 where
   pub size : length after ≡ length before
   pub front : (q : ℕ) → q < from → getD after q nan ≡ getD before q nan
-  pub touches : Touches possible certain hit either (r .changed)
+  pub moved : r .changed ≡ moves possible certain outers inners
   pub most : 2 * r .possible + 2 * r .certain ≤ limit
-  pub lists : r .changed ≡ true → NewLists possible certain hit either from after r
+  pub lists : r .changed ≡ true → NewLists possible certain outers inners from after r
   pub none : r .changed ≡ false → (r .possible ≡ 0) × (r .certain ≡ 0)
 
 -- the store can be read, the log is grouped in the buffer, and there is room for a ray's lists and hits from cell s on
@@ -48,7 +46,7 @@ pub record Bringable (spec : DexelStockSpec) (g : DexelGrid) (c : Cells) (log wo
   pub past : rayCount g + entryCount log ≤ s
   pub room : s + 4 * spec .«max_intervals» + 4 * entryCount log ≤ length work
 
--- both lists and the sound lists of the outer and the inner hits stand one after the other from cell s on; the cells in front are as before
+-- both lists and those that normalising makes of the outer and the inner hits stand one after the other from cell s on; the cells in front are as before
 pub record Brought (possible certain outers inners : List Float) (s : ℕ) (before after : List Float) (r : Sizes) : Type 0 where
   pub size : length after ≡ length before
   pub front : (q : ℕ) → q < s → getD after q nan ≡ getD before q nan
@@ -58,15 +56,17 @@ pub record Brought (possible certain outers inners : List Float) (s : ℕ) (befo
   pub innerMost : r .inner ≤ length inners
   pub possibleIs : part s (r .possible) after ≡ possible
   pub certainIs : part (s + r .possible) (r .certain) after ≡ certain
-  pub outerHits : ListOf (holds outers) (part (s + r .possible + r .certain) (r .outer) after)
-  pub innerHits : ListOf (holds inners) (part (s + r .possible + r .certain + r .outer) (r .inner) after)
+  pub outerHits : NormalOf outers (part (s + r .possible + r .certain) (r .outer) after)
+  pub innerHits : NormalOf inners (part (s + r .possible + r .certain + r .outer) (r .inner) after)
 
 -- the most cells that both new lists of a ray can have
 abbrev pub limitOf : DexelStockSpec → (log : List Float) → ℕ
 limitOf spec log = 4 * spec .«max_intervals» + 6 * entryCount log
 
--- a ray of the store less the hits of the log on it
-abbrev pub RayMerged : DexelStockSpec → DexelGrid → Cells → (log : List Float) → (ray q : ℕ) → (before after : List Float) → Change → Type 0
-RayMerged spec g c log ray q before after r =
-    RayCut (possibleIn spec c ray) (certainIn spec c ray) (holds (pairsNamed g (entries log) ray inner))
-    (eitherHit (pairsNamed g (entries log) ray outer) (pairsNamed g (entries log) ray inner)) q (limitOf spec log) before after r
+-- a ray of the store less what normalising makes of the hits of the log on it
+pub record RayMerged (spec : DexelStockSpec) (g : DexelGrid) (c : Cells) (log : List Float) (ray q : ℕ) (before after : List Float) (r : Change) : Type 0 where
+  pub outerNormal : List Float
+  pub innerNormal : List Float
+  pub outerIs : NormalOf (pairsNamed g (entries log) ray outer) outerNormal
+  pub innerIs : NormalOf (pairsNamed g (entries log) ray inner) innerNormal
+  pub cut : RayCut (possibleIn spec c ray) (certainIn spec c ray) outerNormal innerNormal q (limitOf spec log) before after r

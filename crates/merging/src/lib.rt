@@ -3,16 +3,14 @@ ghost use mathlib.Core.Path.{_≡_};
 ghost use Prim.Native.Nat.{_+_, _*_, _^_, _<_, _≤_};
 ghost use lib.ListN.{length, set};
 ghost use Rattle.numbers.specs.Numbers.{numberCell};
-ghost use Rattle.spans.specs.Spans.{holds};
 ghost use Rattle.grid.specs.Rays.{rayCount};
 ghost use Rattle.runs.specs.Logs.{entries, entryCount, outer, inner};
 ghost use Rattle.store.specs.Updates.{cells};
 ghost use Rattle.stock.specs.Stock.{possibleIn, certainIn};
 ghost use Rattle.logs.specs.Named.{pairsNamed};
 ghost use Rattle.grouping.specs.Groups.{Grouped, kindOf};
-ghost use Rattle.taking.specs.Taking.{eitherHit};
 ghost use Rattle.taking.specs.Steps.{part, Ready, Normal};
-ghost use Rattle.merging.specs.Rays.{Touches, RayCut, Bringable, Brought, limitOf, RayMerged};
+ghost use Rattle.merging.specs.Rays.{moves, RayCut, Bringable, Brought, limitOf, RayMerged};
 ghost use Rattle.merging.specs.All.{firstOf, countOf, AllMergeable, AllMerged};
 use grid::DexelGrid;
 use grid::DexelStockSpec;
@@ -24,7 +22,7 @@ pub struct Change {
     pub certain: usize,
 }
 
-// The cells that a ray's lists and the sound lists of its hits have.
+// The cells that a ray's lists and the lists that normalising makes of its hits have.
 pub struct Sizes {
     pub possible: usize,
     pub certain: usize,
@@ -32,11 +30,11 @@ pub struct Sizes {
     pub inner: usize,
 }
 
-// Whether some point of a list of the ray lies in a hit that takes it.
+// Whether a boundary of one of the ray's lists moves.
 fn is_changed(w: &[f64], at: usize, np: usize, nc: usize, no: usize, ni: usize) -> bool
     requires { ⌜ Ready at np nc no ni (now w) ⌝ }
-    ensures { λ r. ⌜ Touches (part at np (now (w .entry))) (part (at + np) nc (now (w .entry))) (holds (part (at + np + nc + no) ni (now (w .entry))))
-        (eitherHit (part (at + np + nc) no (now (w .entry))) (part (at + np + nc + no) ni (now (w .entry)))) r ⌝ }
+    ensures { λ r. ⌜ r ≡ moves (part at np (now (w .entry))) (part (at + np) nc (now (w .entry))) (part (at + np + nc) no (now (w .entry)))
+        (part (at + np + nc + no) ni (now (w .entry))) ⌝ }
 {
     let c = at + np;
     if taking::share_point(w, at, np, c + nc + no, ni) {
@@ -49,8 +47,8 @@ fn is_changed(w: &[f64], at: usize, np: usize, nc: usize, no: usize, ni: usize) 
 // since both are laid again.
 fn cut_ray(w: &mut [f64], at: usize, np: usize, nc: usize, no: usize, ni: usize) -> Change
     requires { ⌜ Ready at np nc no ni (now w) ⌝ }
-    ensures { λ r. ⌜ RayCut (part at np (now (w .entry))) (part (at + np) nc (now (w .entry))) (holds (part (at + np + nc + no) ni (now (w .entry))))
-        (eitherHit (part (at + np + nc) no (now (w .entry))) (part (at + np + nc + no) ni (now (w .entry)))) 0 (np + nc + no + 2 * ni) (now (w .entry)) (now (w .exit)) r ⌝ }
+    ensures { λ r. ⌜ RayCut (part at np (now (w .entry))) (part (at + np) nc (now (w .entry))) (part (at + np + nc) no (now (w .entry)))
+        (part (at + np + nc + no) ni (now (w .entry))) 0 (np + nc + no + 2 * ni) (now (w .entry)) (now (w .exit)) r ⌝ }
 {
     if !is_changed(w, at, np, nc, no, ni) {
         return Change {
@@ -69,7 +67,7 @@ fn cut_ray(w: &mut [f64], at: usize, np: usize, nc: usize, no: usize, ni: usize)
     }
 }
 
-// Brings the sound list of the outer or the inner hits on a ray to cell `at`, and says how many cells it has.
+// Brings the list that normalising makes of the outer or the inner hits on a ray to cell `at`, and says how many cells it has.
 fn bring_hits(
     g: DexelGrid,
     log: &[f64],
@@ -86,7 +84,7 @@ fn bring_hits(
     normalizing::normalize_front(&mut work[at..], e - at)
 }
 
-// Brings both lists of a ray and the sound lists of its hits, one after the other, to cell s.
+// Brings both lists of a ray and those that normalising makes of its hits, one after the other, to cell s.
 fn bring(
     spec: DexelStockSpec,
     g: DexelGrid,

@@ -1,10 +1,8 @@
 -- `merging::cut_ray` meets its contract.
 use borrow.Author.Needs.{needs}
-use borrow.Author.Needs.{needs}
+use mathlib.Core.Path.{sym, _∙_}
 use Prim.Native.Nat.{_+_, _*_}
 use Rattle.doubles.proofs.Bools.{not-true, not-false}
-use Rattle.spans.specs.Spans.{holds}
-use Rattle.taking.specs.Taking.{eitherHit}
 use Rattle.taking.specs.Steps.{part}
 use Rattle.merging.proofs.Cutting.{untouched, second-ready, both-cut}
 use Rattle.merging.proofs.cut_ray.Statement.{statement}
@@ -20,9 +18,9 @@ returns : tie.Need-returns
 returns c =
     let a = c .before .before .before .before .args in
     let h = c .before .is-changed in
-    untouched (part (a .at) (a .np) (a .w .now)) (part (a .at + a .np) (a .nc) (a .w .now)) (holds (part (a .at + a .np + a .nc + a .no) (a .ni) (a .w .now)))
-    (eitherHit (part (a .at + a .np + a .nc) (a .no) (a .w .now)) (part (a .at + a .np + a .nc + a .no) (a .ni) (a .w .now)))
-    0 (a .np + a .nc + a .no + 2 * a .ni) (a .w .now) (h .result) (not-true (h .result) (c .if1 .taken)) (h .ensures)
+    untouched (part (a .at) (a .np) (a .w .now)) (part (a .at + a .np) (a .nc) (a .w .now)) (part (a .at + a .np + a .nc) (a .no) (a .w .now))
+    (part (a .at + a .np + a .nc + a .no) (a .ni) (a .w .now)) 0 (a .np + a .nc + a .no + 2 * a .ni) (a .w .now)
+    (sym (h .ensures) ∙ not-true (h .result) (c .if1 .taken))
 
 add-c : tie.Need-add-c
 add-c c = search needs
@@ -61,7 +59,7 @@ returns-2 c =
     let s = i .before .before .before .before in
     let a = s .args in
     both-cut (a .at) (a .np) (a .nc) (a .no) (a .ni) (a .w .now) (y .subtract-at .last .0) (z .subtract-both .last .0) (y .subtract-at .result) (z .subtract-both .result) (s .pre) (y .subtract-at .ensures)
-    (h .result) (not-false (h .result) (i .if1 .left)) (h .ensures) (z .subtract-both .ensures)
+    (sym (not-false (h .result) (i .if1 .left)) ∙ h .ensures) (z .subtract-both .ensures)
 
 pub cut-ray-spec : {M : Type 1} → statement M
 cut-ray-spec =

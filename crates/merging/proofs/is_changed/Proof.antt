@@ -1,11 +1,10 @@
 -- `merging::is_changed` meets its contract.
 use borrow.Author.Needs.{needs}
-use borrow.Author.Needs.{needs}
 use Prim.Native.Nat.{_+_}
-use Rattle.spans.specs.Spans.{holds}
-use Rattle.taking.specs.Taking.{eitherHit}
-use Rattle.taking.specs.Steps.{part}
-use Rattle.merging.proofs.Cutting.{touch-first, touch-second}
+use Rattle.spans.specs.Spans.{equal}
+use Rattle.overlay.specs.Overlay.{lessOf}
+use Rattle.taking.specs.Steps.{part, lessHits}
+use Rattle.merging.proofs.Cutting.{moves-first, moves-second}
 use Rattle.merging.proofs.is_changed.Statement.{statement}
 use Rattle.merging.proofs.is_changed.Tie as tie
 
@@ -25,9 +24,8 @@ returns : tie.Need-returns
 returns c =
     let a = c .before .before .before .args in
     let h = c .before .share-point in
-    touch-first (part (a .at) (a .np) (a .w .now)) (part (a .at + a .np) (a .nc) (a .w .now)) (holds (part (a .at + a .np + a .nc + a .no) (a .ni) (a .w .now)))
-    (eitherHit (part (a .at + a .np + a .nc) (a .no) (a .w .now)) (part (a .at + a .np + a .nc + a .no) (a .ni) (a .w .now)))
-    (h .result) (c .if1 .taken) (h .ensures)
+    moves-first (equal (part (a .at) (a .np) (a .w .now)) (lessOf (part (a .at) (a .np) (a .w .now)) (part (a .at + a .np + a .nc + a .no) (a .ni) (a .w .now))))
+    (equal (part (a .at + a .np) (a .nc) (a .w .now)) (lessHits (a .at + a .np) (a .nc) (a .no) (a .ni) (a .w .now))) (h .result) (h .ensures) (c .if1 .taken)
 
 is-hit-requires : tie.Need-is-hit-requires
 is-hit-requires c κs = search needs
@@ -36,9 +34,9 @@ returns-2 : tie.Need-returns-2
 returns-2 c =
     let a = c .before .before .before .before .args in
     let h = c .before .before .share-point in
-    touch-second (part (a .at) (a .np) (a .w .now)) (part (a .at + a .np) (a .nc) (a .w .now)) (holds (part (a .at + a .np + a .nc + a .no) (a .ni) (a .w .now)))
-    (eitherHit (part (a .at + a .np + a .nc) (a .no) (a .w .now)) (part (a .at + a .np + a .nc + a .no) (a .ni) (a .w .now)))
-    (h .result) (c .before .if1 .left) (h .ensures) (c .is-hit .result) (c .is-hit .ensures)
+    moves-second (equal (part (a .at) (a .np) (a .w .now)) (lessOf (part (a .at) (a .np) (a .w .now)) (part (a .at + a .np + a .nc + a .no) (a .ni) (a .w .now))))
+    (equal (part (a .at + a .np) (a .nc) (a .w .now)) (lessHits (a .at + a .np) (a .nc) (a .no) (a .ni) (a .w .now)))
+    (h .result) (h .ensures) (c .before .if1 .left) (c .is-hit .result) (c .is-hit .ensures)
 
 pub is-changed-spec : {M : Type 1} → statement M
 is-changed-spec =

@@ -75,7 +75,7 @@ put-sizes-requires c κs =
     let b = t .before .before .before .before .before .before in
     let a = b .args in
     let f = fits (a .spec) (a .g) (cells (a .spans .now) (a .links .now) (a .heads .now)) (a .log .now) (a .work .now) (b .pre) (t .total-rays .result) (t .total-rays .ensures) (l .loop .work) (l .loop .ray) (l .loop .q) (l .loop .changed) (l .loop .inv) in
-    let m = c .before .before .before .merge-ray .ensures in
+    let m = c .before .before .before .merge-ray .ensures .cut in
     (omega (arith, c .before .before .before .before .before .loop-test .taken, f .low, f .high, f .all, f .long, m .size), omega (arith, f .high, f .all, m .most, b .good .1 .1 .1 .1 .1 .1 .0 .1))
 
 mul-q-2 : tie.Need-mul-q-2 Inv-loop μ-loop
@@ -85,7 +85,7 @@ mul-q-2 c =
     let b = t .before .before .before .before .before .before in
     let a = b .args in
     let f = fits (a .spec) (a .g) (cells (a .spans .now) (a .links .now) (a .heads .now)) (a .log .now) (a .work .now) (b .pre) (t .total-rays .result) (t .total-rays .ensures) (l .loop .work) (l .loop .ray) (l .loop .q) (l .loop .changed) (l .loop .inv) in
-    omega (arith, f .high, f .all, c .before .before .before .before .before .before .before .merge-ray .ensures .most, b .good .1 .1 .1 .1 .1 .1 .0 .1)
+    omega (arith, f .high, f .all, c .before .before .before .before .before .before .before .merge-ray .ensures .cut .most, b .good .1 .1 .1 .1 .1 .1 .0 .1)
 
 mul-q-3 : tie.Need-mul-q-3 Inv-loop μ-loop
 mul-q-3 c =
@@ -94,7 +94,7 @@ mul-q-3 c =
     let b = t .before .before .before .before .before .before in
     let a = b .args in
     let f = fits (a .spec) (a .g) (cells (a .spans .now) (a .links .now) (a .heads .now)) (a .log .now) (a .work .now) (b .pre) (t .total-rays .result) (t .total-rays .ensures) (l .loop .work) (l .loop .ray) (l .loop .q) (l .loop .changed) (l .loop .inv) in
-    omega (arith, f .high, f .all, c .before .before .before .before .before .before .before .before .merge-ray .ensures .most, b .good .1 .1 .1 .1 .1 .1 .0 .1)
+    omega (arith, f .high, f .all, c .before .before .before .before .before .before .before .before .merge-ray .ensures .cut .most, b .good .1 .1 .1 .1 .1 .1 .0 .1)
 
 add-q-2 : tie.Need-add-q-2 Inv-loop μ-loop
 add-q-2 c =
@@ -103,7 +103,7 @@ add-q-2 c =
     let b = t .before .before .before .before .before .before in
     let a = b .args in
     let f = fits (a .spec) (a .g) (cells (a .spans .now) (a .links .now) (a .heads .now)) (a .log .now) (a .work .now) (b .pre) (t .total-rays .result) (t .total-rays .ensures) (l .loop .work) (l .loop .ray) (l .loop .q) (l .loop .changed) (l .loop .inv) in
-    omega (arith, f .high, f .all, c .before .before .before .before .before .before .before .before .merge-ray .ensures .most, b .good .1 .1 .1 .1 .1 .1 .0 .1)
+    omega (arith, f .high, f .all, c .before .before .before .before .before .before .before .before .merge-ray .ensures .cut .most, b .good .1 .1 .1 .1 .1 .1 .0 .1)
 
 add-q-3 : tie.Need-add-q-3 Inv-loop μ-loop
 add-q-3 c =
@@ -112,7 +112,7 @@ add-q-3 c =
     let b = t .before .before .before .before .before .before in
     let a = b .args in
     let f = fits (a .spec) (a .g) (cells (a .spans .now) (a .links .now) (a .heads .now)) (a .log .now) (a .work .now) (b .pre) (t .total-rays .result) (t .total-rays .ensures) (l .loop .work) (l .loop .ray) (l .loop .q) (l .loop .changed) (l .loop .inv) in
-    omega (arith, f .high, f .all, c .before .before .before .before .before .before .before .before .merge-ray .ensures .most, b .good .1 .1 .1 .1 .1 .1 .0 .1)
+    omega (arith, f .high, f .all, c .before .before .before .before .before .before .before .before .merge-ray .ensures .cut .most, b .good .1 .1 .1 .1 .1 .1 .0 .1)
 
 count-requires : tie.Need-count-requires Inv-loop μ-loop
 count-requires c κs = search needs
@@ -139,6 +139,7 @@ loop-again c =
     let b = t .before .before .before .before .before .before in
     let a = b .args in
     steps (a .spec) (a .g) (cells (a .spans .now) (a .links .now) (a .heads .now)) (a .log .now) (a .work .now) (b .pre) (t .total-rays .result) (t .total-rays .ensures) (l .loop .work) (l .loop .ray) (l .loop .q) (l .loop .changed) (l .loop .inv)
+    (t .before .before .before .before .before .shared-slice-known .given) (t .before .before .shared-slice-known4 .given)
     (c .before .before .before .before .before .before .before .before .before .before .before .loop-test .taken) (omega (arith, b .good .1 .1 .1 .1 .1 .1 .0 .1)) (c .before .before .before .before .before .before .before .before .before .merge-ray .last .1 .1 .1 .1 .1 .1 .0) (c .before .before .before .before .before .put-sizes .last .0) (c .before .before .before .before .before .before .before .before .before .merge-ray .result) (c .count .result)
     (c .before .before .before .before .before .before .before .before .before .merge-ray .ensures) (c .before .before .before .before .before .put-sizes .ensures) (c .count .ensures)
 
