@@ -22,6 +22,7 @@ use Rattle.runs.specs.Runs.{Run, done}
 use Rattle.runs.specs.Runs.{Committed as CommitPromise}
 use Rattle.runs.specs.Lent.{lentStore, LogCommit}
 use Rattle.runs.proofs.Demand3.{extend}
+use Rattle.runs.proofs.Doubles.{DoubleCells, list-doubles}
 use Rattle.runs.proofs.Lent.{demand3-lent}
 use Rattle.judging.specs.Tests.{commitOf}
 use Rattle.commit.specs.Commit.{answerOf}
@@ -33,7 +34,7 @@ by-numbers (Changed n) = refl
 by-numbers (NotCommitted k) = refl
 
 -- answer i stands in its own two cells
-told-at : (answers : List ℕ) (i : ℕ) (a : Committed) → 2 * i + 1 < length answers
+pub told-at : (answers : List ℕ) (i : ℕ) (a : Committed) → 2 * i + 1 < length answers
     → answerBy (getD (answered answers i a) (2 * i) 0) (getD (answered answers i a) (2 * i + 1) 0) ≡ answerOf a
 told-at answers i a fits =
     let first : getD (answered answers i a) (2 * i) 0 ≡ kindOf a =
@@ -57,19 +58,22 @@ pub record RunTo (spec : DexelStockSpec) (units : List ℕ) (s : Stock) (logs : 
   pub begins : at ≡ beginOf ends i
   pub run : NoneDue (gridCauses spec units) → Run spec (gridIn spec) (lentStore spec (gridIn spec)) s (commitsTo logs ends allowances (length work₀ / 2) i) (answersTo answers i) t
   pub commits : Commits spec units logs ends allowances s work₀ answers₀ i t work answers
+  pub doubles : DoubleCells (t .cells .spans)
   pub spans-size : length (t .cells .spans) ≡ length (s .cells .spans)
   pub links-size : length (t .cells .links) ≡ length (s .cells .links)
   pub heads-size : length (t .cells .heads) ≡ length (s .cells .heads)
   pub work-size : length work ≡ length work₀
   pub answers-size : length answers ≡ length answers₀
 
-pub run-start : (spec : DexelStockSpec) (units : List ℕ) (s : Stock) (logs : List Float) (ends allowances : List ℕ) (work : List Float) (answers : List ℕ) → RunTo spec units s logs ends allowances work answers 0 s 0 work answers
+pub run-start : (spec : DexelStockSpec) (units : List ℕ) (s : Stock) (logs : List Float) (ends allowances : List ℕ) (work : List Float) (answers : List ℕ)
+    → DoubleCells (s .cells .spans) → RunTo spec units s logs ends allowances work answers 0 s 0 work answers
 unfolding commitsTo answersTo
-run-start spec units s logs ends allowances work answers = record {
+run-start spec units s logs ends allowances work answers d = record {
   most = omega arith;
   begins = refl;
   run = λ e. done;
   commits = none;
+  doubles = d;
   spans-size = refl;
   links-size = refl;
   heads-size = refl;
@@ -87,11 +91,11 @@ pub run-next : (spec : DexelStockSpec) (units : List ℕ) (s : Stock) (logs : Li
     (u : Stock) (work′ : List Float) (answers′ : List ℕ)
     → RunTo spec units s logs ends allowances work₀ answers₀ i t at work answers → i < length ends → 2 * length ends ≤ length answers₀
     → Turned spec units t (logFrom logs at (getD ends i 0)) (getD allowances i 0) work answers i u work′ answers′
-    → length (u .cells .spans) ≡ length (t .cells .spans) → length (u .cells .links) ≡ length (t .cells .links) → length (u .cells .heads) ≡ length (t .cells .heads)
+    → DoubleCells (u .cells .spans) → length (u .cells .spans) ≡ length (t .cells .spans) → length (u .cells .links) ≡ length (t .cells .links) → length (u .cells .heads) ≡ length (t .cells .heads)
     → length work′ ≡ length work → length answers′ ≡ length answers
     → RunTo spec units s logs ends allowances work₀ answers₀ (i + 1) u (getD ends i 0) work′ answers′
 unfolding commitsTo answersTo
-run-next spec units s logs ends allowances work₀ answers₀ i t at work answers u work′ answers′ r below room x za zb zc zw zn = record {
+run-next spec units s logs ends allowances work₀ answers₀ i t at work answers u work′ answers′ r below room x d za zb zc zw zn = record {
   most = omega arith;
   begins = begins;
   run = λ e.
@@ -101,6 +105,7 @@ run-next spec units s logs ends allowances work₀ answers₀ i t at work answer
       (subst (λ (c : Commit). LogCommit (x .commits .described) spec t c (answerOf (x .answer)) u) same-commit (x .commits .promise)))));
   commits = subst (λ (k : ℕ). Commits spec units logs ends allowances s work₀ answers₀ k u work′ answers′) one-more
       (more (r .commits) (subst (λ (b : ℕ). Turned spec units t (logFrom logs b (getD ends i 0)) (getD allowances i 0) work answers i u work′ answers′) (r .begins) x));
+  doubles = d;
   spans-size = za ∙ r .spans-size;
   links-size = zb ∙ r .links-size;
   heads-size = zc ∙ r .heads-size;
@@ -137,4 +142,5 @@ run-end spec units s logs ends allowances work₀ answers₀ i t at work answers
           let run : Run spec (gridIn spec) (lentStore spec (gridIn spec)) s (commitsTo logs ends allowances (length work₀ / 2) (length ends)) (answersTo answers (length ends)) t =
           subst (λ (k : ℕ). Run spec (gridIn spec) (lentStore spec (gridIn spec)) s (commitsTo logs ends allowances (length work₀ / 2) k) (answersTo answers k) t) all (r .run e) in
           record { run = run; settled = λ sound. demand3-lent spec (gridIn spec) .settles s t (commitsTo logs ends allowances (length work₀ / 2) (length ends)) (answersTo answers (length ends)) sound run };
+      doubles = list-doubles spec t (r .doubles);
     }
