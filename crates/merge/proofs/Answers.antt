@@ -83,8 +83,10 @@ module _ (possible certain outer inner w w₁ w₂ w₃ w₄ : List Float) (at n
         room = omega (arith, m .room, room);
         possibleLeft = becomes-spared (less-list possible inners (given .possibleSound) (i .list .list .isSound)) (i .list .list .points)
             (rw possible-at at (m .possibleBecomes)) possible-is;
-        certainLeft = becomes-spared (less-both-list certain outers inners (given .certainSound) (o .list .list .isSound) (i .list .list .isSound))
-            (λ x. ap₂ _||_ (o .list .list .points x) (i .list .list .points x)) (rw (certain-at, outer-at) at (m .certainBecomes)) certain-is;
+        certainLeft = becomes-spared
+            (less-both-list certain outers inners (given .certainSound) (o .list .list .isSound) (i .list .list .isSound))
+            (λ x. ap₂ _||_ (o .list .list .points x) (i .list .list .points x)) (rw (certain-at, outer-at) at (m .certainBecomes))
+            certain-is;
         exact = record {
           outerNormal = outers;
           innerNormal = inners;
@@ -160,15 +162,18 @@ module _ (lo hi : Float) (possible certain outer inner before : List Float) wher
   accept w after r n h m l e cleared =
       let fit : n ≤ length w = omega (arith, l .room, l .size) in
       let same = handed-is w after n fit cleared in
-      let p = subst (Spared possible (holds inner) (r .possible)) (same (r .possible) possible 0 (omega arith)) (l .possibleLeft) in
-      let c = subst (Spared certain (eitherHit outer inner) (r .certain)) (same (r .certain) certain (cellsOf (r .possible)) (omega arith)) (l .certainLeft) in (
+      let first = same (r .possible) possible 0 (omega arith) in
+      let second = same (r .certain) certain (cellsOf (r .possible)) (omega arith) in
+      let p = subst (Spared possible (holds inner) (r .possible)) first (l .possibleLeft) in
+      let c = subst (Spared certain (eitherHit outer inner) (r .certain)) second (l .certainLeft) in (
         (h, ((λ k. k m), tt)),
         record {
           room = omega (arith, same-size w after n fit cleared);
           possibleLeft = p;
           certainLeft = c;
-          exact = subst₂ (Exact possible certain outer inner) (same (r .possible) possible 0 (omega arith)) (same (r .certain) certain (cellsOf (r .possible)) (omega arith)) (l .exact);
-          valid = still-valid lo hi possible certain outer inner (handed (r .possible) possible after 0) (handed (r .certain) certain after (cellsOf (r .possible))) (r .possible) (r .certain) (m .ray) p c;
+          exact = subst₂ (Exact possible certain outer inner) first second (l .exact);
+          valid = still-valid lo hi possible certain outer inner (handed (r .possible) possible after 0)
+              (handed (r .certain) certain after (cellsOf (r .possible))) (r .possible) (r .certain) (m .ray) p c;
           rest = subst (λ (k : ℕ). drop k after ≡ replicate (length after - k) plusZero) e (rest-zero w after n fit cleared);
         },
       )

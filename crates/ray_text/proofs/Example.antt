@@ -1,5 +1,5 @@
--- Document 01's example: the contract of `run` allows its output alone. The hits are normalised to themselves, so each end of the new lists is one
--- that was read.
+-- Document 01's example: the contract of `run` allows its output alone. The hits are normalised to themselves, so each end of the new lists
+-- is one that was read.
 use mathlib.Core.Path.{_≡_, refl, sym, _∙_, ap₂, subst}
 use mathlib.Core.Bool.{true, not, false≢true}
 use mathlib.Core.List.{List, [], _∷_, List·Memᴰ, List·Memᴰ·head, List·Memᴰ·tail}
@@ -52,7 +52,8 @@ same-ends (x ∷ s) (e ∷ l) rs rl h d =
   where
     go : List·Memᴰ e (x ∷ s) → e ≡ x
     go (List·Memᴰ·head q) = q
-    go (List·Memᴰ·tail m) = absurd (not-itself x (sym (lt-eq-right e x x (and-left (eq e x) (equal l s) h)) ∙ above-in x s (rising-above x s rs) e m))
+    go (List·Memᴰ·tail m) =
+        absurd (not-itself x (sym (lt-eq-right e x x (and-left (eq e x) (equal l s) h)) ∙ above-in x s (rising-above x s rs) e m))
 
 normal-self : (s l : List Float) → sound s ≡ true → NormalOf s l → l ≡ s
 normal-self s l ss n =
@@ -141,15 +142,16 @@ module _ (text : List ℕ) where
   not-refused k (inr (n, inl d)) = d .0 valid-input
   not-refused k (inr (n, inr d)) = d .1
 
-  written-text : Written (loOf exampleInput) (hiOf exampleInput) (possibleIn exampleInput) (certainIn exampleInput) (outerIn exampleInput) (innerIn exampleInput) text
-      → text ≡ exampleOutput
+  written-text : Written (loOf exampleInput) (hiOf exampleInput) (possibleIn exampleInput) (certainIn exampleInput)
+      (outerIn exampleInput) (innerIn exampleInput) text → text ≡ exampleOutput
   written-text w =
       let o : w .exact .outerNormal ≡ one ∷ four ∷ [] =
       normal-self (outerIn exampleInput) (w .exact .outerNormal) (hits-sound .0) (w .exact .outerIs) ∙ outer-input in
       let i : w .exact .innerNormal ≡ two ∷ three ∷ [] =
       normal-self (innerIn exampleInput) (w .exact .innerNormal) (hits-sound .1) (w .exact .innerIs) ∙ inner-input in
       let p : w .possibleAfter ≡ zero· ∷ two ∷ three ∷ ten ∷ [] = w .exact .possibleIs ∙ ap₂ lessOf possible-input i ∙ new-possible in
-      let c : w .certainAfter ≡ zero· ∷ one ∷ four ∷ ten ∷ [] = w .exact .certainIs ∙ ap₂ lessOf (ap₂ lessOf certain-input o) i ∙ new-certain in
+      let c : w .certainAfter ≡ zero· ∷ one ∷ four ∷ ten ∷ [] =
+      w .exact .certainIs ∙ ap₂ lessOf (ap₂ lessOf certain-input o) i ∙ new-certain in
       let m : w .p ≡ true = w .possibleLeft .moves ∙ ap₂ (λ (a b : List Float). not (equal a b)) possible-input p ∙ possible-moves in
       w .printed ∙ rw (p, c, m) printed-text
 

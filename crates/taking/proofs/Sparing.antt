@@ -36,13 +36,15 @@ module _ (a l : List Float) (hit : Float → Bool) (left : ListOf (spared a hit)
       same false y f = refl
 
 -- less the outer and then the inner hits: the points in neither
-pub less-both-list : (a o i : List Float) → sound a ≡ true → sound o ≡ true → sound i ≡ true → ListOf (spared a (eitherHit o i)) (lessOf (lessOf a o) i)
+pub less-both-list : (a o i : List Float) → sound a ≡ true → sound o ≡ true → sound i ≡ true
+    → ListOf (spared a (eitherHit o i)) (lessOf (lessOf a o) i)
 less-both-list a o i sa so si =
     let first = less-list a o sa so in
     let second = less-list (lessOf a o) i (first .isSound) si in
     record {
       isSound = second .isSound;
-      points = λ p. second .points p ∙ ap (λ (b : Bool). b && not (holds i p)) (first .points p) ∙ and-not-or (holds a p) (holds o p) (holds i p);
+      points = λ p.
+          second .points p ∙ ap (λ (b : Bool). b && not (holds i p)) (first .points p) ∙ and-not-or (holds a p) (holds o p) (holds i p);
     }
 
 module _ (a b : List Float) (sa : sound a ≡ true) (sb : sound b ≡ true) where
@@ -69,15 +71,19 @@ module _ (a o i : List Float) (sa : sound a ≡ true) (so : sound o ≡ true) (s
   pub both-outer : (r : Bool) → r ≡ not (equal a (lessOf a o)) → r ≡ true → true ≡ not (equal a (lessOf (lessOf a o) i))
   both-outer r e h = elim (by-cases (equal a (lessOf (lessOf a o) i))) [
     | inr f ↦ sym (ap not f)
-    | inl t ↦ absurd (clash (equal a (lessOf a o)) (ap (equal a) (outer-apart t) ∙ equal-self a sa) (not-true (equal a (lessOf a o)) (sym e ∙ h)))
+    | inl t ↦
+        absurd (clash (equal a (lessOf a o)) (ap (equal a) (outer-apart t) ∙ equal-self a sa) (not-true (equal a (lessOf a o)) (sym e ∙ h)))
   ]
 
   pub both-inner : (r : Bool) → r ≡ not (equal a (lessOf a o)) → r ≡ false → (s : Bool) → s ≡ not (equal a (lessOf a i))
       → s ≡ not (equal a (lessOf (lessOf a o) i))
-  both-inner r e h s f = f ∙ ap (λ (l : List Float). not (equal a (lessOf l i))) (sym (less-still a o sa so (not-false (equal a (lessOf a o)) (sym e ∙ h))))
+  both-inner r e h s f =
+      let kept : lessOf a o ≡ a = less-still a o sa so (not-false (equal a (lessOf a o)) (sym e ∙ h)) in
+      f ∙ ap (λ (l : List Float). not (equal a (lessOf l i))) (sym kept)
 
 -- ---- one list, by a test t whether a boundary of it moves
-module _ {a list : List Float} (sa : sound a ≡ true) (sl : sound list ≡ true) {to end limit : ℕ} (t : Bool) (told : t ≡ not (equal a list)) where
+module _ {a list : List Float} (sa : sound a ≡ true) (sl : sound list ≡ true) {to end limit : ℕ}
+    (t : Bool) (told : t ≡ not (equal a list)) where
   pub reduced-still : {w : List Float} {n : ℕ} → not t ≡ true → length a ≡ n → (equal a list ≡ true → list ≡ a)
       → Reduced a list to end limit w w (record { moved = false; pairs = n / 2 })
   reduced-still {w} h e stays =
@@ -89,8 +95,8 @@ module _ {a list : List Float} (sa : sound a ≡ true) (sl : sound list ≡ true
         becomes = record { moves = sym (not-true t h) ∙ told; pairs = ap length x ∙ omega (arith, sound-mod a sa) };
       }
 
-  pub reduced-moved : {before after : List Float} {r : ℕ} → not t ≡ false → to + limit ≤ length before → WrittenAt list to end limit before after r
-      → Reduced a list to end limit before after (record { moved = true; pairs = r / 2 })
+  pub reduced-moved : {before after : List Float} {r : ℕ} → not t ≡ false → to + limit ≤ length before
+      → WrittenAt list to end limit before after r → Reduced a list to end limit before after (record { moved = true; pairs = r / 2 })
   reduced-moved {before} {after} {r} h f x =
       let long : length list ≡ r = ap length (sym (x .ends)) ∙ part-length to r after (omega (arith, x .most, x .between .size)) in
       let even : r % 2 ≡ 0 = subst (λ (n : ℕ). n % 2 ≡ 0) long (sound-mod list sl) in
@@ -103,8 +109,8 @@ module _ {a list : List Float} (sa : sound a ≡ true) (sl : sound list ≡ true
       }
 
 -- what becomes of a list, by the points that are hit
-pub becomes-spared : {a list l : List Float} {hit hit′ : Float → Bool} {r : Part} → ListOf (spared a hit) list → ((p : Float) → hit p ≡ hit′ p)
-    → Becomes a list r → l ≡ list → Spared a hit′ r l
+pub becomes-spared : {a list l : List Float} {hit hit′ : Float → Bool} {r : Part} → ListOf (spared a hit) list
+    → ((p : Float) → hit p ≡ hit′ p) → Becomes a list r → l ≡ list → Spared a hit′ r l
 becomes-spared {a} left same b e = rw e (record {
   moves = b .moves;
   list = record { isSound = left .isSound; points = λ p. left .points p ∙ ap (λ (x : Bool). holds a p && not x) (same p) };
@@ -129,7 +135,8 @@ module _ {w w₁ : List Float} {t c nc no ni m : ℕ} (to : ℕ) (in-c : Lies c 
     omega (arith, first .most),
   )
 
-  pub both-written : {w₂ : List Float} {r : ℕ} → WrittenAt (lessOf (part t m w₁) (part (c + nc + no) ni w₁)) to (to + m + ni) (m + ni) w₁ w₂ r
+  pub both-written : {w₂ : List Float} {r : ℕ}
+      → WrittenAt (lessOf (part t m w₁) (part (c + nc + no) ni w₁)) to (to + m + ni) (m + ni) w₁ w₂ r
       → WrittenAt (lessHits c nc no ni w) to (t + nc + no) (nc + no + ni) w w₂ r
   both-written {w₂} second = record {
     between = between-both t (t + nc + no) to (to + m + ni) to (t + nc + no) w w₁ w₂ (first .between) (second .between)
@@ -140,8 +147,8 @@ module _ {w w₁ : List Float} {t c nc no ni m : ℕ} (to : ℕ) (in-c : Lies c 
 
 -- ---- both lists of a ray
 -- a list that stays where it was written
-list-kept : (r : Part) (a : List Float) (to : ℕ) (w w′ : List Float) → (r .moved ≡ true → part to (2 * r .pairs) w′ ≡ part to (2 * r .pairs) w)
-    → newList r a to w ≡ newList r a to w′
+list-kept : (r : Part) (a : List Float) (to : ℕ) (w w′ : List Float)
+    → (r .moved ≡ true → part to (2 * r .pairs) w′ ≡ part to (2 * r .pairs) w) → newList r a to w ≡ newList r a to w′
 list-kept r a to w w′ f = go (r .moved) refl
   where
     go : (b : Bool) → r .moved ≡ b → newList r a to w ≡ newList r a to w′
@@ -154,7 +161,8 @@ module _ {at np nc no ni : ℕ} {w w₁ : List Float} {p : Part} (ready : Ready 
   still k n h fit = part-past 0 (np + ni) w w₁ (first .between) k n fit (omega (arith, ready .room))
 
   pub both-lie : {used : ℕ} → used ≡ cellsOf p
-      → Lies (at + np) nc w₁ × Lies (at + np + nc) no w₁ × Lies (at + np + nc + no) ni w₁ × (used + ni ≤ np + 2 * ni) × (np + 2 * ni + nc + no ≤ at + np)
+      → Lies (at + np) nc w₁ × Lies (at + np + nc) no w₁ × Lies (at + np + nc + no) ni w₁ × (used + ni ≤ np + 2 * ni)
+      × (np + 2 * ni + nc + no ≤ at + np)
   both-lie e = (
     lies-past 0 (np + ni) w w₁ (first .between) (at + np) nc (omega (arith, ready .room)) (ready .certain),
     lies-past 0 (np + ni) w w₁ (first .between) (at + np + nc) no (omega (arith, ready .room)) (ready .outer),

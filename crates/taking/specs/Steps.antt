@@ -59,7 +59,8 @@ pub record Reduced (a list : List Float) (to end limit : ℕ) (before after : Li
   pub is : newList r a to after ≡ list
   pub becomes : Becomes a list r
 
--- the ray's lists and the normalized hits stand one after the other from cell `at` on: possible of np cells, certain of nc, outer of no, inner of ni
+-- the ray's lists and the normalized hits stand one after the other from cell `at` on: possible of np cells, certain of nc, outer of no and
+-- inner of ni
 pub record Ready (at np nc no ni : ℕ) (w : List Float) : Type 0 where
   pub room : np + nc + no + 2 * ni ≤ at
   pub possible : Lies at np w
@@ -103,4 +104,5 @@ pub record Lists (possible certain outer inner before after : List Float) (r : P
   pub room : cellsOf (r .possible) + cellsOf (r .certain) ≤ length before
   pub possibleLeft : Spared possible (holds inner) (r .possible) (newList (r .possible) possible 0 after)
   pub certainLeft : Spared certain (eitherHit outer inner) (r .certain) (newList (r .certain) certain (cellsOf (r .possible)) after)
-  pub exact : Exact possible certain outer inner (newList (r .possible) possible 0 after) (newList (r .certain) certain (cellsOf (r .possible)) after)
+  pub exact : Exact possible certain outer inner (newList (r .possible) possible 0 after)
+      (newList (r .certain) certain (cellsOf (r .possible)) after)

@@ -32,8 +32,8 @@ pub record Spared (before : List Float) (hit : Float → Bool) (part : Part) (af
   pub list : ListOf (spared before hit) after
   pub pairs : length after ≡ 2 * part .pairs
 
--- Both lists after a merge, end by end: the old ones less the lists that normalising makes of the hits. The Rust takes what certain then has in
--- common with possible, which is certain itself, since certain lies within possible and of two equal ends the first is kept.
+-- Both lists after a merge, end by end: the old ones less the lists that normalising makes of the hits. The Rust takes of certain what it then
+-- has in common with possible; that is all of it, since certain lies within possible and larger and smaller keep the first of two equal ends.
 pub record Exact (possible certain outer inner possibleAfter certainAfter : List Float) : Type 0 where
   pub outerNormal : List Float
   pub innerNormal : List Float

@@ -55,7 +55,9 @@ mul-y : tie.Need-mul-y Inv-loop μ-loop
 mul-y c = let l = c .before .before .before in omega (arith, two (c .before .before), size l, l .before .before .pre .0)
 
 slice-read-y : tie.Need-slice-read-y Inv-loop μ-loop
-slice-read-y c = let l = c .before .before .before .before in omega (arith, two (c .before .before .before), size l, l .before .before .pre .0)
+slice-read-y c =
+    let l = c .before .before .before .before in
+    omega (arith, two (c .before .before .before), size l, l .before .before .pre .0)
 
 put-pair-requires : tie.Need-put-pair-requires Inv-loop μ-loop
 put-pair-requires c κs = let l = c .before .before .before .before .before in omega (arith, room l)
@@ -76,8 +78,9 @@ loop-again c =
     let l = c .before .before .before .before .before .before .before .before .before .before in
     let s = l .before .before in
     let y = c .before .before .before .before in
-    rw (c .higher .ensures) (cutting-step (s .pre .0) (s .pre .1) (s .pre .2) (l .loop .inv) _ _
-    (y .before .before .before .before .before .loop-test .taken) (y .before .before .before .if1 .left) (y .put-pair .ensures) (c .before .if2 .left))
+    rw (c .higher .ensures)
+    (cutting-step (s .pre .0) (s .pre .1) (s .pre .2) (l .loop .inv) _ _ (y .before .before .before .before .before .loop-test .taken)
+    (y .before .before .before .if1 .left) (y .put-pair .ensures) (c .before .if2 .left))
 
 returns-2 : tie.Need-returns-2 Inv-loop μ-loop
 returns-2 c =

@@ -80,8 +80,8 @@ loop-again c =
     let l = c .before .before .before .before .before .before .before .before in
     let s = l .before .before in
     let y = c .before .before .before in
-    subtracting-step (s .pre .0) (s .pre .1) (s .pre .2) (s .pre .3) (l .loop .inv) (y .before .before .before .before .loop-test .taken) _ _
-    (y .cut-at .ensures)
+    subtracting-step (s .pre .0) (s .pre .1) (s .pre .2) (s .pre .3) (l .loop .inv) (y .before .before .before .before .loop-test .taken)
+    _ _ (y .cut-at .ensures)
 
 same-length : tie.Need-same-length Inv-loop μ-loop
 same-length c = size (c .before)

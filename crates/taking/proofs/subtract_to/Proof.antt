@@ -20,8 +20,8 @@ returns c =
     let y = c .before .before in
     let s = c .before .before .before .before .before in
     let a = s .args in
-    written-back (a .to) (a .w .now) (y .subtract-at .last .0) (omega (arith, s .pre .2, s .pre .0 .room)) (y .subtract-at .kept .0) (a .a) (a .n) (a .b) (a .m) (y .subtract-at .result)
-    (omega (arith, s .pre .2)) (omega (arith, s .pre .3)) (y .subtract-at .ensures)
+    written-back (a .to) (a .w .now) (y .subtract-at .last .0) (omega (arith, s .pre .2, s .pre .0 .room)) (y .subtract-at .kept .0)
+    (a .a) (a .n) (a .b) (a .m) (y .subtract-at .result) (omega (arith, s .pre .2)) (omega (arith, s .pre .3)) (y .subtract-at .ensures)
 
 pub subtract-to-spec : {M : Type 1} → statement M
 subtract-to-spec =

@@ -18,8 +18,8 @@ returns c =
     let s = c .before .before .before .before in
     let a = s .args in
     let h = c .before .is-hit in
-    reduced-still (s .pre .0 .isSound) (hits-sound s) (h .result) (h .ensures) (c .if1 .taken) (part-length (a .c) (a .nc) (a .w .now) (s .pre .0 .room))
-    (both-still _ _ _ (s .pre .0 .isSound) (s .pre .1 .isSound) (s .pre .2 .isSound))
+    reduced-still (s .pre .0 .isSound) (hits-sound s) (h .result) (h .ensures) (c .if1 .taken)
+    (part-length (a .c) (a .nc) (a .w .now) (s .pre .0 .room)) (both-still _ _ _ (s .pre .0 .isSound) (s .pre .1 .isSound) (s .pre .2 .isSound))
 
 returns-2 : tie.Need-returns-2
 returns-2 c =
@@ -27,8 +27,8 @@ returns-2 c =
     let d = c .before .before .before .before in
     let s = d .before .before .before .before in
     let h = d .before .is-hit in
-    reduced-moved (s .pre .0 .isSound) (hits-sound s) (h .result) (h .ensures) (d .if1 .left) (omega (arith, s .pre .0 .room, s .pre .3, s .pre .4))
-    (y .ensures)
+    reduced-moved (s .pre .0 .isSound) (hits-sound s) (h .result) (h .ensures) (d .if1 .left)
+    (omega (arith, s .pre .0 .room, s .pre .3, s .pre .4)) (y .ensures)
 
 pub take-both-spec : {M : Type 1} → statement M
 take-both-spec =

@@ -20,8 +20,8 @@ returns c =
     let s = c .before .before .before .before in
     let a = s .args in
     let h = c .before .share-point in
-    reduced-still (s .pre .0 .isSound) (inner-sound s) (h .result) (h .ensures) (c .if1 .taken) (part-length (a .a) (a .n) (a .w .now) (s .pre .0 .room))
-    (less-still _ _ (s .pre .0 .isSound) (s .pre .1 .isSound))
+    reduced-still (s .pre .0 .isSound) (inner-sound s) (h .result) (h .ensures) (c .if1 .taken)
+    (part-length (a .a) (a .n) (a .w .now) (s .pre .0 .room)) (less-still _ _ (s .pre .0 .isSound) (s .pre .1 .isSound))
 
 returns-2 : tie.Need-returns-2
 returns-2 c =
