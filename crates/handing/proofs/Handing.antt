@@ -7,8 +7,6 @@ use Prim.Native.Nat.{ℕ, zero, suc, _<_}
 use lib.Ieee.{Float}
 use Rattle.comparing.specs.Verdicts.{compareCauses}
 use Rattle.gridding.specs.Causes.{gridCauses, ByCauses}
-use Rattle.gridding.specs.Grid.{gridOf}
-use Rattle.gridding.proofs.Causes.{grid-by-causes}
 use Rattle.grid.specs.declared.Gridded.{Gridded}
 use Rattle.grid.specs.declared.Gridded.the-variants.{Accepted, Refused}
 use Rattle.grid.specs.declared.DexelStockSpec.{DexelStockSpec}

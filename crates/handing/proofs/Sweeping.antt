@@ -27,7 +27,7 @@ sweep-above units s intervals chords budget len k =
 
 module _ (spec : DexelStockSpec) (units : List ℕ) (c : Cells) (intervals : ℕ) (cutter : PreparedCutter) (guard : Float) (chords : List Float) (budget : ℕ) (log after : List Float) where
   abbrev Promise : Axis → CutterShape → Swept → Type 0
-  Promise a h = Sweeps (sweepCauses units (settingOf spec a h cutter guard c) intervals chords budget (length log)) (settingOf spec a h cutter guard c) chords log after
+  Promise a h = Sweeps (sweepCauses units (settingOf spec a h cutter guard c) intervals chords budget (length log)) (settingOf spec a h cutter guard c) intervals chords log after
 
   pub swept-by : (a b : Axis) (h k : CutterShape) (s : Swept) (r : ℕ) (x y : Totals) → a ≡ b → h ≡ k → Promise a h s → HandedAs sweptNumbers Swept.Refused s r x y
       → AnsweredBy sweptNumbers Swept.Refused (Promise b k) r x y

@@ -1,11 +1,9 @@
 // The grid of a blank and its stock. A store is three slices: the ends of the records, their links, and the heads.
-ghost use mathlib.Core.Path.{_≡_};
-ghost use Rattle.gridding.specs.Grid.{gridOf};
-ghost use Rattle.gridding.specs.Causes.{gridIn};
+ghost use Rattle.gridding.specs.Causes.{gridIn, GridPost};
 ghost use Rattle.grid.specs.declared.Gridded.{Gridded};
 ghost use Rattle.store.specs.Updates.{cells};
 ghost use Rattle.filling.specs.Uncut.{Fills, fillCauses};
-ghost use Rattle.measuring.specs.Volume.{volumeOf, Measures, volumeCauses};
+ghost use Rattle.measuring.specs.Volume.{Measures, volumeCauses};
 ghost use Rattle.filling.specs.declared.Filled.{Filled};
 ghost use Rattle.measuring.specs.declared.Measured.{Measured};
 ghost use Rattle.handing.specs.Numbers.{AnsweredBy, gridNumbers, gridCells, filledNumbers, tally, volumeNumbers};
@@ -19,7 +17,7 @@ pub extern "C" fn tridexel_grid(
     counts: &mut [u64; 3],
     steps: &mut [f64; 3],
 ) -> u32
-    ensures { λ r. ⌜ AnsweredBy gridNumbers Gridded.Refused (λ g. g ≡ gridOf spec (now (units .entry))) r
+    ensures { λ r. ⌜ AnsweredBy gridNumbers Gridded.Refused (GridPost spec (now (units .entry))) r
         (gridCells (now (counts .entry)) (now (steps .entry))) (gridCells (now (counts .exit)) (now (steps .exit))) ⌝ }
 {
     let g = gridding::grid(spec, units);
@@ -59,7 +57,7 @@ pub extern "C" fn tridexel_volume(
 ) -> u32
     ensures { λ r. ⌜ AnsweredBy volumeNumbers Measured.Refused
         (Measures (volumeCauses spec (now (units .entry)) (cells (now (spans .entry)) (now (links .entry)) (now (heads .entry))) intervals)
-        (volumeOf spec (gridIn spec) (cells (now (spans .entry)) (now (links .entry)) (now (heads .entry))))) r
+        spec (gridIn spec) (cells (now (spans .entry)) (now (links .entry)) (now (heads .entry))) intervals) r
         (now (volume .entry)) (now (volume .exit)) ⌝ }
 {
     let m = measuring::volume(spec, units, spans, links, heads, intervals);

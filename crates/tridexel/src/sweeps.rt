@@ -30,7 +30,7 @@ pub extern "C" fn tridexel_sweep(
     visits: &mut u64,
 ) -> u32
     ensures { λ r. ⌜ AnsweredBy sweptNumbers Swept.Refused (Sweeps (sweepCauses (now (units .entry)) (settingOf spec (axisOf axis) (shapeOf axis kind m n) cutter guard (cells (now (spans .entry)) (now (links .entry)) (now (heads .entry)))) intervals (now (chords .entry)) budget (length (now (log .entry))))
-        (settingOf spec (axisOf axis) (shapeOf axis kind m n) cutter guard (cells (now (spans .entry)) (now (links .entry)) (now (heads .entry)))) (now (chords .entry)) (now (log .entry)) (now (log .exit)))
+        (settingOf spec (axisOf axis) (shapeOf axis kind m n) cutter guard (cells (now (spans .entry)) (now (links .entry)) (now (heads .entry)))) intervals (now (chords .entry)) (now (log .entry)) (now (log .exit)))
         r (totals (now (entries .entry)) (now (visits .entry))) (totals (now (entries .exit)) (now (visits .exit))) ⌝ }
 {
     let a = named::axis_of(axis);

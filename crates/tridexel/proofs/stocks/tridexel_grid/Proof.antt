@@ -1,7 +1,4 @@
 -- `tridexel::stocks::tridexel_grid` meets its contract.
-use mathlib.Core.Path.{sym, subst}
-use Rattle.gridding.specs.Causes.{ByCauses}
-use Rattle.gridding.proofs.Causes.{grid-by-causes}
 use Rattle.handing.proofs.Handing.{answered, grid-above}
 use borrow.Author.Needs.{needs}
 use Rattle.tridexel.proofs.stocks.tridexel_grid.Statement.{statement}
@@ -15,7 +12,7 @@ hand-grid-requires c κs = search needs
 
 returns : tie.Need-returns
 returns c =
-    answered _ _ _ (c .before .before .before .grid .result) _ _ _ (λ k p. grid-above _ _ k (subst (ByCauses _ _) (sym p) (grid-by-causes _ _))) (c .before .before .before .grid .ensures) (c .hand-grid .ensures)
+    answered _ _ _ (c .before .before .before .grid .result) _ _ _ (λ k p. grid-above _ _ k (p .by)) (c .before .before .before .grid .ensures) (c .hand-grid .ensures)
 
 pub tridexel-grid-spec : {M : Type 1} → statement M
 tridexel-grid-spec = tie.close (tie.spec grid-requires hand-grid-requires returns)
