@@ -52,7 +52,8 @@ module _ (spec : DexelStockSpec) (g : DexelGrid) (s : Stock) (log : List Float) 
 
   -- an accepted commit
   module _ (k : ℕ) (tested : Tested spec g s log allowance work k) (z : k ≡ 0)
-      (ds : DoubleCells (s .cells .spans)) (dl : DoubleCells log) (m : ℕ) (d : Cells) (work′ : List Float) (done : Done spec g (s .cells) log work m d work′) where
+      (ds : DoubleCells (s .cells .spans)) (dl : DoubleCells log) (m : ℕ) (d : Cells) (work′ : List Float)
+      (done : Done spec g (s .cells) log work m d work′) where
     passes : Passes spec g s log allowance work
     passes = tested .passed z
 
@@ -72,20 +73,29 @@ module _ (spec : DexelStockSpec) (g : DexelGrid) (s : Stock) (log : List Float) 
           number : total ≡ s .intervals - pairsFreed (spec .«max_intervals») (s .cells) (done .updates) + pairsLaid (done .updates)
           number =
               counted ∙ ap (λ (x : Cells). countTo (usedAt (x .spans) (x .links)) (spec .«max_intervals»)) (done .left)
-              ∙ count-of (spec .«max_intervals») (2 * rayCount g) _ _ _ _ (cut-sound spec g s (passes .sound) (passes .room) (entries log) doubles (done .updates) m asked (passes .few-pairs) .store)
+              ∙ count-of (spec .«max_intervals») (2 * rayCount g) _ _ _ _
+              (cut-sound spec g s (passes .sound) (passes .room) (entries log) doubles (done .updates) m asked
+              (passes .few-pairs) .store)
 
       pub accept : OnGrid spec g s log allowance work (Changed m) (record { cells = d; generation = s .generation + 1; intervals = total }) work′
       unfolding Judged Left points
       accept = record {
         promise = record {
-          answers = (passes-none spec g s log allowance work doubles passes, changed-rays spec g s (passes .sound) (passes .room) (entries log) doubles (done .updates) m asked);
-          leaves = subst (Cut g (lentStore spec g) s (commitOf log allowance work)) (sym left-is) (cut spec g s (passes .sound) (passes .room) (entries log) doubles (done .updates) m asked (passes .few-pairs) (commitOf log allowance work) refl);
+          answers = (
+            passes-none spec g s log allowance work doubles passes,
+            changed-rays spec g s (passes .sound) (passes .room) (entries log) doubles (done .updates) m asked,
+          );
+          leaves = subst (Cut g (lentStore spec g) s (commitOf log allowance work)) (sym left-is)
+              (cut spec g s (passes .sound) (passes .room) (entries log) doubles (done .updates) m asked (passes .few-pairs)
+              (commitOf log allowance work) refl);
         };
         left = record {
           updates = done .updates;
           merges = asked;
           left = left-is;
-          past = subst (Kept (spec .«max_intervals») (2 * rayCount g) (s .cells)) (sym (done .left)) (all-updated spec g s (passes .sound) (passes .room) (entries log) doubles (done .updates) m asked (passes .few-pairs) .kept);
+          past = subst (Kept (spec .«max_intervals») (2 * rayCount g) (s .cells)) (sym (done .left))
+              (all-updated spec g s (passes .sound) (passes .room) (entries log) doubles (done .updates) m asked
+              (passes .few-pairs) .kept);
           cleared = done .cleared;
         };
       }

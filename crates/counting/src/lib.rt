@@ -144,7 +144,8 @@ fn count_all(
     allowance: u64,
 ) -> Budgets
     requires { ⌜ Countable spec g (cells (now spans) (now links) (now heads)) intervals (now log) ⌝ }
-    ensures { λ r. ⌜ numberOf r ≡ budgetIn spec g (cells (now (spans .entry)) (now (links .entry)) (now (heads .entry))) (now (log .entry)) allowance ⌝ }
+    ensures { λ r. ⌜ numberOf r ≡ budgetIn spec g (cells (now (spans .entry)) (now (links .entry)) (now (heads .entry)))
+        (now (log .entry)) allowance ⌝ }
 {
     let n = log.len() / 6;
     let ascending = entry_order::ascends(g, log);
@@ -193,7 +194,8 @@ pub fn budget(
     allowance: u64,
 ) -> Budgets
     requires { ⌜ Countable spec g (cells (now spans) (now links) (now heads)) intervals (now log) ⌝ }
-    ensures { λ r. ⌜ numberOf r ≡ budgetIn spec g (cells (now (spans .entry)) (now (links .entry)) (now (heads .entry))) (now (log .entry)) allowance ⌝ }
+    ensures { λ r. ⌜ numberOf r ≡ budgetIn spec g (cells (now (spans .entry)) (now (links .entry)) (now (heads .entry)))
+        (now (log .entry)) allowance ⌝ }
 {
     let entries = (log.len() / 6) as u64;
     if allows_all(g, entries, allowance) {

@@ -65,11 +65,13 @@ other-certain i r certain h e = omega (arith, number-certain r)
 left-by : (s t : Float → Bool) (m : List Float) → ((p : Float) → t p ≡ s p) → ListOf t m → ListOf s m
 left-by s t m e x = record { isSound = x .isSound; points = λ p. x .points p ∙ e p }
 
-module _ (g : DexelGrid) (lists : Ray g → Kind → List Float) (es : List Entry) (r : Ray g) (p c : List Float) (x : ExactOf g lists es r p c) where
+module _ (g : DexelGrid) (lists : Ray g → Kind → List Float) (es : List Entry) (r : Ray g) (p c : List Float)
+    (x : ExactOf g lists es r p c) where
   pub exact-possible : sound (lists r possible) ≡ true → LeftOf g lists es r possible p
   unfolding without taken
   exact-possible s = rw (x .possibleIs)
-      (left-by (without g (setsOf g lists) es r possible) (spared (lists r possible) (holds (x .innerNormal))) (lessOf (lists r possible) (x .innerNormal))
+      (left-by (without g (setsOf g lists) es r possible) (spared (lists r possible) (holds (x .innerNormal)))
+      (lessOf (lists r possible) (x .innerNormal))
       (λ q. ap (λ (b : Bool). holds (lists r possible) q && not b) (x .innerIs .list .points q))
       (less-list (lists r possible) (x .innerNormal) s (x .innerIs .list .isSound)))
 
@@ -82,8 +84,10 @@ module _ (g : DexelGrid) (lists : Ray g → Kind → List Float) (es : List Entr
       (less-both-list (lists r certain) (x .outerNormal) (x .innerNormal) s (x .outerIs .list .isSound) (x .innerIs .list .isSound)))
 
   -- a boundary of the list moves exactly when a hit has a point of it
-  moves-by : (k : Kind) (l : List Float) → sound (lists r k) ≡ true → LeftOf g lists es r k l → not (equal (lists r k) l) ≡ hitBy (lists r k) (hitsOn g es r k)
-  moves-by k l s y = moves-hit (lists r k) (hitsOn g es r k) l s (left-by (λ q. holds (lists r k) q && not (holds (hitsOn g es r k) q)) (without g (setsOf g lists) es r k) l
+  moves-by : (k : Kind) (l : List Float) → sound (lists r k) ≡ true → LeftOf g lists es r k l
+      → not (equal (lists r k) l) ≡ hitBy (lists r k) (hitsOn g es r k)
+  moves-by k l s y = moves-hit (lists r k) (hitsOn g es r k) l s
+      (left-by (λ q. holds (lists r k) q && not (holds (hitsOn g es r k) q)) (without g (setsOf g lists) es r k) l
       (λ q. without-hits g r (setsOf g lists) es k q) y)
 
   -- so the ray changes exactly when a boundary of one of its lists moves
@@ -98,7 +102,8 @@ module _ (g : DexelGrid) (lists : Ray g → Kind → List Float) (es : List Entr
       either-not true b = refl
       either-not false b = refl
 
-module _ (g : DexelGrid) (lists : Ray g → Kind → List Float) (es : List Entry) (each : (r : Ray g) (k : Kind) → ListOf (holds (lists r k)) (lists r k)) where
+module _ (g : DexelGrid) (lists : Ray g → Kind → List Float) (es : List Entry)
+    (each : (r : Ray g) (k : Kind) → ListOf (holds (lists r k)) (lists r k)) where
   -- the updates are of whole pairs and in the order of the lists
   pub merges-ascend : {ray m : ℕ} {us : List Update} → Merges g lists es ray us m → Ascending (2 * rayCount g) (2 * ray) us
   merges-ascend (none e) = no-more
@@ -122,7 +127,8 @@ module _ (g : DexelGrid) (lists : Ray g → Kind → List Float) (es : List Entr
       sum : (a : ℕ) → a ≡ a + 0
       sum a = omega arith
   merges-count (same {ray = ray} h e u) t = merges-count u (skipped h e t)
-  merges-count {a = a} (new {ray = ray} {m = m} h e x u) t = subst (λ (x : ℕ). Count g (Changes g (λ r k. holds (lists r k)) es) (rayCount g) x) (sum a m) (merges-count u (counted h e t))
+  merges-count {a = a} (new {ray = ray} {m = m} h e x u) t = subst
+      (λ (x : ℕ). Count g (Changes g (λ r k. holds (lists r k)) es) (rayCount g) x) (sum a m) (merges-count u (counted h e t))
     where
       sum : (a m : ℕ) → suc a + m ≡ a + suc m
       sum a m = omega arith
@@ -135,7 +141,10 @@ module _ (g : DexelGrid) (lists : Ray g → Kind → List Float) (es : List Entr
     kept-left r n k = record { isSound = each r k .isSound; points = λ p. sym (stays g (λ r k. holds (lists r k)) lists each es r k .1 (unhit k) p) }
       where
         e : changesRay g lists es r ≡ false
-        e = elim (by-cases (changesRay g lists es r)) [ inl y ↦ absurd (n (changes-by g (λ r k. holds (lists r k)) lists each es d r .0 y)) | inr y ↦ y ]
+        e = elim (by-cases (changesRay g lists es r)) [
+          | inl y ↦ absurd (n (changes-by g (λ r k. holds (lists r k)) lists each es d r .0 y))
+          | inr y ↦ y
+        ]
 
         unhit : (k : Kind) → hitBy (lists r k) (hitsOn g es r k) ≡ false
         unhit possible = not-left (hitBy (lists r possible) (hitsOn g es r possible)) (hitBy (lists r certain) (hitsOn g es r certain)) e
@@ -150,10 +159,13 @@ module _ (g : DexelGrid) (lists : Ray g → Kind → List Float) (es : List Entr
         at (yes d) rec = moved g (λ x. LeftOf g lists es x k (listAfter us (listNumber (x .0) k) (lists x k))) ray r i d l
             (subst (LeftOf g lists es (ray, i) k) (sym (after-below (merges-ascend t) (listNumber ray k) (lists (ray, i) k) (number-below ray k))) (kept-left (ray, i) e k))
         at (no d) rec = rec (above ray r h d)
-    merges-leave (new {ray = ray} {p = p} {c = c} {us = us} i e x t) r l h k = at (ℕ-discrete ray r) (λ (h : suc ray ≤ r). merges-leave t r l h k)
+    merges-leave (new {ray = ray} {p = p} {c = c} {us = us} i e x t) r l h k = at (ℕ-discrete ray r)
+        (λ (h : suc ray ≤ r). merges-leave t r l h k)
       where
         here : (k : Kind) → LeftOf g lists es (ray, i) k (listAfter (update (2 * ray) p ∷ update (2 * ray + 1) c ∷ us) (listNumber ray k) (lists (ray, i) k))
-        here possible = subst (LeftOf g lists es (ray, i) possible) (sym (after-here (update (2 * ray) p) (update (2 * ray + 1) c ∷ us) (listNumber ray possible) (lists (ray, i) possible) (number-possible ray)))
+        here possible = subst (LeftOf g lists es (ray, i) possible)
+            (sym (after-here (update (2 * ray) p) (update (2 * ray + 1) c ∷ us) (listNumber ray possible) (lists (ray, i) possible)
+            (number-possible ray)))
             (exact-possible g lists es (ray, i) p c x (each (ray, i) possible .isSound))
         here certain = subst (LeftOf g lists es (ray, i) certain)
             (sym (after-other (update (2 * ray) p) (update (2 * ray + 1) c ∷ us) (listNumber ray certain) (lists (ray, i) certain) (λ z. two-numbers ray z)

@@ -48,7 +48,8 @@ module _ (spec : DexelStockSpec) (g : DexelGrid) (s : Stock) (sound : SoundStock
     -- each list afterwards
     list-left : (r : Ray g) (k : Kind) → LeftOf g (listsOf spec g s) es r k (listIn spec (cutStock spec s us) (r .0) k)
     unfolding listIn
-    list-left r k = subst (LeftOf g (listsOf spec g s) es r k) (sym (now (r .0) (r .1) k)) (merges-leave g (listsOf spec g s) es (each spec g s sound es) d asked (r .0) (r .1) (omega arith) k)
+    list-left r k = subst (LeftOf g (listsOf spec g s) es r k) (sym (now (r .0) (r .1) k))
+        (merges-leave g (listsOf spec g s) es (each spec g s sound es) d asked (r .0) (r .1) (omega arith) k)
       where
         below : (i : ℕ) (k : Kind) → i < rayCount g → listNumber i k < 2 * rayCount g
         below i possible h = omega (arith, number-possible i)

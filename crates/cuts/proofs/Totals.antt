@@ -83,8 +83,10 @@ module _ (spec : DexelStockSpec) (g : DexelGrid) (s : Stock) (sound : SoundStock
     totals (none {ray = ray} e) h =
         omega (arith, sum-at g left ray (rayCount g) h e (le-refl (rayCount g)), sum-at g old ray (rayCount g) h e (le-refl (rayCount g)), freed-nothing (spec .«max_intervals») s, laid-nothing)
     totals (same {ray = ray} i e t) h =
-        let p = one-pairs (ray, i) possible (listIn spec s ray possible) (kept-left g (λ r k. listIn spec s (r .0) k) es each d (ray, i) e possible) in
-        let c = one-pairs (ray, i) certain (listIn spec s ray certain) (kept-left g (λ r k. listIn spec s (r .0) k) es each d (ray, i) e certain) in
+        let p = one-pairs (ray, i) possible (listIn spec s ray possible)
+        (kept-left g (λ r k. listIn spec s (r .0) k) es each d (ray, i) e possible) in
+        let c = one-pairs (ray, i) certain (listIn spec s ray certain)
+        (kept-left g (λ r k. listIn spec s (r .0) k) es each d (ray, i) e certain) in
         omega (arith, totals t i, sum-next g left ray h i, sum-next g old ray h i, old-is (ray, i) _ _ refl refl, left-is (ray, i) _ _ p c)
     totals (new {ray = ray} {p = p} {c = c} {us = us} i e x t) h =
         let a = exact-possible g (λ r k. listIn spec s (r .0) k) es (ray, i) p c x (each (ray, i) possible .isSound) in
@@ -92,9 +94,16 @@ module _ (spec : DexelStockSpec) (g : DexelGrid) (s : Stock) (sound : SoundStock
         let lo = one-pairs (ray, i) possible p a in
         let hi = one-pairs (ray, i) certain c b in
         let laid : left (ray, i) ≡ length p / 2 + length c / 2 = left-is (ray, i) (length p / 2) (length c / 2) lo hi in
-        let fp : length (listIn spec s ray possible) / 2 ≡ length (placesOf (spec .«max_intervals») (s .cells .links) (s .cells .heads) (2 * ray)) = list-places spec g s ray possible ∙ ap (λ (j : ℕ). length (placesOf (spec .«max_intervals») (s .cells .links) (s .cells .heads) j)) (number-possible ray) in
-        let fc : length (listIn spec s ray certain) / 2 ≡ length (placesOf (spec .«max_intervals») (s .cells .links) (s .cells .heads) (2 * ray + 1)) = list-places spec g s ray certain ∙ ap (λ (j : ℕ). length (placesOf (spec .«max_intervals») (s .cells .links) (s .cells .heads) j)) (number-certain ray) in
-        let freed : old (ray, i) ≡ length (placesOf (spec .«max_intervals») (s .cells .links) (s .cells .heads) (2 * ray)) + length (placesOf (spec .«max_intervals») (s .cells .links) (s .cells .heads) (2 * ray + 1)) = old-is (ray, i) _ _ fp fc in
+        let fp : length (listIn spec s ray possible) / 2 ≡ length (placesOf (spec .«max_intervals») (s .cells .links) (s .cells .heads) (2 * ray)) =
+        list-places spec g s ray possible
+        ∙ ap (λ (j : ℕ). length (placesOf (spec .«max_intervals») (s .cells .links) (s .cells .heads) j)) (number-possible ray) in
+        let fc : length (listIn spec s ray certain) / 2 ≡ length (placesOf (spec .«max_intervals») (s .cells .links) (s .cells .heads) (2 * ray + 1)) =
+        list-places spec g s ray certain
+        ∙ ap (λ (j : ℕ). length (placesOf (spec .«max_intervals») (s .cells .links) (s .cells .heads) j)) (number-certain ray) in
+        let freed : old (ray, i)
+        ≡ length (placesOf (spec .«max_intervals») (s .cells .links) (s .cells .heads) (2 * ray))
+        + length (placesOf (spec .«max_intervals») (s .cells .links) (s .cells .heads) (2 * ray + 1)) =
+        old-is (ray, i) _ _ fp fc in
         omega (arith, totals t i, sum-next g left ray h i, sum-next g old ray h i, laid, freed, freed-next-two (spec .«max_intervals») s (update (2 * ray) p) (update (2 * ray + 1) c) us, laid-next-two (update (2 * ray) p) (update (2 * ray + 1) c) us)
 
     -- THE LAW OF THE TOTAL

@@ -22,7 +22,8 @@ setsOf g lists r k = holds (lists r k)
 abbrev pub LeftOf : (g : DexelGrid) → (Ray g → Kind → List Float) → List Entry → Ray g → Kind → List Float → Type 0
 LeftOf g lists es r k l = ListOf (without g (setsOf g lists) es r k) l
 
--- p and c are both lists of the ray after the log, end by end: the sound lists of what it leaves (`exact-possible`, `exact-certain` in proofs)
+-- p and c are both lists of the ray after the log, end by end. They are the sound lists of what it leaves: `exact-possible` and
+-- `exact-certain` in proofs.
 abbrev pub ExactOf : (g : DexelGrid) → (Ray g → Kind → List Float) → List Entry → Ray g → (p c : List Float) → Type 0
 ExactOf g lists es r p c = Exact (lists r possible) (lists r certain) (pairsOn g es r outer) (pairsOn g es r inner) p c
 

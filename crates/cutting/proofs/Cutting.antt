@@ -102,11 +102,13 @@ module _ (spec : DexelStockSpec) (g : DexelGrid) (c : Cells) (log w : List Float
         d-is : d ≡ freedAll (spec .«max_intervals») c us
         d-is = freed (rays + length log / 6 + 2 * rays) ∙ ap (freedAll (spec .«max_intervals») c) us-is
 
-        pub layable : DoubleCells (c .spans) → DoubleCells log → RaysLayable (spec .«max_intervals») d w₂ (rays + length log / 6) 0 rays (record { from = 0; at = rays + length log / 6 + 2 * rays })
+        pub layable : DoubleCells (c .spans) → DoubleCells log → RaysLayable (spec .«max_intervals») d w₂ (rays + length log / 6) 0 rays
+            (record { from = 0; at = rays + length log / 6 + 2 * rays })
         layable ds dl = record {
           in-sizes = omega (arith, sizes-room);
           in-lists = omega (arith, end-is, merged .ends);
-          each = subst (EachLayable (spec .«max_intervals») d) (sym us-is) (subst (λ (x : Cells). EachLayable (spec .«max_intervals») x us) (sym d-is) (each ds dl));
+          each = subst (EachLayable (spec .«max_intervals») d) (sym us-is)
+              (subst (λ (x : Cells). EachLayable (spec .«max_intervals») x us) (sym d-is) (each ds dl));
           cursor = no-cursor (spec .«max_intervals») d;
         }
 

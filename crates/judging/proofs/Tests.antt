@@ -165,28 +165,35 @@ module _ (spec : DexelStockSpec) (g : DexelGrid) (s : Stock) (log : List Float) 
           unfolding listIn
           same-pairs = refl
 
-          module _ (b : Budgets) (e : numberOf b ≡ budgetOf allowance (spec .«max_intervals») (raysChanged g (listsIn spec g (s .cells)) (entries log)) (pairsLeft g (listsIn spec g (s .cells)) (entries log))) where
+          module _ (b : Budgets) (e : numberOf b ≡ budgetOf allowance (spec .«max_intervals»)
+              (raysChanged g (listsIn spec g (s .cells)) (entries log)) (pairsLeft g (listsIn spec g (s .cells)) (entries log))) where
             -- 9
             pub rays-due : Doubles g (listsOf spec g s) (entries log) → b ≡ Rays → Tested spec g s log allowance work 9
             unfolding causes Due
             rays-due o h =
-                let t = rays-passed allowance (spec .«max_intervals») (raysChanged g (listsIn spec g (s .cells)) (entries log)) (pairsLeft g (listsIn spec g (s .cells)) (entries log)) (sym (ap numberOf h) ∙ e) in
-                let d = rays-by spec g (lentStore spec g .lent s) (points g (lentStore spec g) s) (listsOf spec g s) (lists sound) (s .generation) (commitOf log allowance work) o in
+                let t = rays-passed allowance (spec .«max_intervals») (raysChanged g (listsIn spec g (s .cells)) (entries log))
+                (pairsLeft g (listsIn spec g (s .cells)) (entries log)) (sym (ap numberOf h) ∙ e) in
+                let d = rays-by spec g (lentStore spec g .lent s) (points g (lentStore spec g) s) (listsOf spec g s) (lists sound)
+                (s .generation) (commitOf log allowance work) o in
                 refused-by 8 (inr (enough room w, inr (good whole sound, inr (below, inr (each-no g log named, inl (d .0 (ap (ltb allowance) (sym same-rays) ∙ t), refl))))))
 
             -- 10
             pub intervals-due : Doubles g (listsOf spec g s) (entries log) → b ≡ Intervals → Tested spec g s log allowance work 10
             unfolding causes Due
             intervals-due o h =
-                let t = intervals-passed allowance (spec .«max_intervals») (raysChanged g (listsIn spec g (s .cells)) (entries log)) (pairsLeft g (listsIn spec g (s .cells)) (entries log)) (sym (ap numberOf h) ∙ e) in
-                let d = rays-by spec g (lentStore spec g .lent s) (points g (lentStore spec g) s) (listsOf spec g s) (lists sound) (s .generation) (commitOf log allowance work) o in
-                let i = intervals-by spec g (lentStore spec g .lent s) (points g (lentStore spec g) s) (listsOf spec g s) (lists sound) (s .generation) (commitOf log allowance work) o in
+                let t = intervals-passed allowance (spec .«max_intervals») (raysChanged g (listsIn spec g (s .cells)) (entries log))
+                (pairsLeft g (listsIn spec g (s .cells)) (entries log)) (sym (ap numberOf h) ∙ e) in
+                let d = rays-by spec g (lentStore spec g .lent s) (points g (lentStore spec g) s) (listsOf spec g s) (lists sound)
+                (s .generation) (commitOf log allowance work) o in
+                let i = intervals-by spec g (lentStore spec g .lent s) (points g (lentStore spec g) s) (listsOf spec g s) (lists sound)
+                (s .generation) (commitOf log allowance work) o in
                 refused-by 9 (inr (enough room w, inr (good whole sound, inr (below, inr (each-no g log named, inr (d .1 (ap (ltb allowance) (sym same-rays) ∙ t .0), inl (i .0 (ap (ltb (spec .«max_intervals»)) (sym same-pairs) ∙ t .1), refl)))))))
 
             -- none
             pub all-passed : s .generation < 2 ^ 64 → b ≡ Kept → Tested spec g s log allowance work 0
             all-passed fits h =
-                let t = both-kept allowance (spec .«max_intervals») (raysChanged g (listsIn spec g (s .cells)) (entries log)) (pairsLeft g (listsIn spec g (s .cells)) (entries log)) (sym (ap numberOf h) ∙ e) in
+                let t = both-kept allowance (spec .«max_intervals») (raysChanged g (listsIn spec g (s .cells)) (entries log))
+                (pairsLeft g (listsIn spec g (s .cells)) (entries log)) (sym (ap numberOf h) ∙ e) in
                 record {
                   passed = λ z. record {
                     room = room;
@@ -205,11 +212,14 @@ module _ (spec : DexelStockSpec) (g : DexelGrid) (s : Stock) (log : List Float) 
                 under n h ne = omega arith
 
   -- no cause is present where every test is passed
-  pub passes-none : Doubles g (listsOf spec g s) (entries log) → Passes spec g s log allowance work → NoneDue (logCauses spec g s (commitOf log allowance work))
+  pub passes-none : Doubles g (listsOf spec g s) (entries log) → Passes spec g s log allowance work
+      → NoneDue (logCauses spec g s (commitOf log allowance work))
   unfolding causes NoneDue
   passes-none o p =
-      let d = rays-by spec g (lentStore spec g .lent s) (points g (lentStore spec g) s) (listsOf spec g s) (lists (p .sound)) (s .generation) (commitOf log allowance work) o in
-      let i = intervals-by spec g (lentStore spec g .lent s) (points g (lentStore spec g) s) (listsOf spec g s) (lists (p .sound)) (s .generation) (commitOf log allowance work) o in (
+      let d = rays-by spec g (lentStore spec g .lent s) (points g (lentStore spec g) s) (listsOf spec g s) (lists (p .sound))
+      (s .generation) (commitOf log allowance work) o in
+      let i = intervals-by spec g (lentStore spec g .lent s) (points g (lentStore spec g) s) (listsOf spec g s) (lists (p .sound))
+      (s .generation) (commitOf log allowance work) o in (
         enough (p .room) (p .work-room),
         (
           good (p .whole) (p .sound),

@@ -53,7 +53,8 @@ module _ (l before : List Float) (at : ℕ) (after : List Float) (r : ℕ) (fit 
 
 -- hits that were copied, then made their sound list in the part from their place on
 pub hits-brought : (hits before w ys : List Float) (at e r : ℕ) → at + length hits ≤ length before → Copied hits before at w e
-    → length ys ≡ length (take (length w - at) (drop at w)) → Filled (NormalOf (take (e - at) (take (length w - at) (drop at w)))) (take (length w - at) (drop at w)) (e - at) ys r
+    → length ys ≡ length (take (length w - at) (drop at w))
+    → Filled (NormalOf (take (e - at) (take (length w - at) (drop at w)))) (take (length w - at) (drop at w)) (e - at) ys r
     → Normal hits at before (putMid at (length w - at) w ys) r
 hits-brought hits before w ys at e r fit c size f =
     let p = copied-placed hits before at w e fit c in

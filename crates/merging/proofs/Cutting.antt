@@ -59,11 +59,16 @@ module _ (at np nc no ni : ℕ) (w w₁ w₂ : List Float) (p r : ℕ) (ready : 
 
   -- what is read on the way is as it was
   same-hits : lessHits (at + np) nc no ni w₁ ≡ lessHits (at + np) nc no ni w
-  same-hits = rw (still (at + np) nc (omega arith) (ready .certain .room), still (at + np + nc) no (omega arith) (ready .outer .room), still (at + np + nc + no) ni (omega arith) (ready .inner .room))
+  same-hits = rw (
+    still (at + np) nc (omega arith) (ready .certain .room),
+    still (at + np + nc) no (omega arith) (ready .outer .room),
+    still (at + np + nc + no) ni (omega arith) (ready .inner .room),
+  )
 
   pub both-cut : true ≡ moves (part at np w) (part (at + np) nc w) (part (at + np + nc) no w) (part (at + np + nc + no) ni w)
       → WrittenAt (lessHits (at + np) nc no ni w₁) p (np + 2 * ni + nc + no) (nc + no + ni) w₁ w₂ r
-      → RayCut (part at np w) (part (at + np) nc w) (part (at + np + nc) no w) (part (at + np + nc + no) ni w) 0 (np + nc + no + 2 * ni) w w₂
+      → RayCut (part at np w) (part (at + np) nc w) (part (at + np + nc) no w) (part (at + np + nc + no) ni w) 0
+      (np + nc + no + 2 * ni) w w₂
       (record { changed = true; possible = p / 2; certain = r / 2 })
   both-cut h second =
       let size₁ : length w₁ ≡ length w = first .between .size in
@@ -71,8 +76,10 @@ module _ (at np nc no ni : ℕ) (w w₁ w₂ : List Float) (p r : ℕ) (ready : 
       let fit₁ : 0 + p ≤ length w₁ = omega (arith, first .most, ready .room, ready .possible .room) in
       let fit₂ : p + r ≤ length w₂ = omega (arith, first .most, second .most, ready .room, ready .possible .room) in
       let certainIs : part p r w₂ ≡ lessHits (at + np) nc no ni w = second .ends ∙ same-hits in
-      let two-p : 2 * (p / 2) ≡ p = whole _ 0 p w₁ fit₁ (first .ends) (less-list (part at np w) (part (at + np + nc + no) ni w) (ready .possible .isSound) (ready .inner .isSound) .isSound) in
-      let two-r : 2 * (r / 2) ≡ r = whole _ p r w₂ fit₂ certainIs (less-both-list (part (at + np) nc w) (part (at + np + nc) no w) (part (at + np + nc + no) ni w)
+      let two-p : 2 * (p / 2) ≡ p = whole _ 0 p w₁ fit₁ (first .ends)
+      (less-list (part at np w) (part (at + np + nc + no) ni w) (ready .possible .isSound) (ready .inner .isSound) .isSound) in
+      let two-r : 2 * (r / 2) ≡ r = whole _ p r w₂ fit₂ certainIs
+      (less-both-list (part (at + np) nc w) (part (at + np + nc) no w) (part (at + np + nc + no) ni w)
       (ready .certain .isSound) (ready .outer .isSound) (ready .inner .isSound) .isSound) in
       record {
         size = size₂ ∙ size₁;
@@ -80,7 +87,8 @@ module _ (at np nc no ni : ℕ) (w w₁ w₂ : List Float) (p r : ℕ) (ready : 
         moved = h;
         most = omega (arith, first .most, second .most);
         lists = λ e. record {
-          possibleIs = ap (λ (n : ℕ). part 0 n w₂) two-p ∙ part-front p (np + 2 * ni + nc + no) w₁ w₂ (second .between) 0 p fit₁ (omega arith) ∙ first .ends;
+          possibleIs = ap (λ (n : ℕ). part 0 n w₂) two-p ∙ part-front p (np + 2 * ni + nc + no) w₁ w₂ (second .between) 0 p fit₁
+              (omega arith) ∙ first .ends;
           certainIs = ap₂ (λ (m n : ℕ). part m n w₂) (none (2 * (p / 2)) ∙ two-p) two-r ∙ certainIs;
         };
         none = λ e. absurd (true≢false e);

@@ -103,7 +103,8 @@ module _ (spec : DexelStockSpec) (g : DexelGrid) (c : Cells) (log before : List 
   module _ (total : ℕ) (snd : SoundCells spec g c total) (w w₁ w₂ : List Float) (ray q changed : ℕ) (x : Merging spec g c log before w ray q changed) (h : ray < rayCount g)
       (r : Change) (m : RayMerged spec g c log ray q w w₁ r)
       (put : w₂ ≡ set (set w₁ (sizesAt g log + 2 * ray) (numberCell (firstOf r))) (sizesAt g log + 2 * ray + 1) (numberCell (r .certain)))
-      (fit : q + limitOf spec log ≤ length w) (small : limitOf spec log ≤ largestNumber) (d : Doubles g (listsOf spec g (stockOf c)) (entries log)) where
+      (fit : q + limitOf spec log ≤ length w) (small : limitOf spec log ≤ largestNumber)
+      (d : Doubles g (listsOf spec g (stockOf c)) (entries log)) where
     abbrev at : ℕ
     at = sizesAt g log + 2 * ray
 
@@ -136,7 +137,8 @@ module _ (spec : DexelStockSpec) (g : DexelGrid) (c : Cells) (log before : List 
     second-is : numberAt w₂ (at + 1) ≡ r .certain
     second-is =
         ap (λ (l : List Float). numberAt l (at + 1)) put
-        ∙ number-put mid (at + 1) (r .certain) (omega (arith, m .cut .size, x .low, length-set w₁ at (numberCell (firstOf r)))) (omega (arith, m .cut .most))
+        ∙ number-put mid (at + 1) (r .certain) (omega (arith, m .cut .size, x .low, length-set w₁ at (numberCell (firstOf r))))
+        (omega (arith, m .cut .most))
 
     abbrev next : ℕ
     next = q + (2 * r .possible + 2 * r .certain)
@@ -193,7 +195,8 @@ module _ (spec : DexelStockSpec) (g : DexelGrid) (c : Cells) (log before : List 
             → Merges g lists (entries log) ray (updatesFrom v (sizesAt g log) q ray (rayCount g - ray)) n
         stays n y =
             subst (λ (us : List Update). Merges g lists (entries log) ray us n) (sym same-updates)
-            (same h (changes-not spec g (stockOf c) total snd log ray h q w w₁ r m d e) (subst (λ (i : ℕ). Merges g lists (entries log) i (updatesFrom v (sizesAt g log) next (ray + 1) left) n) (sym up-one) y))
+            (same h (changes-not spec g (stockOf c) total snd log ray h q w w₁ r m d e)
+            (subst (λ (i : ℕ). Merges g lists (entries log) i (updatesFrom v (sizesAt g log) next (ray + 1) left) n) (sym up-one) y))
 
       -- the ray changes
       module _ (e : r .changed ≡ true) where
@@ -232,7 +235,8 @@ module _ (spec : DexelStockSpec) (g : DexelGrid) (c : Cells) (log before : List 
             → Merges g lists (entries log) ray (updatesFrom v (sizesAt g log) q ray (rayCount g - ray)) (suc n)
         moves n y =
             subst (λ (us : List Update). Merges g lists (entries log) ray us (suc n)) (sym new-updates)
-            (new h (changes spec g (stockOf c) total snd log ray h q w w₁ r m d e) (new-exact spec g (stockOf c) total snd log ray h q w w₁ r m e)
+            (new h (changes spec g (stockOf c) total snd log ray h q w w₁ r m d e)
+            (new-exact spec g (stockOf c) total snd log ray h q w w₁ r m e)
             (subst (λ (i : ℕ). Merges g lists (entries log) i (updatesFrom v (sizesAt g log) next (ray + 1) left) n) (sym up-one) y))
 
       next-ends : listsEnd v (sizesAt g log) q ray (rayCount g - ray) ≡ listsEnd v (sizesAt g log) next (ray + 1) left
@@ -266,7 +270,14 @@ module _ (spec : DexelStockSpec) (g : DexelGrid) (c : Cells) (log before : List 
       low = omega (arith, x .low);
       room = λ l.
           let f = leftPairs g (listsOf spec g (stockOf c)) (entries log) in
-          omega (arith, x .room (le-of-lt h), sum-at g f (suc ray) (ray + 1) h (omega arith) l, sum-next g f ray (le-of-lt h) h, pairs-most spec g (stockOf c) total snd log ray h q w w₁ r m (omega (arith, m .cut .size)));
+          omega (
+            arith,
+            x .room (le-of-lt h),
+            sum-at g f (suc ray) (ray + 1) h (omega arith) l,
+            sum-next g f ray
+                (le-of-lt h) h,
+            pairs-most spec g (stockOf c) total snd log ray h q w w₁ r m (omega (arith, m .cut .size)),
+          );
       few = count-most (r .changed);
       ends = λ v k. x .ends v (before-it v k) ∙ next-ends v k;
       rest = next-rest;
@@ -361,7 +372,8 @@ module _ (spec : DexelStockSpec) (g : DexelGrid) (c : Cells) (log before : List 
       fits .high,
     )
 
-    pub steps : DoubleCells (c .spans) → DoubleCells log → ray < rays → length before < 2 ^ 64 → (w₁ w₂ : List Float) (r : Change) (k : ℕ) → RayMerged spec g c log ray q w w₁ r
+    pub steps : DoubleCells (c .spans) → DoubleCells log → ray < rays → length before < 2 ^ 64 → (w₁ w₂ : List Float) (r : Change) (k : ℕ)
+        → RayMerged spec g c log ray q w w₁ r
         → w₂ ≡ set (set w₁ (rays + entryCount log + 2 * ray) (numberCell (firstOf r))) (rays + entryCount log + 2 * ray + 1) (numberCell (r .certain)) → k ≡ countOf r
         → Merging spec g c log before w₂ (ray + 1) (q + (2 * r .possible + 2 * r .certain)) (changed + k)
     steps ds dl below addressed w₁ w₂ r k m put count =

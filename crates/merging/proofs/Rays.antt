@@ -45,7 +45,8 @@ less-none l h = less-apart l [] h none-sound (none-apart l)
 pub cut-same : {a b c d o u i v : List Float} {from limit : ℕ} {before after : List Float} {r : Change} → a ≡ b → c ≡ d → o ≡ u → i ≡ v
     → RayCut a c o i from limit before after r → RayCut b d u v from limit before after r
 cut-same {a} {b} {c} {d} {o} {u} {i} {v} {from} {limit} {before} {after} {r} p q s t x =
-    subst₂ (λ (k l : List Float). RayCut b d k l from limit before after r) s t (subst₂ (λ (k l : List Float). RayCut k l o i from limit before after r) p q x)
+    subst₂ (λ (k l : List Float). RayCut b d k l from limit before after r) s t
+    (subst₂ (λ (k l : List Float). RayCut k l o i from limit before after r) p q x)
 
 -- ---- what is lent from cell q on
 module _ (q : ℕ) (w : List Float) where
@@ -78,7 +79,8 @@ module _ (q : ℕ) (w ys : List Float) (fit : q ≤ length w) (size : length ys 
     lists = λ h.
         let n = x .lists h in
         record {
-          possibleIs = sym (ap (λ (k : ℕ). part k (2 * r .possible) ys) (zero-left 0) ∙ back-part 0 (2 * r .possible) ∙ ap (λ (k : ℕ). part k (2 * r .possible) (putMid q (length w - q) w ys)) (zero-right q)) ∙ n .possibleIs;
+          possibleIs = sym (ap (λ (k : ℕ). part k (2 * r .possible) ys) (zero-left 0) ∙ back-part 0 (2 * r .possible)
+              ∙ ap (λ (k : ℕ). part k (2 * r .possible) (putMid q (length w - q) w ys)) (zero-right q)) ∙ n .possibleIs;
           certainIs = sym (back-part (2 * r .possible) (2 * r .certain)) ∙ n .certainIs;
         };
     none = x .none;
@@ -106,14 +108,19 @@ module _ (spec : DexelStockSpec) (g : DexelGrid) (c : Cells) (log w : List Float
     outerIs = nothing outer;
     innerIs = nothing inner;
     cut = untouched (possibleIn spec c ray) (certainIn spec c ray) [] [] q (limitOf spec log) w
-        (ap not (both (equal (possibleIn spec c ray) (lessOf (possibleIn spec c ray) [])) (equal (certainIn spec c ray) (lessOf (lessOf (certainIn spec c ray) []) []))
+        (ap not (both (equal (possibleIn spec c ray) (lessOf (possibleIn spec c ray) []))
+        (equal (certainIn spec c ray) (lessOf (lessOf (certainIn spec c ray) []) []))
         (stays (possibleIn spec c ray) (valid .possible-sound))
-        (ap (λ (l : List Float). equal (certainIn spec c ray) (lessOf l [])) (less-none (certainIn spec c ray) (valid .certain-sound)) ∙ stays (certainIn spec c ray) (valid .certain-sound))));
+        (ap (λ (l : List Float). equal (certainIn spec c ray) (lessOf l [])) (less-none (certainIn spec c ray) (valid .certain-sound))
+        ∙ stays (certainIn spec c ray) (valid .certain-sound))));
   }
     where
       nothing : (k : HitKind) → NormalOf (hits k) []
       nothing k = record {
-        list = record { isSound = none-sound; points = λ p. ap (λ (l : List Float). holds l p) (sym (none-named g log w (b .grouped) ray (b .below) e k)) };
+        list = record {
+          isSound = none-sound;
+          points = λ p. ap (λ (l : List Float). holds l p) (sym (none-named g log w (b .grouped) ray (b .below) e k));
+        };
         drawn = tt;
       }
 
@@ -132,23 +139,28 @@ module _ (spec : DexelStockSpec) (g : DexelGrid) (c : Cells) (log w : List Float
       room = omega (arith, few);
       possible = lies-at q w₁ s (z .possible) (s - q) (omega arith) refl (omega (arith, fits)) (ap sound (x .possibleIs) ∙ valid .possible-sound);
       certain = lies-at q w₁ (s + z .possible) (z .certain) (s - q + z .possible) (omega arith) (omega arith) (omega (arith, fits)) (ap sound (x .certainIs) ∙ valid .certain-sound);
-      outer = lies-at q w₁ (s + z .possible + z .certain) (z .outer) (s - q + z .possible + z .certain) (omega arith) (omega arith) (omega (arith, fits)) (x .outerHits .list .isSound);
-      inner = lies-at q w₁ (s + z .possible + z .certain + z .outer) (z .inner) (s - q + z .possible + z .certain + z .outer) (omega arith) (omega arith) (omega (arith, fits)) (x .innerHits .list .isSound);
+      outer = lies-at q w₁ (s + z .possible + z .certain) (z .outer) (s - q + z .possible + z .certain) (omega arith) (omega arith)
+          (omega (arith, fits)) (x .outerHits .list .isSound);
+      inner = lies-at q w₁ (s + z .possible + z .certain + z .outer) (z .inner) (s - q + z .possible + z .certain + z .outer)
+          (omega arith) (omega arith) (omega (arith, fits)) (x .innerHits .list .isSound);
     }
 
     abbrev lent : List Float
     lent = take (length w₁ - q) (drop q w₁)
 
     pub ray-merged : (ys : List Float) (r : Change) → length ys ≡ length lent
-        → RayCut (part (s - q) (z .possible) lent) (part (s - q + z .possible) (z .certain) lent) (part (s - q + z .possible + z .certain) (z .outer) lent)
-        (part (s - q + z .possible + z .certain + z .outer) (z .inner) lent) 0 (z .possible + z .certain + z .outer + 2 * z .inner) lent ys r
+        → RayCut (part (s - q) (z .possible) lent) (part (s - q + z .possible) (z .certain) lent)
+        (part (s - q + z .possible + z .certain) (z .outer) lent)
+        (part (s - q + z .possible + z .certain + z .outer) (z .inner) lent) 0
+        (z .possible + z .certain + z .outer + 2 * z .inner) lent ys r
         → RayMerged spec g c log ray q w (putMid q (length w₁ - q) w₁ ys) r
     ray-merged ys r size y =
         let k = cut-back q w₁ ys (omega (arith, fits)) size (cut-same
         (seen q w₁ s (z .possible) (s - q) (omega arith) refl ∙ x .possibleIs)
         (seen q w₁ (s + z .possible) (z .certain) (s - q + z .possible) (omega arith) (omega arith) ∙ x .certainIs)
         (seen q w₁ (s + z .possible + z .certain) (z .outer) (s - q + z .possible + z .certain) (omega arith) (omega arith))
-        (seen q w₁ (s + z .possible + z .certain + z .outer) (z .inner) (s - q + z .possible + z .certain + z .outer) (omega arith) (omega arith)) y) in
+        (seen q w₁ (s + z .possible + z .certain + z .outer) (z .inner) (s - q + z .possible + z .certain + z .outer) (omega arith)
+        (omega arith)) y) in
         record {
           outerNormal = part (s + z .possible + z .certain) (z .outer) w₁;
           innerNormal = part (s + z .possible + z .certain + z .outer) (z .inner) w₁;

@@ -40,10 +40,12 @@ module _ (spec : DexelStockSpec) (g : DexelGrid) (s : Stock) (total : ℕ) (snd 
   unfolding listIn
   listed r k = each spec g whole snd (entries log) r k
 
-  module _ (ray : ℕ) (h : ray < rayCount g) (q : ℕ) (before after : List Float) (r : Change) (m : RayMerged spec g (s .cells) log ray q before after r) where
+  module _ (ray : ℕ) (h : ray < rayCount g) (q : ℕ) (before after : List Float) (r : Change)
+      (m : RayMerged spec g (s .cells) log ray q before after r) where
     -- both lists less what normalising makes of the hits
     exact : (p c : List Float) → p ≡ lessOf (possibleIn spec (s .cells) ray) (m .innerNormal)
-        → c ≡ lessOf (lessOf (certainIn spec (s .cells) ray) (m .outerNormal)) (m .innerNormal) → ExactOf g (listsOf spec g s) (entries log) (ray, h) p c
+        → c ≡ lessOf (lessOf (certainIn spec (s .cells) ray) (m .outerNormal)) (m .innerNormal)
+        → ExactOf g (listsOf spec g s) (entries log) (ray, h) p c
     unfolding listIn listNumber
     exact p c a b = record {
       outerNormal = m .outerNormal;
@@ -55,8 +57,10 @@ module _ (spec : DexelStockSpec) (g : DexelGrid) (s : Stock) (total : ℕ) (snd 
     }
 
     pub new-exact : r .changed ≡ true
-        → ExactOf g (listsOf spec g s) (entries log) (ray, h) (part q (2 * r .possible) after) (part (q + 2 * r .possible) (2 * r .certain) after)
-    new-exact e = exact (part q (2 * r .possible) after) (part (q + 2 * r .possible) (2 * r .certain) after) (m .cut .lists e .possibleIs) (m .cut .lists e .certainIs)
+        → ExactOf g (listsOf spec g s) (entries log) (ray, h) (part q (2 * r .possible) after)
+        (part (q + 2 * r .possible) (2 * r .certain) after)
+    new-exact e = exact (part q (2 * r .possible) after) (part (q + 2 * r .possible) (2 * r .certain) after)
+        (m .cut .lists e .possibleIs) (m .cut .lists e .certainIs)
 
     -- the ray changes where a boundary moves
     changed-by : r .changed ≡ changesRay g (listsOf spec g s) (entries log) (ray, h)

@@ -19,9 +19,10 @@ use Rattle.taking.specs.Steps.{part}
 use Rattle.merging.specs.declared.Change.{Change}
 use Rattle.merging.specs.declared.Sizes.{Sizes}
 
--- a boundary of one of the lists moves when the hits are taken away: of possible by the inner ones, of certain by the outer and the inner ones
+-- a boundary of one of the lists moves when the hits are taken away: of possible by the inner ones, of certain by both
 abbrev pub moves : (possible certain outers inners : List Float) → Bool
-moves possible certain outers inners = not (equal possible (lessOf possible inners) && equal certain (lessOf (lessOf certain outers) inners))
+moves possible certain outers inners =
+    not (equal possible (lessOf possible inners) && equal certain (lessOf (lessOf certain outers) inners))
 
 -- what the hits leave of both lists stands from cell `at` on, possible's before certain's
 pub record NewLists (possible certain outers inners : List Float) (at : ℕ) (w : List Float) (r : Change) : Type 0 where
@@ -46,7 +47,8 @@ pub record Bringable (spec : DexelStockSpec) (g : DexelGrid) (c : Cells) (log wo
   pub past : rayCount g + entryCount log ≤ s
   pub room : s + 4 * spec .«max_intervals» + 4 * entryCount log ≤ length work
 
--- both lists and those that normalising makes of the outer and the inner hits stand one after the other from cell s on; the cells in front are as before
+-- both lists and those that normalising makes of the outer and the inner hits stand one after the other from cell s on; the cells in front
+-- are as before
 pub record Brought (possible certain outers inners : List Float) (s : ℕ) (before after : List Float) (r : Sizes) : Type 0 where
   pub size : length after ≡ length before
   pub front : (q : ℕ) → q < s → getD after q nan ≡ getD before q nan
@@ -64,7 +66,8 @@ abbrev pub limitOf : DexelStockSpec → (log : List Float) → ℕ
 limitOf spec log = 4 * spec .«max_intervals» + 6 * entryCount log
 
 -- a ray of the store less what normalising makes of the hits of the log on it
-pub record RayMerged (spec : DexelStockSpec) (g : DexelGrid) (c : Cells) (log : List Float) (ray q : ℕ) (before after : List Float) (r : Change) : Type 0 where
+pub record RayMerged (spec : DexelStockSpec) (g : DexelGrid) (c : Cells) (log : List Float) (ray q : ℕ) (before after : List Float)
+    (r : Change) : Type 0 where
   pub outerNormal : List Float
   pub innerNormal : List Float
   pub outerIs : NormalOf (pairsNamed g (entries log) ray outer) outerNormal

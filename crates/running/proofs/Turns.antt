@@ -65,7 +65,8 @@ pub record RunTo (spec : DexelStockSpec) (units : List ℕ) (s : Stock) (logs : 
   pub work-size : length work ≡ length work₀
   pub answers-size : length answers ≡ length answers₀
 
-pub run-start : (spec : DexelStockSpec) (units : List ℕ) (s : Stock) (logs : List Float) (ends allowances : List ℕ) (work : List Float) (answers : List ℕ)
+pub run-start : (spec : DexelStockSpec) (units : List ℕ) (s : Stock) (logs : List Float) (ends allowances : List ℕ) (work : List Float)
+    (answers : List ℕ)
     → DoubleCells (s .cells .spans) → RunTo spec units s logs ends allowances work answers 0 s 0 work answers
 unfolding commitsTo answersTo
 run-start spec units s logs ends allowances work answers d = record {
@@ -91,7 +92,8 @@ pub run-next : (spec : DexelStockSpec) (units : List ℕ) (s : Stock) (logs : Li
     (u : Stock) (work′ : List Float) (answers′ : List ℕ)
     → RunTo spec units s logs ends allowances work₀ answers₀ i t at work answers → i < length ends → 2 * length ends ≤ length answers₀
     → Turned spec units t (logFrom logs at (getD ends i 0)) (getD allowances i 0) work answers i u work′ answers′
-    → DoubleCells (u .cells .spans) → length (u .cells .spans) ≡ length (t .cells .spans) → length (u .cells .links) ≡ length (t .cells .links) → length (u .cells .heads) ≡ length (t .cells .heads)
+    → DoubleCells (u .cells .spans) → length (u .cells .spans) ≡ length (t .cells .spans)
+    → length (u .cells .links) ≡ length (t .cells .links) → length (u .cells .heads) ≡ length (t .cells .heads)
     → length work′ ≡ length work → length answers′ ≡ length answers
     → RunTo spec units s logs ends allowances work₀ answers₀ (i + 1) u (getD ends i 0) work′ answers′
 unfolding commitsTo answersTo

@@ -86,14 +86,15 @@ unfoldable pub RanOn : (spec : DexelStockSpec) (units : List ℕ) → Stock → 
 RanOn spec units s cs vs t = NoneDue (gridCauses spec units) → Ran spec (gridIn spec) s cs vs t
 
 -- a description that `grid` refuses with the number k: nothing is written but k, as the answer to each of i commits
-pub record AllRefused (k i : ℕ) (s : Stock) (work : List Float) (answers : List ℕ) (t : Stock) (work′ : List Float) (answers′ : List ℕ) : Type 0 where
+pub record AllRefused (k i : ℕ) (s : Stock) (work : List Float) (answers : List ℕ) (t : Stock) (work′ : List Float)
+    (answers′ : List ℕ) : Type 0 where
   pub stock-stays : t ≡ s
   pub work-stays : work′ ≡ work
   pub each : (j : ℕ) → j < i → answerBy (getD answers′ (2 * j) 0) (getD answers′ (2 * j + 1) 0) ≡ refused k
   pub past : (q : ℕ) → 2 * i ≤ q → getD answers′ q 0 ≡ getD answers q 0
 
--- ALL OF A RUN: every cell of every buffer, commit by commit, and what demand 3 says of the whole. So a refused description leaves all but the
--- answers (`refused-all` in proofs/Laws), and each list that is left is the only one of doubles with its points (`only-one` there).
+-- ALL OF A RUN: every cell of every buffer, commit by commit, and what demand 3 says of the whole. So a refused description leaves all but
+-- the answers (`refused-all` in proofs/Laws), and each list that is left is the only one of doubles with its points (`only-one` there).
 pub record RanAll (spec : DexelStockSpec) (units : List ℕ) (logs : List Float) (ends allowances : List ℕ) (s : Stock) (work : List Float) (answers : List ℕ) (t : Stock) (work′ : List Float) (answers′ : List ℕ) : Type 0 where
   pub commits : Commits spec units logs ends allowances s work answers (length ends) t work′ answers′
   pub ran : RanOn spec units s (commitsTo logs ends allowances (length work / 2) (length ends)) (answersTo answers′ (length ends)) t

@@ -167,15 +167,18 @@ module _ (g : DexelGrid) (s : Sets g) (lists : Ray g → Kind → List Float) (e
     number = ap (sumOver g) (fun-ext (λ r. ap₂ _+_ (sym (one-count r possible)) (sym (one-count r certain))));
   }
 
-  -- where the ends of the lists and of the hits are doubles, the points alone settle this number: whichever sound lists of doubles have the points
-  -- of the sets as they would be, it is the number of their pairs
-  pub left-number : Doubles g lists es → {n : ℕ} → Intervals g (without g s es) n → (others : Ray g → Kind → List Float) → ((r : Ray g) (k : Kind) → All Double (others r k))
-      → ((r : Ray g) (k : Kind) → sound (others r k) ≡ true) → ((r : Ray g) (k : Kind) (p : Float) → Point p → holds (others r k) p ≡ without g s es r k p)
+  -- where the ends of the lists and of the hits are doubles, the points alone settle this number: whichever sound lists of doubles have
+  -- the points of the sets as they would be, it is the number of their pairs
+  pub left-number : Doubles g lists es → {n : ℕ} → Intervals g (without g s es) n
+      → (others : Ray g → Kind → List Float) → ((r : Ray g) (k : Kind) → All Double (others r k))
+      → ((r : Ray g) (k : Kind) → sound (others r k) ≡ true)
+      → ((r : Ray g) (k : Kind) (p : Float) → Point p → holds (others r k) p ≡ without g s es r k p)
       → n ≡ pairs g others
   unfolding intervals-counted
   left-number d a others e o h =
       intervals-unique g (without g s es) a intervals-counted
-      ∙ intervals-points g (without g s es) intervals-counted (λ r k. less-doubles (lists r k) (hitsOn g es r k) (d .of-lists r k) (d .of-hits r k)) others e o h
+      ∙ intervals-points g (without g s es) intervals-counted
+      (λ r k. less-doubles (lists r k) (hitsOn g es r k) (d .of-lists r k) (d .of-hits r k)) others e o h
 
 -- ---- the order
 

@@ -29,7 +29,8 @@ module _ (spans : List Float) (d : DoubleCells spans) where
 
 pub list-doubles : (spec : DexelStockSpec) (s : Stock) → DoubleCells (s .cells .spans) → (r : ℕ) (k : Kind) → All Double (listIn spec s r k)
 unfolding listIn
-list-doubles spec s d r k = ends-doubles (s .cells .spans) d (placesOf (spec .«max_intervals») (s .cells .links) (s .cells .heads) (listNumber r k))
+list-doubles spec s d r k = ends-doubles (s .cells .spans) d
+    (placesOf (spec .«max_intervals») (s .cells .links) (s .cells .heads) (listNumber r k))
 
 -- ---- the hits of a log
 
@@ -50,7 +51,8 @@ module _ (g : DexelGrid) (log : List Float) (d : DoubleCells log) (r : Ray g) wh
   from-doubles i (suc n) w = go (names g (entryAt log i) r) (from-doubles (suc i) n w)
     where
       go : (b : Bool) → All Double (pairsOn g (entriesFrom log (suc i) n) r w)
-          → All Double (cond b (loOf w (entryAt log i) ∷ hiOf w (entryAt log i) ∷ pairsOn g (entriesFrom log (suc i) n) r w) (pairsOn g (entriesFrom log (suc i) n) r w))
+          → All Double (cond b (loOf w (entryAt log i) ∷ hiOf w (entryAt log i) ∷ pairsOn g (entriesFrom log (suc i) n) r w)
+          (pairsOn g (entriesFrom log (suc i) n) r w))
       go true h = (lo-double i w, (hi-double i w, h))
       go false h = h
 
@@ -61,7 +63,8 @@ module _ (g : DexelGrid) (log : List Float) (d : DoubleCells log) (r : Ray g) wh
   pub hits-doubles : (k : Kind) → All Double (hitsOn g (entries log) r k)
   unfolding hitsOn
   hits-doubles possible = pairs-doubles inner
-  hits-doubles certain = all-append Double (pairsOn g (entries log) r outer) (pairsOn g (entries log) r inner) (pairs-doubles outer) (pairs-doubles inner)
+  hits-doubles certain = all-append Double (pairsOn g (entries log) r outer) (pairsOn g (entries log) r inner)
+      (pairs-doubles outer) (pairs-doubles inner)
 
 -- ---- both
 

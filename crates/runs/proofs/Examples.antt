@@ -60,7 +60,10 @@ all-fit (x ∷ l) = fits binary64 x && all-fit l
 fit-doubles : (l : List Float) → all-fit l ≡ true → All Double l
 unfolding all-fit
 fit-doubles [] h = tt
-fit-doubles (x ∷ l) h = (subst T (sym (and-left (fits binary64 x) (all-fit l) h)) tt, fit-doubles l (and-right (fits binary64 x) (all-fit l) h))
+fit-doubles (x ∷ l) h = (
+  subst T (sym (and-left (fits binary64 x) (all-fit l) h)) tt,
+  fit-doubles l (and-right (fits binary64 x) (all-fit l) h),
+)
 
 cells-doubles : (l : List Float) → All Double l → DoubleCells l
 unfolding fits
@@ -282,7 +285,8 @@ module _ (s : Stock) (S : SoundStock (box 8) grid s) (ds : DoubleCells (s .cells
       → Judged (box 8) grid (lentStore (box 8) grid .lent s) (¬ SoundStock (box 8) grid s) (points grid (lentStore (box 8) grid) s) (s .generation) c a
   judged-on a e = judged-unsound (box 8) grid (lentStore (box 8) grid .lent s) (¬ SoundStock (box 8) grid s) (λ n. n S) (points grid (lentStore (box 8) grid) s) (s .generation) c a
       (subst (λ (b : Answer). Judged (box 8) grid (lentStore (box 8) grid .lent s) ⊥ (points grid (lentStore (box 8) grid) s) (s .generation) c b) e
-      (judged (box 8) grid (lentStore (box 8) grid .lent s) (points grid (lentStore (box 8) grid) s) (λ r k. listIn (box 8) s (r .0) k) lists-on (s .generation) c
+      (judged (box 8) grid (lentStore (box 8) grid .lent s) (points grid (lentStore (box 8) grid) s)
+      (λ r k. listIn (box 8) s (r .0) k) lists-on (s .generation) c
       (all-doubles (box 8) grid s (c .log) ds dc)))
 
   refuses : (k : ℕ) → answer-on s c ≡ refused k → Committed (box 8) grid (lentStore (box 8) grid) s c (refused k) s

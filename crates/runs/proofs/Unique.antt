@@ -48,16 +48,19 @@ pub points-pairs : (a b : List Float) → All Double a → All Double b → soun
     → ((p : Float) → Point p → holds a p ≡ holds b p) → length a / 2 ≡ length b / 2
 points-pairs a b da db sa sb h = ap (λ (n : ℕ). n / 2) (equal-length a b (same-points a b da db sa sb h))
 
--- so the number of intervals of lists of doubles is settled by the points alone: other sound lists of doubles with these points have as many pairs
+-- so the number of intervals of lists of doubles is settled by the points alone: other sound lists of doubles with these points have as
+-- many pairs
 pub intervals-points : (g : DexelGrid) (s : Sets g) {n : ℕ} (a : Intervals g s n) → ((r : Ray g) (k : Kind) → All Double (a .lists r k))
-    → (lists : Ray g → Kind → List Float) → ((r : Ray g) (k : Kind) → All Double (lists r k)) → ((r : Ray g) (k : Kind) → sound (lists r k) ≡ true)
+    → (lists : Ray g → Kind → List Float) → ((r : Ray g) (k : Kind) → All Double (lists r k))
+    → ((r : Ray g) (k : Kind) → sound (lists r k) ≡ true)
     → ((r : Ray g) (k : Kind) (p : Float) → Point p → holds (lists r k) p ≡ s r k p) → n ≡ pairs g lists
 unfolding pairs
 intervals-points g s a da lists dl sl h =
     a .number ∙ ap (sumOver g) (fun-ext λ r. ap₂ _+_ (same r possible) (same r certain))
   where
     same : (r : Ray g) (k : Kind) → length (a .lists r k) / 2 ≡ length (lists r k) / 2
-    same r k = points-pairs (a .lists r k) (lists r k) (da r k) (dl r k) (a .each r k .isSound) (sl r k) (λ p e. a .each r k .points p ∙ sym (h r k p e))
+    same r k = points-pairs (a .lists r k) (lists r k) (da r k) (dl r k) (a .each r k .isSound) (sl r k)
+        (λ p e. a .each r k .points p ∙ sym (h r k p e))
 
 only-part : {A U : Type 0} → A ⊎ ⊥ → A ⊎ U
 only-part (inl a) = inl a

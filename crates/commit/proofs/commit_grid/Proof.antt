@@ -46,8 +46,12 @@ same-length-8 c = search needs
 returns-2 : tie.Need-returns-2
 returns-2 c =
     let judged = c .before .before .before .before .before .before .before .before .before .before .before .before .before .before .before .before .before in
-    accept _ _ _ _ _ _ _ (judged .refusal .ensures) (c .before .before .before .before .before .before .before .before .before .before .before .before .before .before .before .before .if1 .left)
-    (judged .before .before .before .before .before .before .before .before .before .slice-known .given) (judged .before .before .before .before .before .before .shared-slice-known .given) _ _ _ (c .before .before .before .before .before .before .before .before .before .before .before .cut-lists .ensures) _ (c .count-used .ensures)
+    accept _ _ _ _ _ _ _ (judged .refusal .ensures)
+    (c .before .before .before .before .before .before .before .before .before .before .before .before .before .before .before .before .if1 .left)
+    (judged .before .before .before .before .before .before .before .before .before .slice-known .given)
+    (judged .before .before .before .before .before .before .shared-slice-known .given) _ _ _
+    (c .before .before .before .before .before .before .before .before .before .before .before .cut-lists .ensures) _
+    (c .count-used .ensures)
 
 pub commit-grid-spec : {M : Type 1} → statement M
 commit-grid-spec =

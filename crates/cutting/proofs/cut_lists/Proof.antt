@@ -57,7 +57,8 @@ lay-all-requires c κs =
     let grouped = merged .before .before .before .before .before .before .before in
     let start = grouped .before .before .before .before .before .before .before in
     layable _ _ _ _ _ (start .pre) _ _ _ (grouped .group .ensures) (merged .merge-all .ensures) _ (counted .total-rays .ensures) _ (freed .free-all .ensures)
-    (grouped .before .before .before .before .before .before .slice-known .given) (grouped .before .before .before .shared-slice-known .given)
+    (grouped .before .before .before .before .before .before .slice-known .given)
+    (grouped .before .before .before .shared-slice-known .given)
 
 clear-from-requires : tie.Need-clear-from-requires
 clear-from-requires c κs = search needs

@@ -18,8 +18,12 @@ use Rattle.judging.proofs.refusal.Tie as tie
 room : (c : tie.Else1) → let a = c .before .before .before .before .before .before .before .args in Room (a .spec .«max_intervals») (2 * rayCount (a .g)) (cells (a .spans .now) (a .links .now) (a .heads .now))
 room c = let a = c .before .before .before .before .before .before .before .args in room-of-test (a .spec) (a .g) (stock (a .spans .now) (a .links .now) (a .heads .now) (a .generation) (a .intervals)) (a .log .now) (a .allowance) (a .work .now) _ (c .before .is-short .ensures) (c .if1 .left)
 
-doubles : (c : tie.Else1) → let a = c .before .before .before .before .before .before .before .args in Doubles (a .g) (listsOf (a .spec) (a .g) (stock (a .spans .now) (a .links .now) (a .heads .now) (a .generation) (a .intervals))) (entries (a .log .now))
-doubles c = let a = c .before .before .before .before .before .before .before .args in all-doubles (a .spec) (a .g) (stock (a .spans .now) (a .links .now) (a .heads .now) (a .generation) (a .intervals)) (a .log .now) (c .before .before .before .before .before .before .shared-slice-known .given) (c .before .before .before .shared-slice-known4 .given)
+doubles : (c : tie.Else1) → let a = c .before .before .before .before .before .before .before .args in Doubles (a .g)
+    (listsOf (a .spec) (a .g) (stock (a .spans .now) (a .links .now) (a .heads .now) (a .generation) (a .intervals)))
+    (entries (a .log .now))
+doubles c = let a = c .before .before .before .before .before .before .before .args in all-doubles (a .spec) (a .g)
+    (stock (a .spans .now) (a .links .now) (a .heads .now) (a .generation) (a .intervals)) (a .log .now)
+    (c .before .before .before .before .before .before .shared-slice-known .given) (c .before .before .before .shared-slice-known4 .given)
 
 enough : (c : tie.Else2) → let a = c .before .before .before .before .before .before .before .before .before .args in workNeeded (a .spec .«max_intervals») (a .log .now) ≤ length (a .work .now) / 2
 enough c = let a = c .before .before .before .before .before .before .before .before .before .args in work-of-test (a .spec) (a .g) (stock (a .spans .now) (a .links .now) (a .heads .now) (a .generation) (a .intervals)) (a .log .now) (a .allowance) (a .work .now) _ (c .before .is-work-short .ensures) (c .if2 .left)
@@ -75,10 +79,20 @@ enum-told-3 : tie.Need-enum-told-3
 enum-told-3 c = search needs
 
 returns-7 : tie.Need-returns-7
-returns-7 c = rays-due _ _ _ _ _ _ (room (c .before .before .before .before .before .before .before .before .before .before .before)) (enough (c .before .before .before .before .before .before .before .before .before)) (c .before .before .before .before .before .before .before .before .if3 .left) (sound (c .before .before .before .before .before .before)) (c .before .before .before .before .before .if5 .left) (named (c .before .before .before)) _ (c .before .before .budget .ensures) (doubles (c .before .before .before .before .before .before .before .before .before .before .before)) (c .enum-told .given .1)
+returns-7 c = rays-due _ _ _ _ _ _ (room (c .before .before .before .before .before .before .before .before .before .before .before))
+    (enough (c .before .before .before .before .before .before .before .before .before))
+    (c .before .before .before .before .before .before .before .before .if3 .left)
+    (sound (c .before .before .before .before .before .before)) (c .before .before .before .before .before .if5 .left)
+    (named (c .before .before .before)) _ (c .before .before .budget .ensures)
+    (doubles (c .before .before .before .before .before .before .before .before .before .before .before)) (c .enum-told .given .1)
 
 returns-8 : tie.Need-returns-8
-returns-8 c = intervals-due _ _ _ _ _ _ (room (c .before .before .before .before .before .before .before .before .before .before .before)) (enough (c .before .before .before .before .before .before .before .before .before)) (c .before .before .before .before .before .before .before .before .if3 .left) (sound (c .before .before .before .before .before .before)) (c .before .before .before .before .before .if5 .left) (named (c .before .before .before)) _ (c .before .before .budget .ensures) (doubles (c .before .before .before .before .before .before .before .before .before .before .before)) (c .enum-told2 .given .1)
+returns-8 c = intervals-due _ _ _ _ _ _ (room (c .before .before .before .before .before .before .before .before .before .before .before))
+    (enough (c .before .before .before .before .before .before .before .before .before))
+    (c .before .before .before .before .before .before .before .before .if3 .left)
+    (sound (c .before .before .before .before .before .before)) (c .before .before .before .before .before .if5 .left)
+    (named (c .before .before .before)) _ (c .before .before .budget .ensures)
+    (doubles (c .before .before .before .before .before .before .before .before .before .before .before)) (c .enum-told2 .given .1)
 
 returns-9 : tie.Need-returns-9
 returns-9 c = all-passed _ _ _ _ _ _ (room (c .before .before .before .before .before .before .before .before .before .before .before)) (enough (c .before .before .before .before .before .before .before .before .before)) (c .before .before .before .before .before .before .before .before .if3 .left) (sound (c .before .before .before .before .before .before)) (c .before .before .before .before .before .if5 .left) (named (c .before .before .before)) _ (c .before .before .budget .ensures) (search needs) (c .enum-told3 .given .1)

@@ -18,7 +18,8 @@ returns : tie.Need-returns
 returns c =
     let a = c .before .before .before .before .args in
     let h = c .before .is-changed in
-    untouched (part (a .at) (a .np) (a .w .now)) (part (a .at + a .np) (a .nc) (a .w .now)) (part (a .at + a .np + a .nc) (a .no) (a .w .now))
+    untouched (part (a .at) (a .np) (a .w .now)) (part (a .at + a .np) (a .nc) (a .w .now))
+    (part (a .at + a .np + a .nc) (a .no) (a .w .now))
     (part (a .at + a .np + a .nc + a .no) (a .ni) (a .w .now)) 0 (a .np + a .nc + a .no + 2 * a .ni) (a .w .now)
     (sym (h .ensures) ∙ not-true (h .result) (c .if1 .taken))
 

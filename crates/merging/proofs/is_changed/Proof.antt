@@ -24,8 +24,10 @@ returns : tie.Need-returns
 returns c =
     let a = c .before .before .before .args in
     let h = c .before .share-point in
-    moves-first (equal (part (a .at) (a .np) (a .w .now)) (lessOf (part (a .at) (a .np) (a .w .now)) (part (a .at + a .np + a .nc + a .no) (a .ni) (a .w .now))))
-    (equal (part (a .at + a .np) (a .nc) (a .w .now)) (lessHits (a .at + a .np) (a .nc) (a .no) (a .ni) (a .w .now))) (h .result) (h .ensures) (c .if1 .taken)
+    moves-first (equal (part (a .at) (a .np) (a .w .now)) (lessOf (part (a .at) (a .np) (a .w .now))
+    (part (a .at + a .np + a .nc + a .no) (a .ni) (a .w .now))))
+    (equal (part (a .at + a .np) (a .nc) (a .w .now)) (lessHits (a .at + a .np) (a .nc) (a .no) (a .ni) (a .w .now))) (h .result)
+    (h .ensures) (c .if1 .taken)
 
 is-hit-requires : tie.Need-is-hit-requires
 is-hit-requires c κs = search needs
@@ -34,7 +36,8 @@ returns-2 : tie.Need-returns-2
 returns-2 c =
     let a = c .before .before .before .before .args in
     let h = c .before .before .share-point in
-    moves-second (equal (part (a .at) (a .np) (a .w .now)) (lessOf (part (a .at) (a .np) (a .w .now)) (part (a .at + a .np + a .nc + a .no) (a .ni) (a .w .now))))
+    moves-second (equal (part (a .at) (a .np) (a .w .now)) (lessOf (part (a .at) (a .np) (a .w .now))
+    (part (a .at + a .np + a .nc + a .no) (a .ni) (a .w .now))))
     (equal (part (a .at + a .np) (a .nc) (a .w .now)) (lessHits (a .at + a .np) (a .nc) (a .no) (a .ni) (a .w .now)))
     (h .result) (h .ensures) (c .before .if1 .left) (c .is-hit .result) (c .is-hit .ensures)
 
