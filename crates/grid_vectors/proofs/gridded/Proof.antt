@@ -11,7 +11,7 @@ grid-requires : tie.Need-grid-requires
 grid-requires c κs = search needs
 
 returns : tie.Need-returns
-returns c = facts-of _ _ (c .grid .result) (c .grid .ensures)
+returns c = facts-of _ _ (c .grid .result) (c .grid .ensures .is)
 
 slice-aggregate-grid-2 : tie.Need-slice-aggregate-grid-2
 slice-aggregate-grid-2 c = search needs
@@ -20,7 +20,7 @@ grid-requires-2 : tie.Need-grid-requires-2
 grid-requires-2 c κs = search needs
 
 returns-2 : tie.Need-returns-2
-returns-2 c = facts-of _ _ (c .grid2 .result) (c .grid2 .ensures)
+returns-2 c = facts-of _ _ (c .grid2 .result) (c .grid2 .ensures .is)
 
 slice-aggregate-grid-3 : tie.Need-slice-aggregate-grid-3
 slice-aggregate-grid-3 c = search needs
@@ -29,7 +29,7 @@ grid-requires-3 : tie.Need-grid-requires-3
 grid-requires-3 c κs = search needs
 
 returns-3 : tie.Need-returns-3
-returns-3 c = facts-of _ _ (c .grid3 .result) (c .grid3 .ensures)
+returns-3 c = facts-of _ _ (c .grid3 .result) (c .grid3 .ensures .is)
 
 slice-aggregate-grid-4 : tie.Need-slice-aggregate-grid-4
 slice-aggregate-grid-4 c = search needs
@@ -38,7 +38,7 @@ grid-requires-4 : tie.Need-grid-requires-4
 grid-requires-4 c κs = search needs
 
 returns-4 : tie.Need-returns-4
-returns-4 c = facts-of _ _ (c .grid4 .result) (c .grid4 .ensures)
+returns-4 c = facts-of _ _ (c .grid4 .result) (c .grid4 .ensures .is)
 
 slice-aggregate-grid-5 : tie.Need-slice-aggregate-grid-5
 slice-aggregate-grid-5 c = search needs
@@ -47,7 +47,7 @@ grid-requires-5 : tie.Need-grid-requires-5
 grid-requires-5 c κs = search needs
 
 returns-5 : tie.Need-returns-5
-returns-5 c = facts-of _ _ (c .grid5 .result) (c .grid5 .ensures)
+returns-5 c = facts-of _ _ (c .grid5 .result) (c .grid5 .ensures .is)
 
 pub gridded-spec : {M : Type 1} → statement M
 gridded-spec =
