@@ -38,7 +38,7 @@ join-all-requires : tie.Need-join-all-requires
 join-all-requires c κs =
     let s = c .before .before .before in
     let b = s .before .before .before in
-    (b .pre .0, omega (arith, b .pre .1, back-size s))
+    (omega (arith, b .pre .0), omega (arith, b .pre .1, back-size s))
 
 same-length : tie.Need-same-length
 same-length c = search needs
