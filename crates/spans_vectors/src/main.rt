@@ -1,7 +1,8 @@
 // Holds the list functions of `spans` to recorded answers of camlib and to document 01's refusals, read from standard input.
 //
 // A row has 595 bytes: 35 words of 16 hexadecimal digits, a space or the newline after each. oracle/harness/src/bin/record_spans.rs, which
-// records them, says what they are. A result's ends are compared as numbers, all other cells of the buffer bit for bit.
+// records them, says what they are. The ends of a normalised list are compared as numbers, since which of two zeros stands there is open; all
+// other cells of a buffer are compared bit for bit.
 // For each function it writes how many rows agree and how many differ, then how many can't be read, and the number of the first row that
 // differs.
 use comparing::Told;
@@ -76,9 +77,9 @@ fn reply_to(w: &[u64; 35], out: &mut [f64]) -> Reply {
     )
 }
 
-// How many cells of the buffer are a result.
+// How many cells of the buffer are ends of a normalised list.
 fn ends_of(op: u64, r: Reply) -> usize {
-    if op < 3 {
+    if op == 0 {
         if r.count < 8 {
             return (2 * r.count) as usize;
         }

@@ -1,4 +1,4 @@
-//! Records camlib's answers for the program `spans_vectors`: edge cases, document 01's examples among them, then seeded lists.
+//! Records camlib's answers for the program `spans_vectors`: edge cases, seeded lists, document 01's examples, then zeros of both signs at ends.
 //!
 //!     cd oracle && cargo run --release --bin record_spans > ../crates/spans_vectors/stdin
 //!
@@ -160,11 +160,51 @@ fn seeded(case: u64) -> Query {
     all.into_iter().nth(if op < 3 { room } else { 0 }).unwrap()
 }
 
+/// A question with a buffer that is long enough.
+fn of(op: u64, a: &[f64], b: &[f64]) -> Query {
+    Query { op, a: a.to_vec(), b: b.to_vec(), room: BUFFER }
+}
+
+/// Document 01's examples.
+fn examples() -> Vec<Query> {
+    let two = [0., 2., 3., 5.];
+    vec![
+        of(0, &[3., 4., 1., 2., 2., 3.], &[]),
+        of(0, &[1., 1., NAN, 2., 2., 1.], &[]),
+        of(0, &[1., 2., 3., 4.], &[]),
+        of(1, &two, &[1., 4.]),
+        of(1, &[0., 1.], &[1., 2.]),
+        of(1, &[0., 10.], &[0., 10.]),
+        of(2, &two, &[1., 4.]),
+        of(3, &two, &[1., 4.]),
+        of(3, &two, &[]),
+    ]
+}
+
+/// A zero of each sign at an end of either list. Where two meet in `max` or `min` Rust leaves the sign open; it keeps the first here, as document 01 does.
+fn zeros() -> Vec<Query> {
+    let mut out = vec![];
+    for (x, y) in [(0., 0.), (0., -0.), (-0., 0.), (-0., -0.)] {
+        for op in [1, 2] {
+            out.push(of(op, &[x, 2.], &[y, 1.]));
+            out.push(of(op, &[x, 2.], &[-1., y]));
+            out.push(of(op, &[-2., x], &[y, 1.]));
+            out.push(of(op, &[-2., x], &[-1., y]));
+            out.push(of(op, &[-2., 2.], &[-1., y]));
+            out.push(of(op, &[x, 2.], &[-1., 1.]));
+        }
+    }
+    out
+}
+
 fn main() {
     for q in edges() {
         println!("{}", q.row());
     }
     for case in 0..ROWS {
         println!("{}", seeded(case).row());
+    }
+    for q in examples().into_iter().chain(zeros()) {
+        println!("{}", q.row());
     }
 }
