@@ -12,7 +12,7 @@ enum-known-g : tie.Need-enum-known-g
 enum-known-g c = search needs
 
 commit-grid-requires : tie.Need-commit-grid-requires
-commit-grid-requires c κs = grid-facts _ _ _ (sym (c .before .before .before .before .before .before .before .grid .ensures) ∙ c .before .before .before .before .before .g .given .1)
+commit-grid-requires c κs = grid-facts _ _ _ (sym (c .before .before .before .before .before .before .before .grid .ensures .is) ∙ c .before .before .before .before .before .g .given .1)
 
 enum-known-k : tie.Need-enum-known-k
 enum-known-k c = search needs
@@ -30,10 +30,10 @@ same-length-4 : tie.Need-same-length-4
 same-length-4 c = search needs
 
 returns : tie.Need-returns
-returns c = on-grid _ _ _ _ _ _ _ _ _ _ (sym (c .before .before .before .before .before .before .before .before .before .before .before .before .before .before .before .before .grid .ensures) ∙ c .before .before .before .before .before .before .before .before .before .before .before .before .before .before .g .given .1) (c .before .before .before .before .before .before .before .before .commit-grid .ensures)
+returns c = on-grid _ _ _ _ _ _ _ _ _ _ (sym (c .before .before .before .before .before .before .before .before .before .before .before .before .before .before .before .before .grid .ensures .is) ∙ c .before .before .before .before .before .before .before .before .before .before .before .before .before .before .g .given .1) (c .before .before .before .before .before .before .before .before .commit-grid .ensures)
 
 returns-2 : tie.Need-returns-2
-returns-2 c = no-grid _ _ _ _ _ _ _ (sym (c .before .before .before .grid .ensures) ∙ c .before .k .given .1)
+returns-2 c = no-grid _ _ _ _ _ _ _ (sym (c .before .before .before .grid .ensures .is) ∙ c .before .k .given .1)
 
 pub commit-log-on-spec : {M : Type 1} → statement M
 commit-log-on-spec =
