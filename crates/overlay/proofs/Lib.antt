@@ -3,3 +3,4 @@ pub mod Less
 pub mod Shared
 pub mod Cutting
 pub mod Common
+pub mod Within
