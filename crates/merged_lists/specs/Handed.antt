@@ -1,9 +1,13 @@
 -- The lists of a ray after a merge.
 use mathlib.Core.Path.{_≡_}
-use mathlib.Core.Bool.{false}
+use mathlib.Core.Bool.{true, false}
 use mathlib.Core.List.{List}
+use Prim.Native.Nat.{ℕ, _+_, _*_, _≤_}
+use lib.ListN.{length}
 use lib.Ieee.{Float}
+use denote.Ref.{RefT}
 use Rattle.taking.specs.Taking.{cellsOf, handed}
+use Rattle.taking.specs.declared.Part.{Part}
 use Rattle.merge.specs.declared.Merged.{Merged}
 use Rattle.merge.specs.declared.Merged.the-variants.{Lists, Refused}
 
@@ -24,3 +28,15 @@ PossibleStays (Refused k) = Unit {0}
 abbrev pub CertainStays : Merged → Type 0
 CertainStays (Lists p c) = c .moved ≡ false
 CertainStays (Refused k) = Unit {0}
+
+-- a list that moved is handed back as the part of the work buffer that begins at cell `at`, 8 bytes a cell past its start
+abbrev pub Moved : Part → RefT (List Float) → ℕ → RefT (List Float) → Type 0
+Moved part work at r = part .moved ≡ true → at + 2 * part .pairs ≤ length (work .now) → r .ptr ≡ (work .ptr .0, work .ptr .1 + 8 * at)
+
+abbrev pub PossibleMoved : Merged → RefT (List Float) → RefT (List Float) → Type 0
+PossibleMoved (Lists p c) work r = Moved p work 0 r
+PossibleMoved (Refused k) work r = Unit {0}
+
+abbrev pub CertainMoved : Merged → RefT (List Float) → RefT (List Float) → Type 0
+CertainMoved (Lists p c) work r = Moved c work (cellsOf p) r
+CertainMoved (Refused k) work r = Unit {0}

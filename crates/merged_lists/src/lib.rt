@@ -2,13 +2,14 @@
 ghost use mathlib.Core.Path.{_≡_};
 ghost use mathlib.Core.Bool.{false};
 ghost use Rattle.taking.specs.Taking.{handed};
-ghost use Rattle.merged_lists.specs.Handed.{possibleHanded, certainHanded, PossibleStays, CertainStays};
+ghost use Rattle.merged_lists.specs.Handed.{possibleHanded, certainHanded, PossibleStays, CertainStays, Moved, PossibleMoved, CertainMoved};
 use merge::Merged;
 use taking::Part;
 
 // The new list at cell `at` of the work buffer, or the list from before where it did not move or the buffer ends too early.
 fn handed_back<'a>(before: &'a [f64], work: &'a [f64], p: Part, at: usize) -> &'a [f64]
-    ensures { λ r. ⌜ (now r ≡ handed p (now (before .entry)) (now (work .entry)) at) × (p .moved ≡ false → r ≡ before .entry) ⌝ }
+    ensures { λ r. ⌜ (now r ≡ handed p (now (before .entry)) (now (work .entry)) at) × (p .moved ≡ false → r ≡ before .entry)
+        × Moved p (work .entry) at r ⌝ }
 {
     if !p.moved {
         return before;
@@ -26,7 +27,8 @@ fn handed_back<'a>(before: &'a [f64], work: &'a [f64], p: Part, at: usize) -> &'
 
 // The ray's possible list after a merge, with this answer, of the list `before`.
 pub fn possible_of<'a>(before: &'a [f64], work: &'a [f64], answer: Merged) -> &'a [f64]
-    ensures { λ r. ⌜ (now r ≡ possibleHanded answer (now (before .entry)) (now (work .entry))) × (PossibleStays answer → r ≡ before .entry) ⌝ }
+    ensures { λ r. ⌜ (now r ≡ possibleHanded answer (now (before .entry)) (now (work .entry))) × (PossibleStays answer → r ≡ before .entry)
+        × PossibleMoved answer (work .entry) r ⌝ }
 {
     match answer {
         Merged::Lists(p, _) => handed_back(before, work, p, 0),
@@ -36,7 +38,8 @@ pub fn possible_of<'a>(before: &'a [f64], work: &'a [f64], answer: Merged) -> &'
 
 // The ray's certain list after a merge, with this answer, of the list `before`.
 pub fn certain_of<'a>(before: &'a [f64], work: &'a [f64], answer: Merged) -> &'a [f64]
-    ensures { λ r. ⌜ (now r ≡ certainHanded answer (now (before .entry)) (now (work .entry))) × (CertainStays answer → r ≡ before .entry) ⌝ }
+    ensures { λ r. ⌜ (now r ≡ certainHanded answer (now (before .entry)) (now (work .entry))) × (CertainStays answer → r ≡ before .entry)
+        × CertainMoved answer (work .entry) r ⌝ }
 {
     match answer {
         Merged::Lists(p, c) => {

@@ -17,7 +17,7 @@ returns : tie.Need-returns
 returns c = rw (c .before .before .answer .given .1) (c .handed-back .ensures)
 
 returns-2 : tie.Need-returns-2
-returns-2 c = rw (c .enum-told .given .1) (refl, λ _. refl)
+returns-2 c = rw (c .enum-told .given .1) (refl, λ _. refl, tt)
 
 pub possible-of-spec : {M : Type 1} → statement M
 possible-of-spec =
