@@ -67,7 +67,8 @@ by-within lo hi (x ∷ y ∷ b) h nb r f =
           (le-trans y lo (higherOf lo x) low (higher-first lo x (n .0)))) in
           ap₂ _++_ (meet ∙ pair-none (higherOf lo x) (lowerOf hi y) none)
           (by-within lo hi b h (nb .1 .1) (rising-tail y b t) (λ q w. elim (or-cases (within x y q) (holds b q) (f q w)) [
-            | inl v ↦ absurd (clash (lt q y) (and-right (le x q) (lt q y) v) (le→not-lt y q (le-trans y lo q low (and-left (le lo q) (lt q hi) w))))
+            | inl v ↦ absurd (clash (lt q y) (and-right (le x q) (lt q y) v)
+                (le→not-lt y q (le-trans y lo q low (and-left (le lo q) (lt q hi) w))))
             | inr v ↦ v
           ]))
       | inl u ↦
@@ -85,7 +86,8 @@ by-within lo hi (x ∷ y ∷ b) h nb r f =
           ] in
           let whole : pairIf (higherOf lo x) (lowerOf hi y) ≡ lo ∷ hi ∷ [] = rw (le→not-lt x lo start, end, h) refl in
           ap₂ _++_ (meet ∙ whole)
-          (by-none lo hi (n .0) (n .1) b (nb .1 .1) (above-less hi y (not-lt→le y hi (nb .1 .0) (n .1) end) b (rising-above y b t)))
+          (by-none lo hi (n .0) (n .1) b (nb .1 .1)
+          (above-less hi y (not-lt→le y hi (nb .1 .0) (n .1) end) b (rising-above y b t)))
     ]
 
 common-stays : (c p : List Float) → rising c ≡ true → oddN (length c) ≡ false → All Number p → rising p ≡ true → Within p c → commonOf c p ≡ c
@@ -94,7 +96,8 @@ common-stays [] p rc e np rp f = refl
 common-stays (lo ∷ []) p rc e np rp f = absurd (true≢false e)
 common-stays (lo ∷ hi ∷ c) p rc e np rp f =
     ap₂ _++_ (by-within lo hi p (rising-above lo (hi ∷ c) rc .0) np rp (λ q w. f q (or-left (within lo hi q) (holds c q) w)))
-    (common-stays c p (rising-tail hi c (rising-tail lo (hi ∷ c) rc)) (sym (not-not (oddN (length c))) ∙ e) np rp (λ q w. f q (or-right (within lo hi q) (holds c q) w)))
+    (common-stays c p (rising-tail hi c (rising-tail lo (hi ∷ c) rc)) (sym (not-not (oddN (length c))) ∙ e) np rp
+    (λ q w. f q (or-right (within lo hi q) (holds c q) w)))
 
 -- ---- a list within another is what they have in common, end by end
 pub common-within : (c p : List Float) → sound c ≡ true → sound p ≡ true → Within p c → commonOf c p ≡ c

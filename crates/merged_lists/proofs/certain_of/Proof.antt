@@ -11,8 +11,11 @@ returns : tie.Need-returns
 returns c =
     let a = c .before .before .before .before .before .before .before .args in
     let d = c .before .before .before .answer in
-    rw (d .given .1, c .before .if1 .taken)
-    (handed-short (d .given .0 .1 .0) (a .before .now) (a .work .now) (2 * d .given .0 .0 .pairs) (omega (arith, c .if2 .taken)), λ _. refl, λ _ h. absurd (omega (arith, c .if2 .taken, h)))
+    rw (d .given .1, c .before .if1 .taken) (
+      handed-short (d .given .0 .1 .0) (a .before .now) (a .work .now) (2 * d .given .0 .0 .pairs) (omega (arith, c .if2 .taken)),
+      λ _. refl,
+      λ _ h. absurd (omega (arith, c .if2 .taken, h)),
+    )
 
 returns-2 : tie.Need-returns-2
 returns-2 c = rw (c .before .before .before .before .answer .given .1, c .before .before .if1 .taken) (c .handed-back .ensures)
