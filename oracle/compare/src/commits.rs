@@ -2,10 +2,13 @@
 use crate::{
     explained::Explained,
     function::{Function, Outcome, Words},
+    reached::{COUNTS, DECADES, Group, NUMBERS, Reached},
 };
 use harness::{
-    commits::{Commit, Entries, Kind, Run, Tally, edges, run, run_of},
+    commits::{Commit, Entries, Run, Tally},
+    generate::Gen,
     log_runs::{LogRun, log_run, long_run},
+    runs::{Domain, Kind, edges, run_of},
     store::{LentStore, Match},
 };
 use oracle::dexel::DexelStockSpec;
@@ -147,17 +150,59 @@ fn kind_of(c: &Commit) -> Kind {
     }
 }
 
-/// Runs of one kind of commit, so that each entry has a row of its own, mixed ones, runs of logs with their copies, and runs of long logs.
+/// What runs reach that may be refused with these numbers. Numbers are of commits, sizes of runs.
+fn wanted(refused: &'static [&'static str], compared: &'static [&'static str], rays: &'static [&'static str]) -> [Group; 5] {
+    [("refused", refused), ("compared", compared), ("extent", &DECADES), ("bound", &DECADES), ("rays", rays)]
+}
+
+fn count_blank(r: &Run, reached: &mut Reached) {
+    reached.count_box(r.spec.min_mm, r.spec.max_mm, r.start.heads.len() / 2);
+}
+
+fn count_commit(c: &Commit, number: u32, reached: &mut Reached) {
+    reached.count("refused", NUMBERS[number as usize]);
+    if number == 0 {
+        reached.count("compared", if c.settled() { "by bits" } else { "as numbers" });
+    }
+}
+
+fn compare_run(r: &Run, reached: &mut Reached) -> Outcome {
+    count_blank(r, reached);
+    outcome(r.end(&Port, &mut |c, number| count_commit(c, number, reached)).map(|(found, _)| found))
+}
+
+fn compare_log_run(r: &LogRun, reached: &mut Reached) -> Outcome {
+    count_blank(&r.first, reached);
+    outcome(r.play_seen(&Port, &mut |c, number| count_commit(c, number, reached)))
+}
+
+/// The inputs of a generator over small blanks or the whole domain.
+fn anywhere<I>(make: impl Fn(&mut Gen, Domain) -> I) -> impl Fn(&mut Gen) -> I {
+    move |g| {
+        let domain = Domain::any(g);
+        make(g, domain)
+    }
+}
+
+/// Runs of one kind of commit, so that each entry has a row of its own, mixed ones, runs of logs with their copies, and runs of long logs, which have no
+/// blank of some ten thousand rays.
 pub fn functions() -> Vec<Function> {
-    let of = |name: &'static str, kind: Kind| {
-        let edges = edges().into_iter().filter(|r| r.commits.iter().all(|c| kind_of(c) == kind)).collect();
-        Function::new(name, edges, move |g| run_of(g, Some(kind)), |r| outcome(r.play(&Port)))
-    };
+    const LOGS: &[&str] = &["accepted", "9", "10", "11", "12", "15", "17"];
+    const CHANGES: &[&str] = &["accepted", "10", "11", "13", "14", "15"];
+    const BOTH: &[&str] = &["accepted", "9", "10", "11", "12", "13", "14", "15", "17"];
+    const ZEROS: &[&str] = &["by bits", "as numbers"];
+    let only = |kind: Kind| edges().into_iter().filter(|r| r.commits.iter().all(|c| kind_of(c) == kind)).collect();
+    let runs = |kind: Option<Kind>| anywhere(move |g, domain| run_of(g, domain, kind));
+    let changes = wanted(CHANGES, &["by bits"], &COUNTS);
+    let logs = wanted(LOGS, ZEROS, &COUNTS);
+    let both = wanted(BOTH, ZEROS, &COUNTS);
+    let copied = wanted(LOGS, ZEROS, &["1", "10", "100", "1000"]);
+    let long = wanted(&["accepted", "9", "10", "15"], ZEROS, &["1", "10", "100", "1000"]);
     vec![
-        of("commit_changes", Kind::Changes),
-        of("commit_log", Kind::Logs),
-        Function::new("runs", edges(), run, |r| outcome(r.play(&Port))),
-        Function::new("log_runs", vec![], log_run, |r| outcome(r.play(&Port))),
-        Function::new("long_logs", vec![], long_run, |r| outcome(r.play(&Port))),
+        Function::counting("commit_changes", &changes, only(Kind::Changes), runs(Some(Kind::Changes)), compare_run),
+        Function::counting("commit_log", &logs, only(Kind::Logs), runs(Some(Kind::Logs)), compare_run),
+        Function::counting("runs", &both, edges(), runs(None), compare_run),
+        Function::counting("log_runs", &copied, vec![], anywhere(log_run), compare_log_run),
+        Function::counting("long_logs", &long, vec![], anywhere(long_run), compare_run),
     ]
 }

@@ -3,13 +3,14 @@ use crate::{
     function::{Function, Outcome, Words},
     strips::{Answer, answers},
 };
-use harness::generate::Gen;
+use harness::{
+    cutters,
+    generate::Gen,
+    wide::{LEAST, MOST},
+};
 use oracle::{
     dexel::opened::sweep as rust,
-    tool::{
-        CutterShape, PreparedAssembly,
-        opened::{Given, prepared},
-    },
+    tool::{CutterShape, PreparedAssembly, opened::Given},
 };
 
 pub use tridexel::Cutter as PreparedCutter;
@@ -30,7 +31,9 @@ unsafe extern "C" {
     pub safe fn tridexel_inner_check_tool(kind: u64, m: f64, n: f64, c: PreparedCutter) -> u32;
 }
 
-pub const SHAPES: u64 = 9;
+pub const SHAPES: u64 = cutters::SHAPES.len() as u64;
+const BULL: u64 = 2;
+const CHAMFER: u64 = 4;
 pub const BEAM: u64 = 5;
 const DOVETAIL: u64 = 8;
 
@@ -49,34 +52,69 @@ impl Words for Tool {
     }
 }
 
-fn shape(t: &Tool) -> CutterShape {
-    let [m, n] = t.own;
-    match t.kind {
-        0 => CutterShape::Flat,
-        1 => CutterShape::Ball,
-        2 => CutterShape::Bull { corner_radius_mm: m },
-        3 => CutterShape::Drill { point_angle_rad: m },
-        4 => CutterShape::Chamfer { included_angle_rad: m, tip_diameter_mm: n },
-        BEAM => CutterShape::Beam,
-        6 => CutterShape::Probe,
-        7 => CutterShape::Lollipop,
-        _ => CutterShape::Dovetail { flank_angle_rad: m },
-    }
+/// A tool as package `oracle` or `oracle_len` has it: the text of both is camlib's, but their types are their own.
+macro_rules! assembled {
+    ($package:ident, $tool:expr) => {{
+        use $package::tool::{
+            CutterShape,
+            opened::{Given, prepared},
+        };
+        let crate::cutter::Tool { kind, own: [m, n], c, .. } = $tool;
+        prepared(&Given {
+            shape: match *kind {
+                0 => CutterShape::Flat,
+                1 => CutterShape::Ball,
+                2 => CutterShape::Bull { corner_radius_mm: *m },
+                3 => CutterShape::Drill { point_angle_rad: *m },
+                4 => CutterShape::Chamfer { included_angle_rad: *m, tip_diameter_mm: *n },
+                5 => CutterShape::Beam,
+                6 => CutterShape::Probe,
+                7 => CutterShape::Lollipop,
+                _ => CutterShape::Dovetail { flank_angle_rad: *m },
+            },
+            diameter: c.diameter_mm,
+            cutting: c.cutting_length_mm,
+            overall: c.overall_length_mm,
+            radius: c.radius,
+            tip_height: c.tip_height,
+            slope: c.slope,
+            shoulder: c.shoulder,
+            shank_diameter: c.shank_diameter_mm,
+            neck_diameter: Some(c.neck_diameter_mm),
+        })
+    }};
 }
+pub(crate) use assembled;
 
 pub fn assembly(t: &Tool) -> PreparedAssembly {
-    prepared(&Given {
-        shape: shape(t),
-        diameter: t.c.diameter_mm,
-        cutting: t.c.cutting_length_mm,
-        overall: t.c.overall_length_mm,
-        radius: t.c.radius,
-        tip_height: t.c.tip_height,
-        slope: t.c.slope,
-        shoulder: t.c.shoulder,
-        shank_diameter: t.c.shank_diameter_mm,
-        neck_diameter: Some(t.c.neck_diameter_mm),
-    })
+    assembled!(oracle, t)
+}
+
+/// The tool of these numbers. Where there is no neck its diameter is the shank's.
+pub fn tool_of(g: &Given) -> Tool {
+    let (kind, own) = match g.shape {
+        CutterShape::Flat => (0, [0.; 2]),
+        CutterShape::Ball => (1, [0.; 2]),
+        CutterShape::Bull { corner_radius_mm } => (2, [corner_radius_mm, 0.]),
+        CutterShape::Drill { point_angle_rad } => (3, [point_angle_rad, 0.]),
+        CutterShape::Chamfer { included_angle_rad, tip_diameter_mm } => (4, [included_angle_rad, tip_diameter_mm]),
+        CutterShape::Beam => (BEAM, [0.; 2]),
+        CutterShape::Probe => (6, [0.; 2]),
+        CutterShape::Lollipop => (7, [0.; 2]),
+        CutterShape::Dovetail { flank_angle_rad } => (DOVETAIL, [flank_angle_rad, 0.]),
+    };
+    let c = PreparedCutter {
+        diameter_mm: g.diameter,
+        cutting_length_mm: g.cutting,
+        overall_length_mm: g.overall,
+        neck_diameter_mm: g.neck_diameter.unwrap_or(g.shank_diameter),
+        shank_diameter_mm: g.shank_diameter,
+        radius: g.radius,
+        tip_height: g.tip_height,
+        slope: g.slope,
+        shoulder: g.shoulder,
+    };
+    Tool { kind, own, c, h: [0.; 2] }
 }
 
 fn length(g: &mut Gen, most: f64) -> f64 {
@@ -151,14 +189,77 @@ pub fn any(g: &mut Gen) -> Tool {
     Tool { own, c, ..t }
 }
 
+/// A height at, next to or between the places where the profile changes.
+fn place(g: &mut Gen, c: &PreparedCutter) -> f64 {
+    let places = [0., c.tip_height, c.cutting_length_mm, c.shoulder, c.overall_length_mm];
+    let x = g.pick(&places);
+    match g.below(5) {
+        0 => x,
+        1 => x.next_up(),
+        2 => x.next_down(),
+        _ => x + g.within(-0.1, 1.) * (g.pick(&places) - x),
+    }
+}
+
+fn with_heights(g: &mut Gen, mut t: Tool) -> Tool {
+    t.h = [place(g, &t.c), place(g, &t.c)];
+    g.sign_zeros(&mut t.h);
+    t
+}
+
+/// A tool of about this radius as camlib's constructor makes it.
+pub fn prepared(g: &mut Gen, radius: f64) -> Tool {
+    let kind = g.below(SHAPES);
+    let t = tool_of(&cutters::prepared(g, kind, radius));
+    with_heights(g, t)
+}
+
+/// A likely tool with its lengths in proportion to this radius, but none past the limit; its zeros have either sign.
+pub fn in_proportion(g: &mut Gen, radius: f64) -> Tool {
+    let mut t = likely(g);
+    let (factor, slope) = (radius / t.c.radius, t.c.slope);
+    let mut numbers = t.c.numbers().map(|x| (x * factor).min(MOST));
+    g.sign_zeros(&mut numbers);
+    t.c = PreparedCutter { slope, ..PreparedCutter::of_numbers(numbers) };
+    match t.kind {
+        BULL => t.own[0] *= factor,
+        CHAMFER => t.own[1] *= factor,
+        _ => {}
+    }
+    with_heights(g, t)
+}
+
+/// A tool of any size, or one with numbers that no constructor makes.
+pub fn wide(g: &mut Gen) -> Tool {
+    let radius = g.scale(LEAST, MOST);
+    match g.below(4) {
+        0 => in_proportion(g, radius),
+        1 => prepared(g, radius),
+        _ => any(g),
+    }
+}
+
 /// A tool for which camlib's `Profile` is made and its `clamp` does not panic.
-pub fn milling(g: &mut Gen) -> Tool {
+fn mills(t: &Tool) -> bool {
+    t.kind != BEAM && t.c.cutting_length_mm >= 0.
+}
+
+/// The first that mills of the tools which `make` makes.
+fn first_that_mills(g: &mut Gen, make: impl Fn(&mut Gen) -> Tool) -> Tool {
     loop {
-        let t = if g.once_in(2) { likely(g) } else { any(g) };
-        if t.kind != BEAM && t.c.cutting_length_mm >= 0. {
+        let t = make(g);
+        if mills(&t) {
             return t;
         }
     }
+}
+
+pub fn milling(g: &mut Gen) -> Tool {
+    first_that_mills(g, |g| if g.once_in(2) { likely(g) } else { any(g) })
+}
+
+fn wide_milling(g: &mut Gen) -> Tool {
+    first_that_mills(g, wide)
 }
 
 pub fn rust_radius_at(t: &Tool) -> Answer {
@@ -191,8 +292,8 @@ pub fn refusal(t: &Tool) -> Answer {
     let c = &t.c;
     let beam = rust::refuses(&assembly(t));
     let own = match t.kind {
-        2 | 3 | DOVETAIL => &t.own[..1],
-        4 => &t.own[..],
+        BULL | 3 | DOVETAIL => &t.own[..1],
+        CHAMFER => &t.own[..],
         _ => &[],
     };
     let nan = c.numbers().iter().chain(own).any(|x| x.is_nan());
@@ -241,22 +342,22 @@ pub fn milling_edges() -> Vec<Tool> {
 pub fn functions() -> Vec<Function> {
     let port = |t: &Tool, f: &dyn Fn(u64, f64, f64, PreparedCutter) -> Answer| f(t.kind, t.own[0], t.own[1], t.c);
     vec![
-        Function::new("radius_at", edges(), any, move |t| {
+        Function::new("radius_at", edges(), wide, move |t| {
             answers(rust_radius_at(t), port(t, &|k, m, n, c| numbers(tridexel_inner_radius_at(k, m, n, c, t.h[0]))))
         }),
-        Function::new("widest_height", edges(), any, |t| {
+        Function::new("widest_height", edges(), wide, |t| {
             answers(rust_widest_height(t), (1, [tridexel_inner_widest_height(t.c), 0.]))
         }),
-        Function::new("cut_radius", milling_edges(), milling, move |t| {
+        Function::new("cut_radius", milling_edges(), wide_milling, move |t| {
             answers(rust_cut_radius(t), port(t, &|k, m, n, c| (1, [tridexel_inner_cut_radius(k, m, n, c, t.h[0]), 0.])))
         }),
-        Function::new("cut_max", milling_edges(), milling, move |t| {
+        Function::new("cut_max", milling_edges(), wide_milling, move |t| {
             answers(rust_cut_max(t), port(t, &|k, m, n, c| numbers(tridexel_inner_cut_max(k, m, n, c, t.h[0], t.h[1]))))
         }),
-        Function::new("cut_min", milling_edges(), milling, move |t| {
+        Function::new("cut_min", milling_edges(), wide_milling, move |t| {
             answers(rust_cut_min(t), port(t, &|k, m, n, c| numbers(tridexel_inner_cut_min(k, m, n, c, t.h[0], t.h[1]))))
         }),
-        Function::new("check_tool", edges(), any, move |t| -> Outcome {
+        Function::new("check_tool", edges(), wide, move |t| -> Outcome {
             answers(refusal(t), port(t, &|k, m, n, c| (tridexel_inner_check_tool(k, m, n, c) as u64, [0.; 2])))
         }),
     ]

@@ -35,7 +35,7 @@ impl Explained {
             }
             Explained::OneNan => "the port has one NaN, where the Rust tells NaNs apart by their bits",
             Explained::Zeros => {
-                "zeros of opposite sign: `max` and `min` leave open which one is kept, and ends of lists are equal as numbers"
+                "zeros of opposite sign: which of those given normalising keeps, and which one `max` and `min` keep, is left open"
             }
         }
     }

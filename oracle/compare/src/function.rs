@@ -1,7 +1,13 @@
 //! One function of the port: its inputs and how its answers are compared.
-use crate::explained::Explained;
+use crate::{
+    explained::Explained,
+    reached::{Group, Reached},
+};
 use harness::{generate::Gen, hex};
-use std::{cell::Cell, rc::Rc};
+use std::{
+    cell::{Cell, RefCell},
+    rc::Rc,
+};
 
 /// What a comparison found.
 pub enum Outcome {
@@ -91,6 +97,7 @@ pub struct Function {
     /// how many fixed cases there are; they have the numbers from 0 on
     pub edges: u64,
     calls: Rc<Cell<u64>>,
+    reached: Rc<RefCell<Reached>>,
     case: Box<dyn Fn(u64, u64) -> Option<Difference>>,
 }
 
@@ -102,11 +109,23 @@ impl Function {
         make: impl Fn(&mut Gen) -> I + 'static,
         compare: impl Fn(&I) -> Outcome + 'static,
     ) -> Self {
+        Self::counting(name, &[], edges, make, move |input, _| compare(input))
+    }
+
+    /// The same, where the comparison also counts what its inputs reach.
+    pub fn counting<I: Words + 'static>(
+        name: &'static str,
+        wanted: &[Group],
+        edges: Vec<I>,
+        make: impl Fn(&mut Gen) -> I + 'static,
+        compare: impl Fn(&I, &mut Reached) -> Outcome + 'static,
+    ) -> Self {
         let calls = Rc::new(Cell::new(0));
-        let counted = calls.clone();
+        let reached = Rc::new(RefCell::new(Reached::new(wanted)));
+        let (counted, reaching) = (calls.clone(), reached.clone());
         let judge = move |input: &I| {
             counted.update(|n| n + input.calls());
-            match compare(input) {
+            match compare(input, &mut reaching.borrow_mut()) {
                 Outcome::Same => None,
                 Outcome::Differs { meant, rust, port } => Some(Difference { meant, input: input.words(), rust, port }),
             }
@@ -116,12 +135,17 @@ impl Function {
             Some(input) => judge(input),
             None => judge(&make(&mut Gen::new(seed, name, number))),
         });
-        Self { name, edges: count, calls, case }
+        Self { name, edges: count, calls, reached, case }
     }
 
     /// The calls of the port by all cases so far.
     pub fn calls(&self) -> u64 {
         self.calls.get()
+    }
+
+    /// What the cases so far have reached.
+    pub fn reached(&self) -> Reached {
+        self.reached.borrow().clone()
     }
 
     /// Compares the case of this number: an edge, or past these a generated one.

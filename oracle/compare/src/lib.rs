@@ -8,6 +8,7 @@ pub mod function;
 pub mod grid;
 pub mod merge;
 pub mod program;
+pub mod reached;
 pub mod row;
 pub mod spans;
 pub mod stock;

@@ -4,6 +4,7 @@ use compare::{
     explained::Explained,
     function::{Difference, Function},
     modules,
+    reached::Reached,
 };
 use std::{collections::BTreeMap, process::ExitCode, sync::mpsc, thread, time::Instant};
 
@@ -47,6 +48,7 @@ struct Tally {
     seconds: f64,
     meant: BTreeMap<Explained, u64>,
     different: u64,
+    reached: Reached,
     /// the first difference of each row, and the first that no row explains
     first: BTreeMap<Option<Explained>, (u64, Difference)>,
 }
@@ -70,6 +72,7 @@ fn run(f: &Function, o: &Options, worker: u64, workers: u64) -> Tally {
         }
     }
     t.calls = f.calls();
+    t.reached = f.reached();
     t.seconds = start.elapsed().as_secs_f64();
     t
 }
@@ -81,6 +84,7 @@ impl Tally {
         self.calls += other.calls;
         self.seconds = self.seconds.max(other.seconds);
         self.different += other.different;
+        self.reached = self.reached.and(&other.reached);
         for (e, n) in other.meant {
             *self.meant.entry(e).or_default() += n;
         }
@@ -129,36 +133,71 @@ fn print_first(t: &Tally, name: &str, o: &Options) {
     }
 }
 
+/// What all functions come to.
+#[derive(Default)]
+struct Totals {
+    cases: u64,
+    calls: u64,
+    different: u64,
+    reached: Vec<(String, Reached)>,
+}
+
+/// Prints a row for each function as its tallies come in.
+fn report(names: Vec<String>, o: &Options) -> Totals {
+    println!(
+        "{:<24} {:>10} {:>10} {:>22} {:>10} {:>8}",
+        "function", "cases", "calls", "meant (row: times)", "different", "seconds"
+    );
+    let workers = start(o, thread::available_parallelism().map_or(1, |n| n.get() as u64));
+    let mut totals = Totals::default();
+    for name in names {
+        let tallies = workers.iter().map(|w| w.recv().expect("a worker has stopped"));
+        let t = tallies.reduce(Tally::and).expect("there is a worker");
+        let meant: Vec<_> = t.meant.iter().map(|(e, n)| format!("{}: {n}", e.number())).collect();
+        println!("{name:<24} {:>10} {:>10} {:>22} {:>10} {:>8.1}", t.cases, t.calls, meant.join(", "), t.different, t.seconds);
+        print_first(&t, &name, o);
+        totals.cases += t.cases;
+        totals.calls += t.calls;
+        totals.different += t.different;
+        totals.reached.push((name, t.reached));
+    }
+    totals
+}
+
+/// Prints what the inputs of a function reached, and what of it never came.
+fn print_reached(name: &str, reached: &Reached) {
+    let lines: Vec<_> = reached.lines().collect();
+    if lines.is_empty() {
+        return;
+    }
+    println!("reached by {name}");
+    for line in lines {
+        println!("  {line}");
+    }
+    for never in reached.missing() {
+        println!("  never: {never}");
+    }
+}
+
 fn main() -> ExitCode {
     let Some(o) = options() else {
         eprintln!("{USAGE}");
         return ExitCode::from(2);
     };
-    println!("seed {}, {} generated inputs for each function, after its fixed ones", o.seed, o.count);
-    println!(
-        "{:<24} {:>10} {:>10} {:>22} {:>10} {:>8}",
-        "function", "cases", "calls", "meant (row: times)", "different", "seconds"
-    );
     let names: Vec<_> = functions(o.only.as_deref()).into_iter().map(|(name, _)| name).collect();
     if names.is_empty() {
         eprintln!("no function of this name\n{USAGE}");
         return ExitCode::from(2);
     }
-    let workers = start(&o, thread::available_parallelism().map_or(1, |n| n.get() as u64));
-    let (mut cases, mut calls, mut different) = (0, 0, 0);
-    for name in &names {
-        let tallies = workers.iter().map(|w| w.recv().expect("a worker has stopped"));
-        let t = tallies.reduce(Tally::and).expect("there is a worker");
-        let meant: Vec<_> = t.meant.iter().map(|(e, n)| format!("{}: {n}", e.number())).collect();
-        println!("{name:<24} {:>10} {:>10} {:>22} {:>10} {:>8.1}", t.cases, t.calls, meant.join(", "), t.different, t.seconds);
-        print_first(&t, name, &o);
-        cases += t.cases;
-        calls += t.calls;
-        different += t.different;
+    println!("seed {}, {} generated inputs for each function, after its fixed ones", o.seed, o.count);
+    let totals = report(names, &o);
+    for (name, reached) in totals.reached.iter().filter(|_| o.case.is_none()) {
+        print_reached(name, reached);
     }
     for e in Explained::ALL {
         println!("row {} of docs/DIFFERENCES.md: {}", e.number(), e.text());
     }
-    println!("{} functions, {cases} cases, {calls} calls, {different} unexplained differences", names.len());
+    let Totals { cases, calls, different, reached } = totals;
+    println!("{} functions, {cases} cases, {calls} calls, {different} unexplained differences", reached.len());
     ExitCode::from((different > 0) as u8)
 }

@@ -2,9 +2,16 @@
 use crate::{
     explained::Explained,
     function::{Function, Outcome, Words},
-    spans::{any_list, choose_size, is_sound, sound_list, with_odd_end},
+    reached::{DECADES, Group, NUMBERS, Reached, count_decade, decade, minus_zero},
+    spans::{any_list, choose_size, is_sound, room, sound_list, with_odd_end},
 };
-use harness::{Pair, flat, generate::Gen, lent::Lent, pairs, same};
+use harness::{
+    Pair, flat,
+    generate::Gen,
+    lent::Lent,
+    pairs, same, settled,
+    wide::{self, LEAST, MOST},
+};
 use oracle::dexel::opened::{self as rust, sweep};
 use tridexel::raw;
 
@@ -78,6 +85,11 @@ impl Ray {
         }
     }
 
+    /// Whether every end of the answer is settled as data: normalising leaves no choice of a zero in either list of hits.
+    pub fn settled(&self) -> bool {
+        settled(&pairs(&self.outer)) && settled(&pairs(&self.inner))
+    }
+
     /// Both lists after camlib's merge loop.
     pub fn merged(&self) -> [Vec<Pair>; 2] {
         let before = [pairs(&self.possible), pairs(&self.certain)];
@@ -102,17 +114,53 @@ fn moved(before: &[f64], after: &[Pair]) -> bool {
 
 type Port = fn([&[f64]; 4], Pair, &mut [f64], &mut Parts) -> u32;
 
-/// Calls with lists between guard cells and a poisoned work buffer, and looks at the number, the answer and every cell.
-pub fn compare_merge((ray, room): &(Ray, usize), port: Port) -> Outcome {
+/// What merges reach.
+pub const WANTED: &[Group] = &[
+    ("refused", &["accepted", "11", "12"]),
+    // of the accepted ones
+    ("moved", &["none", "possible", "certain", "both"]),
+    ("compared", &["by bits", "as numbers"]),
+    ("zero end", &["ray", "outer", "inner", "ray and hits"]),
+    ("minus zero", &["bound", "ray", "outer", "inner", "work"]),
+    ("pairs", &["1", "10", "100", "1000"]),
+    ("bound", &DECADES),
+    ("work", &["exact", "longer"]),
+];
+
+fn count_merge(ray: &Ray, room: usize, after: &[Vec<Pair>; 2], moves: [bool; 2], reached: &mut Reached) {
+    reached.count("moved", ["none", "possible", "certain", "both"][moves[0] as usize + 2 * moves[1] as usize]);
+    reached.count("compared", if ray.settled() { "by bits" } else { "as numbers" });
+    let own = [&ray.possible[..], &ray.certain].concat();
+    let [outer, inner] = [&ray.outer, &ray.inner].map(|l| flat(&rust::normalize(pairs(l))));
+    let zero = |l: &[f64]| l.contains(&0.);
+    reached.count_if(zero(&own), "zero end", "ray");
+    reached.count_if(zero(&outer), "zero end", "outer");
+    reached.count_if(zero(&inner), "zero end", "inner");
+    reached.count_if(zero(&own) && (zero(&outer) || zero(&inner)), "zero end", "ray and hits");
+    for (cells, what) in [(&ray.bounds[..], "bound"), (&own, "ray"), (&outer, "outer"), (&inner, "inner")] {
+        reached.count_if(minus_zero(cells), "minus zero", what);
+    }
+    reached.count_if(after.iter().zip(moves).any(|(l, m)| m && minus_zero(&flat(l))), "minus zero", "work");
+    reached.count("pairs", count_decade(ray.lists().iter().map(|l| l.len() / 2).sum()));
+    reached.count("bound", decade(ray.bounds[0].abs().max(ray.bounds[1].abs())));
+    reached.count("work", if room == ray.work() { "exact" } else { "longer" });
+}
+
+/// Calls with lists between guard cells and a poisoned work buffer, and looks at the number, the answer and every cell: by bits where every end is
+/// settled, else as numbers.
+pub fn compare_merge((ray, room): &(Ray, usize), port: Port, reached: &mut Reached) -> Outcome {
     let lent = ray.lists().map(|l| Lent::of(l, 0));
     let mut work = Lent::<f64>::new(*room);
     let mut parts = POISON;
     let code = port(std::array::from_fn(|k| lent[k].read()), ray.bounds, work.cells(), &mut parts);
     let kept = lent.iter().zip(ray.lists()).all(|(l, before)| l.untouched(before));
-    let (meant, rust) = match ray.refusal(*room) {
+    let number = ray.refusal(*room);
+    reached.count("refused", NUMBERS[number as usize]);
+    let (meant, rust) = match number {
         0 => {
             let after = ray.merged();
             let moves = [moved(&ray.possible, &after[0]), moved(&ray.certain, &after[1])];
+            count_merge(ray, *room, &after, moves, reached);
             let want = Parts { moved: moves.map(u32::from), pairs: after.each_ref().map(Vec::len) };
             let cells: Vec<f64> = after.iter().zip(moves).filter(|(_, m)| *m).flat_map(|(l, _)| flat(l)).collect();
             let laid = code == 0 && kept && parts == want && cells.len() <= *room && work.zero(cells.len());
@@ -120,7 +168,8 @@ pub fn compare_merge((ray, room): &(Ray, usize), port: Port) -> Outcome {
             if laid && each().all(|(w, c)| w.to_bits() == c.to_bits()) {
                 return Outcome::Same;
             }
-            let meant = (laid && each().all(|(w, c)| same(*w, *c))).then_some(Explained::Zeros);
+            let zeros = laid && !ray.settled() && each().all(|(w, c)| same(*w, *c));
+            let meant = zeros.then_some(Explained::Zeros);
             (meant, format!("0, {want:?}, work {}, zeros past it", cells.words()))
         }
         number => {
@@ -163,8 +212,8 @@ fn bounds(g: &mut Gen) -> Pair {
     }
 }
 
-/// A ray that is valid in most cases, with arbitrary hits, whose ends are often those of the ray.
-pub fn ray(g: &mut Gen) -> Ray {
+/// A ray of small numbers, valid in most cases, with arbitrary hits, whose ends are often those of the ray.
+fn small_ray(g: &mut Gen) -> Ray {
     choose_size(g);
     let bounds = bounds(g);
     let [lo, hi] = bounds;
@@ -211,18 +260,74 @@ pub fn ray(g: &mut Gen) -> Ray {
     }
 }
 
-/// A work buffer that is one double short, exact, or longer.
+/// The bounds of a ray along a side of any blank, or about zero.
+fn wide_bounds(g: &mut Gen) -> Pair {
+    if g.once_in(4) {
+        return [-g.scale(LEAST, MOST), g.scale(LEAST, MOST)];
+    }
+    let side = g.below(3) as usize;
+    let blank = wide::blank(g);
+    [blank.min[side], blank.max[side]]
+}
+
+/// A ray of any size with hits on it, now and then very many; once in 16 it has a fault.
+fn wide_ray(g: &mut Gen) -> Ray {
+    choose_size(g);
+    if g.once_in(2048) {
+        g.size = 2000;
+    }
+    let bounds = wide_bounds(g);
+    let [lo, hi] = bounds;
+    let (mut p, mut c) = wide::ray_within(g, lo, hi);
+    let outer = wide::hits_within(g, &p, lo, hi);
+    let inner = match g.below(4) {
+        0 => vec![],
+        1 => outer.clone(),
+        _ => wide::hits_within(g, &p, lo, hi),
+    };
+    match g.below(64) {
+        0 => std::mem::swap(&mut p, &mut c),
+        1 => c = wide::list_within(g, lo, hi),
+        2 => p = wide::list_within(g, lo - (hi - lo), hi),
+        3 => p.reverse(),
+        _ => {}
+    }
+    let mut r = Ray { bounds, possible: flat(&p), certain: flat(&c), outer: flat(&outer), inner: flat(&inner) };
+    if g.once_in(32) {
+        r.outer.push(0.);
+    }
+    r
+}
+
+/// Any ray; the zeros of a small one often have either sign.
+pub fn ray(g: &mut Gen) -> Ray {
+    if g.once_in(2) {
+        return wide_ray(g);
+    }
+    let mut r = small_ray(g);
+    if g.once_in(2) {
+        for list in [&mut r.possible, &mut r.certain, &mut r.outer, &mut r.inner] {
+            g.sign_zeros(list);
+        }
+        g.sign_zeros(&mut r.bounds);
+    }
+    r
+}
+
+/// The ray and a work buffer that is one double short, exact, or longer.
+fn with_room(g: &mut Gen, ray: Ray) -> (Ray, usize) {
+    let room = room(g, ray.work());
+    (ray, room)
+}
+
+pub fn small_ray_and_room(g: &mut Gen) -> (Ray, usize) {
+    let ray = small_ray(g);
+    with_room(g, ray)
+}
+
 pub fn ray_and_room(g: &mut Gen) -> (Ray, usize) {
     let ray = ray(g);
-    let need = ray.work();
-    let room = match g.below(10) {
-        0 => need.saturating_sub(1),
-        1 => g.below(need as u64 + 1) as usize,
-        2 => need + 1,
-        3 => need + 2 + g.below(6) as usize,
-        _ => need,
-    };
-    (ray, room)
+    with_room(g, ray)
 }
 
 /// Document 01's example, a hit that misses, a hit that takes all, inner out of outer, and rays that are not valid.
@@ -255,7 +360,7 @@ pub fn edges() -> Vec<(Ray, usize)> {
 
 pub fn functions() -> Vec<Function> {
     vec![
-        Function::new("merge", edges(), ray_and_room, |i| compare_merge(i, merge)),
+        Function::counting("merge", WANTED, edges(), ray_and_room, |i, reached| compare_merge(i, merge, reached)),
         Function::new("valid", rays(), ray, |r| compare_valid(r, merge)),
     ]
 }

@@ -3,6 +3,7 @@ use crate::{
     explained::Explained,
     function::{Function, Outcome, Words},
     merge::{Ray, ray},
+    reached::{Group, Reached},
 };
 use harness::{Pair, generate::Gen, hex, pairs};
 use std::cell::RefCell;
@@ -173,18 +174,39 @@ pub fn texts() -> Vec<Text> {
     texts.map(|t| Text(t.into_bytes())).to_vec()
 }
 
-/// Texts that differ in the sign of a zero only are meant to.
-fn compare(t: &Text) -> Outcome {
-    let (rust, port) = (answer(&t.0), run(&t.0));
+/// What the program's texts reach.
+pub const WANTED: &[Group] = &[
+    ("answer", &["refused 18", "refused 11", "same", "changed"]),
+    // of the texts that are read
+    ("compared", &["by bits", "as numbers"]),
+    ("minus zero", &["read", "printed"]),
+];
+
+fn count(t: &Text, answer: &str, settled: bool, reached: &mut Reached) {
+    let last = answer.lines().last().expect("a line");
+    reached.count("answer", last);
+    if !last.starts_with("refused") {
+        let minus = |text: &[u8]| text.windows(17).any(|w| w == b" 8000000000000000");
+        reached.count("compared", if settled { "by bits" } else { "as numbers" });
+        reached.count_if(minus(&t.0), "minus zero", "read");
+        reached.count_if(minus(answer.as_bytes()), "minus zero", "printed");
+    }
+}
+
+/// By bits where every end of the answer is settled; else texts may differ in the sign of a zero.
+pub fn compare_program(t: &Text, port: fn(&[u8]) -> Text, reached: &mut Reached) -> Outcome {
+    let (rust, port) = (answer(&t.0), port(&t.0));
+    let settled = parse(&t.0).is_none_or(|ray| ray.settled());
+    count(t, &rust, settled, reached);
     let port = String::from_utf8_lossy(&port.0);
     if rust == port {
         return Outcome::Same;
     }
     let unsigned = |s: &str| s.replace(" 8000000000000000", " 0000000000000000");
-    let meant = (unsigned(&rust) == unsigned(&port)).then_some(Explained::Zeros);
+    let meant = (!settled && unsigned(&rust) == unsigned(&port)).then_some(Explained::Zeros);
     Outcome::differs(meant, format!("{rust:?}"), format!("{port:?}"))
 }
 
 pub fn functions() -> Vec<Function> {
-    vec![Function::new("merge_ray", texts(), text, compare)]
+    vec![Function::counting("merge_ray", WANTED, texts(), text, |t, reached| compare_program(t, run, reached))]
 }

@@ -5,9 +5,9 @@ use crate::{
 };
 use harness::{
     Pair, flat,
-    generate::{Gen, all_lists, all_sound},
+    generate::{Gen, all_lists, all_sound, paired},
     lent::Lent,
-    pairs, same, sound,
+    one_zero, pairs, same, settled, sound,
 };
 use oracle::dexel::opened as rust;
 use tridexel::raw;
@@ -42,7 +42,8 @@ pub fn is_sound(list: &[f64]) -> bool {
 /// What document 01 says of a call that writes a list into a buffer.
 enum Due {
     Refused(u32),
-    List(Vec<Pair>),
+    /// the list, and whether its ends are settled by bits; else they are as numbers
+    List(Vec<Pair>, bool),
 }
 
 /// Calls with lists between guard cells and a poisoned buffer of `room` doubles, and looks at the number, the count and every cell.
@@ -64,14 +65,15 @@ fn written<const N: usize>(
             }
             (None, format!("{number}, nothing written"))
         }
-        Due::List(list) => {
+        Due::List(list, settled) => {
             let want = flat(&list);
             let laid = code == 0 && count == list.len() && kept && want.len() <= room && out.zero(want.len());
             let cells = || want.iter().zip(out.read());
             if laid && cells().all(|(w, c)| w.to_bits() == c.to_bits()) {
                 return Outcome::Same;
             }
-            let meant = (laid && cells().all(|(w, c)| same(*w, *c))).then_some(Explained::Zeros);
+            let zeros = laid && !settled && cells().all(|(w, c)| same(*w, *c));
+            let meant = zeros.then_some(Explained::Zeros);
             (meant, format!("0, pairs {}, list {}, zeros past it", list.len(), want.words()))
         }
     };
@@ -120,23 +122,32 @@ pub fn two_list_refusal((a, b, room): &Two) -> u32 {
 fn compare_normalize(input: &One) -> Outcome {
     let (list, room) = input;
     let due = match normalize_refusal(input) {
-        0 => Due::List(rust::normalize(pairs(list))),
+        0 => Due::List(rust::normalize(pairs(list)), settled(&pairs(list))),
         number => Due::Refused(number),
     };
     written(due, [list], *room, |[l], out, n| normalize(l, out, n))
 }
 
-pub fn compare_two(
-    input: &Two,
-    rust: fn(&[Pair], &[Pair]) -> Vec<Pair>,
-    port: fn(&[f64], &[f64], &mut [f64], &mut usize) -> u32,
-) -> Outcome {
+type Port = fn(&[f64], &[f64], &mut [f64], &mut usize) -> u32;
+
+fn compare_two(input: &Two, rust: fn(&[Pair], &[Pair]) -> Vec<Pair>, settled: bool, port: Port) -> Outcome {
     let (a, b, room) = input;
     let due = match two_list_refusal(input) {
-        0 => Due::List(rust(&pairs(a), &pairs(b))),
+        0 => Due::List(rust(&pairs(a), &pairs(b)), settled),
         number => Due::Refused(number),
     };
     written(due, [a, b], *room, |[a, b], out, n| port(a, b, out, n))
+}
+
+/// By bits: the Rust keeps a's end where an end of b is the same number.
+pub fn compare_subtract(input: &Two, port: Port) -> Outcome {
+    compare_two(input, rust::subtract, true, port)
+}
+
+/// By bits where no zeros of opposite sign meet in the Rust's `max` and `min`.
+pub fn compare_intersect(input: &Two, port: Port) -> Outcome {
+    let (a, b, _) = input;
+    compare_two(input, rust::intersect, one_zero(&[&a[..], b].concat()), port)
 }
 
 /// Mostly short lists, now and then a long one.
@@ -149,7 +160,7 @@ pub fn choose_size(g: &mut Gen) {
 }
 
 /// A buffer that is one double short, exact, or longer, with an odd last double or not.
-fn room(g: &mut Gen, need: usize) -> usize {
+pub fn room(g: &mut Gen, need: usize) -> usize {
     match g.below(10) {
         0 => need.saturating_sub(1),
         1 => g.below(need as u64 + 1) as usize,
@@ -157,6 +168,14 @@ fn room(g: &mut Gen, need: usize) -> usize {
         3 => need + 2 + g.below(6) as usize,
         _ => need,
     }
+}
+
+/// The list, often with zeros of either sign.
+fn signed(g: &mut Gen, mut list: Vec<f64>) -> Vec<f64> {
+    if g.once_in(2) {
+        g.sign_zeros(&mut list);
+    }
+    list
 }
 
 pub fn with_odd_end(g: &mut Gen, mut list: Vec<f64>) -> Vec<f64> {
@@ -177,7 +196,7 @@ pub fn any_list(g: &mut Gen) -> Vec<f64> {
 
 /// A sound list: mixed, of small whole ends, or of any bits.
 pub fn sound_list(g: &mut Gen) -> Vec<f64> {
-    let mut ends: Vec<f64> = match g.below(4) {
+    let ends: Vec<f64> = match g.below(4) {
         0 => return flat(&g.sound()),
         1 => (0..2 * g.count()).map(|_| f64::from_bits(g.u64())).filter(|x| !x.is_nan()).collect(),
         _ => {
@@ -185,10 +204,7 @@ pub fn sound_list(g: &mut Gen) -> Vec<f64> {
             (0..2 * g.count()).map(|_| g.below(most) as f64 - 4.).collect()
         }
     };
-    ends.sort_by(f64::total_cmp);
-    ends.dedup_by(|a, b| a == b);
-    ends.truncate(ends.len() / 2 * 2);
-    ends
+    flat(&paired(ends))
 }
 
 /// Two lists, sound in most cases, often with ends in common.
@@ -209,6 +225,7 @@ fn two_lists(g: &mut Gen) -> (Vec<f64>, Vec<f64>) {
         2 => a.clone(),
         _ => list(g),
     };
+    let (a, b) = (signed(g, a), signed(g, b));
     (with_odd_end(g, a), with_odd_end(g, b))
 }
 
@@ -222,6 +239,7 @@ pub fn two_lists_and_room(g: &mut Gen) -> Two {
 pub fn list_and_room(g: &mut Gen) -> One {
     choose_size(g);
     let list = any_list(g);
+    let list = signed(g, list);
     let list = with_odd_end(g, list);
     let room = room(g, list.len() / 2 * 2);
     (list, room)
@@ -293,8 +311,8 @@ fn told_edges() -> Vec<(Vec<f64>, Vec<f64>)> {
 pub fn functions() -> Vec<Function> {
     vec![
         Function::new("normalize", one_list_edges(), list_and_room, compare_normalize),
-        Function::new("subtract", two_list_edges(), two_lists_and_room, |i| compare_two(i, rust::subtract, subtract)),
-        Function::new("intersect", two_list_edges(), two_lists_and_room, |i| compare_two(i, rust::intersect, intersect)),
+        Function::new("subtract", two_list_edges(), two_lists_and_room, |i| compare_subtract(i, subtract)),
+        Function::new("intersect", two_list_edges(), two_lists_and_room, |i| compare_intersect(i, intersect)),
         Function::new("contains", told_edges(), two_lists, |(a, b)| told(a, b, rust::contains, contains)),
         Function::new("overlaps", told_edges(), two_lists, |(a, b)| told(a, b, rust::overlaps, overlaps)),
     ]

@@ -1,15 +1,15 @@
 //! The fill and the volume: the lists and the ten numbers are camlib's, the records document 01's; the store is read back from the lent cells.
 use crate::{
-    explained::Explained,
     function::{Function, Outcome, Words},
     grid::{DexelGrid, DexelStockSpec, described},
+    reached::{COUNTS, DEAD, DECADES, Group, NUMBERS, Reached, minus_zero},
 };
 use harness::{
     generate::Gen,
     grid::{Query, UNITS, edges, query},
     lent::Lent,
-    same,
-    store::{LentStore, Match, Record, Store, small_spec, sound_store, spoil},
+    store::{LentStore, Match, Record, Store, small_spec, sound_store, spoil, store_of},
+    wide::{any_spec, ray_within},
 };
 use oracle::dexel::{DexelVolume, opened as rust};
 use tridexel::raw;
@@ -128,12 +128,39 @@ pub fn fill_refusal(b: &Blank) -> u32 {
     short(&b.query, b.lens)
 }
 
-pub fn compare_fill(b: &Blank, port: Fill) -> Outcome {
+/// What blanks reach.
+pub const FILLED: &[Group] = &[
+    ("refused", &["accepted", "1", "2", "3", DEAD, "12"]),
+    // of the accepted ones
+    ("extent", &DECADES),
+    ("bound", &DECADES),
+    ("rays", &COUNTS),
+    ("free records", &["none", "some"]),
+    ("cells past", &["none", "some"]),
+    ("minus zero", &["bound"]),
+];
+
+fn count_blank(b: &Blank, number: u32, reached: &mut Reached) {
+    reached.count("refused", NUMBERS[number as usize]);
+    if number == 0 {
+        let q = &b.query;
+        let rays = q.needed() as usize;
+        let some = |some: bool| if some { "some" } else { "none" };
+        reached.count_box(q.min, q.max, rays);
+        reached.count("free records", some(q.max_intervals > 2 * rays as u64));
+        reached.count("cells past", some(b.lens != [2 * q.max_intervals as usize, 2 * q.max_intervals as usize, 2 * rays]));
+        reached.count_if(minus_zero(&[q.min, q.max].concat()), "minus zero", "bound");
+    }
+}
+
+pub fn compare_fill(b: &Blank, port: Fill, reached: &mut Reached) -> Outcome {
     let mut lent = LentStore { spans: Lent::new(b.lens[0]), links: Lent::new(b.lens[1]), heads: Lent::new(b.lens[2]) };
     let (mut generation, mut intervals) = (POISON, POISON);
     let q = &b.query;
     let code = port(described(q), UNITS[q.units].as_bytes(), &mut lent, &mut generation, &mut intervals);
-    let rust = match fill_refusal(b) {
+    let number = fill_refusal(b);
+    count_blank(b, number, reached);
+    let rust = match number {
         0 => {
             let want = Store::fill(&q.spec());
             let laid = (code, generation, intervals) == (0, 0, want.intervals);
@@ -205,7 +232,40 @@ pub fn volume_refusal(s: &Stock) -> u32 {
     }
 }
 
-pub fn compare_volume(s: &Stock, port: Volume) -> Outcome {
+/// What stocks reach.
+pub const MEASURED: &[Group] = &[
+    ("refused", &["accepted", "1", "2", "3", DEAD, "11", "12"]),
+    // of the accepted ones
+    ("extent", &DECADES),
+    ("bound", &DECADES),
+    ("rays", &COUNTS),
+    ("list", &["empty", "one pair", "more pairs"]),
+    ("cells past", &["none", "some"]),
+    ("minus zero", &["bound", "span end"]),
+];
+
+fn count_stock(s: &Stock, number: u32, reached: &mut Reached) {
+    reached.count("refused", NUMBERS[number as usize]);
+    if number != 0 {
+        return;
+    }
+    let q = &s.query;
+    reached.count_box(q.min, q.max, q.needed() as usize);
+    reached.count("cells past", if s.over == [0; 3] { "none" } else { "some" });
+    let ends: Vec<f64> = s.store.records.iter().flat_map(|r| [r.lo, r.hi]).collect();
+    reached.count_if(minus_zero(&[q.min, q.max].concat()), "minus zero", "bound");
+    reached.count_if(minus_zero(&ends), "minus zero", "span end");
+    for head in &s.store.heads[..2 * q.needed() as usize] {
+        let list = match *head {
+            0 => "empty",
+            k if s.store.records[k as usize - 1].next == 0 => "one pair",
+            _ => "more pairs",
+        };
+        reached.count("list", list);
+    }
+}
+
+pub fn compare_volume(s: &Stock, port: Volume, reached: &mut Reached) -> Outcome {
     let lent = s.store.lend(s.over);
     let lens = s.lens();
     let q = &s.query;
@@ -213,19 +273,17 @@ pub fn compare_volume(s: &Stock, port: Volume) -> Outcome {
     let cells = (&lent.spans.read()[..lens[0]], &lent.links.read()[..lens[1]], &lent.heads.read()[..lens[2]]);
     let code = port(described(q), UNITS[q.units].as_bytes(), cells, s.store.intervals, &mut got);
     let number = volume_refusal(s);
+    count_stock(s, number, reached);
     let want = match number {
         0 => rust_volume(&q.spec(), &s.store.counted(&q.spec())),
         _ => [f64::from_bits(POISON); 10],
     };
     let kept = lent.compare(&s.store) == Match::Same;
-    let each = || want.iter().zip(&got);
-    if code == number && kept && each().all(|(w, g)| w.to_bits() == g.to_bits()) {
+    if code == number && kept && want.iter().zip(&got).all(|(w, g)| w.to_bits() == g.to_bits()) {
         return Outcome::Same;
     }
-    let alike = code == 0 && number == 0 && kept && each().all(|(w, g)| same(*w, *g));
     let written = if kept { "" } else { ", the store was written" };
-    let (rust, port) = (format!("{number} {}", want.words()), format!("{code} {}{written}", got.words()));
-    Outcome::differs(alike.then_some(Explained::Zeros), rust, port)
+    Outcome::differs(None, format!("{number} {}", want.words()), format!("{code} {}{written}", got.words()))
 }
 
 /// The query with the numbers of this description.
@@ -263,25 +321,58 @@ fn length(g: &mut Gen, need: usize) -> usize {
     }
 }
 
-pub fn blank(g: &mut Gen) -> Blank {
-    let mut query = if g.once_in(8) { query(g) } else { query_of(&small_spec(g)) };
+/// The description, now and then with a fault, and about the cells that it asks for; where it asks for more than these records or rays, for that many.
+fn blank_of(g: &mut Gen, mut query: Query, most: [usize; 2]) -> Blank {
     misdescribe(g, &mut query);
-    // larger stores are lent too little
-    let records = query.max_intervals.min(400) as usize;
-    let rays = query.spec().grid().map_or(1, |grid| grid.total_rays()).min(200);
+    let records = query.max_intervals.min(most[0] as u64) as usize;
+    let rays = query.spec().grid().map_or(1, |grid| grid.total_rays()).min(most[1]);
     Blank { lens: [length(g, 2 * records), length(g, 2 * records), length(g, 2 * rays)], query }
 }
 
-pub fn stock(g: &mut Gen) -> Stock {
+pub fn small_blank(g: &mut Gen) -> Blank {
+    let query = if g.once_in(8) { query(g) } else { query_of(&small_spec(g)) };
+    blank_of(g, query, [400, 200])
+}
+
+/// How seldom a blank has some ten thousand rays.
+const LARGE: u64 = 1000;
+
+/// A blank anywhere in the domain.
+pub fn blank(g: &mut Gen) -> Blank {
+    if g.once_in(2) {
+        return small_blank(g);
+    }
+    let spec = any_spec(g, LARGE);
+    let most = [spec.max_intervals, spec.max_rays];
+    blank_of(g, query_of(&spec), most)
+}
+
+pub fn small_stock(g: &mut Gen) -> Stock {
     let spec = small_spec(g);
-    let mut store = sound_store(g, &spec);
+    let store = sound_store(g, &spec);
+    stock_of(g, &spec, store)
+}
+
+/// A stock anywhere in the domain.
+pub fn stock(g: &mut Gen) -> Stock {
+    if g.once_in(2) {
+        return small_stock(g);
+    }
+    let spec = any_spec(g, LARGE);
+    g.size = 1 + g.below(3) as usize;
+    let store = store_of(g, &spec, ray_within);
+    stock_of(g, &spec, store)
+}
+
+/// The store, often with a fault or two, the description now and then with one, and cells past the store or held back.
+fn stock_of(g: &mut Gen, spec: &oracle::dexel::DexelStockSpec, mut store: Store) -> Stock {
     if g.once_in(3) {
         spoil(g, &mut store);
         if g.once_in(4) {
             spoil(g, &mut store);
         }
     }
-    let mut query = query_of(&spec);
+    let mut query = query_of(spec);
     misdescribe(g, &mut query);
     let mut some =
         |one_in: u64| -> [usize; 3] { std::array::from_fn(|_| if g.once_in(one_in) { 1 + g.below(5) as usize } else { 0 }) };
@@ -308,7 +399,7 @@ pub fn stocks() -> Vec<Stock> {
 
 pub fn functions() -> Vec<Function> {
     vec![
-        Function::new("fill", blanks(), blank, |b| compare_fill(b, fill)),
-        Function::new("volume", stocks(), stock, |s| compare_volume(s, volume)),
+        Function::counting("fill", FILLED, blanks(), blank, |b, reached| compare_fill(b, fill, reached)),
+        Function::counting("volume", MEASURED, stocks(), stock, |s, reached| compare_volume(s, volume, reached)),
     ]
 }

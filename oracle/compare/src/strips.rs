@@ -3,7 +3,11 @@ use crate::{
     explained::Explained,
     function::{Function, Outcome, Words},
 };
-use harness::{generate::Gen, same};
+use harness::{
+    generate::Gen,
+    same,
+    wide::{LEAST, MOST},
+};
 use oracle::dexel::opened::sweep as rust;
 use oracle_len::dexel::opened::sweep as rust_len;
 
@@ -139,6 +143,27 @@ pub fn rust_stadium(x: &[f64]) -> Answer {
     answer(rust_len::stadium_strip_of(x[4], [x[0], x[1]], [x[2], x[3]], x[5], x[6], x[7]))
 }
 
+/// The same figure, or one of any size at any place. `layout` says of each number whether it is an x, a y or a length; a power of two and the old place
+/// keep a figure that is touched exactly.
+fn placed(layout: &'static str, make: impl Fn(&mut Gen) -> Vec<f64>) -> impl Fn(&mut Gen) -> Vec<f64> {
+    move |g| {
+        let figure = make(g);
+        if g.once_in(2) {
+            return figure;
+        }
+        let size = if g.once_in(2) { 2f64.powi(g.below(37) as i32 - 17) } else { g.scale(LEAST, MOST) };
+        let place = [0; 2].map(|_| if g.once_in(2) { 0. } else { g.within(-MOST, MOST) });
+        let number = |(kind, x): (u8, f64)| match kind {
+            b'x' => x * size + place[0],
+            b'y' => x * size + place[1],
+            _ => x * size,
+        };
+        let mut moved: Vec<f64> = layout.bytes().zip(figure).map(number).collect();
+        g.sign_zeros(&mut moved);
+        moved
+    }
+}
+
 /// Document 01's examples.
 pub fn disk_edges() -> Vec<Vec<f64>> {
     vec![vec![0., 0., 5., 3., 7.], vec![0., 0., 5., 5., 6.], vec![0., 0., 5., 5.5, 6.], vec![0., 0., -1., 0., 0.]]
@@ -156,14 +181,14 @@ pub fn stadium_edges() -> Vec<Vec<f64>> {
 
 pub fn functions() -> Vec<Function> {
     vec![
-        Function::new("disk_strip", disk_edges(), disk, |x| {
+        Function::new("disk_strip", disk_edges(), placed("xylyy", disk), |x| {
             answers(rust_disk(x), numbers(tridexel_inner_disk_strip(at(x, 0), x[2], x[3], x[4])))
         }),
-        Function::new("polygon_strip", polygon_edges(), polygon, |x| {
+        Function::new("polygon_strip", polygon_edges(), placed("xyxyxyxyyy", polygon), |x| {
             let port = tridexel_inner_polygon_strip(at(x, 0), at(x, 2), at(x, 4), at(x, 6), x[8], x[9]);
             answers(rust_polygon(x), numbers(port))
         }),
-        Function::new("stadium_strip", stadium_edges(), stadium, |x| {
+        Function::new("stadium_strip", stadium_edges(), placed("xyxyllyy", stadium), |x| {
             let port = tridexel_inner_stadium_strip(at(x, 0), at(x, 2), x[4], x[5], x[6], x[7]);
             answers(rust_stadium(x), numbers(port))
         }),

@@ -2,25 +2,32 @@
 use compare::{
     function::Function,
     merge::{self, Parts, compare_merge, merge, ray_and_room},
-    spans::{compare_two, intersect, two_list_edges, two_lists_and_room},
-    stock::{blank, blanks, compare_fill, compare_volume, fill, stock, stocks, volume},
+    program::{self, Text, compare_program, text, texts},
+    spans::{compare_intersect, compare_subtract, intersect, subtract, two_list_edges, two_lists_and_room},
+    stock::{self, blank, blanks, compare_fill, compare_volume, fill, stock, stocks, volume},
+    sweep::{self, Lending, compare_sweep},
 };
 use harness::store::LentStore;
-use oracle::dexel::opened as rust;
 
 type Port = fn(&[f64], &[f64], &mut [f64], &mut usize) -> u32;
 
-fn count(f: Function) -> usize {
-    (0..f.edges + 20_000).filter(|k| f.case(1, *k).is_some_and(|d| d.meant.is_none())).count()
+/// The first case whose difference no row explains.
+fn first(f: Function) -> Option<u64> {
+    (0..f.edges + 20_000).find(|k| f.case(1, *k).is_some_and(|d| d.meant.is_none()))
 }
 
-fn differences(port: Port) -> usize {
-    count(Function::new("intersect", two_list_edges(), two_lists_and_room, move |i| compare_two(i, rust::intersect, port)))
+fn difference(port: Port) -> Option<u64> {
+    first(Function::new("intersect", two_list_edges(), two_lists_and_room, move |i| compare_intersect(i, port)))
+}
+
+/// Gives every zero among the cells the other sign.
+fn other_zeros(cells: &mut [f64]) {
+    cells.iter_mut().filter(|x| **x == 0.).for_each(|x| *x = -*x);
 }
 
 #[test]
 fn the_port_passes() {
-    assert_eq!(differences(intersect), 0);
+    assert_eq!(difference(intersect), None);
 }
 
 #[test]
@@ -81,7 +88,33 @@ fn faults() {
         }),
     ];
     for (name, port) in faults {
-        assert!(differences(port) > 0, "not found: {name}");
+        assert!(difference(port).is_some(), "not found: {name}");
+    }
+}
+
+#[test]
+fn subtract_faults() {
+    let difference =
+        |port: Port| first(Function::new("subtract", two_list_edges(), two_lists_and_room, move |i| compare_subtract(i, port)));
+    assert_eq!(difference(subtract), None);
+    let faults: [(&str, Port); 2] = [
+        ("b's zero where a's is due", |a, b, out, n| {
+            let code = subtract(a, b, out, n);
+            for x in out.iter_mut().take(if code == 0 { 2 * *n } else { 0 }).filter(|x| **x == 0.) {
+                *x = b.iter().find(|y| **y == 0.).copied().unwrap_or(*x);
+            }
+            code
+        }),
+        ("the other zero in lists of three pairs", |a, b, out, n| {
+            let code = subtract(a, b, out, n);
+            if code == 0 && *n == 3 {
+                other_zeros(&mut out[..6]);
+            }
+            code
+        }),
+    ];
+    for (name, port) in faults {
+        assert!(difference(port).is_some(), "not found: {name}");
     }
 }
 
@@ -89,9 +122,29 @@ type Merge = fn([&[f64]; 4], [f64; 2], &mut [f64], &mut Parts) -> u32;
 
 #[test]
 fn merge_faults() {
-    let differences = |port: Merge| count(Function::new("merge", merge::edges(), ray_and_room, move |i| compare_merge(i, port)));
-    assert_eq!(differences(merge), 0);
-    let faults: [(&str, Merge); 7] = [
+    let difference = |port: Merge| {
+        let compare = move |i: &_, reached: &mut _| compare_merge(i, port, reached);
+        first(Function::counting("merge", merge::WANTED, merge::edges(), ray_and_room, compare))
+    };
+    assert_eq!(difference(merge), None);
+    let faults: [(&str, Merge); 9] = [
+        ("the other zero at an end", |lists, b, w, parts| {
+            let code = merge(lists, b, w, parts);
+            if code == 0 {
+                let cells = 2 * (0..2).map(|k| parts.moved[k] as usize * parts.pairs[k]).sum::<usize>();
+                other_zeros(&mut w[..cells]);
+            }
+            code
+        }),
+        ("a hit's zero where the ray's is due", |[p, c, o, i], b, w, parts| {
+            let code = merge([p, c, o, i], b, w, parts);
+            if code == 0 && parts.moved[0] == 1 {
+                for x in w[..2 * parts.pairs[0]].iter_mut().filter(|x| **x == 0.) {
+                    *x = i.iter().find(|y| **y == 0.).copied().unwrap_or(*x);
+                }
+            }
+            code
+        }),
         ("certain less outer alone", |[p, c, o, _], b, w, parts| merge([p, c, o, &[]], b, w, parts)),
         ("possible loses the outer hits", |[p, c, o, i], b, w, parts| {
             let code = merge([p, c, o, i], b, w, parts);
@@ -125,7 +178,7 @@ fn merge_faults() {
         }),
     ];
     for (name, port) in faults {
-        assert!(differences(port) > 0, "not found: {name}");
+        assert!(difference(port).is_some(), "not found: {name}");
     }
 }
 
@@ -133,9 +186,33 @@ type Fill = fn(compare::grid::DexelStockSpec, &[u8], &mut LentStore, &mut u64, &
 
 #[test]
 fn fill_faults() {
-    let differences = |port: Fill| count(Function::new("fill", blanks(), blank, move |b| compare_fill(b, port)));
-    assert_eq!(differences(fill), 0);
-    let faults: [(&str, Fill); 4] = [
+    let difference = |port: Fill| {
+        let compare = move |b: &_, reached: &mut _| compare_fill(b, port, reached);
+        first(Function::counting("fill", stock::FILLED, blanks(), blank, compare))
+    };
+    assert_eq!(difference(fill), None);
+    let faults: [(&str, Fill); 7] = [
+        ("a bound's minus zero lost", |spec, units, s, g, n| {
+            let code = fill(spec, units, s, g, n);
+            if code == 0 {
+                s.spans.cells()[..2].iter_mut().for_each(|x| *x += 0.);
+            }
+            code
+        }),
+        ("records after the first thousand left out", |spec, units, s, g, n| {
+            let code = fill(spec, units, s, g, n);
+            if code == 0 && *n > 1000 {
+                s.links.cells()[2001] = 0;
+            }
+            code
+        }),
+        ("bounds to seven digits", |spec, units, s, g, n| {
+            let code = fill(spec, units, s, g, n);
+            if code == 0 {
+                s.spans.cells()[0] = s.spans.cells()[0] as f32 as f64;
+            }
+            code
+        }),
         ("a free record left poisoned", |spec, units, s, g, n| {
             let code = fill(spec, units, s, g, n);
             if code == 0 && *n < spec.max_intervals {
@@ -165,7 +242,7 @@ fn fill_faults() {
         }),
     ];
     for (name, port) in faults {
-        assert!(differences(port) > 0, "not found: {name}");
+        assert!(difference(port).is_some(), "not found: {name}");
     }
 }
 
@@ -173,9 +250,26 @@ type Volume = fn(compare::grid::DexelStockSpec, &[u8], (&[f64], &[u64], &[u64]),
 
 #[test]
 fn volume_faults() {
-    let differences = |port: Volume| count(Function::new("volume", stocks(), stock, move |s| compare_volume(s, port)));
-    assert_eq!(differences(volume), 0);
-    let faults: [(&str, Volume); 3] = [
+    let difference = |port: Volume| {
+        let compare = move |s: &_, reached: &mut _| compare_volume(s, port, reached);
+        first(Function::counting("volume", stock::MEASURED, stocks(), stock, compare))
+    };
+    assert_eq!(difference(volume), None);
+    let faults: [(&str, Volume); 5] = [
+        ("a volume of minus zero", |spec, units, cells, n, v| {
+            let code = volume(spec, units, cells, n, v);
+            if code == 0 {
+                other_zeros(v);
+            }
+            code
+        }),
+        ("volumes below 1e-9 told as none", |spec, units, cells, n, v| {
+            let code = volume(spec, units, cells, n, v);
+            if code == 0 {
+                v.iter_mut().filter(|x| **x < 1e-9).for_each(|x| *x = 0.);
+            }
+            code
+        }),
         ("the interval total not looked at", |spec, units, cells, n, v| match volume(spec, units, cells, n, v) {
             11 => (0..=spec.max_intervals).map(|n| volume(spec, units, cells, n, v)).find(|code| *code != 11).unwrap_or(11),
             code => code,
@@ -193,6 +287,116 @@ fn volume_faults() {
         }),
     ];
     for (name, port) in faults {
-        assert!(differences(port) > 0, "not found: {name}");
+        assert!(difference(port).is_some(), "not found: {name}");
+    }
+}
+
+type Sweep = fn(&Lending, &mut [f64], &mut usize, &mut u64) -> u32;
+
+/// The entries of an accepted sweep, with the others' cells behind them.
+fn entries(log: &mut [f64], n: usize) -> &mut [[f64; 6]] {
+    &mut log.as_chunks_mut().0[..n]
+}
+
+#[test]
+fn sweep_faults() {
+    let difference = |port: Sweep| {
+        let compare = move |c: &_, reached: &mut _| compare_sweep(c, port, reached);
+        first(Function::counting("sweep", sweep::WANTED, vec![], sweep::any, compare))
+    };
+    assert_eq!(difference(sweep::port), None);
+    let faults: [(&str, Sweep); 10] = [
+        ("minus zero past the entries", |l, log, n, v| {
+            let code = sweep::port(l, log, n, v);
+            if code == 0 {
+                other_zeros(&mut log[6 * *n..]);
+            }
+            code
+        }),
+        ("no inner as minus zeros", |l, log, n, v| {
+            let code = sweep::port(l, log, n, v);
+            if code == 0 {
+                entries(log, *n).iter_mut().filter(|e| e[4..] == [0., 0.]).for_each(|e| other_zeros(&mut e[4..]));
+            }
+            code
+        }),
+        ("a minus zero index", |l, log, n, v| {
+            let code = sweep::port(l, log, n, v);
+            if code == 0 {
+                entries(log, *n).iter_mut().for_each(|e| other_zeros(&mut e[1..2]));
+            }
+            code
+        }),
+        ("the log left as it was by 8", |l, log, n, v| {
+            let before = log.to_vec();
+            let code = sweep::port(l, log, n, v);
+            if code == 8 {
+                log.copy_from_slice(&before);
+            }
+            code
+        }),
+        ("a ray that is only touched left out", |l, log, n, v| {
+            let code = sweep::port(l, log, n, v);
+            if code == 0 && *n > 0 && log[6 * *n - 3] - log[6 * *n - 4] == 2. * l.guard {
+                *n -= 1;
+                log[6 * *n..6 * *n + 6].fill(0.);
+            }
+            code
+        }),
+        ("indexes to 4096", |l, log, n, v| {
+            let code = sweep::port(l, log, n, v);
+            if code == 0 {
+                entries(log, *n).iter_mut().for_each(|e| e[1] %= 4096.);
+            }
+            code
+        }),
+        ("errors above 500 turned away", |l, log, n, v| {
+            let (chords, _) = l.chords.as_chunks::<8>();
+            match sweep::port(l, log, n, v) {
+                0 if chords.iter().any(|c| c[6] > 500.) => 7,
+                code => code,
+            }
+        }),
+        ("ends to seven digits", |l, log, n, v| {
+            let code = sweep::port(l, log, n, v);
+            if code == 0 {
+                entries(log, *n).iter_mut().for_each(|e| e[2] = e[2] as f32 as f64);
+            }
+            code
+        }),
+        ("one visit more than the budget", |l, log, n, v| {
+            let more = l.budget.saturating_add(1);
+            sweep::port(&Lending { budget: more, ..*l }, log, n, v)
+        }),
+        ("a slope of a drill not looked at", |l, log, n, v| {
+            let mut tool = l.tool.clone();
+            if tool.kind == 3 {
+                tool.c.slope = 1.;
+            }
+            sweep::port(&Lending { tool: &tool, ..*l }, log, n, v)
+        }),
+    ];
+    for (name, port) in faults {
+        assert!(difference(port).is_some(), "not found: {name}");
+    }
+}
+
+#[test]
+fn program_faults() {
+    let difference = |port: fn(&[u8]) -> Text| {
+        let compare = move |t: &_, reached: &mut _| compare_program(t, port, reached);
+        first(Function::counting("merge_ray", program::WANTED, texts(), text, compare))
+    };
+    assert_eq!(difference(program::run), None);
+    fn replaced(t: &[u8], from: &str, to: &str) -> Text {
+        let text = String::from_utf8(program::run(t).0).unwrap();
+        Text(text.replace(from, to).into_bytes())
+    }
+    let faults: [(&str, fn(&[u8]) -> Text); 2] = [
+        ("minus zero printed as plus zero", |t| replaced(t, " 8000000000000000", " 0000000000000000")),
+        ("plus zero printed as minus zero", |t| replaced(t, " 0000000000000000", " 8000000000000000")),
+    ];
+    for (name, port) in faults {
+        assert!(difference(port).is_some(), "not found: {name}");
     }
 }

@@ -1,6 +1,5 @@
-//! The generated sweeps reach every refusal but 4, which no description is due, rays with an inner and without, and sweeps that visit and hit
-//! nothing.
-use compare::sweep::case;
+//! The generated sweeps reach what they should, and more than a few of each kind.
+use compare::sweep::any;
 use harness::generate::Gen;
 
 const CASES: u64 = 5_000;
@@ -11,7 +10,7 @@ fn sweeps() {
     let (mut entries, mut inner, mut no_hit, mut no_visit) = (0, 0, 0, 0);
     let (mut version, mut units, mut axis, mut shape) = (0, 0, 0, 0);
     for k in 0..CASES {
-        let c = case(&mut Gen::new(1, "inputs", k));
+        let c = any(&mut Gen::new(1, "inputs", k));
         let (number, list, visits) = c.rust();
         refused[number as usize] += 1;
         version += (number == 1 && c.version != 1) as u64;

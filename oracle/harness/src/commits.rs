@@ -1,13 +1,13 @@
 //! Runs of commits on one store. What is due of each commit comes from camlib (`validate`, `commit_rays`, the merge loop) and, for refusals and
 //! record numbers, from document 01; a port's cells are compared after each.
 use crate::{
-    Pair, flat,
-    generate::Gen,
+    Pair,
     lent::Lent,
-    pairs,
-    store::{LentStore, Match, Store, small_spec},
+    pairs, settled,
+    store::{LentStore, Match, Store},
 };
 use oracle::dexel::{DexelStock, DexelStockSpec, RayChange, opened as rust, opened::sweep};
+use std::collections::BTreeMap;
 
 /// The stock's small record.
 #[derive(Clone, Copy, Debug, PartialEq)]
@@ -80,11 +80,26 @@ fn change(numbers: &[u64], lists: &mut &[Pair]) -> Option<RayChange> {
 }
 
 /// The entry of these six doubles; None where it names no ray.
-fn entry(stock: &DexelStock, e: &[f64]) -> Option<sweep::Entry> {
+pub fn entry(stock: &DexelStock, e: &[f64]) -> Option<sweep::Entry> {
     let axis = (0..3).find(|a| e[0] == *a as f64)?;
     let whole = e[1] >= 0. && e[1].fract() == 0. && e[1] < stock.grid().rays(axis) as f64;
     let entry = sweep::Entry { axis, index: e[1] as usize, outer: [e[2], e[3]], inner: Some([e[4], e[5]]) };
     whole.then_some(entry)
+}
+
+impl Commit {
+    /// Whether every end of the lists that it leaves is settled as data: those of a change list are the caller's; a log leaves a choice where the outer
+    /// or the inner hits on a ray have zeros of opposite sign.
+    pub fn settled(&self) -> bool {
+        let Commit::Log { log, .. } = self else { return true };
+        let mut hits: BTreeMap<(u64, u64, usize), Vec<Pair>> = BTreeMap::new();
+        for e in log.as_chunks::<6>().0 {
+            for (kind, s) in [[e[2], e[3]], [e[4], e[5]]].into_iter().enumerate() {
+                hits.entry((e[0] as u64, e[1] as u64, kind)).or_default().push(s);
+            }
+        }
+        hits.values().all(|s| settled(s))
+    }
 }
 
 impl State {
@@ -166,6 +181,20 @@ pub fn work_pairs(spec: &DexelStockSpec, log: &[f64]) -> usize {
     6 * spec.max_intervals + 18 * (log.len() / 6)
 }
 
+/// The change list as a caller lends it.
+pub fn listed(base: u64, changes: &[RayChange]) -> Commit {
+    let lists = |c: &RayChange| {
+        [&c.before.possible, &c.before.certain, &c.after.possible, &c.after.certain].map(|l| l.as_slice().to_vec())
+    };
+    let numbers =
+        |c: &RayChange| [c.axis as u64, c.index as u64].into_iter().chain(lists(c).map(|l| l.len() as u64)).collect::<Vec<_>>();
+    Commit::Changes {
+        base,
+        changes: changes.iter().flat_map(numbers).collect(),
+        pairs: changes.iter().flat_map(|c| lists(c).into_iter().flatten().flatten()).collect(),
+    }
+}
+
 /// A description and the commits that are brought to its uncut store, one after the other.
 #[derive(Clone, Debug)]
 pub struct Run {
@@ -178,47 +207,57 @@ pub struct Run {
 
 const POISON: u64 = 0xdead_beef;
 
+/// What was found of a commit that is not as due: its number, the inputs or the work buffer, the changed rays, the small record.
+fn first_fault(due: &Due, code: u32, inputs: bool, changed: u64, tally: Tally) -> Option<String> {
+    let wanted = if due.refused == 0 { due.changed } else { POISON };
+    if code != due.refused {
+        Some(format!("{code} in place of {}", due.refused))
+    } else if !inputs {
+        Some("an input or the work buffer is not as it must be".into())
+    } else if changed != wanted {
+        Some(format!("{changed} changed rays in place of {wanted}"))
+    } else if tally != due.next.tally() {
+        Some(format!("{tally:?} in place of {:?}", due.next.tally()))
+    } else {
+        None
+    }
+}
+
 impl Run {
     /// The first commit whose number, answer, small record or cells are not those that are due, and what was found; else whether only the sign of
-    /// a zero differed.
+    /// a zero differed, where it is not settled.
     pub fn play(&self, port: &impl Entries) -> Result<Match, String> {
-        self.end(port).map(|(found, _)| found)
+        self.end(port, &mut |_, _| {}).map(|(found, _)| found)
     }
 
-    /// The same, with the store that the port's cells and small record spell at the end.
-    pub fn end(&self, port: &impl Entries) -> Result<(Match, Store), String> {
+    /// The same, with the store that the port's cells and small record spell at the end; `seen` is told each commit and the number that is due.
+    pub fn end(&self, port: &impl Entries, seen: &mut impl FnMut(&Commit, u32)) -> Result<(Match, Store), String> {
         let mut state = State::of(&self.spec, self.start.clone());
         let mut lent = self.start.lend(self.over);
         let mut tally = state.tally();
         let mut found = Match::Same;
+        let spelt =
+            |lent: &LentStore, t: Tally| lent.read(self.start.records.len(), self.start.heads.len(), t.generation, t.intervals);
         for (k, commit) in self.commits.iter().enumerate() {
             let due = state.due(commit);
+            seen(commit, due.refused);
             let mut changed = POISON;
             let (code, inputs) = call(port, &self.spec, &mut lent, &mut tally, commit, due.refused, &mut changed);
-            let wanted = if due.refused == 0 { due.changed } else { POISON };
-            let cells = lent.compare(&due.next.store);
-            let at = |what: String| Err(format!("commit {k}: {what}"));
-            if code != due.refused {
-                return at(format!("{code} in place of {}", due.refused));
+            if let Some(what) = first_fault(&due, code, inputs, changed, tally) {
+                return Err(format!("commit {k}: {what}"));
             }
-            if !inputs {
-                return at("an input or the work buffer is not as it must be".into());
-            }
-            if changed != wanted {
-                return at(format!("{changed} changed rays in place of {wanted}"));
-            }
-            if tally != due.next.tally() {
-                return at(format!("{tally:?} in place of {:?}", due.next.tally()));
-            }
-            match cells {
-                Match::Differs => return at("the store's cells differ".into()),
-                Match::Zeros => found = Match::Zeros,
-                Match::Same => {}
-            }
-            state = due.next;
+            state = match lent.compare(&due.next.store) {
+                Match::Same => due.next,
+                Match::Zeros if !commit.settled() => {
+                    found = Match::Zeros;
+                    // what is due next depends on the zeros that the port has
+                    State::of(&self.spec, spelt(&lent, tally))
+                }
+                Match::Zeros => return Err(format!("commit {k}: a zero of the store has the other sign")),
+                Match::Differs => return Err(format!("commit {k}: the store's cells differ")),
+            };
         }
-        let end = lent.read(self.start.records.len(), self.start.heads.len(), tally.generation, tally.intervals);
-        Ok((found, end))
+        Ok((found, spelt(&lent, tally)))
     }
 }
 
@@ -245,183 +284,5 @@ fn call(
             let left = if due == 0 { w.zero(0) } else { w.untouched(&[]) };
             (code, l.untouched(log) && left)
         }
-    }
-}
-
-/// A pair that is often an end of the ray's own or of the box, and now and then anything.
-fn hit(g: &mut Gen, ends: &[f64], lo: f64, hi: f64) -> Pair {
-    let mut end = || match g.below(6) {
-        0 => g.pick(&[lo, hi]),
-        1 if !ends.is_empty() => g.pick(ends),
-        2 => g.double(),
-        _ => g.within(lo, hi),
-    };
-    let (a, b) = (end(), end());
-    if g.once_in(8) { [a, b] } else { [a.min(b), a.max(b)] }
-}
-
-/// A log of up to seven entries on the rays of a stock, now and then one that names no ray or has part of an entry over.
-pub fn log(g: &mut Gen, s: &State) -> Commit {
-    let (stock, spec) = (&s.stock, s.stock.spec());
-    let mut log = vec![];
-    for _ in 0..g.below(8) {
-        let axis = g.below(3) as usize;
-        let index = g.below(stock.grid().rays(axis) as u64) as usize;
-        let ray = &stock.rays(axis)[index];
-        let ends = flat(ray.possible.as_slice());
-        let (lo, hi) = (spec.min_mm[axis], spec.max_mm[axis]);
-        let outer = hit(g, &ends, lo, hi);
-        let inner = if g.once_in(3) { [0.; 2] } else { hit(g, &ends, lo, hi) };
-        log.extend([axis as f64, index as f64, outer[0], outer[1], inner[0], inner[1]]);
-    }
-    if !log.is_empty() {
-        let k = g.below(log.len() as u64 / 6) as usize;
-        match g.below(40) {
-            0 => log[6 * k] = g.pick(&[-0., 3., 1.5, f64::NAN, -1.]),
-            1 => log[6 * k + 1] = g.pick(&[-0., 0.5, 1e9, f64::NAN, f64::INFINITY, -1.]),
-            2 => drop(log.pop()),
-            _ => {}
-        }
-    }
-    let rays = stock.grid().total_rays() as u64;
-    let allowance = g.pick(&[rays, rays, rays, u64::MAX, 0, 1, 2]);
-    let need = 2 * work_pairs(spec, &log);
-    let work = g.pick(&[need, need, need, need + 1, need + 7, need - 1]);
-    Commit::Log { log, allowance, work }
-}
-
-/// The changes of some rays, each less some of its points, now and then with one fault.
-pub fn changes(g: &mut Gen, s: &State) -> Commit {
-    let (stock, spec) = (&s.stock, s.stock.spec());
-    let (mut changes, mut pairs) = (vec![], vec![]);
-    let rays = stock.grid().total_rays() as u64;
-    let one_in = 1 + g.below(rays);
-    for a in 0..3 {
-        for (index, ray) in stock.rays(a).iter().enumerate() {
-            if !g.once_in(one_in) {
-                continue;
-            }
-            let before = [ray.possible.as_slice(), ray.certain.as_slice()];
-            let (lo, hi) = (spec.min_mm[a], spec.max_mm[a]);
-            let ends = flat(before[0]);
-            let cut = rust::normalize(vec![hit(g, &ends, lo, hi)]);
-            let mut possible = rust::subtract(before[0], &cut);
-            let mut certain =
-                rust::intersect(&possible, &rust::subtract(before[1], &rust::normalize(vec![hit(g, &ends, lo, hi)])));
-            match g.below(40) {
-                0 => possible = vec![[lo, hi]],
-                1 => certain = possible.clone(),
-                2 => possible.reverse(),
-                3 => (possible, certain) = (vec![], vec![]),
-                _ => {}
-            }
-            if [&possible[..], &certain[..]] == before && !g.once_in(20) {
-                continue;
-            }
-            let lists = [before[0], before[1], &possible, &certain];
-            changes.extend([a as u64, index as u64].into_iter().chain(lists.map(|l| l.len() as u64)));
-            pairs.extend(lists.iter().flat_map(|l| flat(l)));
-        }
-    }
-    let mut base = s.store.generation;
-    let n = changes.len() as u64 / 6;
-    match g.below(30) {
-        0 => base = base.wrapping_add(g.pick(&[1, u64::MAX])),
-        1 => drop(pairs.pop()),
-        2 => pairs.truncate(pairs.len() / 4 * 2),
-        3 => drop(changes.pop()),
-        4 if n > 0 => changes[6 * g.below(n) as usize + g.below(6) as usize] = g.pick(&[0, 1, 2, 3, 300, 1 << 33, u64::MAX]),
-        5 if n > 1 => (0..6).for_each(|k| changes.swap(k, 6 + k)),
-        6 if !pairs.is_empty() => {
-            let k = g.below(pairs.len() as u64) as usize;
-            pairs[k] = g.double();
-        }
-        7 => pairs.extend([1., 2.]),
-        _ => {}
-    }
-    Commit::Changes { base, changes, pairs }
-}
-
-/// Which commits a run has.
-#[derive(Clone, Copy, Debug, PartialEq)]
-pub enum Kind {
-    Changes,
-    Logs,
-    Both,
-}
-
-/// Commits of both kinds, or of one.
-pub fn run(g: &mut Gen) -> Run {
-    run_of(g, None)
-}
-
-/// Commits on a store that is often nearly full, now and then at the highest generation; of any kind where none is asked for.
-pub fn run_of(g: &mut Gen, kind: Option<Kind>) -> Run {
-    let mut spec = small_spec(g);
-    let rays = spec.grid().unwrap().total_rays();
-    spec.max_intervals = 2 * rays + g.below(rays as u64 + 1) as usize;
-    let mut start = Store::fill(&spec);
-    if g.once_in(8) {
-        start.generation = u64::MAX - g.below(4);
-    }
-    let kind = kind.unwrap_or_else(|| g.pick(&[Kind::Changes, Kind::Logs, Kind::Both]));
-    let mut state = State::of(&spec, start.clone());
-    let mut commits = vec![];
-    for _ in 0..1 + g.below(12) {
-        let both = g.once_in(2);
-        let commit = if kind == Kind::Changes || (kind == Kind::Both && both) { changes(g, &state) } else { log(g, &state) };
-        state = state.due(&commit).next;
-        commits.push(commit);
-    }
-    let over = std::array::from_fn(|_| g.below(4) as usize);
-    Run { spec, start, over, commits }
-}
-
-/// On the three rays of a one-cell box 0 to 10 with these interval budgets: logs that reach the budget exactly, exceed it by one, fill the pool, free all
-/// lists, or find room only where all lists are freed before the first is laid; each also as the change list that it amounts to.
-pub fn edges() -> Vec<Run> {
-    let all = [0., 10.];
-    let entry = |axis: f64, outer: Pair, inner: Pair| vec![axis, 0., outer[0], outer[1], inner[0], inner[1]];
-    let none = [0., 0.];
-    let split = entry(0., [1., 2.], none);
-    let runs: [(usize, Vec<Vec<f64>>); 6] = [
-        (7, vec![split.clone()]),
-        (7, vec![entry(0., [1., 2.], [1., 2.])]),
-        (8, vec![entry(0., [1., 2.], [1., 2.])]),
-        (6, vec![[entry(0., all, all), entry(1., all, all), entry(2., all, all)].concat()]),
-        (7, vec![split, [entry(0., [4., 5.], [4., 5.]), entry(1., all, all)].concat()]),
-        (6, vec![vec![], entry(2., [11., 12.], none)]),
-    ];
-    runs.into_iter().flat_map(|(max_intervals, logs)| both(max_intervals, logs)).collect()
-}
-
-/// The run of these logs, and the run of the change lists that the Rust makes of them.
-fn both(max_intervals: usize, logs: Vec<Vec<f64>>) -> [Run; 2] {
-    let spec = rust::spec([0.; 3], [10.; 3], 10., 3, max_intervals);
-    let start = Store::fill(&spec);
-    let mut state = State::of(&spec, start.clone());
-    let (mut as_logs, mut as_changes) = (vec![], vec![]);
-    for log in logs {
-        let entries: Vec<_> = log.as_chunks::<6>().0.iter().map(|e| entry(&state.stock, e).unwrap()).collect();
-        let changes = sweep::merge(&state.stock, sweep::group(&entries), 3).unwrap();
-        as_changes.push(listed(state.store.generation, &changes));
-        let work = 2 * work_pairs(&spec, &log);
-        as_logs.push(Commit::Log { log, allowance: 3, work });
-        state = state.due(as_logs.last().unwrap()).next;
-    }
-    [as_logs, as_changes].map(|commits| Run { spec: spec.clone(), start: start.clone(), over: [1, 1, 1], commits })
-}
-
-/// The change list as a caller lends it.
-pub fn listed(base: u64, changes: &[RayChange]) -> Commit {
-    let lists = |c: &RayChange| {
-        [&c.before.possible, &c.before.certain, &c.after.possible, &c.after.certain].map(|l| l.as_slice().to_vec())
-    };
-    let numbers =
-        |c: &RayChange| [c.axis as u64, c.index as u64].into_iter().chain(lists(c).map(|l| l.len() as u64)).collect::<Vec<_>>();
-    Commit::Changes {
-        base,
-        changes: changes.iter().flat_map(numbers).collect(),
-        pairs: changes.iter().flat_map(|c| lists(c).into_iter().flatten().flatten()).collect(),
     }
 }

@@ -119,6 +119,13 @@ impl Gen {
         }
     }
 
+    /// Gives each zero either sign.
+    pub fn sign_zeros(&mut self, cells: &mut [f64]) {
+        for x in cells.iter_mut().filter(|x| **x == 0.) {
+            *x = self.pick(&[0., -0.]);
+        }
+    }
+
     /// Arbitrary pairs, many touching or overlapping, some empty, reversed or with a NaN.
     pub fn list(&mut self) -> Vec<Pair> {
         let n = self.count();
@@ -152,9 +159,7 @@ impl Gen {
                 ends.push(x);
             }
         }
-        ends.sort_by(f64::total_cmp);
-        ends.dedup_by(|a, b| a == b);
-        ends.chunks_exact(2).map(|c| [c[0], c[1]]).collect()
+        paired(ends)
     }
 
     pub fn sound(&mut self) -> Vec<Pair> {
@@ -211,6 +216,13 @@ impl Gen {
         let c = rust::intersect(&p, &c);
         (p, c)
     }
+}
+
+/// The sound list of these ends, in their order; where they are odd in number the last is left out.
+pub fn paired(mut ends: Vec<f64>) -> Vec<Pair> {
+    ends.sort_by(f64::total_cmp);
+    ends.dedup_by(|a, b| a == b);
+    ends.as_chunks().0.to_vec()
 }
 
 /// Every sound list over these points (ascending as numbers).

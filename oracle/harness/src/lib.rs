@@ -1,10 +1,13 @@
 //! What the comparison, the benchmark and the tests of the oracle share.
 pub mod commits;
+pub mod cutters;
 pub mod generate;
 pub mod grid;
 pub mod lent;
 pub mod log_runs;
+pub mod runs;
 pub mod store;
+pub mod wide;
 
 pub type Pair = [f64; 2];
 
@@ -30,6 +33,19 @@ pub fn flat(a: &[Pair]) -> Vec<f64> {
 /// The whole pairs of a flat list; an odd last double is left out.
 pub fn pairs(a: &[f64]) -> Vec<Pair> {
     a.as_chunks().0.to_vec()
+}
+
+/// No two zeros of opposite sign are among these ends.
+pub fn one_zero(ends: &[f64]) -> bool {
+    let zeros: Vec<u64> = ends.iter().filter(|x| **x == 0.).map(|x| x.to_bits()).collect();
+    zeros.windows(2).all(|z| z[0] == z[1])
+}
+
+/// Whether no choice of a zero is left where these pairs are normalised. Every end of the result is an end of a pair with lo < hi: either these have no
+/// two zeros of opposite sign, or no end of the result is a zero.
+pub fn settled(pairs: &[Pair]) -> bool {
+    let kept: Vec<Pair> = pairs.iter().filter(|s| s[0] < s[1]).copied().collect();
+    one_zero(kept.as_flattened()) || !oracle::dexel::opened::normalize(kept).as_flattened().contains(&0.)
 }
 
 /// The bits of a double, as 16 hex digits.

@@ -2,11 +2,15 @@
 //! other logs, some of them repeated, some taken apart into their outer and their inner hit). Every copy leaves the lists and the interval total of its run.
 //! And runs of long logs on few rays.
 use crate::{
-    commits::{Commit, Entries, Run, State, log, work_pairs},
+    commits::{Commit, Entries, Run, State, work_pairs},
     generate::Gen,
-    store::{Match, Store, small_spec},
+    runs::{Domain, log},
+    store::{Match, Store},
 };
 use oracle::dexel::DexelStockSpec;
+
+/// No blank of these runs has some ten thousand rays.
+const NEVER: u64 = u64::MAX;
 
 #[derive(Clone, Debug)]
 pub struct LogRun {
@@ -17,9 +21,14 @@ pub struct LogRun {
 impl LogRun {
     /// The first run that does not go as due, or copy whose lists or total differ at the end; else whether only the sign of a zero differed.
     pub fn play(&self, port: &impl Entries) -> Result<Match, String> {
-        let (mut found, end) = self.first.end(port)?;
+        self.play_seen(port, &mut |_, _| {})
+    }
+
+    /// The same; `seen` is told each commit and the number that is due.
+    pub fn play_seen(&self, port: &impl Entries, seen: &mut impl FnMut(&Commit, u32)) -> Result<Match, String> {
+        let (mut found, end) = self.first.end(port, seen)?;
         for (k, copy) in self.copies.iter().enumerate() {
-            let (how, other) = copy.end(port).map_err(|e| format!("copy {k}: {e}"))?;
+            let (how, other) = copy.end(port, seen).map_err(|e| format!("copy {k}: {e}"))?;
             if how == Match::Zeros {
                 found = Match::Zeros;
             }
@@ -165,14 +174,15 @@ fn budgeted(g: &mut Gen, wide: &DexelStockSpec, meant: usize, commits: &[Commit]
 
 /// 1 to 20 logs, with refused ones among them, on an uncut store whose interval budget is often the most that they reach, or one less; and two shuffled
 /// and two regrouped copies of what was accepted.
-pub fn log_run(g: &mut Gen) -> LogRun {
-    let spec = small_spec(g);
+pub fn log_run(g: &mut Gen, domain: Domain) -> LogRun {
+    let spec = domain.spec(g, NEVER);
     let rays = spec.grid().unwrap().total_rays();
     let wide = with_budget(&spec, 2 * rays + 20 * 8 * 3);
     let mut state = State::uncut(&wide);
     let mut commits = vec![];
     for _ in 0..1 + g.below(20) {
         let commit = log(g, &state);
+        let commit = domain.signed(g, commit);
         let commit = allowed(g, &state, commit);
         state = state.due(&commit).next;
         commits.push(commit);
@@ -235,8 +245,8 @@ fn long_log(g: &mut Gen, state: &State, entries: usize) -> Commit {
 
 /// 1 to 3 logs of up to 40 entries on few rays, once in 16 of up to 1,200 and so with more entries and pairs on a ray than any local array has cells,
 /// under budgets that are often exactly reached, or one short.
-pub fn long_run(g: &mut Gen) -> Run {
-    let spec = small_spec(g);
+pub fn long_run(g: &mut Gen, domain: Domain) -> Run {
+    let spec = domain.spec(g, NEVER);
     let rays = spec.grid().unwrap().total_rays();
     let longest = if g.once_in(16) { 1200 } else { 40 };
     let sizes: Vec<usize> = (0..1 + g.below(3)).map(|_| 1 + g.below(longest) as usize).collect();
@@ -245,6 +255,7 @@ pub fn long_run(g: &mut Gen) -> Run {
     let mut commits = vec![];
     for entries in sizes {
         let commit = long_log(g, &state, entries);
+        let commit = domain.signed(g, commit);
         let commit = allowed(g, &state, commit);
         state = state.due(&commit).next;
         commits.push(commit);

@@ -38,9 +38,10 @@ impl Store {
     pub fn fill(spec: &DexelStockSpec) -> Self {
         let mut s = Store::empty(spec);
         let stock = DexelStock::new(spec.clone()).unwrap();
+        let mut from = 0;
         for (ray, r) in (0..3).flat_map(|a| stock.rays(a)).enumerate() {
-            s.lay(2 * ray, r.possible.as_slice());
-            s.lay(2 * ray + 1, r.certain.as_slice());
+            s.lay_from(&mut from, 2 * ray, r.possible.as_slice());
+            s.lay_from(&mut from, 2 * ray + 1, r.certain.as_slice());
         }
         s
     }
@@ -56,18 +57,22 @@ impl Store {
 
     /// Each pair into the lowest free record.
     pub fn lay(&mut self, head: usize, list: &[Pair]) {
-        let mut from = 0;
+        self.lay_from(&mut 0, head, list);
+    }
+
+    /// The same, where no record before `from` is free.
+    fn lay_from(&mut self, from: &mut usize, head: usize, list: &[Pair]) {
         let mut last = None;
         for s in list {
-            while self.records[from].owner != 0 {
-                from += 1;
+            while self.records[*from].owner != 0 {
+                *from += 1;
             }
-            self.records[from] = Record { lo: s[0], hi: s[1], next: 0, owner: head as u64 + 1 };
+            self.records[*from] = Record { lo: s[0], hi: s[1], next: 0, owner: head as u64 + 1 };
             match last {
-                None => self.heads[head] = from as u64 + 1,
-                Some(k) => self.records[k as usize].next = from as u64 + 1,
+                None => self.heads[head] = *from as u64 + 1,
+                Some(k) => self.records[k as usize].next = *from as u64 + 1,
             }
-            last = Some(from as u64);
+            last = Some(*from as u64);
             self.intervals += 1;
         }
     }
@@ -79,9 +84,10 @@ impl Store {
             self.free(2 * number(c));
             self.free(2 * number(c) + 1);
         }
+        let mut from = 0;
         for c in changes {
-            self.lay(2 * number(c), c.after.possible.as_slice());
-            self.lay(2 * number(c) + 1, c.after.certain.as_slice());
+            self.lay_from(&mut from, 2 * number(c), c.after.possible.as_slice());
+            self.lay_from(&mut from, 2 * number(c) + 1, c.after.certain.as_slice());
         }
         self.generation += 1;
     }
@@ -208,36 +214,46 @@ pub fn small_spec(g: &mut Gen) -> DexelStockSpec {
     rust::spec(min, max, size, rays + g.below(2) as usize, 2 * rays + spare)
 }
 
-/// A sound store over the blank: valid rays, laid in any order, so that a chain may visit its records in any order too.
+/// The lists of a ray between small bounds: uncut, cut away, or cut in pieces.
+fn small_ray(g: &mut Gen, lo: f64, hi: f64) -> (Vec<Pair>, Vec<Pair>) {
+    g.size = 1 + g.below(3) as usize;
+    match g.below(4) {
+        0 => (vec![[lo, hi]], vec![[lo, hi]]),
+        1 => (vec![], vec![]),
+        _ => g.ray(lo, hi),
+    }
+}
+
+/// A sound store over the blank: small rays, laid in any order, so that a chain may visit its records in any order too.
 pub fn sound_store(g: &mut Gen, spec: &DexelStockSpec) -> Store {
+    store_of(g, spec, small_ray)
+}
+
+/// A sound store of rays with these lists, as far as there is room; those of other rays are empty.
+pub fn store_of(g: &mut Gen, spec: &DexelStockSpec, ray: impl Fn(&mut Gen, f64, f64) -> (Vec<Pair>, Vec<Pair>)) -> Store {
     let grid = spec.grid().unwrap();
     let mut s = Store::empty(spec);
     let mut room = spec.max_intervals;
     let mut lists: Vec<(usize, Vec<Pair>)> = vec![];
     for a in (0..3).flat_map(|a| std::iter::repeat_n(a, grid.rays(a))) {
-        let (lo, hi) = (spec.min_mm[a], spec.max_mm[a]);
-        g.size = 1 + g.below(3) as usize;
-        let (p, c) = match g.below(4) {
-            0 => (vec![[lo, hi]], vec![[lo, hi]]),
-            1 => (vec![], vec![]),
-            _ => g.ray(lo, hi),
-        };
-        let ray = lists.len();
+        let (p, c) = ray(g, spec.min_mm[a], spec.max_mm[a]);
+        let head = lists.len();
         if p.len() + c.len() <= room {
             room -= p.len() + c.len();
-            lists.extend([(ray, p), (ray + 1, c)]);
+            lists.extend([(head, p), (head + 1, c)]);
         } else {
-            lists.extend([(ray, vec![]), (ray + 1, vec![])]);
+            lists.extend([(head, vec![]), (head + 1, vec![])]);
         }
     }
     for i in (1..lists.len()).rev() {
         lists.swap(i, g.below(i as u64 + 1) as usize);
     }
-    // now and then a list is laid, freed and laid again, which leaves holes
+    let mut from = 0;
     for (head, list) in &lists {
-        s.lay(*head, list);
+        s.lay_from(&mut from, *head, list);
     }
-    for (head, list) in &lists {
+    // now and then one of the first lists is freed and laid again, which leaves holes
+    for (head, list) in lists.iter().take(64) {
         if g.once_in(4) {
             s.free(*head);
             s.lay(*head, list);

@@ -1,8 +1,9 @@
 //! Runs of commits against a stand-in for the port, which works on the lent cells, and the same with a fault put in: each fault is found.
 use harness::{
-    commits::{Commit, Entries, State, Tally, edges, run},
+    commits::{Commit, Entries, Run, State, Tally},
     generate::Gen,
-    log_runs::{log_run, long_run},
+    log_runs::{LogRun, log_run, long_run},
+    runs::{Domain, edges, run, run_of},
     store::{LentStore, Match},
 };
 use oracle::dexel::DexelStockSpec;
@@ -19,6 +20,8 @@ enum Fault {
     RefusedWrites,
     WorkLeft,
     Order,
+    /// the zeros of all lists have the other sign after a commit that changes a ray
+    Zeros,
 }
 
 struct StandIn(Fault);
@@ -34,8 +37,12 @@ impl StandIn {
             }
             return if self.0 == Fault::Order && due.refused == 14 { 13 } else { due.refused };
         }
-        let (spans, mut links, heads) = due.next.store.cells();
+        let (mut spans, mut links, heads) = due.next.store.cells();
         match self.0 {
+            Fault::Zeros if due.changed > 0 => {
+                let owned = |i: usize| links[i / 2 * 2 + 1] != 0;
+                (0..spans.len()).filter(|i| owned(*i)).for_each(|i| spans[i] = if spans[i] == 0. { -spans[i] } else { spans[i] });
+            }
             Fault::Owner if links[1] != 0 => links[1] += 1,
             Fault::DirtyRecord => {
                 if let Some(k) = (0..links.len() / 2).find(|k| links[2 * k + 1] == 0) {
@@ -96,11 +103,21 @@ impl Entries for StandIn {
 
 const RUNS: u64 = 2000;
 
+/// A run of small numbers, or in every second case one anywhere in the domain.
+fn any_run(case: u64) -> Run {
+    let g = &mut Gen::new(1, "commits", case);
+    if case.is_multiple_of(2) { run(g) } else { run_of(g, Domain::Whole, None) }
+}
+
+fn any_log_run(case: u64) -> LogRun {
+    log_run(&mut Gen::new(1, "log_runs", case), if case.is_multiple_of(2) { Domain::Small } else { Domain::Whole })
+}
+
 #[test]
 fn every_refusal_comes() {
     let (mut refused, mut changed, mut full) = ([0; 18], 0, 0);
     for case in 0..RUNS {
-        let r = run(&mut Gen::new(1, "commits", case));
+        let r = any_run(case);
         assert_eq!(r.play(&StandIn(Fault::None)), Ok(Match::Same), "case {case}");
         let mut state = State::of(&r.spec, r.start.clone());
         for c in &r.commits {
@@ -122,10 +139,28 @@ fn every_refusal_comes() {
 #[test]
 fn faults() {
     use Fault::*;
-    for fault in [DirtyRecord, Owner, Total, Generation, Changed, RefusedWrites, WorkLeft, Order] {
-        let found = (0..RUNS).filter(|case| run(&mut Gen::new(1, "commits", *case)).play(&StandIn(fault)).is_err()).count();
+    for fault in [DirtyRecord, Owner, Total, Generation, Changed, RefusedWrites, WorkLeft, Order, Zeros] {
+        let found = (0..RUNS).filter(|case| any_run(*case).play(&StandIn(fault)).is_err()).count();
         assert!(found > 0, "not found: {fault:?}");
     }
+}
+
+/// A change list's ends are the caller's, and a log's are settled but where the hits on a ray have zeros of opposite sign.
+#[test]
+fn settled() {
+    let log = |cells: &[f64]| Commit::Log { log: cells.to_vec(), allowance: 0, work: 0 };
+    let below = [0., 0., -1., 0., 0., 0.];
+    let below_minus = [0., 0., -1., -0., 0., 0.];
+    let above_minus = [0., 0., -0., 1., 0., 0.];
+    let across = [0., 0., -1., 1., 0., 0.];
+    let elsewhere = [0., 1., -1., -0., 0., 0.];
+    let inner = [0., 0., 0., 0., -1., -0.];
+    assert!(log(&below).settled() && log(&below_minus).settled() && log(&[]).settled());
+    assert!(!log(&[below, below_minus].concat()).settled());
+    assert!(log(&[below, below_minus, across].concat()).settled(), "no end of the normalised hits is a zero");
+    assert!(log(&[below, above_minus].concat()).settled(), "no end of the normalised hits is a zero");
+    assert!(log(&[below, elsewhere].concat()).settled() && log(&[below, inner].concat()).settled());
+    assert!(Commit::Changes { base: 0, changes: vec![], pairs: vec![0., -0.] }.settled());
 }
 
 /// What document 01 says of the fixed runs: the last commit's number and the intervals after it.
@@ -150,7 +185,7 @@ const LOG_RUNS: u64 = 500;
 fn log_runs() {
     let (mut refused, mut logs, mut full, mut cut) = ([0; 18], [0; 21], 0, 0);
     for case in 0..LOG_RUNS {
-        let r = log_run(&mut Gen::new(1, "log_runs", case));
+        let r = any_log_run(case);
         assert_eq!(r.play(&StandIn(Fault::None)), Ok(Match::Same), "case {case}");
         logs[r.first.commits.len()] += 1;
         let mut state = State::of(&r.first.spec, r.first.start.clone());
@@ -176,7 +211,7 @@ fn log_runs() {
 fn long_runs() {
     let (mut refused, mut most_entries, mut most_pairs, mut full) = ([0; 18], 0, 0, 0);
     for case in 0..LOG_RUNS {
-        let r = long_run(&mut Gen::new(1, "long_logs", case));
+        let r = long_run(&mut Gen::new(1, "long_logs", case), Domain::Small);
         assert_eq!(r.play(&StandIn(Fault::None)), Ok(Match::Same), "case {case}");
         let mut state = State::of(&r.spec, r.start.clone());
         for c in &r.commits {
@@ -201,7 +236,7 @@ fn long_runs() {
 fn copies_with_less() {
     let mut found = 0;
     for case in 0..LOG_RUNS {
-        let mut r = log_run(&mut Gen::new(1, "log_runs", case));
+        let mut r = any_log_run(case);
         r.copies.truncate(1);
         r.copies[0].commits.pop();
         found += r.play(&StandIn(Fault::None)).is_err() as u64;

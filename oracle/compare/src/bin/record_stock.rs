@@ -11,9 +11,9 @@
 //! the heads · the interval total that goes into `volume` · the refusal · the generation and the interval total that `fill` gives · the ten numbers that
 //! `volume` gives · 24 cells of spans, 24 of links, 10 of heads: the store after `fill` or before `volume`. Cells that `fill` does not write are 7.
 use compare::{
-    merge::{Ray, ray_and_room},
+    merge::{Ray, small_ray_and_room},
     row::{bits, doubles, numbers, print},
-    stock::{Blank, Stock, blank, fill_refusal, rust_volume, stock, volume_refusal},
+    stock::{Blank, Stock, fill_refusal, rust_volume, small_blank, small_stock, volume_refusal},
 };
 use harness::{flat, generate::Gen, grid::Query, pairs, store::Store};
 
@@ -107,9 +107,9 @@ fn record(name: &str, row: impl Fn(&mut Gen) -> Option<Vec<u64>>) {
 
 fn main() {
     record("merge", |g| {
-        let (ray, room) = ray_and_room(g);
+        let (ray, room) = small_ray_and_room(g);
         merge_row(&ray, room)
     });
-    record("fill", |g| fill_row(&blank(g)));
-    record("volume", |g| volume_row(&stock(g)));
+    record("fill", |g| fill_row(&small_blank(g)));
+    record("volume", |g| volume_row(&small_stock(g)));
 }

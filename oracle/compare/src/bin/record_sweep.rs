@@ -11,7 +11,7 @@
 //! A seeded sweep is recorded where it shows something that fewer than `OFTEN` rows before it show; every thing in `wanted` must be shown so often.
 use compare::{
     row::{bits, doubles, numbers, print},
-    sweep::{Case, case, logged},
+    sweep::{Case, logged, small},
 };
 use harness::{generate::Gen, grid::UNITS};
 use std::collections::BTreeMap;
@@ -147,7 +147,7 @@ fn wanted() -> Vec<String> {
 fn main() {
     let mut count = BTreeMap::new();
     for k in 0..TRIES {
-        let c = case(&mut Gen::new(SEED, "record", k));
+        let c = small(&mut Gen::new(SEED, "record", k));
         if !fits(&c) {
             continue;
         }

@@ -9,9 +9,10 @@
 //! 36 cells of changes or of the log · 40 of pairs. Cells of the store's buffers that do not count are 7. Where a run starts, the row has its first store.
 use harness::{
     Pair,
-    commits::{Commit, Run, State, edges, run, work_pairs},
+    commits::{Commit, Run, State, work_pairs},
     generate::Gen,
     grid::Query,
+    runs::{edges, run},
     store::{Record, Store},
 };
 use oracle::dexel::{DexelStockSpec, opened as rust};

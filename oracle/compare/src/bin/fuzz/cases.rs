@@ -12,11 +12,7 @@ use compare::{
     spans::{list_and_room, two_lists_and_room},
     sweep::{AXES, chord},
 };
-use harness::{
-    commits::{self, Commit},
-    generate::Gen,
-    store::small_spec,
-};
+use harness::{commits::Commit, generate::Gen, runs, store::small_spec};
 
 pub fn run(t: &mut Trial, seed: u64, case: u64) {
     t.start(seed, case);
@@ -223,7 +219,7 @@ fn any_changes(g: &mut Gen) -> Changes {
 
 /// Changes of the stock's own rays, few of them faulty.
 fn likely_changes(g: &mut Gen, s: &Stock, cells: Cells) -> Changes {
-    match commits::changes(g, &s.state(cells)) {
+    match runs::changes(g, &s.state(cells)) {
         Commit::Changes { base, changes, pairs } => Changes { base, changes, pairs: bits(&pairs) },
         Commit::Log { .. } => unreachable!("a change list was asked for"),
     }
@@ -275,7 +271,7 @@ fn likely_log(t: &mut Trial, g: &mut Gen, s: &Stock, cells: Cells) -> Log {
     }
     let allowance = g.pick(&[u64::MAX, u64::MAX, u64::MAX, stocks::total(cells), 0, 1, 2, 5]);
     if log.is_empty() {
-        match commits::log(g, &s.state(cells)) {
+        match runs::log(g, &s.state(cells)) {
             Commit::Log { log: l, .. } => log = bits(&l),
             Commit::Changes { .. } => unreachable!("a log was asked for"),
         }
