@@ -1,10 +1,13 @@
 //! Where the Rust and document 01 part, or where the Rust surprises: each finding is run on a small input and printed with it.
 //! `findings [NAME [COUNT]]`: all findings, or the one of this name; COUNT is for those that try random inputs.
-use harness::{generate::Gen, hex};
+use harness::{cutters, generate::Gen, hex};
 use oracle::{
     dexel::{Axis, DexelStock, Ray, RayChange, Spans, opened as rust, opened::sweep},
+    motion::{Curve, Motion, MoveKind},
+    stock::{Never, SweepOptions},
     tool::{CutterShape, opened as tool},
 };
+use oracle_len::dexel::opened::sweep as of_length;
 use std::hint::black_box;
 
 const INF: f64 = f64::INFINITY;
@@ -12,8 +15,12 @@ const INF: f64 = f64::INFINITY;
 /// A name, what was found, and the run that shows it.
 type Finding = (&'static str, &'static str, fn(u64));
 
-const FINDINGS: [Finding; 20] = [
+const FINDINGS: [Finding; 24] = [
     ("zeros", "`max` and `min` of two zeros of opposite sign: Rust leaves open which one comes back", zeros),
+    ("joined-zeros", "which of the given zeros stands at an end of a normalised list follows the order of joining", joined_zeros),
+    ("prepare", "`Cutter::prepare` refuses cutters whose numbers, worked out in its own way, the port accepts", prepare),
+    ("plan-length", "the plan length of a chord decides how wide its stadium is; the Rust takes `hypot`", plan_length),
+    ("visit-budget", "the Rust's budget counts every ray that it visits, also those along the tool", visit_budget),
     ("nan-order", "`total_cmp` puts NaNs at both ends, by their bits; the port has one NaN, above all else", nan_order),
     ("infinite-ends", "`Ray::valid` demands finite ends; document 01 does not", infinite_ends),
     ("empty-ray", "an empty ray is valid within NaN or reversed bounds", empty_ray),
@@ -39,7 +46,7 @@ const FINDINGS: [Finding; 20] = [
     ("rays-total", "the total of the rays can pass 64 bits before it is compared with `max_rays`", rays_total),
     ("last-generation", "at the highest generation the rays are overwritten before the error", last_generation),
     ("zero-change", "a change that only swaps a zero's sign is turned away", zero_change),
-    ("one-pair-many", "`before` given as `Many` of one pair equals no list, though the pairs are the same", one_pair_many),
+    ("one-pair-many", "`Many` of one pair is no valid list and equals none, though the pairs are the same", one_pair_many),
     ("hypot", "`hypot` is symmetric, no less than the larger and no more than twice the larger of its arguments' sizes", hypot),
 ];
 
@@ -102,9 +109,58 @@ fn zeros(_: u64) {
             println!("  ({a:?}).{name}({b:?}) = {}", bits(black_box(f)(black_box(a), black_box(b))));
         }
     }
-    for l in [[[-1., -0.], [-1., 0.]], [[-1., 0.], [-1., -0.]]] {
-        println!("  normalize {l:?}: {:?}", rust::normalize(l.to_vec()));
+}
+
+fn joined_zeros(_: u64) {
+    let (below, below_minus) = ([-INF, 0.], [-INF, -0.]);
+    let lists = [
+        vec![below, below_minus],
+        vec![below_minus, below],
+        vec![[1., 2.], [-1., 0.], [-1., -0.]],
+        vec![[1., 2.], [-1., -0.], [-1., 0.]],
+    ];
+    for l in lists {
+        println!("  normalize {l:?}: {:?}", rust::normalize(l.clone()));
     }
+}
+
+fn prepare(_: u64) {
+    for (_, c) in cutters::refused() {
+        let g = cutters::worked_out(&c);
+        println!(
+            "  {:?}, diameter {}, cutting {}, overall {}, neck {:?}",
+            c.shape, g.diameter, g.cutting, g.overall, g.neck_diameter
+        );
+        println!("    radius {}, tip height {}, slope {}, shoulder {}", g.radius, g.tip_height, g.slope, g.shoulder);
+        println!("    refused: {}", c.prepare().err().expect("a cutter that is refused"));
+    }
+}
+
+fn plan_length(_: u64) {
+    let (a, b) = ([0., 0.], [3., 4.]);
+    println!("  stadium_strip({a:?}, {b:?}, 1, 2, 2) = {:?}", sweep::stadium_strip(a, b, 1., 2., 2.));
+    for length in [4., 5., 8.] {
+        println!("    with the length {length}: {:?}", of_length::stadium_strip_of(length, a, b, 1., 2., 2.));
+    }
+}
+
+/// A ball of radius 1 along a line through the box 0 to 4, by the whole sweep and by its lateral rays alone.
+fn visit_budget(_: u64) {
+    let (a, b) = ([1., 2., 2.], [3., 2., 2.]);
+    let t = tool::prepared(&given(CutterShape::Ball, 1., 4., 1., 0.));
+    let s = stock([0.; 3], [4.; 3], 1.).unwrap();
+    let motion =
+        Motion { id: 1, operation: "o".into(), tool: "t".into(), curve: Curve::Line { start: a, end: b }, kind: MoveKind::Feed };
+    let swept = |max_cell_visits: u64| {
+        let options =
+            SweepOptions { tolerance_mm: 1e-3, max_tip_step_mm: 1., max_segments: 9, max_cell_visits, max_changed_cells: 999 };
+        s.preview_sweep(&t, &motion, 1., options, &Never).map(|d| d.stats().visited_rays)
+    };
+    let mut log = vec![];
+    let c = sweep::WorldChord { e: 1e-3, ..chord(a, b) };
+    let lateral = sweep::sweep(&s, &t, Axis::PosZ, 1e-3, &[c], u64::MAX, &mut log).unwrap();
+    println!("  box 0 to 4, cell 1, ball of radius 1 from {a:?} to {b:?}: {lateral} lateral rays");
+    println!("    all rays: {:?}; with a budget of {lateral}: {:?}", swept(u64::MAX), swept(lateral));
 }
 
 fn nan_order(_: u64) {
@@ -306,12 +362,18 @@ fn zero_change(_: u64) {
 }
 
 fn one_pair_many(_: u64) {
-    let full = rust::ray(vec![[0., 4.]], vec![[0., 4.]]);
-    let before = Ray { possible: Spans::Many([[0., 4.]].into()), certain: Spans::One([0., 4.]) };
-    let after = rust::ray(vec![[0., 3.]], vec![[0., 3.]]);
-    let s = uniform(0, &full);
-    let change = RayChange { axis: 0, index: 0, before, after };
-    println!("  before {:?}: {:?}", change.before, rust::validate(&s, std::slice::from_ref(&change)));
+    let many = || Ray { possible: Spans::Many([[0., 4.]].into()), certain: Spans::One([0., 4.]) };
+    let none = Ray { possible: Spans::Many([].into()), certain: Spans::Empty };
+    let one = || rust::ray(vec![[0., 4.]], vec![[0., 4.]]);
+    println!("  within 0 to 4, {:?}: valid {}", many(), rust::valid(&many(), 0., 4.));
+    println!("  within 0 to 4, {none:?}: valid {}", rust::valid(&none, 0., 4.));
+    let less = || rust::ray(vec![[0., 3.]], vec![[0., 3.]]);
+    let less_many = Ray { possible: Spans::Many([[0., 3.]].into()), certain: Spans::One([0., 3.]) };
+    let s = uniform(0, &one());
+    for (before, after) in [(one(), less()), (many(), less()), (one(), less_many)] {
+        let [from, to] = [&before, &after].map(|r| format!("{:?}", r.possible));
+        println!("  change from {from} to {to}: {:?}", rust::validate(&s, &[RayChange { axis: 0, index: 0, before, after }]));
+    }
 }
 
 fn hypot(count: u64) {
