@@ -1,5 +1,5 @@
-//! `compare [--quick] [--meant] [--only MODULE::FUNCTION] [--case NUMBER] [SEED] [COUNT]`: COUNT generated inputs for each function.
-//! `--meant` shows the first of each kind of meant difference too.
+//! `compare [--quick] [--meant] [--only MODULE::FUNCTION]... [--case NUMBER] [SEED] [COUNT]`: COUNT generated inputs for each function.
+//! `--meant` shows the first of each kind of meant difference too. At the end stands what the inputs of the larger functions reached.
 use compare::{
     explained::Explained,
     function::{Difference, Function},
@@ -11,23 +11,23 @@ use std::{collections::BTreeMap, process::ExitCode, sync::mpsc, thread, time::In
 #[derive(Clone)]
 struct Options {
     meant: bool,
-    only: Option<String>,
+    only: Vec<String>,
     case: Option<u64>,
     seed: u64,
     count: u64,
 }
 
-const USAGE: &str = "usage: oracle/run [--quick] [--meant] [--only MODULE::FUNCTION] [--case NUMBER] [SEED] [COUNT]";
+const USAGE: &str = "usage: oracle/run [--quick] [--meant] [--only MODULE::FUNCTION]... [--case NUMBER] [SEED] [COUNT]";
 
 fn options() -> Option<Options> {
-    let mut o = Options { meant: false, only: None, case: None, seed: 1, count: 1_000_000 };
+    let mut o = Options { meant: false, only: vec![], case: None, seed: 1, count: 1_000_000 };
     let mut numbers = vec![];
     let mut words = std::env::args().skip(1);
     while let Some(w) = words.next() {
         match w.as_str() {
             "--quick" => o.count = 50_000,
             "--meant" => o.meant = true,
-            "--only" => o.only = Some(words.next()?),
+            "--only" => o.only.push(words.next()?),
             "--case" => o.case = Some(words.next()?.parse().ok()?),
             n => numbers.push(n.parse().ok()?),
         }
@@ -98,11 +98,11 @@ impl Tally {
     }
 }
 
-/// The functions that are asked for, by their names with the module in front.
-fn functions(only: Option<&str>) -> Vec<(String, Function)> {
+/// The functions that are asked for, or all, by their names with the module in front.
+fn functions(only: &[String]) -> Vec<(String, Function)> {
     let all =
         modules().into_iter().flat_map(|(module, list)| list.into_iter().map(move |f| (format!("{module}::{}", f.name), f)));
-    all.filter(|(name, _)| only.is_none_or(|only| only == name)).collect()
+    all.filter(|(name, _)| only.is_empty() || only.contains(name)).collect()
 }
 
 /// Starts the workers. Each makes the functions for itself and sends a tally for each, in order.
@@ -111,7 +111,7 @@ fn start(o: &Options, workers: u64) -> Vec<mpsc::Receiver<Tally>> {
         let (sender, receiver) = mpsc::channel();
         let o = o.clone();
         thread::spawn(move || {
-            for (_, f) in functions(o.only.as_deref()) {
+            for (_, f) in functions(&o.only) {
                 sender.send(run(&f, &o, worker, workers)).expect("the tallies are read to the end");
             }
         });
@@ -184,9 +184,9 @@ fn main() -> ExitCode {
         eprintln!("{USAGE}");
         return ExitCode::from(2);
     };
-    let names: Vec<_> = functions(o.only.as_deref()).into_iter().map(|(name, _)| name).collect();
-    if names.is_empty() {
-        eprintln!("no function of this name\n{USAGE}");
+    let names: Vec<_> = functions(&o.only).into_iter().map(|(name, _)| name).collect();
+    if let Some(unknown) = o.only.iter().find(|only| !names.contains(only)) {
+        eprintln!("no function {unknown}\n{USAGE}");
         return ExitCode::from(2);
     }
     println!("seed {}, {} generated inputs for each function, after its fixed ones", o.seed, o.count);

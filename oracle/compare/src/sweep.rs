@@ -248,47 +248,68 @@ fn given(entries: &[rust_sweep::Entry], cell: usize) -> bool {
     })
 }
 
+/// The buffers of a case that are only read, between guard cells.
+struct Buffers {
+    spans: Lent<f64>,
+    links: Lent<u64>,
+    heads: Lent<u64>,
+    chords: Lent<f64>,
+}
+
+impl Buffers {
+    fn new(c: &Case) -> Self {
+        Buffers {
+            spans: Lent::of(&c.spans, c.over),
+            links: Lent::of(&c.links, c.over),
+            heads: Lent::of(&c.heads, c.over),
+            chords: Lent::of(&c.chords, 0),
+        }
+    }
+
+    fn lending<'a>(&'a self, c: &'a Case) -> Lending<'a> {
+        Lending {
+            spec: DexelStockSpec { version: c.version, ..spec(c.min, c.max, c.cell, c.max_rays, c.max_intervals) },
+            units: UNITS[c.units],
+            spans: self.spans.read(),
+            links: self.links.read(),
+            heads: self.heads.read(),
+            intervals: c.intervals,
+            axis: c.axis,
+            tool: &c.tool,
+            guard: c.guard,
+            chords: self.chords.read(),
+            budget: c.budget,
+        }
+    }
+
+    fn untouched(&self, c: &Case) -> bool {
+        let store = self.spans.untouched(&c.spans) && self.links.untouched(&c.links) && self.heads.untouched(&c.heads);
+        store && self.chords.untouched(&c.chords)
+    }
+}
+
 type Port = fn(&Lending, &mut [f64], &mut usize, &mut u64) -> u32;
 
 /// Calls with every buffer between guard cells and a poisoned log, and looks at the number, both totals and every cell.
 pub fn compare_sweep(c: &Case, port: Port, reached: &mut Reached) -> Outcome {
     const ENTRIES: usize = 0xdead;
     const VISITS: u64 = 0xbeef;
-    let spans = Lent::of(&c.spans, c.over);
-    let links = Lent::of(&c.links, c.over);
-    let heads = Lent::of(&c.heads, c.over);
-    let chords = Lent::of(&c.chords, 0);
+    let buffers = Buffers::new(c);
     let mut log: Lent<f64> = Lent::new(c.log);
     let (mut entries, mut visits) = (ENTRIES, VISITS);
-    let lending = Lending {
-        spec: DexelStockSpec { version: c.version, ..spec(c.min, c.max, c.cell, c.max_rays, c.max_intervals) },
-        units: UNITS[c.units],
-        spans: spans.read(),
-        links: links.read(),
-        heads: heads.read(),
-        intervals: c.intervals,
-        axis: c.axis,
-        tool: &c.tool,
-        guard: c.guard,
-        chords: chords.read(),
-        budget: c.budget,
-    };
-    let refusal = port(&lending, log.cells(), &mut entries, &mut visits);
+    let refusal = port(&buffers.lending(c), log.cells(), &mut entries, &mut visits);
     let (want, list, total) = c.rust();
     reaching::count(c, want, &list, total, reached);
-    let store =
-        spans.untouched(&c.spans) && links.untouched(&c.links) && heads.untouched(&c.heads) && chords.untouched(&c.chords);
     let expected = logged(&list, c.log);
     let bits = |i: usize| log.read()[i].to_bits() == expected[i].to_bits();
-    let (numbers, written) = match want {
-        0 => (
-            entries == list.len() && visits == total,
-            log.guarded() && (0..c.log).all(|i| bits(i) || (!given(&list, i) && same(log.read()[i], expected[i]))),
-        ),
-        8 | 16 => (entries == ENTRIES && visits == VISITS, log.zero(0)),
-        _ => (entries == ENTRIES && visits == VISITS, log.untouched(&[])),
+    let number = |i: usize| !given(&list, i) && same(log.read()[i], expected[i]);
+    let kept = (entries, visits) == (ENTRIES, VISITS);
+    let written = match want {
+        0 => (entries, visits) == (list.len(), total) && log.guarded() && (0..c.log).all(|i| bits(i) || number(i)),
+        8 | 16 => kept && log.zero(0),
+        _ => kept && log.untouched(&[]),
     };
-    let alike = refusal == want && store && numbers && written;
+    let alike = refusal == want && buffers.untouched(c) && written;
     if alike && (want != 0 || (0..c.log).all(bits)) {
         return Outcome::Same;
     }

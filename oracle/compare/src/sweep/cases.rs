@@ -7,10 +7,7 @@ use harness::{
     grid::UNITS,
     wide::{self, LEAST, MOST},
 };
-use oracle_len::dexel::{
-    Axis,
-    opened::sweep::{self as rust_sweep},
-};
+use oracle_len::dexel::{Axis, opened::sweep as rust_sweep};
 
 /// What is swept: a box, a tool along an axis, chords and a guard.
 pub struct Scene {
@@ -81,10 +78,10 @@ fn coordinate(g: &mut Gen, lo: f64, hi: f64) -> f64 {
     }
 }
 
-/// The plan length of a chord with these local plan differences.
+/// The plan length of a chord with these local plan differences, within document 01's limits.
 pub fn plan_length(d: [f64; 2]) -> f64 {
     let larger = d[0].abs().max(d[1].abs());
-    d[0].hypot(d[1]).clamp(larger, 2. * larger)
+    d[0].hypot(d[1]).max(larger).min(2. * larger)
 }
 
 /// A chord with these coordinates and errors, now and then of another plan length, or with a coordinate at or past the limit.
@@ -359,6 +356,16 @@ pub fn small(g: &mut Gen) -> Case {
     case_of(g, s, lists)
 }
 
+/// The same, with zeros of either sign.
+fn small_signed(g: &mut Gen) -> Case {
+    g.size = 3;
+    let mut s = small_scene(g);
+    for cells in [&mut s.min[..], &mut s.max, &mut s.chords] {
+        g.sign_zeros(cells);
+    }
+    case_of(g, s, lists)
+}
+
 /// A sweep anywhere in the domain.
 pub fn wide(g: &mut Gen) -> Case {
     g.size = 3;
@@ -367,5 +374,9 @@ pub fn wide(g: &mut Gen) -> Case {
 }
 
 pub fn any(g: &mut Gen) -> Case {
-    if g.once_in(2) { small(g) } else { wide(g) }
+    match g.below(4) {
+        0 => small(g),
+        1 => small_signed(g),
+        _ => wide(g),
+    }
 }

@@ -18,6 +18,7 @@ use oracle_len::dexel::{
 pub const KINDS: [&str; 5] = ["disc", "side", "tip", "top", "face"];
 
 /// A chord in the tool's frame.
+#[derive(Clone, Copy)]
 struct Local {
     ends: [[f64; 3]; 2],
     e: f64,
@@ -93,32 +94,41 @@ fn stadium_touches(c: &Local, la: usize, rho: f64, s: &Section) -> [bool; 2] {
     [disc, side]
 }
 
-/// Which kinds of touching rays the accepted sweep of a case has, each with the number of its rays, or of faces.
+/// Counts the faces at which the visited rectangle of a chord ends, for rays along local axis `la`.
+fn count_faces(c: &Case, stock: &DexelStock, la: usize, ranges: [[f64; 2]; 3], reached: &mut Reached) {
+    let axis = AXES[c.axis as usize];
+    for i in [1 - la, 2] {
+        let w = rust::frame(axis).0[i];
+        let [lo, hi] = rust::world(stock, axis, i, ranges[i]);
+        reached.count_if(hi == c.min[w] || lo == c.max[w], "touching", "face");
+    }
+}
+
+/// Counts how a ray with this section is touched.
+fn count_ray(chord: &Local, la: usize, s: &Section, heights: &Heights, cutting: f64, reached: &mut Reached) {
+    let [low, high] = chord.window(s);
+    reached.count_if(high == 0., "touching", "tip");
+    reached.count_if(low == cutting, "touching", "top");
+    if let Some(widest) = heights.cut_max(low, high) {
+        let [disc, side] = stadium_touches(chord, la, widest + chord.e, s);
+        reached.count_if(disc, "touching", "disc");
+        reached.count_if(side, "touching", "side");
+    }
+}
+
+/// Counts the rays that an accepted sweep touches, and the faces that its rectangles touch.
 pub fn count(c: &Case, stock: &DexelStock, reached: &mut Reached) {
     let axis = AXES[c.axis as usize];
     let tool = assembled!(oracle_len, &c.tool);
     let heights = Heights::new(&tool);
-    let (perm, _) = rust::frame(axis);
-    let (radius, cutting) = (c.tool.c.diameter_mm / 2., c.tool.c.cutting_length_mm);
-    for chord in c.chords.as_chunks::<CHORD>().0 {
-        let chord = Local::new(axis, chord);
-        for la in 0..2 {
-            let ranges = chord.ranges(la, radius, cutting);
-            for i in [1 - la, 2] {
-                let (w, [lo, hi]) = (perm[i], rust::world(stock, axis, i, ranges[i]));
-                reached.count_if(hi == c.min[w] || lo == c.max[w], "touching", "face");
-            }
-            for (_, center, half) in rust::rays(stock, axis, perm[la], ranges, u64::MAX).expect("no budget") {
-                let s = section(1 - la, center, half);
-                let window = chord.window(&s);
-                reached.count_if(window[1] == 0., "touching", "tip");
-                reached.count_if(window[0] == cutting, "touching", "top");
-                if let Some(widest) = heights.cut_max(window[0], window[1]) {
-                    let [disc, side] = stadium_touches(&chord, la, widest + chord.e, &s);
-                    reached.count_if(disc, "touching", "disc");
-                    reached.count_if(side, "touching", "side");
-                }
-            }
+    let cutting = c.tool.c.cutting_length_mm;
+    let chords = c.chords.as_chunks::<CHORD>().0.iter().map(|cells| Local::new(axis, cells));
+    for (chord, la) in chords.flat_map(|chord| [(chord, 0), (chord, 1)]) {
+        let ranges = chord.ranges(la, c.tool.c.diameter_mm / 2., cutting);
+        count_faces(c, stock, la, ranges, reached);
+        let rays = rust::rays(stock, axis, rust::frame(axis).0[la], ranges, u64::MAX).expect("no budget");
+        for (_, center, half) in rays {
+            count_ray(&chord, la, &section(1 - la, center, half), &heights, cutting, reached);
         }
     }
 }
