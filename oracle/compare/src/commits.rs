@@ -184,8 +184,8 @@ fn anywhere<I>(make: impl Fn(&mut Gen, Domain) -> I) -> impl Fn(&mut Gen) -> I {
     }
 }
 
-/// Runs of one kind of commit, so that each entry has a row of its own, mixed ones, runs of logs with their copies, and runs of long logs, which have no
-/// blank of some ten thousand rays.
+/// Runs of one kind of commit, so that each entry has a row of its own, mixed ones, runs of logs with their copies, and
+/// runs of long logs, which have no blank of some ten thousand rays.
 pub fn functions() -> Vec<Function> {
     const LOGS: &[&str] = &["accepted", "9", "10", "11", "12", "15", "17"];
     const CHANGES: &[&str] = &["accepted", "10", "11", "13", "14", "15"];

@@ -1,5 +1,6 @@
-//! `compare [--quick] [--meant] [--only MODULE::FUNCTION]... [--case NUMBER] [SEED] [COUNT]`: COUNT generated inputs for each function.
-//! `--meant` shows the first of each kind of meant difference too. At the end stands what the inputs of the larger functions reached.
+//! `compare [--quick] [--meant] [--only MODULE::FUNCTION]... [--case NUMBER] [SEED] [COUNT]`: COUNT generated inputs
+//! for each function. `--meant` shows the first of each kind of meant difference too. At the end stands what the inputs
+//! of the larger functions reached.
 use compare::{
     explained::Explained,
     function::{Difference, Function},

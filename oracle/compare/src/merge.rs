@@ -146,8 +146,8 @@ fn count_merge(ray: &Ray, room: usize, after: &[Vec<Pair>; 2], moves: [bool; 2],
     reached.count("work", if room == ray.work() { "exact" } else { "longer" });
 }
 
-/// Calls with lists between guard cells and a poisoned work buffer, and looks at the number, the answer and every cell: by bits where every end is
-/// settled, else as numbers.
+/// Calls with lists between guard cells and a poisoned work buffer, and looks at the number, the answer and every cell:
+/// by bits where every end is settled, else as numbers.
 pub fn compare_merge((ray, room): &(Ray, usize), port: Port, reached: &mut Reached) -> Outcome {
     let lent = ray.lists().map(|l| Lent::of(l, 0));
     let mut work = Lent::<f64>::new(*room);

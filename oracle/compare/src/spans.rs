@@ -119,13 +119,14 @@ pub fn two_list_refusal((a, b, room): &Two) -> u32 {
     }
 }
 
-fn compare_normalize(input: &One) -> Outcome {
+/// By bits where no choice of a zero is left.
+pub fn compare_normalize(input: &One, port: fn(&[f64], &mut [f64], &mut usize) -> u32) -> Outcome {
     let (list, room) = input;
     let due = match normalize_refusal(input) {
         0 => Due::List(rust::normalize(pairs(list)), settled(&pairs(list))),
         number => Due::Refused(number),
     };
-    written(due, [list], *room, |[l], out, n| normalize(l, out, n))
+    written(due, [list], *room, |[l], out, n| port(l, out, n))
 }
 
 type Port = fn(&[f64], &[f64], &mut [f64], &mut usize) -> u32;
@@ -249,7 +250,7 @@ const NAN: f64 = f64::NAN;
 const INF: f64 = f64::INFINITY;
 
 /// Every list of up to two pairs over some doubles, in a buffer that fits; document 01's examples; short ones in all buffers.
-fn one_list_edges() -> Vec<One> {
+pub fn one_list_edges() -> Vec<One> {
     let mut edges = vec![];
     for n in 0..=2 {
         all_lists(&[-INF, -0., 0., f64::from_bits(1), 1., 2., INF, NAN], n, |l| edges.push((flat(l), 2 * n)));
@@ -310,7 +311,7 @@ fn told_edges() -> Vec<(Vec<f64>, Vec<f64>)> {
 
 pub fn functions() -> Vec<Function> {
     vec![
-        Function::new("normalize", one_list_edges(), list_and_room, compare_normalize),
+        Function::new("normalize", one_list_edges(), list_and_room, |i| compare_normalize(i, normalize)),
         Function::new("subtract", two_list_edges(), two_lists_and_room, |i| compare_subtract(i, subtract)),
         Function::new("intersect", two_list_edges(), two_lists_and_room, |i| compare_intersect(i, intersect)),
         Function::new("contains", told_edges(), two_lists, |(a, b)| told(a, b, rust::contains, contains)),

@@ -321,7 +321,8 @@ fn length(g: &mut Gen, need: usize) -> usize {
     }
 }
 
-/// The description, now and then with a fault, and about the cells that it asks for; where it asks for more than these records or rays, for that many.
+/// The description, now and then with a fault, and about the cells that it asks for; where it asks for more than these
+/// records or rays, for that many.
 fn blank_of(g: &mut Gen, mut query: Query, most: [usize; 2]) -> Blank {
     misdescribe(g, &mut query);
     let records = query.max_intervals.min(most[0] as u64) as usize;

@@ -143,8 +143,8 @@ pub fn rust_stadium(x: &[f64]) -> Answer {
     answer(rust_len::stadium_strip_of(x[4], [x[0], x[1]], [x[2], x[3]], x[5], x[6], x[7]))
 }
 
-/// The same figure, or one of any size at any place. `layout` says of each number whether it is an x, a y or a length; a power of two and the old place
-/// keep a figure that is touched exactly.
+/// The same figure, or one of any size at any place. `layout` says of each number whether it is an x, a y or a length;
+/// a power of two and the old place keep a figure that is touched exactly.
 fn placed(layout: &'static str, make: impl Fn(&mut Gen) -> Vec<f64>) -> impl Fn(&mut Gen) -> Vec<f64> {
     move |g| {
         let figure = make(g);

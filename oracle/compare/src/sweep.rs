@@ -239,7 +239,8 @@ pub fn logged(entries: &[rust_sweep::Entry], len: usize) -> Vec<f64> {
     out
 }
 
-/// Whether a cell of the log is no computed end: an axis, an index, a cell of no inner, or one past the entries. Such a zero is plus zero.
+/// Whether a cell of the log is no computed end: an axis, an index, a cell of no inner, or one past the entries. Such a
+/// zero is plus zero.
 fn given(entries: &[rust_sweep::Entry], cell: usize) -> bool {
     entries.get(cell / ENTRY).is_none_or(|e| match cell % ENTRY {
         0 | 1 => true,

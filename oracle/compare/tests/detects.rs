@@ -3,7 +3,10 @@ use compare::{
     function::Function,
     merge::{self, Parts, compare_merge, merge, ray_and_room},
     program::{self, Text, compare_program, text, texts},
-    spans::{compare_intersect, compare_subtract, intersect, subtract, two_list_edges, two_lists_and_room},
+    spans::{
+        compare_intersect, compare_normalize, compare_subtract, intersect, list_and_room, normalize, one_list_edges, subtract,
+        two_list_edges, two_lists_and_room,
+    },
     stock::{self, blank, blanks, compare_fill, compare_volume, fill, stock, stocks, volume},
     sweep::{self, Lending, compare_sweep},
 };
@@ -32,7 +35,14 @@ fn the_port_passes() {
 
 #[test]
 fn faults() {
-    let faults: [(&str, Port); 8] = [
+    let faults: [(&str, Port); 9] = [
+        ("the other zero at an end", |a, b, out, n| {
+            let code = intersect(a, b, out, n);
+            if code == 0 {
+                other_zeros(&mut out[..2 * *n]);
+            }
+            code
+        }),
         ("an end one double off, in lists of three pairs", |a, b, out, n| {
             let code = intersect(a, b, out, n);
             if code == 0 && *n == 3 {
@@ -90,6 +100,22 @@ fn faults() {
     for (name, port) in faults {
         assert!(difference(port).is_some(), "not found: {name}");
     }
+}
+
+#[test]
+fn normalize_faults() {
+    let difference = |port: fn(&[f64], &mut [f64], &mut usize) -> u32| {
+        first(Function::new("normalize", one_list_edges(), list_and_room, move |i| compare_normalize(i, port)))
+    };
+    assert_eq!(difference(normalize), None);
+    let other = |l: &[f64], out: &mut [f64], n: &mut usize| {
+        let code = normalize(l, out, n);
+        if code == 0 {
+            other_zeros(&mut out[..2 * *n]);
+        }
+        code
+    };
+    assert!(difference(other).is_some(), "not found: a zero that was not given");
 }
 
 #[test]

@@ -88,8 +88,8 @@ pub fn entry(stock: &DexelStock, e: &[f64]) -> Option<sweep::Entry> {
 }
 
 impl Commit {
-    /// Whether every end of the lists that it leaves is settled as data: those of a change list are the caller's; a log leaves a choice where the outer
-    /// or the inner hits on a ray have zeros of opposite sign.
+    /// Whether every end of the lists that it leaves is settled as data: those of a change list are the caller's; a log
+    /// leaves a choice where the outer or the inner hits on a ray have zeros of opposite sign.
     pub fn settled(&self) -> bool {
         let Commit::Log { log, .. } = self else { return true };
         let mut hits: BTreeMap<(u64, u64, usize), Vec<Pair>> = BTreeMap::new();
@@ -230,7 +230,8 @@ impl Run {
         self.end(port, &mut |_, _| {}).map(|(found, _)| found)
     }
 
-    /// The same, with the store that the port's cells and small record spell at the end; `seen` is told each commit and the number that is due.
+    /// The same, with the store that the port's cells and small record spell at the end; `seen` is told each commit and
+    /// the number that is due.
     pub fn end(&self, port: &impl Entries, seen: &mut impl FnMut(&Commit, u32)) -> Result<(Match, Store), String> {
         let mut state = State::of(&self.spec, self.start.clone());
         let mut lent = self.start.lend(self.over);

@@ -1,4 +1,5 @@
-//! Cutters as camlib's constructor takes them: definitions of any size that it prepares, and for each of its clauses one that it refuses.
+//! Cutters as camlib's constructor takes them: definitions of any size that it prepares, and for each of its clauses
+//! one that it refuses.
 use crate::generate::Gen;
 use oracle::tool::{
     Cutter, CutterShape, Neck,
@@ -90,7 +91,8 @@ fn definition(g: &mut Gen, kind: u64, radius: f64) -> Cutter {
     }
 }
 
-/// The numbers that the constructor gives a cutter of this shape and radius; the radius is brought to where it accepts every shape.
+/// The numbers that the constructor gives a cutter of this shape and radius; the radius is brought to where it accepts
+/// every shape.
 pub fn prepared(g: &mut Gen, kind: u64, radius: f64) -> Given {
     let radius = radius.clamp(1e-5, 3e5);
     loop {

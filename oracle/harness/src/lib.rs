@@ -41,8 +41,8 @@ pub fn one_zero(ends: &[f64]) -> bool {
     zeros.windows(2).all(|z| z[0] == z[1])
 }
 
-/// Whether no choice of a zero is left where these pairs are normalised. Every end of the result is an end of a pair with lo < hi: either these have no
-/// two zeros of opposite sign, or no end of the result is a zero.
+/// Whether no choice of a zero is left where these pairs are normalised. Every end of the result is an end of a pair
+/// with lo < hi: either these have no two zeros of opposite sign, or no end of the result is a zero.
 pub fn settled(pairs: &[Pair]) -> bool {
     let kept: Vec<Pair> = pairs.iter().filter(|s| s[0] < s[1]).copied().collect();
     one_zero(kept.as_flattened()) || !oracle::dexel::opened::normalize(kept).as_flattened().contains(&0.)

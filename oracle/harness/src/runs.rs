@@ -111,7 +111,8 @@ pub enum Kind {
     Both,
 }
 
-/// Where a run takes place: on the uncut store of a small blank, or on a store anywhere in the domain, where zeros have either sign.
+/// Where a run takes place: on the uncut store of a small blank, or on a store anywhere in the domain, where zeros have
+/// either sign.
 #[derive(Clone, Copy, Debug, PartialEq)]
 pub enum Domain {
     Small,
@@ -182,8 +183,9 @@ pub fn run_of(g: &mut Gen, domain: Domain, kind: Option<Kind>) -> Run {
     Run { spec, start, over, commits }
 }
 
-/// On the three rays of a one-cell box 0 to 10 with these interval budgets: logs that reach the budget exactly, exceed it by one, fill the pool, free all
-/// lists, or find room only where all lists are freed before the first is laid; each also as the change list that it amounts to.
+/// On the three rays of a one-cell box 0 to 10 with these interval budgets: logs that reach the budget exactly, exceed
+/// it by one, fill the pool, free all lists, or find room only where all lists are freed before the first is laid; each
+/// also as the change list that it amounts to.
 pub fn edges() -> Vec<Run> {
     let all = [0., 10.];
     let entry = |axis: f64, outer: Pair, inner: Pair| vec![axis, 0., outer[0], outer[1], inner[0], inner[1]];

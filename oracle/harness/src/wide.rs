@@ -1,4 +1,5 @@
-//! Blanks and lists over the whole domain of document 01: sizes from 1e-5 to 2e6, places to ±1e6, both zeros, now and then some ten thousand rays.
+//! Blanks and lists over the whole domain of document 01: sizes from 1e-5 to 2e6, places to ±1e6, both zeros, now and
+//! then some ten thousand rays.
 use crate::{
     Pair,
     generate::{Gen, paired},

@@ -1,4 +1,5 @@
-//! Generated sweeps: of a few cells and small numbers, which collide, and over the whole domain, where rays are often touched exactly.
+//! Generated sweeps: of a few cells and small numbers, which collide, and over the whole domain, where rays are often
+//! touched exactly.
 use super::{AXES, CHORD, Case, ENTRY, stock_over, touching};
 use crate::cutter::{self, Tool};
 use harness::{

@@ -1,5 +1,6 @@
-//! Rays that the swept tool touches exactly: a disc or a side of the stadium ends at the edge of the ray's section, the cutting part ends at it, or the
-//! rectangle of visited rays ends at a face of the box. `touch` makes a scene with one, `count` finds them.
+//! Rays that the swept tool touches exactly: a disc or a side of the stadium ends at the edge of the ray's section, the
+//! cutting part ends at it, or the rectangle of visited rays ends at a face of the box. `touch` makes a scene with one,
+//! `count` finds them.
 use super::{
     AXES, CHORD, Case,
     cases::{Scene, plan_length},
@@ -84,7 +85,8 @@ fn corners(y: [f64; 2], n: f64) -> [f64; 4] {
     [y[0] + n, y[1] + n, y[1] - n, y[0] - n]
 }
 
-/// What the stadium of radius rho does to a section, by the tests of `disk_strip` and `polygon_strip`: whether a disc, a side touches an edge.
+/// What the stadium of radius rho does to a section, by the tests of `disk_strip` and `polygon_strip`: whether a disc,
+/// a side touches an edge.
 fn stadium_touches(c: &Local, la: usize, rho: f64, s: &Section) -> [bool; 2] {
     let o = 1 - la;
     let y = [c.ends[0][o], c.ends[1][o]];
@@ -147,8 +149,8 @@ fn near(guess: f64, holds: impl Fn(f64) -> bool) -> Option<f64> {
     None
 }
 
-/// Changes the first chord, or the tool's radius or cutting length, so that some ray is touched, where a double allows it. Where the tool or the
-/// chord is refused nothing is touched.
+/// Changes the first chord, or the tool's radius or cutting length, so that some ray is touched, where a double allows
+/// it. Where the tool or the chord is refused nothing is touched.
 pub fn touch(g: &mut Gen, s: &mut Scene) {
     let (Some(stock), Some(cells)) = (stock_over(s.min, s.max, s.cell), s.chords.first_chunk().copied()) else { return };
     let axis = AXES[s.axis as usize];
