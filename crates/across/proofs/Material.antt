@@ -76,6 +76,6 @@ module _ (p : Profile) (l : Lane) (s : Section) (possible : List Float) (isSound
       met true (Hit lo hi) f = found lo hi (f .0) (overlapsOf possible (pair lo hi)) refl
 
   -- and a ray that passes the quick test is hit wherever such a point is
-  pub material-hit : (lo hi : Float) → spansMeet possible (l .reach) ≡ true → outerOf p l s ≡ Hit lo hi → Share possible (endsOf (pair lo hi))
-      → On (record { outer = pair lo hi; inner = innerOf p l s }) ≡ hitOf p l s possible
+  pub material-hit : (lo hi : Float) → spansMeet possible (l .reach) ≡ true → outerOf p l s ≡ Hit lo hi
+      → Share possible (endsOf (pair lo hi)) → On (record { outer = pair lo hi; inner = innerOf p l s }) ≡ hitOf p l s possible
   material-hit lo hi h o m = hit-on p l s possible lo hi h o (share-overlaps (pair lo hi) possible isSound m)

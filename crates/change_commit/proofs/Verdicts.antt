@@ -33,7 +33,9 @@ module _ (spec : DexelStockSpec) (g : DexelGrid) (s : Stock) (changes : List ℕ
   -- ---- 13, 10, 15
   module _ (r : Checked) (ens : ChecksAll spec g (s .cells) pairs (changesOf changes pairs) r) where
     pub bad-list : r ≡ Bad → Judges (listCauses spec g s changes pairs) spec g s changes pairs (Refused 13)
-    bad-list e = due-first (badCauses (AllGood spec g (s .cells) pairs 0 (changesOf changes pairs))) _ 13 (subst (ChecksAll spec g (s .cells) pairs (changesOf changes pairs)) e ens)
+    bad-list e =
+        due-first (badCauses (AllGood spec g (s .cells) pairs 0 (changesOf changes pairs))) _ 13
+        (subst (ChecksAll spec g (s .cells) pairs (changesOf changes pairs)) e ens)
 
     module _ (cur : Cursor) (e : r ≡ Next cur) (room : Room (spec .«max_intervals») (2 * rayCount g) (s .cells)) (sound : SoundStock spec g s) where
       told : ChecksAll spec g (s .cells) pairs (changesOf changes pairs) (Next cur)

@@ -76,20 +76,23 @@ due-bad good (inr d) = absurd (d .1)
 
 -- ---- `check_change`
 module _ (spec : DexelStockSpec) (g : DexelGrid) (c : Cells) (pairs : List Float) (h : ChangeHead) (cur : Cursor) where
+  abbrev GoodHere : Type 0
+  GoodHere = Good spec g c pairs (cur .from) (changeBy h pairs (cur .at))
+
   pub change-long : (r : Bool) → length pairs % 2 ≡ 0 → cur .at % 2 ≡ 0 → cur .at ≤ length pairs → Tells (pairsIn h ≤ (length pairs - cur .at) / 2) r → not r ≡ true → Checks spec g c pairs h cur Bad
-  change-long r even-p even-a l t n = bad-due _ (λ (k : Good spec g c pairs (cur .from) (changeBy h pairs (cur .at))). clash r (t .1 (let w = k .within in omega arith)) (not-true r n))
+  change-long r even-p even-a l t n = bad-due _ (λ (k : GoodHere). clash r (t .1 (let w = k .within in omega arith)) (not-true r n))
 
   pub change-fits : (r : Bool) → length pairs % 2 ≡ 0 → cur .at % 2 ≡ 0 → cur .at ≤ length pairs → Tells (pairsIn h ≤ (length pairs - cur .at) / 2) r → not r ≡ false → changeBy h pairs (cur .at) .past ≤ length pairs
   change-fits r even-p even-a l t n = let w = t .0 (not-false r n) in omega arith
 
   pub change-unnamed : (r : Bool) → Tells (Names g (h .axis) (h .index) (cur .from)) r → not r ≡ true → Checks spec g c pairs h cur Bad
-  change-unnamed r t n = bad-due _ (λ (k : Good spec g c pairs (cur .from) (changeBy h pairs (cur .at))). clash r (t .1 (k .names)) (not-true r n))
+  change-unnamed r t n = bad-due _ (λ (k : GoodHere). clash r (t .1 (k .names)) (not-true r n))
 
   pub change-uncut : (ray : ℕ) (r : Bool) → ray ≡ rayOf g (h .axis) (h .index)
       → Tells (Cuts spec g c ray (changeBy h pairs (cur .at) .possible-before) (changeBy h pairs (cur .at) .certain-before) (changeBy h pairs (cur .at) .possible-after) (changeBy h pairs (cur .at) .certain-after)) r
       → not r ≡ true → Checks spec g c pairs h cur Bad
   change-uncut ray r e t n =
-      bad-due _ (λ (k : Good spec g c pairs (cur .from) (changeBy h pairs (cur .at))). clash r
+      bad-due _ (λ (k : GoodHere). clash r
       (t .1 (subst (λ (x : ℕ). Cuts spec g c x (changeBy h pairs (cur .at) .possible-before) (changeBy h pairs (cur .at) .certain-before) (changeBy h pairs (cur .at) .possible-after) (changeBy h pairs (cur .at) .certain-after)) (sym e) (k .cuts)))
       (not-true r n))
 

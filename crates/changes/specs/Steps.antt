@@ -33,7 +33,8 @@ pub record Stands (pairs : List Float) (cur : Cursor) : Type 0 where
   pub within : cur .at ≤ length pairs
   pub sums : 2 * (cur .before + cur .after) ≤ cur .at
 
--- document 01's number for each answer: 13 for a change that `validate` turns away, or whose lists reach past the lent pairs; none where the check goes on
+-- document 01's number for each answer: none where the check goes on, 13 for a change that `validate` turns away, or whose lists
+-- reach past the lent pairs
 abbrev pub numberOf : Checked → ℕ
 numberOf (Next n) = 0
 numberOf Bad = 13

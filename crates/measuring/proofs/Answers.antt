@@ -28,15 +28,18 @@ use Rattle.measuring.specs.declared.Measured.the-variants.{Accepted as T
 use Rattle.measuring.proofs.Lengths.{after-z}
 
 module _ (spec : DexelStockSpec) (g : DexelGrid) (c : Cells) (intervals : ℕ) where
-  pub measure-short : (r : Bool) → r ≡ short spec g c → r ≡ true → Measures (storeCauses spec g c intervals) spec g c intervals (Declined 12)
+  pub measure-short : (r : Bool) → r ≡ short spec g c → r ≡ true
+      → Measures (storeCauses spec g c intervals) spec g c intervals (Declined 12)
   unfolding Due
   measure-short r e t = inl (sym e ∙ t, refl)
 
-  pub measure-bad : (r s : Bool) → r ≡ short spec g c → r ≡ false → Tells (SoundStore (spec .«max_intervals») (2 * rayCount g) intervals c) s → not s ≡ true → Measures (storeCauses spec g c intervals) spec g c intervals (Declined 11)
+  pub measure-bad : (r s : Bool) → r ≡ short spec g c → r ≡ false → Tells (SoundStore (spec .«max_intervals») (2 * rayCount g) intervals c) s → not s ≡ true
+      → Measures (storeCauses spec g c intervals) spec g c intervals (Declined 11)
   unfolding Due
   measure-bad r s e f t h = inr ((λ u. clash (short spec g c) u (sym e ∙ f)), inl ((λ p. clash s (t .1 (p .store)) (not-true s h)), refl))
 
-  pub measure-done : (r s : Bool) → r ≡ short spec g c → r ≡ false → Tells (SoundStore (spec .«max_intervals») (2 * rayCount g) intervals c) s → not s ≡ false → (m : Measured) → MeasuresRays spec g c m → Measures (storeCauses spec g c intervals) spec g c intervals m
+  pub measure-done : (r s : Bool) → r ≡ short spec g c → r ≡ false → Tells (SoundStore (spec .«max_intervals») (2 * rayCount g) intervals c) s → not s ≡ false
+      → (m : Measured) → MeasuresRays spec g c m → Measures (storeCauses spec g c intervals) spec g c intervals m
   unfolding Due NoneDue
   measure-done r s e f t h (Declined k) m = inr ((λ u. clash (short spec g c) u (sym e ∙ f)), inl ((λ p. m .1 (p .valid)), m .0))
   measure-done r s e f t h (Told w) m =
@@ -62,12 +65,18 @@ module _ (spec : DexelStockSpec) (g : DexelGrid) (c : Cells) where
   )
 
 module _ (spec : DexelStockSpec) (units : List ℕ) (c : Cells) (intervals : ℕ) where
-  pub volume-accepted : (g : DexelGrid) (r : Measured) → gridOf spec units ≡ Griddable g → Measures (storeCauses spec g c intervals) spec g c intervals r → Measures (volumeCauses spec units c intervals) spec (gridIn spec) c intervals r
-  volume-accepted g r h f = let a = accepted spec units g h in at r (a .0) (subst (λ (x : DexelGrid). Measures (storeCauses spec x c intervals) spec x c intervals r) (a .1) f)
+  pub volume-accepted : (g : DexelGrid) (r : Measured) → gridOf spec units ≡ Griddable g
+      → Measures (storeCauses spec g c intervals) spec g c intervals r → Measures (volumeCauses spec units c intervals) spec (gridIn spec) c intervals r
+  volume-accepted g r h f =
+      let a = accepted spec units g h in
+      at r (a .0) (subst (λ (x : DexelGrid). Measures (storeCauses spec x c intervals) spec x c intervals r) (a .1) f)
     where
-      at : (r : Measured) → NoneDue (gridCauses spec units) → Measures (storeCauses spec (gridIn spec) c intervals) spec (gridIn spec) c intervals r → Measures (volumeCauses spec units c intervals) spec (gridIn spec) c intervals r
+      at : (r : Measured) → NoneDue (gridCauses spec units)
+          → Measures (storeCauses spec (gridIn spec) c intervals) spec (gridIn spec) c intervals r
+          → Measures (volumeCauses spec units c intervals) spec (gridIn spec) c intervals r
       at (Declined k) n f = due-second (gridCauses spec units) (storeCauses spec (gridIn spec) c intervals) k n f
       at (Told w) n f = (none-in-both (gridCauses spec units) (storeCauses spec (gridIn spec) c intervals) n (f .0), f .1, f .2)
 
-  pub volume-refused : (k : ℕ) → gridOf spec units ≡ NoGrid k → Measures (volumeCauses spec units c intervals) spec (gridIn spec) c intervals (Declined k)
+  pub volume-refused : (k : ℕ) → gridOf spec units ≡ NoGrid k
+      → Measures (volumeCauses spec units c intervals) spec (gridIn spec) c intervals (Declined k)
   volume-refused k h = due-first (gridCauses spec units) (storeCauses spec (gridIn spec) c intervals) k (refused spec units k h)

@@ -1,5 +1,5 @@
--- What the two tests say of points: for a sound list and a pair whose ends are numbers, `overlapsOf` tells whether some double is in both, and
--- `spansMeet` holds wherever it does. Of a pair with a NaN it tells nothing, since `largerOf` and `smallerOf` pass a NaN over.
+-- What the two tests say of points: for a sound list and a pair whose ends are numbers, `overlapsOf` tells whether some double is in
+-- both, and `spansMeet` holds wherever it does. Of a pair with a NaN it tells nothing, since `largerOf` and `smallerOf` pass a NaN over.
 use mathlib.Core.Path.{_≡_, sym, _∙_, subst}
 use mathlib.Core.Bool.{true, false, _&&_, false≢true}
 use mathlib.Core.List.{List, [], _∷_}
@@ -45,27 +45,30 @@ module _ (s : Pair) where
   of-pair p h = elim (or-cases (within (s .lo) (s .hi) p) false h) [ inl k ↦ k | inr k ↦ absurd (false≢true k) ]
 
   -- the larger of two lower ends, which has P as they do, is in both
-  overlap-point : (P : Float → Type 0) (l : List Float) → All P l → P (s .lo) → All Number l → Number (s .lo) → Number (s .hi) → overlapsOf l s ≡ true
-      → (p : Float) × P p × (holds l p ≡ true) × (holds (endsOf s) p ≡ true)
+  overlap-point : (P : Float → Type 0) (l : List Float) → All P l → P (s .lo) → All Number l → Number (s .lo) → Number (s .hi)
+      → overlapsOf l s ≡ true → (p : Float) × P p × (holds l p ≡ true) × (holds (endsOf s) p ≡ true)
   unfolding overlapsOf holds
   overlap-point P [] a b n u v h = absurd (false≢true h)
   overlap-point P (lo ∷ []) a b n u v h = absurd (false≢true h)
-  overlap-point P (lo ∷ hi ∷ l) a b n u v h = elim (or-cases (lt (largerOf lo (s .lo)) (smallerOf hi (s .hi))) (lt hi (s .hi) && overlapsOf l s) h) [
-    | inl k ↦
-        let p = largerOf lo (s .lo) in
-        let under : (lt p hi && lt p (s .hi)) ≡ true = sym (lt-smaller hi (s .hi) (n .1 .0) v p) ∙ k in (
-          p,
-          elim (larger-either lo (s .lo)) [ inl e ↦ subst P (sym e) (a .0) | inr e ↦ subst P (sym e) b ],
-          or-left (within lo hi p) (holds l p) (both (le lo p) (lt p hi) (larger-left lo (s .lo) (n .0) u) (and-left (lt p hi) (lt p (s .hi)) under)),
-          in-pair p (both (le (s .lo) p) (lt p (s .hi)) (larger-right lo (s .lo) (n .0) u) (and-right (lt p hi) (lt p (s .hi)) under)),
-        )
-    | inr k ↦
-        let later = overlap-point P l (a .1 .1) b (n .1 .1) u v (and-right (lt hi (s .hi)) (overlapsOf l s) k) in
-        (later .0, later .1, or-right (within lo hi (later .0)) (holds l (later .0)) (later .2), later .3)
-  ]
+  overlap-point P (lo ∷ hi ∷ l) a b n u v h =
+      elim (or-cases (lt (largerOf lo (s .lo)) (smallerOf hi (s .hi))) (lt hi (s .hi) && overlapsOf l s) h) [
+        | inl k ↦
+            let p = largerOf lo (s .lo) in
+            let under : (lt p hi && lt p (s .hi)) ≡ true = sym (lt-smaller hi (s .hi) (n .1 .0) v p) ∙ k in (
+              p,
+              elim (larger-either lo (s .lo)) [ inl e ↦ subst P (sym e) (a .0) | inr e ↦ subst P (sym e) b ],
+              or-left (within lo hi p) (holds l p)
+                  (both (le lo p) (lt p hi) (larger-left lo (s .lo) (n .0) u) (and-left (lt p hi) (lt p (s .hi)) under)),
+              in-pair p (both (le (s .lo) p) (lt p (s .hi)) (larger-right lo (s .lo) (n .0) u) (and-right (lt p hi) (lt p (s .hi)) under)),
+            )
+        | inr k ↦
+            let later = overlap-point P l (a .1 .1) b (n .1 .1) u v (and-right (lt hi (s .hi)) (overlapsOf l s) k) in
+            (later .0, later .1, or-right (within lo hi (later .0)) (holds l (later .0)) (later .2), later .3)
+      ]
 
   -- a point in both is in a pair of the list, and those before it end below the point
-  point-overlaps : (l : List Float) (p : Float) → rising l ≡ true → holds l p ≡ true → within (s .lo) (s .hi) p ≡ true → overlapsOf l s ≡ true
+  point-overlaps : (l : List Float) (p : Float) → rising l ≡ true → holds l p ≡ true → within (s .lo) (s .hi) p ≡ true
+      → overlapsOf l s ≡ true
   unfolding overlapsOf holds
   point-overlaps [] p r h w = absurd (false≢true h)
   point-overlaps (lo ∷ []) p r h w = absurd (false≢true h)
@@ -85,12 +88,14 @@ module _ (s : Pair) where
             = lt-smaller hi (s .hi) (lt-number p hi below .1) (lt-number p (s .hi) to .1) p ∙ both (lt p hi) (lt p (s .hi)) below to in
             or-left here later (le-lt-trans (largerOf lo (s .lo)) p (smallerOf hi (s .hi)) high low)
         | inr k ↦
-            let past : lt p hi ≡ true → ⊥ = λ e. clash (holds l p) k (holds-above l p (above-less p hi (lt→le p hi e) l (rising-above hi l t))) in
+            let past : lt p hi ≡ true → ⊥
+            = λ e. clash (holds l p) k (holds-above l p (above-less p hi (lt→le p hi e) l (rising-above hi l t))) in
             let up : le hi p ≡ true = elim (by-cases (lt p hi)) [
               | inl e ↦ absurd (past e)
               | inr e ↦ not-lt→le p hi (lt-number p (s .hi) to .0) (lt-number lo hi (rising-above lo (hi ∷ l) r .0) .1) e
             ] in
-            or-right here later (both (lt hi (s .hi)) (overlapsOf l s) (le-lt-trans hi p (s .hi) up to) (point-overlaps l p (rising-tail hi l t) k w))
+            or-right here later
+            (both (lt hi (s .hi)) (overlapsOf l s) (le-lt-trans hi p (s .hi) up to) (point-overlaps l p (rising-tail hi l t) k w))
       ]
 
   point-meets : (l : List Float) (p : Float) → rising l ≡ true → holds l p ≡ true → within (s .lo) (s .hi) p ≡ true → spansMeet l s ≡ true

@@ -155,7 +155,8 @@ module _ (s : Setting) (chords : List Float) (budget : ℕ) (log mid : List Floa
       apart : _≡_ {A = ℕ} 8 16 → ⊥
       apart z = omega arith
 
-  pub visit-answer : (intervals : ℕ) → SoundCells (s .spec) (s .grid) (s .cells) intervals → (x : Progress) → Walks budget (sweepEntries s chords) origin log x mid → Sweeps (visitCauses s chords budget (length log)) s intervals chords log (endLog x mid) (endOf x)
+  pub visit-answer : (intervals : ℕ) → SoundCells (s .spec) (s .grid) (s .cells) intervals → (x : Progress) → Walks budget (sweepEntries s chords) origin log x mid
+      → Sweeps (visitCauses s chords budget (length log)) s intervals chords log (endLog x mid) (endOf x)
   unfolding NoneDue logOf
   visit-answer intervals isSound (Stopped k) w =
       let o = walk-stop budget (length log) (sweepEntries s chords) 0 [] k (w .walked) in
@@ -176,7 +177,8 @@ module _ (s : Setting) (chords : List Float) (budget : ℕ) (log mid : List Floa
 
 -- ---- the sweep over a grid that is accepted
 module _ (s : Setting) (intervals : ℕ) (chords : List Float) (budget : ℕ) (log : List Float) where
-  pub grid-declined : (ready : SweepCheck) (k : ℕ) → Checks s intervals chords ready → ready ≡ Declined k → Sweeps (causesIn s intervals chords budget (length log)) s intervals chords log log (Refused k)
+  pub grid-declined : (ready : SweepCheck) (k : ℕ) → Checks s intervals chords ready → ready ≡ Declined k
+      → Sweeps (causesIn s intervals chords budget (length log)) s intervals chords log log (Refused k)
   grid-declined ready k c h =
       let d : Due (settingCauses s intervals chords) k = subst (Checks s intervals chords) h c in
       (due-first (settingCauses s intervals chords) (visitCauses s chords budget (length log)) k d, setting-kept k log s intervals chords d)
@@ -184,7 +186,9 @@ module _ (s : Setting) (intervals : ℕ) (chords : List Float) (budget : ℕ) (l
   pub admitted : (ready : SweepCheck) → Checks s intervals chords ready → ready ≡ Admitted → Checks s intervals chords Admitted
   admitted ready c h = subst (Checks s intervals chords) h c
 
-  after-setting : (after : List Float) (r : Swept) → NoneDue (settingCauses s intervals chords) → Sweeps (visitCauses s chords budget (length log)) s intervals chords log after r → Sweeps (causesIn s intervals chords budget (length log)) s intervals chords log after r
+  after-setting : (after : List Float) (r : Swept) → NoneDue (settingCauses s intervals chords)
+      → Sweeps (visitCauses s chords budget (length log)) s intervals chords log after r
+      → Sweeps (causesIn s intervals chords budget (length log)) s intervals chords log after r
   after-setting after (Refused k) n f = (due-second (settingCauses s intervals chords) (visitCauses s chords budget (length log)) k n (f .0), f .1)
   after-setting after (Accepted t) n f = (none-in-both (settingCauses s intervals chords) (visitCauses s chords budget (length log)) n (f .0), f .1)
 
@@ -193,19 +197,22 @@ module _ (s : Setting) (intervals : ℕ) (chords : List Float) (budget : ℕ) (l
   grid-swept ready x mid after r c h w e =
       after-setting after r (admitted ready c h .0)
       (subst (λ (y : Swept). Sweeps (visitCauses s chords budget (length log)) s intervals chords log after y) (sym (e .0))
-      (subst (λ (l : List Float). Sweeps (visitCauses s chords budget (length log)) s intervals chords log l (endOf x)) (sym (e .1)) (visit-answer s chords budget log mid intervals (admitted ready c h .2) x w)))
+      (subst (λ (l : List Float). Sweeps (visitCauses s chords budget (length log)) s intervals chords log l (endOf x)) (sym (e .1))
+      (visit-answer s chords budget log mid intervals (admitted ready c h .2) x w)))
 
 -- ---- the sweep
 module _ (spec : DexelStockSpec) (units : List ℕ) (k : Kernel) (p : Profile) (c : Cells) (intervals : ℕ) (chords : List Float) (budget : ℕ) (log : List Float) where
   abbrev here : Setting
   here = setting spec (gridIn spec) k p c
 
-  pub sweep-refused : (n : ℕ) → gridOf spec units ≡ NoGrid n → Sweeps (sweepCauses units here intervals chords budget (length log)) here intervals chords log log (Refused n)
+  pub sweep-refused : (n : ℕ) → gridOf spec units ≡ NoGrid n
+      → Sweeps (sweepCauses units here intervals chords budget (length log)) here intervals chords log log (Refused n)
   sweep-refused n h =
       let d = refused spec units n h in
       (due-first (gridCauses spec units) (causesIn here intervals chords budget (length log)) n d, grid-kept n log spec units d)
 
-  after-grid : (after : List Float) (r : Swept) → NoneDue (gridCauses spec units) → Sweeps (causesIn here intervals chords budget (length log)) here intervals chords log after r
+  after-grid : (after : List Float) (r : Swept) → NoneDue (gridCauses spec units)
+      → Sweeps (causesIn here intervals chords budget (length log)) here intervals chords log after r
       → Sweeps (sweepCauses units here intervals chords budget (length log)) here intervals chords log after r
   after-grid after (Refused n) a f = (due-second (gridCauses spec units) (causesIn here intervals chords budget (length log)) n a (f .0), f .1)
   after-grid after (Accepted t) a f = (none-in-both (gridCauses spec units) (causesIn here intervals chords budget (length log)) a (f .0), f .1)
@@ -215,7 +222,8 @@ module _ (spec : DexelStockSpec) (units : List ℕ) (k : Kernel) (p : Profile) (
       → Sweeps (sweepCauses units here intervals chords budget (length log)) here intervals chords log after r
   sweep-accepted g after r h f =
       let a = accepted spec units g h in
-      after-grid after r (a .0) (subst (λ (x : DexelGrid). Sweeps (causesIn (setting spec x k p c) intervals chords budget (length log)) (setting spec x k p c) intervals chords log after r) (a .1) f)
+      after-grid after r (a .0)
+      (subst (λ (x : DexelGrid). Sweeps (causesIn (setting spec x k p c) intervals chords budget (length log)) (setting spec x k p c) intervals chords log after r) (a .1) f)
 
 -- the same frame and the same profile give the same answer
 module _ (spec : DexelStockSpec) (units : List ℕ) (c : Cells) (intervals : ℕ) (guard : Float) (chords : List Float) (budget : ℕ) (log after : List Float) (r : Swept) where

@@ -80,7 +80,9 @@ Sweeps causes s intervals chords before after (Accepted t) = NoneDue causes × L
 -- the answer of the check of a setting; one that is admitted has a sound store and can be swept
 abbrev pub Checks : Setting → (intervals : ℕ) → (chords : List Float) → SweepCheck → Type 0
 Checks s intervals chords Admitted =
-    NoneDue (settingCauses s intervals chords) × Sweepable (s .spec) (s .grid) (s .cells) × SoundCells (s .spec) (s .grid) (s .cells) intervals
+    NoneDue (settingCauses s intervals chords)
+    × Sweepable (s .spec) (s .grid) (s .cells)
+    × SoundCells (s .spec) (s .grid) (s .cells) intervals
 Checks s intervals chords (Declined k) = Due (settingCauses s intervals chords) k
 
 -- the end of a walk as an answer, and the log with what is not an entry zero

@@ -132,7 +132,8 @@ module _ (s : Setting) (c : Chord) (a : WorldAxis) where
       (ap (λ (y : Track). rectEntries (rayEntry (s .spec .«max_intervals») y (s .profile) l (s .cells .spans) (s .cells .links) (s .cells .heads)) q) f
       ∙ sym (axis-is l r e h ∙ ap (rectangleEntries (rayEntry (s .spec .«max_intervals») (trackOf (s .grid) a) (s .profile) l (s .cells .spans) (s .cells .links) (s .cells .heads))) k)) w
 
-pub track-is : (g : DexelGrid) (a : WorldAxis) (w : CrossAxes) (o m n : ℕ) → w ≡ crossOf a → o ≡ offset g a → m ≡ cellsAlong g (w .u) → n ≡ cellsAlong g (w .v) → record { axis = a; first = o; row = m; rows = n } ≡ trackOf g a
+pub track-is : (g : DexelGrid) (a : WorldAxis) (w : CrossAxes) (o m n : ℕ) → w ≡ crossOf a → o ≡ offset g a
+    → m ≡ cellsAlong g (w .u) → n ≡ cellsAlong g (w .v) → record { axis = a; first = o; row = m; rows = n } ≡ trackOf g a
 unfolding trackOf
 track-is g a w o m n e h k l = rw (← e, h, k, l)
 

@@ -13,7 +13,9 @@ enum-known-g : tie.Need-enum-known-g
 enum-known-g c = search needs
 
 commit-grid-requires : tie.Need-commit-grid-requires
-commit-grid-requires c κs = grid-facts _ _ _ (sym (c .before .before .before .before .before .before .grid .ensures .is) ∙ c .before .before .before .before .g .given .1)
+commit-grid-requires c κs =
+    let asked = c .before .before .before .before .before .before in
+    grid-facts _ _ _ (sym (asked .grid .ensures .is) ∙ c .before .before .before .before .g .given .1)
 
 enum-known-k : tie.Need-enum-known-k
 enum-known-k c = search needs

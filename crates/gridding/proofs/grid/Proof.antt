@@ -33,7 +33,14 @@ returns-3 c =
     let u = c .before .before in
     let t = u .before .before .before .before .before .before .before .before .before .before in
     grid-post _ _ _
-    (rw (← t .before .is-mm .ensures, t .if1 .left, ← u .before .is-misdescribed .ensures, u .if2 .left, ← c .before .dims .ensures, ← c .grid-over .ensures))
+    (rw (
+      ← t .before .is-mm .ensures,
+      t .if1 .left,
+      ← u .before .is-misdescribed .ensures,
+      u .if2 .left,
+      ← c .before .dims .ensures,
+      ← c .grid-over .ensures,
+    ))
 
 pub grid-spec : {M : Type 1} → statement M
 grid-spec =

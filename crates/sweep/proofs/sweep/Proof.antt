@@ -33,7 +33,9 @@ profile-of-requires : tie.Need-profile-of-requires
 profile-of-requires c κs = search needs
 
 sweep-grid-requires : tie.Need-sweep-grid-requires
-sweep-grid-requires c κs = grid-facts _ _ _ (sym (c .before .before .before .before .before .before .grid .ensures .is) ∙ c .before .before .before .before .g .given .1)
+sweep-grid-requires c κs =
+    let asked = c .before .before .before .before .before .before in
+    grid-facts _ _ _ (sym (asked .grid .ensures .is) ∙ c .before .before .before .before .g .given .1)
 
 same-length : tie.Need-same-length
 same-length c = search needs
