@@ -33,7 +33,7 @@ pub record Stands (pairs : List Float) (cur : Cursor) : Type 0 where
   pub within : cur .at ≤ length pairs
   pub sums : 2 * (cur .before + cur .after) ≤ cur .at
 
--- document 01's number for each answer: none where the check goes on, 13 for a change that `validate` turns away, or whose lists
+-- document 01's number of each answer, 0 where the check goes on: 13 for a change that `validate` turns away, or whose lists
 -- reach past the lent pairs
 abbrev pub numberOf : Checked → ℕ
 numberOf (Next n) = 0
