@@ -12,6 +12,9 @@
  *
  * A slice is a pointer and the number of its items; the pointer of an empty slice is that of any object, not NULL. Slices and numbers that are written
  * overlap no other of the call. Numbers are IEEE 754 binary64; lengths are millimetres, volumes cubic millimetres.
+ *
+ * "As it was" is equality of doubles in the proofs, which know one NaN; the payloads of NaNs in a buffer that a call does not write are kept because it
+ * does not write them, which the tests show.
  */
 #ifndef TRIDEXEL_H
 #define TRIDEXEL_H
@@ -27,11 +30,12 @@ extern "C" {
  * is below the next lo. */
 
 /* The sound list of arbitrary pairs: those without lo < hi (NaN too) are dropped, touching ones joined. `out` needs as many pairs as `spans` has.
- * Accepted: `*pairs` pairs stand at the start of `out`, every cell past them is plus zero. Refusals: 12, 11 (part of a pair over). */
+ * Accepted: `*pairs` pairs stand at the start of `out`, every cell past them is plus zero; each end is an end of a pair that was not dropped, and where
+ * zeros of both signs were given for it either may stand. Refusals: 12, 11 (part of a pair over). */
 uint32_t tridexel_normalize(const double *spans, size_t spans_len, double *out, size_t out_len, size_t *pairs);
 
-/* The sound list of the points of a that are not in b; of the points in both. `out` needs as many pairs as both lists together; it is left as by
- * tridexel_normalize. Refusals: 12, 11 (a list not sound). */
+/* The sound list of the points of a that are not in b; of the points in both. Of two ends that are equal as numbers the one of a stands. `out` needs as
+ * many pairs as both lists together; it is left as by tridexel_normalize. Refusals: 12, 11 (a list not sound). */
 uint32_t tridexel_subtract(const double *a, size_t a_len, const double *b, size_t b_len, double *out, size_t out_len, size_t *pairs);
 uint32_t tridexel_intersect(const double *a, size_t a_len, const double *b, size_t b_len, double *out, size_t out_len, size_t *pairs);
 

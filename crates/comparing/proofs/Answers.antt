@@ -10,7 +10,7 @@ use Rattle.refusal.specs.Refusal.{Due, NoneDue}
 use Rattle.doubles.specs.Doubles.{Number}
 use Rattle.doubles.proofs.Bools.{found, and-left, or-cases}
 use Rattle.doubles.proofs.Order.{le-number}
-use Rattle.spans.specs.Spans.{Double, EndOf, within, holds, sound}
+use Rattle.spans.specs.Spans.{Double, EndOfEither, within, holds, sound}
 use Rattle.covering.specs.Covering.{Covers, Meets}
 use Rattle.spans.proofs.Answers.{bad-first, bad-second, good-both}
 use Rattle.comparing.specs.Verdicts.{Verdict, compareCauses, Contains, Overlaps}
@@ -47,7 +47,7 @@ module _ (a b : List Float) (da : (i : ℕ) → Double (getD a i nan)) (db : (i 
   in-list (x ∷ l) d p (List·Memᴰ·head e) = subst Double (sym e) (d 0)
   in-list (x ∷ l) d p (List·Memᴰ·tail m) = in-list l (λ i. d (suc i)) p m
 
-  end-double : (p : Float) → EndOf a b p → Double p
+  end-double : (p : Float) → EndOfEither a b p → Double p
   end-double p (inl m) = in-list a da p m
   end-double p (inr m) = in-list b db p m
 

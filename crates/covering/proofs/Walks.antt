@@ -9,7 +9,7 @@ use native.Mathlib.Decide.{decLt}
 use lib.ListN.{length, getD, take}
 use lib.Seq.{take-all}
 use lib.Ieee.{Float, nan, lt, le}
-use Rattle.spans.specs.Spans.{EndOf, within, holds, sound, Within, Apart}
+use Rattle.spans.specs.Spans.{EndOfEither, within, holds, sound, Within, Apart}
 use Rattle.covering.specs.Covering.{Covers, Meets}
 use Rattle.spans.proofs.Ends.{rising-at}
 use Rattle.spans.proofs.Sets.{sound-rising, sound-mod}
@@ -72,13 +72,13 @@ module _ (outer inner : List Float) (k j : ℕ) (so : sound outer ≡ true) (si 
         let e = getD outer (j - 1) nan in
         let e-hi : lt e hi ≡ true = s .passed h g in
         let nlo = number-at inner k si h in
-        point (top lo e) (top-both (EndOf outer inner) lo e (inr (end-at inner k h)) (inl (end-at outer (j - 1) (omega (arith, s .jMost))))) (top-first lo e nlo) (top-both (λ x. lt x hi ≡ true) lo e (pair-rises inner k si k-fits) e-hi)
+        point (top lo e) (top-both (EndOfEither outer inner) lo e (inr (end-at inner k h)) (inl (end-at outer (j - 1) (omega (arith, s .jMost))))) (top-first lo e nlo) (top-both (λ x. lt x hi ≡ true) lo e (pair-rises inner k si k-fits) e-hi)
         (λ _. top-second lo e nlo (lt-number e hi e-hi .0))
         (λ f. top-both (λ x. lt x (getD outer j nan) ≡ true) lo e (next f) (rising-at outer (j - 1) j (sound-rising outer so) (omega arith) f))
     | no g ↦ point lo (inr (end-at inner k h)) (le-refl lo (number-at inner k si h)) (pair-rises inner k si k-fits) (λ f. absurd (g f)) next
   ]
     where
-      point : (p : Float) → EndOf outer inner p → le lo p ≡ true → lt p hi ≡ true → (0 < j → le (getD outer (j - 1) nan) p ≡ true) → (j < length outer → lt p (getD outer j nan) ≡ true) → Covers outer inner false
+      point : (p : Float) → EndOfEither outer inner p → le lo p ≡ true → lt p hi ≡ true → (0 < j → le (getD outer (j - 1) nan) p ≡ true) → (j < length outer → lt p (getD outer j nan) ≡ true) → Covers outer inner false
       point p m l u last f = (
         p,
         m,
@@ -202,7 +202,7 @@ module _ (a b : List Float) (i j : ℕ) (sa : sound a ≡ true) (sb : sound b �
       let nx = number-at a i sa h in
       let ny = number-at b j sb g in (
         top x y,
-        top-both (EndOf a b) x y (inl (end-at a i h)) (inr (end-at b j g)),
+        top-both (EndOfEither a b) x y (inl (end-at a i h)) (inr (end-at b j g)),
         in-pair a i (top x y) sa (s .iWhole) a-fits (top-first x y nx)
             (top-both (λ e. lt e (getD a (i + 1) nan) ≡ true) x y (pair-rises a i sa a-fits) (not-le→lt (getD a (i + 1) nan) y (number-at a (i + 1) sa (omega (arith, a-fits))) ny t)),
         in-pair b j (top x y) sb (s .jWhole) b-fits (top-second x y nx ny) (top-both (λ e. lt e (getD b (j + 1) nan) ≡ true) x y u (pair-rises b j sb b-fits)),

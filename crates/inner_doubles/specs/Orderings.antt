@@ -3,7 +3,7 @@ use Prim.Native.Nat.{ℕ}
 use Rattle.doubles.specs.declared.Ordering.{Ordering}
 use Rattle.doubles.specs.declared.Ordering.the-variants.{Less, Equal, Greater}
 
-abbrev pub numberOf : Ordering → ℕ
-numberOf Less = 0
-numberOf Equal = 1
-numberOf Greater = 2
+abbrev pub digitOf : Ordering → ℕ
+digitOf Less = 0
+digitOf Equal = 1
+digitOf Greater = 2

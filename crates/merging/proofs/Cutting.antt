@@ -13,7 +13,7 @@ use Rattle.overlay.proofs.Less.{less-list}
 use Rattle.taking.specs.Steps.{part, Lies, WrittenAt, lessHits, Ready}
 use Rattle.taking.proofs.Places.{part-length, part-front, part-past, lies-past}
 use Rattle.taking.proofs.Sparing.{less-both-list}
-use Rattle.merging.specs.Rays.{moves, RayCut}
+use Rattle.merging.specs.Rays.{rayMoves, RayCut}
 
 -- ---- whether the ray changes: x and y say that possible and certain stay
 pub moves-first : (x y r : Bool) → r ≡ not x → r ≡ true → true ≡ not (x && y)
@@ -24,7 +24,7 @@ pub moves-second : (x y r : Bool) → r ≡ not x → r ≡ false → (s : Bool)
 moves-second true y r e h s f = f
 moves-second false y r e h s f = absurd (false≢true (sym h ∙ e))
 
-pub untouched : (possible certain outer inner : List Float) (from limit : ℕ) (w : List Float) → moves possible certain outer inner ≡ false
+pub untouched : (possible certain outer inner : List Float) (from limit : ℕ) (w : List Float) → rayMoves possible certain outer inner ≡ false
     → RayCut possible certain outer inner from limit w w (record { changed = false; possible = 0; certain = 0 })
 untouched possible certain outer inner from limit w h = record {
   size = refl;
@@ -65,7 +65,7 @@ module _ (at np nc no ni : ℕ) (w w₁ w₂ : List Float) (p r : ℕ) (ready : 
     still (at + np + nc + no) ni (omega arith) (ready .inner .room),
   )
 
-  pub both-cut : true ≡ moves (part at np w) (part (at + np) nc w) (part (at + np + nc) no w) (part (at + np + nc + no) ni w)
+  pub both-cut : true ≡ rayMoves (part at np w) (part (at + np) nc w) (part (at + np + nc) no w) (part (at + np + nc + no) ni w)
       → WrittenAt (lessHits (at + np) nc no ni w₁) p (np + 2 * ni + nc + no) (nc + no + ni) w₁ w₂ r
       → RayCut (part at np w) (part (at + np) nc w) (part (at + np + nc) no w) (part (at + np + nc + no) ni w) 0
       (np + nc + no + 2 * ni) w w₂

@@ -20,8 +20,8 @@ use Rattle.merging.specs.declared.Change.{Change}
 use Rattle.merging.specs.declared.Sizes.{Sizes}
 
 -- a boundary of one of the lists moves when the hits are taken away: of possible by the inner ones, of certain by both
-abbrev pub moves : (possible certain outers inners : List Float) → Bool
-moves possible certain outers inners =
+abbrev pub rayMoves : (possible certain outers inners : List Float) → Bool
+rayMoves possible certain outers inners =
     not (equal possible (lessOf possible inners) && equal certain (lessOf (lessOf certain outers) inners))
 
 -- what the hits leave of both lists stands from cell `at` on, possible's before certain's
@@ -33,7 +33,7 @@ pub record NewLists (possible certain outers inners : List Float) (at : ℕ) (w 
 pub record RayCut (possible certain outers inners : List Float) (from limit : ℕ) (before after : List Float) (r : Change) : Type 0 where
   pub size : length after ≡ length before
   pub front : (q : ℕ) → q < from → getD after q nan ≡ getD before q nan
-  pub moved : r .changed ≡ moves possible certain outers inners
+  pub moved : r .changed ≡ rayMoves possible certain outers inners
   pub most : 2 * r .possible + 2 * r .certain ≤ limit
   pub lists : r .changed ≡ true → NewLists possible certain outers inners from after r
   pub none : r .changed ≡ false → (r .possible ≡ 0) × (r .certain ≡ 0)

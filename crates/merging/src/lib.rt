@@ -10,7 +10,7 @@ ghost use Rattle.stock.specs.Stock.{possibleIn, certainIn};
 ghost use Rattle.logs.specs.Named.{pairsNamed};
 ghost use Rattle.grouping.specs.Groups.{Grouped, kindOf};
 ghost use Rattle.taking.specs.Steps.{part, Ready, Normal};
-ghost use Rattle.merging.specs.Rays.{moves, RayCut, Bringable, Brought, limitOf, RayMerged};
+ghost use Rattle.merging.specs.Rays.{rayMoves, RayCut, Bringable, Brought, limitOf, RayMerged};
 ghost use Rattle.merging.specs.All.{firstOf, countOf, AllMergeable, AllMerged};
 use grid::DexelGrid;
 use grid::DexelStockSpec;
@@ -33,7 +33,7 @@ pub struct Sizes {
 // Whether a boundary of one of the ray's lists moves.
 fn is_changed(w: &[f64], at: usize, np: usize, nc: usize, no: usize, ni: usize) -> bool
     requires { ⌜ Ready at np nc no ni (now w) ⌝ }
-    ensures { λ r. ⌜ r ≡ moves (part at np (now (w .entry))) (part (at + np) nc (now (w .entry))) (part (at + np + nc) no (now (w .entry)))
+    ensures { λ r. ⌜ r ≡ rayMoves (part at np (now (w .entry))) (part (at + np) nc (now (w .entry))) (part (at + np + nc) no (now (w .entry)))
         (part (at + np + nc + no) ni (now (w .entry))) ⌝ }
 {
     let c = at + np;

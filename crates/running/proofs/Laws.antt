@@ -23,7 +23,7 @@ use Rattle.runs.specs.Model.{Answer, changed, refused, ended}
 use Rattle.runs.specs.Runs.{start}
 use Rattle.runs.specs.Lent.{listIn, lentStore, LogCommit}
 use Rattle.commit.specs.Commit.{answerOf, AllCellsLeft}
-use Rattle.running.specs.Running.{commitsTo, answerBy, answersTo, kindOf, numberOf, answered, Commits, none, more, RanOn, AllRefused, RanAll}
+use Rattle.running.specs.Running.{commitsTo, answerBy, answersTo, kindOf, secondOf, answered, CommitsTo, none, more, RanOn, AllRefused, RanAll}
 use Rattle.running.proofs.Turns.{told-at}
 
 -- ---- a refused description
@@ -39,7 +39,7 @@ module _ (spec : DexelStockSpec) (units : List ℕ) (k : ℕ) (due : Due (gridCa
 
   module _ (logs : List Float) (ends allowances : List ℕ) (s : Stock) (work : List Float) (answers : List ℕ) where
     pub refused-commits : {i : ℕ} {t : Stock} {w : List Float} {ks : List ℕ}
-        → Commits spec units logs ends allowances s work answers i t w ks
+        → CommitsTo spec units logs ends allowances s work answers i t w ks
         → 2 * i ≤ length answers → AllRefused k i s work answers t w ks × (length ks ≡ length answers)
     refused-commits none fits = (
       record {
@@ -56,7 +56,7 @@ module _ (spec : DexelStockSpec) (units : List ℕ) (k : ℕ) (due : Due (gridCa
         (x .commits .left) in
         let keeps : (q : ℕ) → (q ≡ 2 * i → ⊥) → (q ≡ 2 * i + 1 → ⊥) → getD ls q 0 ≡ getD ks q 0 = λ q a b.
         ap (λ (l : List ℕ). getD l q 0) (x .told)
-        ∙ getD-set-other (set ks (2 * i) (kindOf (x .answer))) (2 * i + 1) q (numberOf (x .answer)) 0 b
+        ∙ getD-set-other (set ks (2 * i) (kindOf (x .answer))) (2 * i + 1) q (secondOf (x .answer)) 0 b
         ∙ getD-set-other ks (2 * i) q (kindOf (x .answer)) 0 a in (
           record {
             stock-stays = y .1 ∙ r .stock-stays;
@@ -72,7 +72,7 @@ module _ (spec : DexelStockSpec) (units : List ℕ) (k : ℕ) (due : Due (gridCa
             ];
             past = λ q h. keeps q (λ (e : q ≡ 2 * i). omega arith) (λ (e : q ≡ 2 * i + 1). omega arith) ∙ r .past q (omega arith);
           },
-          ap length (x .told) ∙ length-set (set ks (2 * i) (kindOf (x .answer))) (2 * i + 1) (numberOf (x .answer))
+          ap length (x .told) ∙ length-set (set ks (2 * i) (kindOf (x .answer))) (2 * i + 1) (secondOf (x .answer))
               ∙ length-set ks (2 * i) (kindOf (x .answer)) ∙ n,
         )
       where

@@ -26,10 +26,10 @@ use Rattle.runs.proofs.Doubles.{DoubleCells, list-doubles}
 use Rattle.runs.proofs.Lent.{demand3-lent}
 use Rattle.judging.specs.Tests.{commitOf}
 use Rattle.commit.specs.Commit.{answerOf}
-use Rattle.running.specs.Running.{beginOf, logFrom, commitAt, commitsTo, answerBy, answersTo, kindOf, numberOf, answered, Turned, Commits, none, more, RanOn, RanAll}
+use Rattle.running.specs.Running.{beginOf, logFrom, commitAt, commitsTo, answerBy, answersTo, kindOf, secondOf, answered, Turned, CommitsTo, none, more, RanOn, RanAll}
 
 -- the two numbers of an answer tell it
-by-numbers : (a : Committed) → answerBy (kindOf a) (numberOf a) ≡ answerOf a
+by-numbers : (a : Committed) → answerBy (kindOf a) (secondOf a) ≡ answerOf a
 by-numbers (Changed n) = refl
 by-numbers (NotCommitted k) = refl
 
@@ -38,9 +38,9 @@ pub told-at : (answers : List ℕ) (i : ℕ) (a : Committed) → 2 * i + 1 < len
     → answerBy (getD (answered answers i a) (2 * i) 0) (getD (answered answers i a) (2 * i + 1) 0) ≡ answerOf a
 told-at answers i a fits =
     let first : getD (answered answers i a) (2 * i) 0 ≡ kindOf a =
-    getD-set-other (set answers (2 * i) (kindOf a)) (2 * i + 1) (2 * i) (numberOf a) 0 (λ (e : 2 * i ≡ 2 * i + 1). omega arith) ∙ getD-set-same answers (2 * i) (kindOf a) 0 (omega arith) in
-    let second : getD (answered answers i a) (2 * i + 1) 0 ≡ numberOf a =
-    getD-set-same (set answers (2 * i) (kindOf a)) (2 * i + 1) (numberOf a) 0 (omega (arith, length-set answers (2 * i) (kindOf a))) in
+    getD-set-other (set answers (2 * i) (kindOf a)) (2 * i + 1) (2 * i) (secondOf a) 0 (λ (e : 2 * i ≡ 2 * i + 1). omega arith) ∙ getD-set-same answers (2 * i) (kindOf a) 0 (omega arith) in
+    let second : getD (answered answers i a) (2 * i + 1) 0 ≡ secondOf a =
+    getD-set-same (set answers (2 * i) (kindOf a)) (2 * i + 1) (secondOf a) 0 (omega (arith, length-set answers (2 * i) (kindOf a))) in
     ap₂ answerBy first second ∙ by-numbers a
 
 -- and the answers before it stay
@@ -49,7 +49,7 @@ unfolding answersTo
 told-before answers i a zero h = refl
 told-before answers i a (suc k) h =
     let same : (q : ℕ) → q < 2 * i → getD (answered answers i a) q 0 ≡ getD answers q 0 = λ q l.
-    getD-set-other (set answers (2 * i) (kindOf a)) (2 * i + 1) q (numberOf a) 0 (λ (e : q ≡ 2 * i + 1). omega arith) ∙ getD-set-other answers (2 * i) q (kindOf a) 0 (λ (e : q ≡ 2 * i). omega arith) in
+    getD-set-other (set answers (2 * i) (kindOf a)) (2 * i + 1) q (secondOf a) 0 (λ (e : q ≡ 2 * i + 1). omega arith) ∙ getD-set-other answers (2 * i) q (kindOf a) 0 (λ (e : q ≡ 2 * i). omega arith) in
     ap₂ (λ (l : List Answer) (x : Answer). l ++ (x ∷ [])) (told-before answers i a k (omega arith)) (ap₂ answerBy (same (2 * k) (omega arith)) (same (2 * k + 1) (omega arith)))
 
 -- the first i commits are run, the next log begins at cell `at`, and each buffer has its size
@@ -57,7 +57,7 @@ pub record RunTo (spec : DexelStockSpec) (units : List ℕ) (s : Stock) (logs : 
   pub most : i ≤ length ends
   pub begins : at ≡ beginOf ends i
   pub run : NoneDue (gridCauses spec units) → Run spec (gridIn spec) (lentStore spec (gridIn spec)) s (commitsTo logs ends allowances (length work₀ / 2) i) (answersTo answers i) t
-  pub commits : Commits spec units logs ends allowances s work₀ answers₀ i t work answers
+  pub commits : CommitsTo spec units logs ends allowances s work₀ answers₀ i t work answers
   pub doubles : DoubleCells (t .cells .spans)
   pub spans-size : length (t .cells .spans) ≡ length (s .cells .spans)
   pub links-size : length (t .cells .links) ≡ length (s .cells .links)
@@ -105,7 +105,7 @@ run-next spec units s logs ends allowances work₀ answers₀ i t at work answer
       (subst (λ (k : ℕ). Run spec (gridIn spec) (lentStore spec (gridIn spec)) s (commitsTo logs ends allowances (length work₀ / 2) k) (answersTo answers i ++ (answerOf (x .answer) ∷ [])) u) one-more
       (extend spec (gridIn spec) (lentStore spec (gridIn spec)) (r .run e) (on-grid spec units (x .commits .described) t u (commitAt logs ends allowances (length work₀ / 2) i) (answerOf (x .answer)) e (x .commits .by)
       (subst (λ (c : Commit). LogCommit (x .commits .described) spec t c (answerOf (x .answer)) u) same-commit (x .commits .promise)))));
-  commits = subst (λ (k : ℕ). Commits spec units logs ends allowances s work₀ answers₀ k u work′ answers′) one-more
+  commits = subst (λ (k : ℕ). CommitsTo spec units logs ends allowances s work₀ answers₀ k u work′ answers′) one-more
       (more (r .commits) (subst (λ (b : ℕ). Turned spec units t (logFrom logs b (getD ends i 0)) (getD allowances i 0) work answers i u work′ answers′) (r .begins) x));
   doubles = d;
   spans-size = za ∙ r .spans-size;
@@ -139,7 +139,7 @@ unfolding RanOn
 run-end spec units s logs ends allowances work₀ answers₀ i t at work answers r past =
     let all : i ≡ length ends = omega (arith, r .most) in
     record {
-      commits = subst (λ (k : ℕ). Commits spec units logs ends allowances s work₀ answers₀ k t work answers) all (r .commits);
+      commits = subst (λ (k : ℕ). CommitsTo spec units logs ends allowances s work₀ answers₀ k t work answers) all (r .commits);
       ran = λ e.
           let run : Run spec (gridIn spec) (lentStore spec (gridIn spec)) s (commitsTo logs ends allowances (length work₀ / 2) (length ends)) (answersTo answers (length ends)) t =
           subst (λ (k : ℕ). Run spec (gridIn spec) (lentStore spec (gridIn spec)) s (commitsTo logs ends allowances (length work₀ / 2) k) (answersTo answers k) t) all (r .run e) in

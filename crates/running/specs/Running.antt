@@ -57,12 +57,12 @@ abbrev pub kindOf : Committed → ℕ
 kindOf (Changed n) = 0
 kindOf (Refused k) = 1
 
-abbrev pub numberOf : Committed → ℕ
-numberOf (Changed n) = n
-numberOf (Refused k) = k
+abbrev pub secondOf : Committed → ℕ
+secondOf (Changed n) = n
+secondOf (Refused k) = k
 
 abbrev pub answered : List ℕ → ℕ → Committed → List ℕ
-answered answers i a = set (set answers (2 * i) (kindOf a)) (2 * i + 1) (numberOf a)
+answered answers i a = set (set answers (2 * i) (kindOf a)) (2 * i + 1) (secondOf a)
 
 -- one commit of the list, and its answer in its two cells
 pub record Turned (spec : DexelStockSpec) (units : List ℕ) (s : Stock) (log : List Float) (allowance : ℕ) (work : List Float) (answers : List ℕ) (i : ℕ) (t : Stock) (work′ : List Float) (answers′ : List ℕ) : Type 0 where
@@ -71,10 +71,10 @@ pub record Turned (spec : DexelStockSpec) (units : List ℕ) (s : Stock) (log : 
   pub told : answers′ ≡ answered answers i answer
 
 -- The first i commits one after the other, whatever the description is: each on the stock, the work buffer and the answers that the one before left
-pub data Commits (spec : DexelStockSpec) (units : List ℕ) (logs : List Float) (ends allowances : List ℕ) (s : Stock) (work : List Float) (answers : List ℕ) : ℕ → Stock → List Float → List ℕ → Type 0 where
-  none : Commits spec units logs ends allowances s work answers 0 s work answers
-  more : {i : ℕ} {t u : Stock} {w v : List Float} {ks ls : List ℕ} → Commits spec units logs ends allowances s work answers i t w ks
-      → Turned spec units t (logFrom logs (beginOf ends i) (getD ends i 0)) (getD allowances i 0) w ks i u v ls → Commits spec units logs ends allowances s work answers (suc i) u v ls
+pub data CommitsTo (spec : DexelStockSpec) (units : List ℕ) (logs : List Float) (ends allowances : List ℕ) (s : Stock) (work : List Float) (answers : List ℕ) : ℕ → Stock → List Float → List ℕ → Type 0 where
+  none : CommitsTo spec units logs ends allowances s work answers 0 s work answers
+  more : {i : ℕ} {t u : Stock} {w v : List Float} {ks ls : List ℕ} → CommitsTo spec units logs ends allowances s work answers i t w ks
+      → Turned spec units t (logFrom logs (beginOf ends i) (getD ends i 0)) (getD allowances i 0) w ks i u v ls → CommitsTo spec units logs ends allowances s work answers (suc i) u v ls
 
 -- A list of log commits was run from the stock s to the stock t: it is a run of logs, and from a sound stock all that demand 3 says holds of it
 pub record Ran (spec : DexelStockSpec) (g : DexelGrid) (s : Stock) (cs : List Commit) (vs : List Answer) (t : Stock) : Type 0 where
@@ -96,7 +96,7 @@ pub record AllRefused (k i : ℕ) (s : Stock) (work : List Float) (answers : Lis
 -- ALL OF A RUN: every cell of every buffer, commit by commit, and what demand 3 says of the whole. So a refused description leaves all but
 -- the answers (`refused-all` in proofs/Laws), and each list that is left is the only one of doubles with its points (`only-one` there).
 pub record RanAll (spec : DexelStockSpec) (units : List ℕ) (logs : List Float) (ends allowances : List ℕ) (s : Stock) (work : List Float) (answers : List ℕ) (t : Stock) (work′ : List Float) (answers′ : List ℕ) : Type 0 where
-  pub commits : Commits spec units logs ends allowances s work answers (length ends) t work′ answers′
+  pub commits : CommitsTo spec units logs ends allowances s work answers (length ends) t work′ answers′
   pub ran : RanOn spec units s (commitsTo logs ends allowances (length work / 2) (length ends)) (answersTo answers′ (length ends)) t
   -- each end of every list that is left is a double
   pub doubles : (r : ℕ) (k : Kind) → All Double (listIn spec t r k)

@@ -1,4 +1,4 @@
-//! Records camlib's answers for the program `spans_vectors`: edge cases, seeded lists, document 01's examples, then zeros of both signs at ends.
+//! Records camlib's answers for the program `spans_vectors`: edge cases, seeded lists, document 01's examples, zeros of both signs.
 //!
 //!     cd oracle && cargo run --release --bin record_spans > ../crates/spans_vectors/stdin
 //!
@@ -181,7 +181,8 @@ fn examples() -> Vec<Query> {
     ]
 }
 
-/// A zero of each sign at an end of either list. Where two meet in `max` or `min` Rust leaves the sign open; it keeps the first here, as document 01 does.
+/// A zero of each sign at an end of either list. Where two meet in `max` or `min` Rust leaves the sign open; it keeps the first here, as
+/// document 01 does.
 fn zeros() -> Vec<Query> {
     let mut out = vec![];
     for (x, y) in [(0., 0.), (0., -0.), (-0., 0.), (-0., -0.)] {
