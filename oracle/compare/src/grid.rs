@@ -53,8 +53,8 @@ pub fn grid(spec: DexelStockSpec, units: &[u8], counts: &mut [u64; 3], steps: &m
     unsafe { raw::tridexel_grid(spec, units.as_ptr(), units.len(), counts, steps) }
 }
 
-/// What the numbers are before a call: a refused one leaves them.
-const BEFORE: ([u64; 3], [f64; 3]) = ([0xdead_beef; 3], [0.5; 3]);
+/// What the numbers are before a call: a refused one leaves them, and the payloads of NaNs too.
+const BEFORE: ([u64; 3], [f64; 3]) = ([0xdead_beef; 3], [f64::from_bits(0x7ff8_dead_beef_0001); 3]);
 
 /// The port's answer. What the exports ask of a grid holds of each that `tridexel_grid` accepts; a query's index is one of its rays.
 pub fn port(q: &Query) -> Answer {
@@ -62,7 +62,7 @@ pub fn port(q: &Query) -> Answer {
     let (mut cells, mut steps) = BEFORE;
     let refused = grid(spec, UNITS[q.units].as_bytes(), &mut cells, &mut steps);
     if refused != 0 {
-        let kept = (cells, steps) == BEFORE;
+        let kept = cells == BEFORE.0 && steps.map(f64::to_bits) == BEFORE.1.map(f64::to_bits);
         let (cells, steps) = if kept { ([0; 3], [0.; 3]) } else { (cells, steps) };
         return Answer { refused: refused as u64, cells, steps, ..Answer::default() };
     }

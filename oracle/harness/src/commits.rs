@@ -249,7 +249,8 @@ impl Run {
             }
             state = match lent.compare(&due.next.store) {
                 Match::Same => due.next,
-                Match::Zeros if !commit.settled() => {
+                // a refused commit leaves each zero as it was
+                Match::Zeros if due.refused == 0 && !commit.settled() => {
                     found = Match::Zeros;
                     // what is due next depends on the zeros that the port has
                     State::of(&self.spec, spelt(&lent, tally))
