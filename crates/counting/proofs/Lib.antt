@@ -1,5 +1,6 @@
-pub mod Sums
-pub mod Bounds
-pub mod Steps
+-- The laws of `counting`.
 pub mod Answers
-pub mod Runs
+pub mod Division
+pub mod Passing
+pub mod Sorting
+pub mod Turns

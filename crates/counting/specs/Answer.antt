@@ -1,19 +1,15 @@
 -- Which budget a log commit would pass.
 use mathlib.Core.Bool.{cond}
 use mathlib.Core.List.{List}
-use Prim.Native.Nat.{ℕ, _*_}
+use Prim.Native.Nat.{ℕ}
 use lib.Dec.{ltb}
 use lib.Ieee.{Float}
-use Rattle.grid.specs.Rays.{rayCount}
-use Rattle.gridding.specs.Causes.{GridFacts}
 use Rattle.grid.specs.declared.DexelStockSpec.{DexelStockSpec}
 use Rattle.grid.specs.declared.DexelGrid.{DexelGrid}
-use Rattle.store.specs.Updates.{Cells, Room}
-use Rattle.stock.specs.Stock.{SoundCells}
+use Rattle.store.specs.Updates.{Cells}
 use Rattle.runs.specs.Logs.{entries}
 use Rattle.runs.specs.Counts.{raysChanged, pairsLeft}
 use Rattle.runs.specs.Lent.{listsIn}
-use Rattle.logs.specs.Named.{EachNamed}
 use Rattle.counting.specs.declared.Budgets.{Budgets}
 use Rattle.counting.specs.declared.Budgets.the-variants.{Kept, Rays, Intervals}
 
@@ -29,16 +25,6 @@ budgetOf allowance intervals changed left = cond (ltb allowance changed) 9 (cond
 
 -- the same of a log on a store: the rays that it would change, and the pairs of all lists as they would then be
 abbrev pub budgetIn : (spec : DexelStockSpec) (g : DexelGrid) → Cells → (log : List Float) (allowance : ℕ) → ℕ
-budgetIn spec g c log allowance = budgetOf allowance (spec .«max_intervals») (raysChanged g (listsIn spec g c) (entries log)) (pairsLeft g (listsIn spec g c) (entries log))
-
--- a log whose entries each name a ray, on a sound store with room
-pub record Countable (spec : DexelStockSpec) (g : DexelGrid) (c : Cells) (intervals : ℕ) (log : List Float) : Type 0 where
-  pub facts : GridFacts spec g
-  pub room : Room (spec .«max_intervals») (2 * rayCount g) c
-  pub isSound : SoundCells spec g c intervals
-  pub named : EachNamed g log
-
--- the same, whatever the interval total
-pub record Counting (spec : DexelStockSpec) (g : DexelGrid) (c : Cells) (log : List Float) : Type 0 where
-  pub intervals : ℕ
-  pub countable : Countable spec g c intervals log
+budgetIn spec g c log allowance =
+    budgetOf allowance (spec .«max_intervals») (raysChanged g (listsIn spec g c) (entries log))
+    (pairsLeft g (listsIn spec g c) (entries log))

@@ -1,2 +1,3 @@
+-- The definitions that the contracts of `counting` cite.
 pub mod Answer
-pub mod Totals
+pub mod Steps

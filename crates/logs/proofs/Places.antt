@@ -96,3 +96,9 @@ pub pairs-at : (g : DexelGrid) (log : List Float) → EachNamed g log → (r : R
     → pairsAt log (namedFrom g log (r .0) 0 (entryCount log)) w ≡ pairsOn g (entries log) r w
 unfolding EachNamed entries
 pairs-at g log all r w = pairs-from g log (r .0) w 0 (entryCount log) (λ j _ h. all j (omega arith)) ∙ sym (pairs-named g (entries log) r w)
+
+-- and those named by its number
+pub pairs-of : (g : DexelGrid) (log : List Float) → EachNamed g log → (ray : ℕ) (w : HitKind)
+    → pairsAt log (namedFrom g log ray 0 (entryCount log)) w ≡ pairsNamed g (entries log) ray w
+unfolding EachNamed entries
+pairs-of g log all ray w = pairs-from g log ray w 0 (entryCount log) (λ j _ h. all j (omega arith))

@@ -2,9 +2,9 @@
 use mathlib.Core.Path.{_≡_}
 use mathlib.Core.Bool.{Bool, true, false, cond, _&&_}
 use mathlib.Core.List.{List, [], _∷_}
-use Prim.Native.Nat.{ℕ, zero, suc, _<_}
+use Prim.Native.Nat.{ℕ, zero, suc, _+_, _<_}
 use lib.Dec.{eqb}
-use lib.Ieee.{Float}
+use lib.Ieee.{Float, binary64, le, ofBits}
 use Rattle.grid.specs.declared.DexelGrid.{DexelGrid}
 use Rattle.runs.specs.Logs.{Entry, entryAt, entryCount, entries, namesOne, rayOf, HitKind, loOf, hiOf}
 use Rattle.runs.specs.Model.{NoRay}
@@ -17,6 +17,12 @@ EachNamed g log = (i : ℕ) → i < entryCount log → namesOne g (entryAt log i
 pub record NamesAll (g : DexelGrid) (log : List Float) (r : Bool) : Type 0 where
   pub yes : r ≡ true → EachNamed g log
   pub no : r ≡ false → NoRay g (entries log)
+
+-- how many rays stand before those along an axis, where so many run along the first and the second one: axis 2 is at least 2, axis 1 at
+-- least 1
+unfoldable pub beforeAxis : Float → (first second : ℕ) → ℕ
+beforeAxis axis first second =
+    cond (le (ofBits binary64 0x4000_0000_0000_0000) axis) (first + second) (cond (le (ofBits binary64 0x3ff0_0000_0000_0000) axis) first 0)
 
 -- the outer or the inner pairs of the entries that name the ray of this number, as a flat list
 unfoldable pub pairsNamed : DexelGrid → List Entry → ℕ → HitKind → List Float

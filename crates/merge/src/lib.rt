@@ -30,7 +30,7 @@ fn place_normalized(s: &[f64], w: &mut [f64], at: usize) -> usize
 }
 
 // The merge of a sound ray: its lists and the hits are brought into the work buffer first.
-pub fn merge_lists(
+fn merge_lists(
     possible: &[f64],
     certain: &[f64],
     outer: &[f64],

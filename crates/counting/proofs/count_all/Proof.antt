@@ -1,60 +1,97 @@
-use Prim.Native.Nat.{_+_, _-_, _≤_}
-use mathlib.Core.Path.{_≡_, refl}
+use Prim.Native.Nat.{_-_, _≤_}
+use mathlib.Core.Path.{_≡_, refl, _∙_}
 use native.Mathlib.Omega.{arith}
+use borrow.Author.Needs.{needs}
+use lib.ListN.{length}
+use Rattle.grid.specs.Rays.{rayCount}
 use Rattle.store.specs.Updates.{cells}
-use Rattle.runs.specs.Logs.{entryCount}
-use Rattle.counting.specs.Totals.{Totalled}
-use Rattle.counting.proofs.Bounds.{few-rays}
+use Rattle.log_count.specs.Totals.{Prefixed}
+use Rattle.log_count.proofs.Bounds.{few-rays}
 use Rattle.counting.proofs.Answers.{too-many-rays, too-many-intervals, both-kept}
-use Rattle.counting.proofs.Steps.{start, changed-so-far, end-at}
+use Rattle.counting.proofs.Passing.{start, changed-so-far, all-counted}
+use Rattle.counting.proofs.Turns.{same-shape}
 use Rattle.counting.proofs.count_all.Statement.{statement}
 use Rattle.counting.proofs.count_all.Tie as tie
 
 abbrev Inv-loop : tie.InvT-loop
-Inv-loop spec g spans links heads intervals log allowance n ascending t₀ i₀ t i = (n ≡ entryCount log) × (i ≤ n) × (t .changed ≤ allowance) × Totalled spec g (cells spans links heads) log i t
+Inv-loop spec g spans links heads intervals log allowance keys₀ buffer₀ rays n t₀ first₀ wanted₀ keys buffer t first wanted =
+    (first ≤ rayCount g) × (t .changed ≤ allowance) × (length keys ≡ length keys₀) × (length buffer ≡ length buffer₀)
+    × Prefixed spec g (cells spans links heads) log first t
 
 abbrev μ-loop : tie.MeasureT-loop
-μ-loop spec g spans links heads intervals log allowance n ascending t₀ i₀ t i = n - i
+μ-loop spec g spans links heads intervals log allowance keys₀ buffer₀ rays n t₀ first₀ wanted₀ keys buffer t first wanted =
+    rayCount g - first
 
-ascends-requires : tie.Need-ascends-requires Inv-loop μ-loop
-ascends-requires c κs =
-    let given = c .before .before .before .before .args in
-    let pre = c .before .before .before .before .pre in
-    (omega (arith, few-rays (given .spec) (given .g) (cells (given .spans .now) (given .links .now) (given .heads .now)) (given .intervals) (given .log .now) (pre)), pre .named)
+total-rays-requires : tie.Need-total-rays-requires Inv-loop μ-loop
+total-rays-requires c κs = omega (arith, few-rays _ _ _ _ _ (c .before .before .before .before .before .before .pre .0))
 
 loop-holds : tie.Need-loop-holds Inv-loop μ-loop
 loop-holds c =
-    let given = c .before .before .before .before .before .args in
-    (refl, omega arith, omega arith, start (given .spec) (given .g) (cells (given .spans .now) (given .links .now) (given .heads .now)) (given .intervals) (given .log .now) (c .before .before .before .before .before .pre))
+    let pre = c .before .before .before .before .before .before .before .pre in
+    (omega arith, omega arith, refl, refl, start _ _ _ _ _ (pre .0) _ refl refl)
 
-count-entry-requires : tie.Need-count-entry-requires Inv-loop μ-loop
-count-entry-requires c κs = (record { intervals = c .before .before .before .before .before .before .before .args .intervals; countable = c .before .before .before .before .before .before .before .pre }, c .before .before .ascends .ensures .0, omega arith, c .before .loop .inv .3)
+fit-width-requires : tie.Need-fit-width-requires Inv-loop μ-loop
+fit-width-requires c κs =
+    let pre = c .before .before .before .before .before .before .before .before .before .pre in
+    (omega (arith, c .loop-test .taken), pre .1)
+
+count-next-requires : tie.Need-count-next-requires Inv-loop μ-loop
+count-next-requires c κs =
+    let fit = c .before .before in
+    let at = fit .before .before in
+    let inv = at .loop .inv in
+    let rays = at .before .total-rays .ensures in
+    let begun = at .before .before .before .before .before .before .before .before in
+    let pre = begun .pre in (
+      record {
+        counting = record { intervals = begun .args .intervals; countable = pre .0 };
+        some = pre .1;
+        inside = omega (arith, rays, fit .before .loop-test .taken);
+        prefixed = inv .4;
+        shaped = same-shape _ _ (inv .3) (pre .4);
+      },
+      record {
+        some = fit .fit-width .ensures .0;
+        inside = omega (arith, rays, fit .before .loop-test .taken, fit .fit-width .ensures .1);
+        fits = fit .fit-width .ensures .2;
+        keys-some = omega (arith, inv .2, pre .2);
+        keys-few = omega (arith, inv .2, pre .3);
+      },
+    )
 
 returns : tie.Need-returns Inv-loop μ-loop
 returns c =
-    let given = c .before .before .before .before .before .before .before .before .before .before .args in
-    too-many-rays _ _ _ _ (omega (arith, c .if1 .taken, changed-so-far (given .spec) (given .g) (cells (given .spans .now) (given .links .now) (given .heads .now)) (given .intervals) (given .log .now) (c .before .before .before .before .before .before .before .before .before .before .pre) (c .before .before .before .before .loop .i + 1) (c .before .before .count-entry .result) (c .before .before .count-entry .ensures)))
-
-add-i : tie.Need-add-i Inv-loop μ-loop
-add-i c = omega (arith, c .before .before .before .loop-test .taken, c .before .before .before .before .before .before .before .before .before .before .good, c .before .before .before .before .before .before .before .before .before .before .fits)
+    let step = c .before .before .before .before .before .before .before in
+    let s = step .count-next .ensures in
+    let pre = step .before .before .before .before .before .before .before .before .before .before .before .before .before .pre in
+    too-many-rays _ _ _ _ (omega (arith, c .if1 .taken, changed-so-far _ _ _ _ _ (pre .0) _ _ (s .most) (s .prefixed)))
 
 loop-less : tie.Need-loop-less Inv-loop μ-loop
-loop-less c = omega (arith, c .before .before .before .loop-test .taken)
+loop-less c =
+    let s = c .before .before .before .before .before .before .before .count-next .ensures in
+    omega (arith, s .onward, s .most)
 
 loop-again : tie.Need-loop-again Inv-loop μ-loop
-loop-again c = (c .before .before .before .before .loop .inv .0, omega (arith, c .before .before .before .loop-test .taken), omega (arith, c .if1 .left), c .before .before .count-entry .ensures)
+loop-again c =
+    let s = c .before .before .before .before .before .before .before .count-next .ensures in
+    let inv = c .before .before .before .before .before .before .before .before .before .before .before .before .loop .inv in
+    (s .most, c .if1 .left, s .keys-size ∙ inv .2, s .size ∙ inv .3, s .prefixed)
 
 returns-2 : tie.Need-returns-2 Inv-loop μ-loop
 returns-2 c =
-    let given = c .before .before .before .before .before .before .before .before .before .before .args in
-    let inv = c .before .before .before .before .loop .inv in
-    let e = end-at (given .spec) (given .g) (cells (given .spans .now) (given .links .now) (given .heads .now)) (given .intervals) (given .log .now) (c .before .before .before .before .before .before .before .before .before .before .pre) (c .before .before .before .before .loop .i) (c .before .before .before .before .loop .t) (omega (arith, c .before .before .before .loop-test .left, inv .0, inv .1)) (inv .3) in too-many-intervals _ _ _ _ (omega (arith, e .0, inv .2)) (omega (arith, e .1, c .if2 .taken))
+    let at = c .before .before .before .before in
+    let inv = at .loop .inv in
+    let pre = at .before .before .before .before .before .before .before .before .pre in
+    let e = all-counted _ _ _ _ _ (pre .0) _ _ (inv .0) (omega (arith, c .before .before .before .loop-test .left)) (inv .4) in
+    too-many-intervals _ _ _ _ (omega (arith, e .0, inv .1)) (omega (arith, e .1, c .if2 .taken))
 
 returns-3 : tie.Need-returns-3 Inv-loop μ-loop
 returns-3 c =
-    let given = c .before .before .before .before .before .before .before .before .before .before .args in
-    let inv = c .before .before .before .before .loop .inv in
-    let e = end-at (given .spec) (given .g) (cells (given .spans .now) (given .links .now) (given .heads .now)) (given .intervals) (given .log .now) (c .before .before .before .before .before .before .before .before .before .before .pre) (c .before .before .before .before .loop .i) (c .before .before .before .before .loop .t) (omega (arith, c .before .before .before .loop-test .left, inv .0, inv .1)) (inv .3) in both-kept _ _ _ _ (omega (arith, e .0, inv .2)) (omega (arith, e .1, c .if2 .left))
+    let at = c .before .before .before .before in
+    let inv = at .loop .inv in
+    let pre = at .before .before .before .before .before .before .before .before .pre in
+    let e = all-counted _ _ _ _ _ (pre .0) _ _ (inv .0) (omega (arith, c .before .before .before .loop-test .left)) (inv .4) in
+    both-kept _ _ _ _ (omega (arith, e .0, inv .1)) (omega (arith, e .1, c .if2 .left))
 
 pub count-all-spec : {M : Type 1} → statement M
 count-all-spec =
@@ -62,12 +99,19 @@ count-all-spec =
     (tie.spec
     Inv-loop
     μ-loop
-    ascends-requires
+    total-rays-requires
     loop-holds
-    count-entry-requires
+    (λ c. search needs)
+    fit-width-requires
+    count-next-requires
+    (λ c. search needs)
+    (λ c. search needs)
     returns
-    add-i
     loop-less
     loop-again
+    (λ c. search needs)
+    (λ c. search needs)
     returns-2
+    (λ c. search needs)
+    (λ c. search needs)
     returns-3)

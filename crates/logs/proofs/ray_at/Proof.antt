@@ -1,63 +1,55 @@
-use mathlib.Core.Path.{_∙_}
+use mathlib.Core.Path.{_≡_, _∙_, ap₂}
+use Prim.Native.Nat.{_+_}
 use borrow.Author.Needs.{needs}
 use native.Mathlib.Omega.{arith}
-use Rattle.runs.specs.Logs.{entryAt, rayOf}
-use Rattle.runs.proofs.Naming.{named}
+use Rattle.grid.specs.Axes.{worldAxis}
+use Rattle.grid.specs.Rays.{raysAlong}
+use Rattle.runs.specs.Logs.{entryAt}
+use Rattle.runs.proofs.Naming.{named, named-below}
+use Rattle.logs.specs.Named.{beforeAxis}
+use Rattle.logs.proofs.Axes.{ray-of, both-le}
 use Rattle.logs.proofs.ray_at.Statement.{statement}
 use Rattle.logs.proofs.ray_at.Tie as tie
 
-mul-to-u64 : tie.Need-mul-to-u64
-mul-to-u64 c = search needs
-
-mul-to-u64-2 : tie.Need-mul-to-u64-2
-mul-to-u64-2 c = search needs
-
-shared-slice-read-to-u64 : tie.Need-shared-slice-read-to-u64
-shared-slice-read-to-u64 c = search needs
-
-to-u64-requires : tie.Need-to-u64-requires
-to-u64-requires c κs = search needs
-
-mul-to-u64-3 : tie.Need-mul-to-u64-3
-mul-to-u64-3 c = search needs
-
-add-to-u64 : tie.Need-add-to-u64
-add-to-u64 c = search needs
-
-mul-to-u64-4 : tie.Need-mul-to-u64-4
-mul-to-u64-4 c = search needs
-
-shared-slice-read-to-u64-2 : tie.Need-shared-slice-read-to-u64-2
-shared-slice-read-to-u64-2 c = search needs
-
-to-u64-requires-2 : tie.Need-to-u64-requires-2
-to-u64-requires-2 c κs = search needs
-
-cast-t13 : tie.Need-cast-t13
+whole-number-requires : tie.Need-whole-number-requires
 unfolding entryAt
-cast-t13 c = let n = named (c .before .before .before .before .before .args .g) (entryAt (c .before .before .before .before .before .args .log .now) (c .before .before .before .before .before .args .i)) (c .before .before .before .before .before .pre .2) in omega (arith, n .axis-digit, c .before .before .to-u64 .ensures)
+whole-number-requires c κs =
+    let start = c .before .before in
+    named (start .args .g) (entryAt (start .args .log .now) (start .args .i)) (start .pre .2) .index-whole
 
-ray-number-requires : tie.Need-ray-number-requires
-unfolding entryAt
-ray-number-requires c κs = let n = named (c .before .before .before .before .before .args .g) (entryAt (c .before .before .before .before .before .args .log .now) (c .before .before .before .before .before .args .i)) (c .before .before .before .before .before .pre .2) in (c .before .before .before .before .before .pre .0, rw (c .to-u642 .ensures, c .before .before .to-u64 .ensures) (n .index-below))
+rays-before-requires : tie.Need-rays-before-requires
+rays-before-requires c κs =
+    let start = c .before .before .before .before .before .before in
+    omega (arith, both-le (start .args .g), c .before .before .rays .ensures, c .before .rays2 .ensures, start .pre .0)
 
 returns : tie.Need-returns
-unfolding rayOf entryAt
-returns c = c .ray-number .ensures ∙ rw (c .before .to-u642 .ensures, c .before .before .before .to-u64 .ensures)
+unfolding entryAt
+returns c =
+    let start = c .before .before .before .before .before .before .before in
+    let e = entryAt (start .args .log .now) (start .args .i) in
+    let rays : c .rays-before .result ≡ beforeAxis (e .axis) (raysAlong (start .args .g) (worldAxis 0)) (raysAlong (start .args .g) (worldAxis 1)) =
+    c .rays-before .ensures ∙ ap₂ (beforeAxis (e .axis)) (c .before .before .before .rays .ensures) (c .before .before .rays2 .ensures) in
+    ap₂ _+_ rays (c .before .before .before .before .whole-number .ensures) ∙ ray-of (start .args .g) e (start .pre .2)
+
+add-result : tie.Need-add-result
+add-result c =
+    let start = c .before .before .before .before .before .before .before in
+    omega (arith, named-below (start .args .g) (entryAt (start .args .log .now) (start .args .i)) (start .pre .2), start .pre .0, returns c)
 
 pub ray-at-spec : {M : Type 1} → statement M
 ray-at-spec =
     tie.close
     (tie.spec
-    mul-to-u64
-    mul-to-u64-2
-    shared-slice-read-to-u64
-    to-u64-requires
-    mul-to-u64-3
-    add-to-u64
-    mul-to-u64-4
-    shared-slice-read-to-u64-2
-    to-u64-requires-2
-    cast-t13
-    ray-number-requires
+    (λ c. search needs)
+    (λ c. search needs)
+    (λ c. search needs)
+    (λ c. search needs)
+    whole-number-requires
+    (λ c κs. search needs)
+    (λ c κs. search needs)
+    (λ c. search needs)
+    (λ c. search needs)
+    (λ c. search needs)
+    rays-before-requires
+    add-result
     returns)

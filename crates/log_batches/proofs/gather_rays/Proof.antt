@@ -1,0 +1,68 @@
+-- `log_batches::gather_rays` meets its contract: each turn adds one entry more.
+use Prim.Native.Nat.{_-_}
+use native.Mathlib.Omega.{arith}
+use borrow.Author.Needs.{needs}
+use Rattle.logs.specs.Named.{EachNamed}
+use Rattle.log_batches.proofs.Gathered.{
+  GatherRaysLoop,
+  gathering-widthed,
+  gathering-start,
+  gathering-turn,
+  gathering-done,
+  gathering-full,
+}
+use Rattle.log_batches.proofs.gather_rays.Statement.{statement}
+use Rattle.log_batches.proofs.gather_rays.Tie as tie
+
+abbrev Inv-loop : tie.InvT-loop
+Inv-loop g log first width keys₀ n w₀ i₀ keys w i = GatherRaysLoop g log first width keys₀ i keys w
+
+abbrev μ-loop : tie.MeasureT-loop
+μ-loop g log first width keys₀ n w₀ i₀ keys w i = n - i
+
+loop-holds : tie.Need-loop-holds Inv-loop μ-loop
+loop-holds c = gathering-start _ _ _ _ (c .before .before .pre .2)
+
+ray-at-requires : tie.Need-ray-at-requires Inv-loop μ-loop
+unfolding EachNamed
+ray-at-requires c κs =
+    let pre = c .before .before .before .before .pre in
+    (omega (arith, pre .0), omega arith, pre .1 (c .before .loop .i) (omega arith))
+
+add-requires : tie.Need-add-requires Inv-loop μ-loop
+add-requires c κs =
+    let pre = c .before .before .before .before .before .before .pre in
+    let inv = c .before .before .before .loop .inv in
+    (gathering-widthed inv (omega (arith, pre .3)) (pre .4), c .before .before .loop-test .taken, omega (arith, inv .most, pre .3))
+
+loop-again : tie.Need-loop-again Inv-loop μ-loop
+loop-again c =
+    let turn = c .before .before .before .before .before .before in
+    let named = c .before .before .before .before .before .ray-at .ensures in
+    gathering-turn (turn .before .loop .inv) named (c .before .before .before .add .ensures) (turn .loop-test .taken) (c .if1 .left)
+
+returns : tie.Need-returns Inv-loop μ-loop
+returns c = gathering-done (c .before .loop .inv) (c .loop-test .left)
+
+returns-2 : tie.Need-returns-2 Inv-loop μ-loop
+returns-2 c =
+    let turn = c .before .before .before .before .before .before in
+    let named = c .before .before .before .before .before .ray-at .ensures in
+    gathering-full (turn .before .loop .inv) named (c .before .before .before .add .ensures) (c .if1 .taken)
+
+pub gather-rays-spec : {M : Type 1} → statement M
+gather-rays-spec =
+    tie.close
+    (tie.spec
+    Inv-loop
+    μ-loop
+    loop-holds
+    ray-at-requires
+    add-requires
+    (λ c. search needs)
+    (λ c. search needs)
+    loop-again
+    (λ c. search needs)
+    returns
+    (λ c. search needs)
+    returns-2)

@@ -1,0 +1,31 @@
+-- `log_batches::swap` meets its contract: each of the two keys stands where the other stood.
+use native.Mathlib.Omega.{arith}
+use borrow.Author.Needs.{needs}
+use lib.ListN.{length-set}
+use Rattle.log_batches.proofs.Same.{same-exchanged}
+use Rattle.log_batches.proofs.swap.Statement.{statement}
+use Rattle.log_batches.proofs.swap.Tie as tie
+
+slice-write-keys-2 : tie.Need-slice-write-keys-2
+slice-write-keys-2 c = simp length-set (omega arith)
+
+returns : tie.Need-returns
+returns c =
+    let given = c .before .before .args in
+    let pre = c .before .before .pre in
+    same-exchanged (given .m) (given .keys .now) (given .i) (given .j) (pre .0) (pre .1) (pre .2)
+
+pub swap-spec : {M : Type 1} → statement M
+swap-spec =
+    tie.close
+    (tie.spec
+    (λ c. search needs)
+    (λ c. search needs)
+    (λ c. search needs)
+    (λ c. search needs)
+    (λ c. search needs)
+    (λ c. search needs)
+    (λ c. search needs)
+    slice-write-keys-2
+    (λ c. search needs)
+    returns)

@@ -1,0 +1,13 @@
+-- The laws of `log_count`.
+pub mod Sums
+pub mod Starts
+pub mod Bounds
+pub mod Keyed
+pub mod Fronts
+pub mod Infinity
+pub mod Stretched
+pub mod Wholes
+pub mod Prefixes
+pub mod Asking
+pub mod Parts
+pub mod Onward

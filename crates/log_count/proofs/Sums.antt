@@ -1,0 +1,105 @@
+-- Sums over the rays of a grid: order, and one ray changed.
+use mathlib.Core.Path.{_≡_, refl, ap, ap₂}
+use Prim.Native.Nat.{ℕ, zero, suc, _+_, _*_, _≤_, _<_}
+use native.Mathlib.Nat.{le-refl, le-of-lt}
+use native.Mathlib.Numerals.{add-one}
+use native.Mathlib.Omega.{arith}
+use native.Mathlib.Decide.{decLt}
+use Rattle.grid.specs.Rays.{rayCount}
+use Rattle.grid.specs.declared.DexelGrid.{DexelGrid}
+use Rattle.runs.specs.Logs.{Ray}
+use Rattle.runs.specs.Model.{sumTo, sumOver}
+use Rattle.log_count.specs.Totals.{sum}
+
+-- a sum over rays goes by their numbers
+sum-to : (g : DexelGrid) (f : Ray g → ℕ) (h : ℕ → ℕ) → ((r : Ray g) → f r ≡ h (r .0)) → (i : ℕ) (l : i ≤ rayCount g)
+    → sumTo g f i l ≡ sum h i
+unfolding sumTo sum
+sum-to g f h e zero l = refl
+sum-to g f h e (suc i) l = ap₂ _+_ (sum-to g f h e i (le-of-lt l)) (e (i, l))
+
+pub sum-over : (g : DexelGrid) (f : Ray g → ℕ) (h : ℕ → ℕ) → ((r : Ray g) → f r ≡ h (r .0)) → sumOver g f ≡ sum h (rayCount g)
+sum-over g f h e = sum-to g f h e (rayCount g) (le-refl (rayCount g))
+
+pub sum-same : (f h : ℕ → ℕ) (n : ℕ) → ((i : ℕ) → i < n → f i ≡ h i) → sum f n ≡ sum h n
+unfolding sum
+sum-same f h zero e = refl
+sum-same f h (suc n) e = ap₂ _+_ (sum-same f h n (λ i l. e i (later i n l))) (e n (last n))
+  where
+    later : (i n : ℕ) → i < n → i < suc n
+    later i n l = omega arith
+
+    last : (n : ℕ) → n < suc n
+    last n = omega arith
+
+pub sum-le : (f h : ℕ → ℕ) (n : ℕ) → ((i : ℕ) → i < n → f i ≤ h i) → sum f n ≤ sum h n
+unfolding sum
+sum-le f h zero e = omega arith
+sum-le f h (suc n) e = omega (arith, sum-le f h n (λ i l. e i (later i n l)), e n (last n))
+  where
+    later : (i n : ℕ) → i < n → i < suc n
+    later i n l = omega arith
+
+    last : (n : ℕ) → n < suc n
+    last n = omega arith
+
+pub sum-at : (f : ℕ → ℕ) (n j : ℕ) → j < n → f j ≤ sum f n
+unfolding sum
+sum-at f zero j l = absurd (omega arith)
+sum-at f (suc n) j l = elim (decLt j n) [
+  | yes h ↦ omega (arith, sum-at f n j h)
+  | no h ↦ let e : f j ≡ f n = ap f (same j n l h) in omega arith
+]
+  where
+    same : (j n : ℕ) → j < suc n → (j < n → ⊥) → j ≡ n
+    same j n l h = omega arith
+
+-- part of a sum
+pub sum-prefix : (f : ℕ → ℕ) (n i : ℕ) → i ≤ n → sum f i ≤ sum f n
+unfolding sum
+sum-prefix f zero i l = let e : i ≡ 0 = omega arith in let q : sum f i ≡ sum f 0 = ap (sum f) e in omega arith
+sum-prefix f (suc n) i l = elim (decLt n i) [
+  | yes h ↦ let e : i ≡ suc n = omega arith in let q : sum f i ≡ sum f (suc n) = ap (sum f) e in omega arith
+  | no h ↦ omega (arith, sum-prefix f n i (omega arith))
+]
+
+pub sum-next : (f : ℕ → ℕ) (i : ℕ) → sum f (i + 1) ≡ sum f i + f i
+unfolding sum
+sum-next f i = ap (sum f) (add-one i)
+
+-- two that differ at one ray only
+pub sum-one : (f h : ℕ → ℕ) (n j : ℕ) → j < n → ((i : ℕ) → (i ≡ j → ⊥) → h i ≡ f i) → sum h n + f j ≡ sum f n + h j
+unfolding sum
+sum-one f h zero j l e = absurd (omega arith)
+sum-one f h (suc n) j l e = elim (decLt j n) [
+  | yes k ↦ omega (arith, sum-one f h n j k e, e n (other j n k))
+  | no k ↦ let q : j ≡ n = same j n l k in
+      let s : sum h n ≡ sum f n = sum-same h f n (λ i m. e i (below i j n m q)) in
+      let a : f j ≡ f n = ap f q in
+      let b : h j ≡ h n = ap h q in
+      omega arith
+]
+  where
+    same : (j n : ℕ) → j < suc n → (j < n → ⊥) → j ≡ n
+    same j n l h = omega arith
+
+    other : (j n : ℕ) → j < n → n ≡ j → ⊥
+    other j n k e = omega arith
+
+    below : (i j n : ℕ) → i < n → j ≡ n → i ≡ j → ⊥
+    below i j n m q e = omega arith
+
+pub sum-plus : (f h : ℕ → ℕ) (n : ℕ) → sum (λ i. f i + h i) n ≡ sum f n + sum h n
+unfolding sum
+sum-plus f h zero = refl
+sum-plus f h (suc n) = omega (arith, sum-plus f h n)
+
+pub sum-none : (n : ℕ) → sum (λ i. 0) n ≡ 0
+unfolding sum
+sum-none zero = refl
+sum-none (suc n) = omega (arith, sum-none n)
+
+pub sum-times : (k : ℕ) (f : ℕ → ℕ) (n : ℕ) → sum (λ i. k * f i) n ≡ k * sum f n
+unfolding sum
+sum-times k f zero = omega arith
+sum-times k f (suc n) = omega (arith, sum-times k f n)

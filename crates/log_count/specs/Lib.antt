@@ -1,0 +1,3 @@
+-- The definitions that the contracts of `log_count` cite.
+pub mod Totals
+pub mod Steps

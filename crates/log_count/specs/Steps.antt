@@ -1,0 +1,110 @@
+-- What the steps of counting one ray ask and promise.
+use mathlib.Core.Path.{_≡_}
+use mathlib.Core.Bool.{true, cond, _||_}
+use mathlib.Core.List.{List, _++_}
+use mathlib.Core.Logic.{_⊎_}
+use Prim.Native.Nat.{ℕ, _+_, _-_, _/_, _%_, _^_, _≤_, _<_}
+use lib.ListN.{length, getD}
+use lib.Ieee.{Float, lt, le, binary64, ofBits}
+use Rattle.spans.specs.Spans.{holds, sound, less}
+use Rattle.grid.specs.Rays.{rayCount}
+use Rattle.grid.specs.declared.DexelStockSpec.{DexelStockSpec}
+use Rattle.grid.specs.declared.DexelGrid.{DexelGrid}
+use Rattle.store.specs.Updates.{Cells}
+use Rattle.lists.specs.Reading.{listFrom, Readable}
+use Rattle.runs.specs.Logs.{entries, entryAt, entryCount, rayOf, outer, inner}
+use Rattle.runs.specs.Counts.{hitBy, startsLeft}
+use Rattle.logs.specs.Named.{EachNamed, pairsNamed}
+use Rattle.log_keys.specs.Keys.{entryOfKey, pairsPast}
+use Rattle.log_left.specs.ListLeft.{ListWalked}
+use Rattle.log_left.specs.declared.Rest.{Rest}
+use Rattle.log_gather.specs.Gathering.{Shaped}
+use Rattle.log_stretches.specs.Stretches.{Taken}
+use Rattle.log_count.specs.Totals.{Counting, Prefixed}
+use Rattle.log_count.specs.declared.ListCount.{ListCount}
+use Rattle.log_count.specs.declared.Totals.{Totals}
+use Rattle.log_count.specs.declared.RayWalks.{RayWalks}
+
+-- plus infinity, which no hit reaches past
+abbrev pub top : Float
+top = ofBits binary64 0x7ff0_0000_0000_0000
+
+-- whether a list changes when the hits are taken from it, its pairs, and the pairs it then has
+pub record ListCounted (l hits : List Float) (t : ListCount) : Type 0 where
+  pub changes : t .changes ≡ hitBy l hits
+  pub before : t .before ≡ length l / 2
+  pub after : t .after ≡ startsLeft l hits % 2 ^ 64
+
+-- the count at the end of a walk
+abbrev pub EndListPost : (n : ℕ) → List Float → List ℕ → (head : ℕ) → Rest → ListCount → Type 0
+EndListPost n spans links head r t = (hits : List Float) (last : Float) → sound (listFrom n spans links head) ≡ true
+    → ListWalked n spans links (listFrom n spans links head) (less (listFrom n spans links head) hits) last r
+    → ListCounted (listFrom n spans links head) hits t
+
+-- the count of a list, by any hits that have the same points
+pub record CountListPost (n : ℕ) (spans : List Float) (links : List ℕ) (head : ℕ) (given before after : List Float)
+    (t : ListCount) : Type 0 where
+  pub size : length after ≡ length before
+  pub counted : (hits : List Float) → sound (listFrom n spans links head) ≡ true → ((x : Float) → holds given x ≡ holds hits x)
+      → ListCounted (listFrom n spans links head) hits t
+
+-- the totals of the machine's numbers have room for one ray more
+pub record AddRayPre (t : Totals) (p c : ListCount) : Type 0 where
+  pub before : p .before + c .before ≤ t .pairs
+  pub after : p .after + c .after < 2 ^ 64
+  pub pairs : t .pairs - (p .before + c .before) + (p .after + c .after) < 2 ^ 64
+  pub changed : t .changed + 1 < 2 ^ 64
+
+-- one ray more
+pub record AddRayPost (t : Totals) (p c : ListCount) (r : Totals) : Type 0 where
+  pub changed : r .changed ≡ t .changed + cond (p .changes || c .changes) 1 0
+  pub pairs : r .pairs + (p .before + c .before) ≡ t .pairs + (p .after + c .after)
+
+-- a log with entries on a sound store, the totals of the rays below one of its rays, and a buffer
+pub record CountPre (spec : DexelStockSpec) (g : DexelGrid) (c : Cells) (log : List Float) (ray : ℕ) (t : Totals)
+    (buffer : List Float) : Type 0 where
+  pub counting : Counting spec g c log
+  pub some : 0 < entryCount log
+  pub inside : ray < rayCount g
+  pub prefixed : Prefixed spec g c log ray t
+  pub shaped : Shaped buffer
+
+-- the keys are those of the ray's entries
+pub record KeysOf (g : DexelGrid) (log : List Float) (ray : ℕ) (keys : List ℕ) : Type 0 where
+  pub each : (t : ℕ) → t < length keys → rayOf g (entryOfKey log (getD keys t 0)) ≡ ray
+  pub all : (i : ℕ) → i < entryCount log → rayOf g (entryAt log i) ≡ ray
+      → (t : ℕ) × (t < length keys) × (getD keys t 0 % entryCount log ≡ i)
+
+-- what the ray's possible list loses, and its certain list
+abbrev pub possibleLoses : DexelGrid → List Float → ℕ → List Float
+possibleLoses g log ray = pairsNamed g (entries log) ray inner
+
+abbrev pub certainLoses : DexelGrid → List Float → ℕ → List Float
+certainLoses g log ray = pairsNamed g (entries log) ray outer ++ pairsNamed g (entries log) ray inner
+
+-- what is asked to take a stretch of a ray's hits from both its lists
+pub record TakePartPre (g : DexelGrid) (n : ℕ) (spans : List Float) (links : List ℕ) (log : List Float) (keys : List ℕ)
+    (buffer : List Float)
+    (p c : Rest) : Type 0 where
+  pub few : rayCount g ≤ 2 ^ 53
+  pub named : EachNamed g log
+  pub some : 0 < entryCount log
+  pub keys-some : 0 < length keys
+  pub shaped : Shaped buffer
+  pub possible-readable : Readable n spans links (p .at)
+  pub certain-readable : Readable n spans links (c .at)
+
+-- a stretch from b on is taken; it ends at plus infinity, or before it in a hit that begins past b
+pub record TakePartPost (g : DexelGrid) (n : ℕ) (spans : List Float) (links : List ℕ) (log : List Float) (ray : ℕ) (last b : Float)
+    (p c : Rest) (keysBefore keysAfter : List ℕ)
+    (before after : List Float) (r : RayWalks) : Type 0 where
+  pub keys-size : length keysAfter ≡ length keysBefore
+  pub size : length after ≡ length before
+  pub possible-readable : Readable n spans links (r .possible .at)
+  pub certain-readable : Readable n spans links (r .certain .at)
+  pub onward : last ≡ top → le b last ≡ true → le b (r .end) ≡ true
+  pub ends : (r .end ≡ last) ⊎ ((lt (r .end) last ≡ true) × (holds (pairsPast b (certainLoses g log ray)) (r .end) ≡ true))
+  pub possible : (l : List Float) → last ≡ top → le b last ≡ true → Taken n spans links l (holds (possibleLoses g log ray)) b p
+      → Taken n spans links l (holds (possibleLoses g log ray)) (r .end) (r .possible)
+  pub certain : (l : List Float) → last ≡ top → le b last ≡ true → Taken n spans links l (holds (certainLoses g log ray)) b c
+      → Taken n spans links l (holds (certainLoses g log ray)) (r .end) (r .certain)

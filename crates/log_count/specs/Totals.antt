@@ -1,0 +1,67 @@
+-- The count of changed rays and of pairs, one ray at a time.
+use mathlib.Core.Path.{_≡_}
+use mathlib.Core.Bool.{Bool, cond, _||_}
+use mathlib.Core.List.{List, _++_}
+use Prim.Native.Nat.{ℕ, zero, suc, _+_, _*_, _/_}
+use lib.ListN.{length}
+use lib.Ieee.{Float}
+use Rattle.grid.specs.Rays.{rayCount}
+use Rattle.gridding.specs.Causes.{GridFacts}
+use Rattle.grid.specs.declared.DexelStockSpec.{DexelStockSpec}
+use Rattle.grid.specs.declared.DexelGrid.{DexelGrid}
+use Rattle.store.specs.Updates.{Cells, Room}
+use Rattle.stock.specs.Stock.{SoundCells, possibleIn, certainIn}
+use Rattle.runs.specs.Logs.{entries, outer, inner}
+use Rattle.runs.specs.Counts.{hitBy, startsLeft}
+use Rattle.logs.specs.Named.{EachNamed, pairsNamed}
+use Rattle.log_count.specs.declared.Totals.{Totals}
+
+-- a log whose entries each name a ray, on a sound store with room
+pub record Countable (spec : DexelStockSpec) (g : DexelGrid) (c : Cells) (intervals : ℕ) (log : List Float) : Type 0 where
+  pub facts : GridFacts spec g
+  pub room : Room (spec .«max_intervals») (2 * rayCount g) c
+  pub isSound : SoundCells spec g c intervals
+  pub named : EachNamed g log
+
+-- the same, whatever the interval total
+pub record Counting (spec : DexelStockSpec) (g : DexelGrid) (c : Cells) (log : List Float) : Type 0 where
+  pub intervals : ℕ
+  pub countable : Countable spec g c intervals log
+
+-- the sum of f over the first n numbers
+unfoldable pub sum : (ℕ → ℕ) → ℕ → ℕ
+sum f zero = 0
+sum f (suc i) = sum f i + f i
+
+-- ---- one ray, by its number
+
+-- the pairs of its lists as they stand
+unfoldable pub pairsOf : DexelStockSpec → Cells → ℕ → ℕ
+pairsOf spec c ray = length (possibleIn spec c ray) / 2 + length (certainIn spec c ray) / 2
+
+-- and when the log's hits are taken from them
+unfoldable pub leftOf : DexelStockSpec → DexelGrid → Cells → List Float → ℕ → ℕ
+unfolding startsLeft pairsNamed entries
+leftOf spec g c log ray =
+    startsLeft (possibleIn spec c ray) (pairsNamed g (entries log) ray inner)
+    + startsLeft (certainIn spec c ray) (pairsNamed g (entries log) ray outer ++ pairsNamed g (entries log) ray inner)
+
+-- the ray would change
+unfoldable pub changesOf : DexelStockSpec → DexelGrid → Cells → List Float → ℕ → Bool
+unfolding hitBy pairsNamed entries
+changesOf spec g c log ray =
+    hitBy (possibleIn spec c ray) (pairsNamed g (entries log) ray inner)
+    || hitBy (certainIn spec c ray) (pairsNamed g (entries log) ray outer ++ pairsNamed g (entries log) ray inner)
+
+-- ---- all rays
+
+-- the totals with the rays below `ray` counted: these have the pairs that are left to them, all others those that they have
+pub record Prefixed (spec : DexelStockSpec) (g : DexelGrid) (c : Cells) (log : List Float) (ray : ℕ) (t : Totals) : Type 0 where
+  pub changed : t .changed ≡ sum (λ r. cond (changesOf spec g c log r) 1 0) ray
+  pub pairs : t .pairs + sum (pairsOf spec c) ray ≡ sum (pairsOf spec c) (rayCount g) + sum (leftOf spec g c log) ray
+
+-- the rays below `next` are counted, and a buffer of the same size is left
+pub record CountPost (spec : DexelStockSpec) (g : DexelGrid) (c : Cells) (log : List Float) (next : ℕ) (before after : List Float)
+    (t : Totals) : Type 0 where
+  pub size : length after ≡ length before
+  pub prefixed : Prefixed spec g c log next t

@@ -1,0 +1,69 @@
+-- The loop keeps that the hits of the keys passed are gathered; what is left of the keys is its measure.
+use borrow.Author.Needs.{needs}
+use mathlib.Core.Path.{_≡_, sym}
+use Prim.Native.Nat.{_≤_, _-_}
+use native.Mathlib.Omega.{arith}
+use lib.ListN.{length, getD}
+use Rattle.log_keys.specs.Keys.{hitsTo}
+use Rattle.log_gather.specs.Gathering.{GatherPost}
+use Rattle.log_gather.proofs.Entries.{gathered-none, gathered-more, same-shape, in-log}
+use Rattle.log_gather.proofs.gather.Statement.{statement}
+use Rattle.log_gather.proofs.gather.Tie as tie
+
+abbrev Inv-loop : tie.InvT-loop
+Inv-loop log keys certain cells₀ b u front n h₀ i₀ cells h i =
+    (i ≤ length keys) × GatherPost b u front (hitsTo log keys certain i) cells₀ cells h
+
+abbrev μ-loop : tie.MeasureT-loop
+μ-loop log keys certain cells₀ b u front n h₀ i₀ cells h i = length keys - i
+
+loop-holds : tie.Need-loop-holds Inv-loop μ-loop
+loop-holds c =
+    let given = c .before .before .before .args in (
+      omega arith,
+      gathered-none (given .b) (given .u) (given .front) (given .log .now) (given .keys .now) (given .certain) (given .cells .now),
+    )
+
+put-entry-requires : tie.Need-put-entry-requires Inv-loop μ-loop
+put-entry-requires c κs =
+    let loop = c .before .before .before .loop in
+    let start = c .before .before .before .before .before .before .before in
+    let given = start .args in (
+      same-shape (given .cells .now) (loop .cells) (loop .inv .1 .size) (start .pre .0),
+      loop .inv .1 .gathers .roomy,
+      in-log (given .log .now) (getD (given .keys .now) (loop .i) 0) (start .pre .1),
+    )
+
+loop-again : tie.Need-loop-again Inv-loop μ-loop
+loop-again c =
+    let put = c .before .before .put-entry in
+    let loop = c .before .before .before .before .before .before .loop in
+    let given = c .before .before .before .before .before .before .before .before .before .before .args in (
+      omega arith,
+      gathered-more (given .b) (given .u) (given .front) (given .log .now) (given .keys .now) (given .certain) (given .cells .now)
+          (loop .i) (loop .cells) (put .last .1 .1 .1 .0) (loop .h) (put .result) (loop .inv .1) (put .ensures),
+    )
+
+returns : tie.Need-returns Inv-loop μ-loop
+returns c =
+    let loop = c .before .loop in
+    let given = c .before .before .before .before .before .args in
+    let all : loop .i ≡ length (given .keys .now) = omega arith in
+    rw (sym all) (loop .inv .1)
+
+pub gather-spec : {M : Type 1} → statement M
+gather-spec =
+    tie.close
+    (tie.spec
+    Inv-loop
+    μ-loop
+    loop-holds
+    (λ c. search needs)
+    (λ c. search needs)
+    (λ c. search needs)
+    put-entry-requires
+    (λ c. search needs)
+    (λ c. search needs)
+    loop-again
+    (λ c. search needs)
+    returns)

@@ -1,0 +1,2 @@
+-- The definitions that the contracts of `log_gather` cite.
+pub mod Gathering

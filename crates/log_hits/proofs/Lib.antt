@@ -1,3 +1,0 @@
-pub mod Any
-pub mod Taken
-pub mod Bounds

@@ -1,0 +1,4 @@
+-- The laws of `log_keys`.
+pub mod Keeping
+pub mod Past
+pub mod Hits

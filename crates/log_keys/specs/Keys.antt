@@ -1,0 +1,39 @@
+-- The entries of a log that keys stand for, their hits, and what of these counts in a stretch of numbers.
+use mathlib.Core.Path.{_≡_}
+use mathlib.Core.Bool.{Bool, true, false, cond}
+use mathlib.Core.List.{List, [], _∷_}
+use mathlib.Core.Logic.{_⊎_}
+use Prim.Native.Nat.{ℕ, zero, suc, _%_}
+use lib.ListN.{getD}
+use lib.Ieee.{Float, lt}
+use Rattle.spans.specs.Spans.{within, holds}
+use Rattle.runs.specs.Logs.{Entry, entryAt, entryCount, outer, inner, loOf, hiOf}
+
+-- the entry that a key stands for: what the key leaves when it is divided by the number of entries is its place
+unfoldable pub entryOfKey : List Float → ℕ → Entry
+unfolding entryAt
+entryOfKey log key = entryAt log (key % entryCount log)
+
+-- the hits with those of one entry more in front: a possible list loses the inner one, a certain list the outer one too
+unfoldable pub withEntry : Entry → (certain : Bool) → List Float → List Float
+unfolding loOf hiOf
+withEntry e true hits = loOf inner e ∷ hiOf inner e ∷ loOf outer e ∷ hiOf outer e ∷ hits
+withEntry e false hits = loOf inner e ∷ hiOf inner e ∷ hits
+
+-- the hits of the entries of the first i keys, the last first
+unfoldable pub hitsTo : List Float → List ℕ → (certain : Bool) → ℕ → List Float
+unfolding entryOfKey withEntry
+hitsTo log keys certain zero = []
+hitsTo log keys certain (suc i) = withEntry (entryOfKey log (getD keys i 0)) certain (hitsTo log keys certain i)
+
+-- the pairs that begin past b
+unfoldable pub pairsPast : Float → List Float → List Float
+pairsPast b [] = []
+pairsPast b (lo ∷ []) = []
+pairsPast b (lo ∷ hi ∷ l) = cond (lt b lo) (lo ∷ hi ∷ pairsPast b l) (pairsPast b l)
+
+-- Between b and u the points f are those below `front` and those of the pairs. What lies from b on below `front`, or in a pair, is of f anywhere.
+pub record Stretch (b u front : Float) (pairs : List Float) (f : Float → Bool) : Type 0 where
+  pub only-front : (x : Float) → within b front x ≡ true → f x ≡ true
+  pub only-pairs : (x : Float) → holds pairs x ≡ true → f x ≡ true
+  pub all : (x : Float) → within b u x ≡ true → f x ≡ true → (lt x front ≡ true) ⊎ (holds pairs x ≡ true)

@@ -1,0 +1,3 @@
+-- The definitions that the contracts of `log_left` cite.
+pub mod ListLeft
+pub mod Steps

@@ -1,0 +1,4 @@
+-- The laws of `log_long`.
+pub mod Stretching
+pub mod Reaching
+pub mod Gathering

@@ -1,0 +1,42 @@
+-- `log_long::add_entry` meets its contract.
+use borrow.Author.Needs.{needs}
+use native.Mathlib.Omega.{arith}
+use mathlib.Core.Path.{sym, _∙_}
+use Rattle.logs.specs.Named.{EachNamed}
+use Rattle.log_long.proofs.Gathering.{gathers-passed, gathers-added}
+use Rattle.log_long.proofs.add_entry.Statement.{statement}
+use Rattle.log_long.proofs.add_entry.Tie as tie
+
+ray-at-requires : tie.Need-ray-at-requires
+unfolding EachNamed
+ray-at-requires c κs =
+    let start = c .before .before in
+    (omega arith, omega arith, start .pre .1 (start .args .i) (start .pre .3))
+
+add-key-requires : tie.Need-add-key-requires
+add-key-requires c κs =
+    let start = c .before .before .before .before .before .before in
+    (rw (c .before .add-fronts .ensures .count-is) (start .pre .4 .inLog), start .pre .2, omega (arith, start .pre .3))
+
+returns : tie.Need-returns
+returns c =
+    let on = c .before .before .before .before .before in
+    let start = on .before .before .before .before in
+    gathers-added _ _ _ _ _ _ _ (start .args .w) (start .pre .4) _ _ _ (sym (on .before .ray-at .ensures) ∙ on .if1 .taken)
+    (c .before .before .before .before .add-fronts .ensures) (c .before .before .add-key .ensures)
+
+returns-2 : tie.Need-returns-2
+returns-2 c =
+    let start = c .before .before .before .before in
+    gathers-passed _ _ _ _ _ _ _ (start .args .w) (start .pre .4) (λ on. c .if1 .left (c .before .ray-at .ensures ∙ on))
+
+pub add-entry-spec : {M : Type 1} → statement M
+add-entry-spec =
+    tie.close
+    (tie.spec
+    ray-at-requires
+    (λ c κs. search needs)
+    add-key-requires
+    (λ c. search needs)
+    returns
+    returns-2)

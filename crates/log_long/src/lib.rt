@@ -1,0 +1,216 @@
+// The entries of one ray in a log, gathered in a lent buffer for one stretch of numbers: those with a hit that begins in it, as many as
+// fit, which decides where the stretch ends. Of the hits that begin at or before its start only how far they reach is kept.
+ghost use Prim.Native.Nat.{_+_, _*_, _^_, _≤_, _<_};
+ghost use mathlib.Core.Path.{_≡_};
+ghost use mathlib.Core.Logic.{_⊎_};
+ghost use lib.ListN.{length};
+ghost use lib.Ieee.{lt};
+ghost use Rattle.grid.specs.Rays.{rayCount};
+ghost use Rattle.runs.specs.Logs.{entryAt, entryCount};
+ghost use Rattle.logs.specs.Named.{EachNamed};
+ghost use Rattle.log_keys.specs.KeysKept.{KeysKept};
+ghost use Rattle.log_long.specs.Long.{beginPast, leastPast, furtherOf, InLog, LongRoomPost};
+ghost use Rattle.log_long.specs.Long.{AddKeyPost, AddFrontsPost, GathersTo, GatherRayPost};
+use grid::DexelGrid;
+
+// How many keys there are, where the stretch ends, and how far the outer and the inner hits reach
+// that begin at or before its start.
+pub struct LongPart {
+    pub count: usize,
+    pub end: f64,
+    pub outer: f64,
+    pub inner: f64,
+}
+
+// Where the hit begins, if that is past b, or else `top`.
+fn begin_past(top: f64, b: f64, lo: f64, hi: f64) -> f64
+    ensures { λ r. ⌜ r ≡ beginPast top b lo hi ⌝ }
+{
+    if lo < hi {
+        if b < lo {
+            return lo;
+        }
+    }
+    top
+}
+
+// Where the first of the entry's hits begins that begins past b, or `top` where none does.
+fn least_past(top: f64, b: f64, log: &[f64], place: usize) -> f64
+    requires { ⌜ 6 * place + 5 < length (now log) ⌝ }
+    ensures { λ r. ⌜ r ≡ leastPast top b (entryAt (now (log .entry)) place) ⌝ }
+{
+    let at = 6 * place;
+    let x = begin_past(top, b, log[at + 2], log[at + 3]);
+    let y = begin_past(top, b, log[at + 4], log[at + 5]);
+    if y < x {
+        return y;
+    }
+    x
+}
+
+// How far the hits that begin at or before b reach, with one hit more.
+fn further(front: f64, b: f64, lo: f64, hi: f64) -> f64
+    ensures { λ r. ⌜ r ≡ furtherOf front b lo hi ⌝ }
+{
+    if lo < hi {
+        if !(b < lo) {
+            if front < hi {
+                return hi;
+            }
+        }
+    }
+    front
+}
+
+// The middle one of three numbers.
+fn middle(x: f64, y: f64, z: f64) -> f64
+    ensures { λ r. ⌜ (r ≡ x) ⊎ (r ≡ y) ⊎ (r ≡ z) ⌝ }
+{
+    if x < y {
+        if y < z {
+            return y;
+        }
+        if x < z {
+            return z;
+        }
+        return x;
+    }
+    if x < z {
+        return x;
+    }
+    if y < z {
+        return z;
+    }
+    y
+}
+
+// Keeps those of the first m keys whose entries have a hit that begins between b and u.
+fn keep_below(top: f64, b: f64, log: &[f64], keys: &mut [u64], m: usize, u: f64) -> usize
+    requires { ⌜ InLog (now log) (now keys) m ⌝ }
+    ensures { λ r. ⌜ KeysKept (λ key. lt (leastPast top b (entryAt (now (log .entry)) key)) u) (now (keys .entry)) m (now (keys .exit)) r ⌝ }
+{
+    let mut k: usize = 0;
+    let mut i: usize = 0;
+    while i < m {
+        let kept = least_past(top, b, log, keys[i] as usize) < u;
+        k = log_keys::keep(keys, k, i, kept);
+        i += 1;
+    }
+    k
+}
+
+// Ends the stretch earlier, where the middle one of three of its entries begins, so that there is room for a key more.
+fn shorten(top: f64, b: f64, log: &[f64], keys: &mut [u64], w: LongPart) -> LongPart
+    requires { ⌜ InLog (now log) (now keys) (w .count) × (0 < w .count) ⌝ }
+    ensures { λ r. ⌜ LongRoomPost top b (now (log .entry)) (now (keys .entry)) w (now (keys .exit)) r × (r .count < w .count) ⌝ }
+{
+    let m = w.count;
+    let x = least_past(top, b, log, keys[0] as usize);
+    let y = least_past(top, b, log, keys[m / 2] as usize);
+    let z = least_past(top, b, log, keys[m - 1] as usize);
+    let end = middle(x, y, z);
+    let count = keep_below(top, b, log, keys, m, end);
+    LongPart {
+        count,
+        end,
+        outer: w.outer,
+        inner: w.inner,
+    }
+}
+
+// Makes room for a key more, if there is none.
+fn roomy(top: f64, b: f64, log: &[f64], keys: &mut [u64], w: LongPart) -> LongPart
+    requires { ⌜ InLog (now log) (now keys) (w .count) × (0 < length (now keys)) ⌝ }
+    ensures { λ r. ⌜ LongRoomPost top b (now (log .entry)) (now (keys .entry)) w (now (keys .exit)) r ⌝ }
+{
+    if w.count < keys.len() {
+        return w;
+    }
+    shorten(top, b, log, keys, w)
+}
+
+// The key of the entry at place i, if one of its hits begins in the stretch.
+fn add_key(top: f64, b: f64, log: &[f64], keys: &mut [u64], w: LongPart, i: usize) -> LongPart
+    requires { ⌜ InLog (now log) (now keys) (w .count) × (0 < length (now keys)) × (6 * i + 5 < length (now log)) ⌝ }
+    ensures { λ r. ⌜ AddKeyPost top b i (now (log .entry)) (now (keys .entry)) w (now (keys .exit)) r ⌝ }
+{
+    let k = least_past(top, b, log, i);
+    if !(k < w.end) {
+        return w;
+    }
+    let t = roomy(top, b, log, keys, w);
+    if !(k < t.end) {
+        return t;
+    }
+    let at = t.count;
+    keys[at] = i as u64;
+    LongPart {
+        count: at + 1,
+        end: t.end,
+        outer: t.outer,
+        inner: t.inner,
+    }
+}
+
+// The part with how far the hits of the entry at place i reach, if they begin at or before b.
+fn add_fronts(b: f64, log: &[f64], w: LongPart, i: usize) -> LongPart
+    requires { ⌜ 6 * i + 5 < length (now log) ⌝ }
+    ensures { λ r. ⌜ AddFrontsPost b (entryAt (now (log .entry)) i) w r ⌝ }
+{
+    let at = 6 * i;
+    LongPart {
+        count: w.count,
+        end: w.end,
+        outer: further(w.outer, b, log[at + 2], log[at + 3]),
+        inner: further(w.inner, b, log[at + 4], log[at + 5]),
+    }
+}
+
+// The part with the entry at place i, if that is on the ray.
+fn add_entry(
+    g: DexelGrid,
+    log: &[f64],
+    ray: usize,
+    top: f64,
+    b: f64,
+    keys: &mut [u64],
+    w: LongPart,
+    i: usize,
+) -> LongPart
+    requires { ⌜ (rayCount g ≤ 2 ^ 53) × EachNamed g (now log) × (0 < length (now keys)) × (i < entryCount (now log))
+        × GathersTo g (now log) ray top b i (now keys) (now keys) w ⌝ }
+    ensures { λ r. ⌜ GathersTo g (now (log .entry)) ray top b (i + 1) (now (keys .entry)) (now (keys .exit)) r ⌝ }
+{
+    if logs::ray_at(g, log, i) == ray {
+        let t = add_fronts(b, log, w, i);
+        return add_key(top, b, log, keys, t, i);
+    }
+    w
+}
+
+// Gathers the entries of the ray for the stretch from b on, which reaches to `top` where all of them fit.
+pub fn gather_ray(
+    g: DexelGrid,
+    log: &[f64],
+    ray: usize,
+    top: f64,
+    b: f64,
+    keys: &mut [u64],
+) -> LongPart
+    requires { ⌜ (rayCount g ≤ 2 ^ 53) × EachNamed g (now log) × (0 < length (now keys)) ⌝ }
+    ensures { λ r. ⌜ GatherRayPost g (now (log .entry)) ray top b (now (keys .entry)) (now (keys .exit)) r ⌝ }
+{
+    let n = log.len() / 6;
+    let mut w = LongPart {
+        count: 0,
+        end: top,
+        outer: -top,
+        inner: -top,
+    };
+    let mut i: usize = 0;
+    while i < n {
+        w = add_entry(g, log, ray, top, b, keys, w, i);
+        i += 1;
+    }
+    w
+}

@@ -1,0 +1,3 @@
+-- The laws of `log_stretches`.
+pub mod Taking
+pub mod Stretching

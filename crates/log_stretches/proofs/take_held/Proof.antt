@@ -1,0 +1,96 @@
+-- What reaches into the stretch is taken first, then the loop takes a pair a turn until one begins at or past the end.
+use borrow.Author.Needs.{needs}
+use mathlib.Core.Logic.{inl, inr}
+use Prim.Native.Nat.{_-_}
+use native.Mathlib.Omega.{arith}
+use lib.ListN.{take, getD}
+use lib.Ieee.{nan, lt}
+use Rattle.doubles.proofs.Bools.{not-true, not-false}
+use Rattle.log_stretches.proofs.Taking.{TakesFront, TakesSome, none-reaches, some-reaches, no-pair, pair-more, no-more}
+use Rattle.log_stretches.proofs.take_held.Statement.{statement}
+use Rattle.log_stretches.proofs.take_held.Tie as tie
+use Rattle.log_stretches.proofs.take_held.Reads as reads
+use Rattle.log_stretches.proofs.take_held.Lts as lts
+use Rattle.log_left.proofs.take.Reads as take-reads
+
+abbrev Inv-loop : tie.InvT-loop
+Inv-loop spans links n cells m b end front t₀ i₀ t i = TakesSome n spans links b end front (take m cells) t₀ i t
+
+abbrev μ-loop : tie.MeasureT-loop
+μ-loop spans links n cells m b end front t₀ i₀ t i = m - i
+
+-- what reaches into the stretch, where the branches meet
+front-taken : (c : lts.Joined1 (take-reads.Asked, take-reads.Learnt) reads.Pre reads.Post Inv-loop μ-loop)
+    → let given = c .before .before .before .before .args in
+    TakesFront (given .n) (given .spans .now) (given .links .now) (given .b) (given .end) (given .front)
+    (take (given .m) (given .cells .now)) (given .r) (c .if1 .t)
+front-taken c =
+    let start = c .before .before .before .before in
+    let given = start .args in
+    let held = take (given .m) (given .cells .now) in
+    elim (c .if1 .came) [
+      | inl w ↦ rw (w .2) (some-reaches (given .b) (given .end) (given .front) held (given .r) (w .1 .result) (w .0 .taken) (w .1 .ensures))
+      | inr w ↦ rw (w .1) (none-reaches (given .b) (given .end) (given .front) held (given .r) (w .0 .left) (start .pre .0))
+    ]
+
+loop-holds : tie.Need-loop-holds Inv-loop μ-loop
+loop-holds c =
+    let start = c .before .before .before .before in
+    let given = start .args in
+    no-pair (given .b) (given .end) (given .front) (take (given .m) (given .cells .now)) (c .if1 .t) (front-taken c .readable)
+
+loop-again : tie.Need-loop-again Inv-loop μ-loop
+loop-again c =
+    let inside = c .before .before .before .before .before in
+    let loop = inside .before in
+    let joined = loop .before in
+    let start = joined .before .before .before .before in
+    let given = start .args in
+    let i = loop .loop .i in
+    pair-more (given .b) (given .end) (given .front) (given .cells .now) (given .m) (start .pre .1) (joined .if1 .t)
+    i (loop .loop .t) (c .take2 .result) (inside .loop-test .taken)
+    (not-false (lt (getD (given .cells .now) i nan) (given .end)) (c .before .before .before .if2 .left))
+    (c .take2 .ensures) (loop .loop .inv)
+
+returns : tie.Need-returns Inv-loop μ-loop
+returns c =
+    let loop = c .before in
+    let joined = loop .before in
+    let start = joined .before .before .before .before in
+    let given = start .args in
+    no-more (given .b) (given .end) (given .front) (given .cells .now) (given .m) (start .pre .1) (given .r)
+    (loop .loop .i) (joined .if1 .t) (loop .loop .t) (λ h. absurd (omega (arith, h, c .loop-test .left)))
+    (front-taken joined) (loop .loop .inv)
+
+returns-2 : tie.Need-returns-2 Inv-loop μ-loop
+returns-2 c =
+    let loop = c .before .before .before in
+    let joined = loop .before in
+    let start = joined .before .before .before .before in
+    let given = start .args in
+    let i = loop .loop .i in
+    no-more (given .b) (given .end) (given .front) (given .cells .now) (given .m) (start .pre .1) (given .r)
+    i (joined .if1 .t) (loop .loop .t) (λ h. not-true (lt (getD (given .cells .now) i nan) (given .end)) (c .if2 .taken))
+    (front-taken joined) (loop .loop .inv)
+
+pub take-held-spec : {M : Type 1} → statement M
+take-held-spec =
+    tie.close
+    (tie.spec
+    Inv-loop
+    μ-loop
+    (λ c κs. search needs)
+    loop-holds
+    (λ c. search needs)
+    (λ c. search needs)
+    (λ c. search needs)
+    (λ c. search needs)
+    (λ c. search needs)
+    (λ c. search needs)
+    (λ c. search needs)
+    (λ c κs. search needs)
+    (λ c. search needs)
+    (λ c. search needs)
+    loop-again
+    returns
+    returns-2)

@@ -1,5 +1,0 @@
-pub mod Distinct
-pub mod Gathering
-pub mod Cells
-pub mod Marking
-pub mod Totals
