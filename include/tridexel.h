@@ -13,6 +13,9 @@
  * A slice is a pointer and the number of its items; the pointer of an empty slice is that of any object, not NULL. Slices and numbers that are written
  * overlap no other of the call. Numbers are IEEE 754 binary64; lengths are millimetres, volumes cubic millimetres.
  *
+ * Stack: a call of tridexel_commit_log touches at most 40 KB, one of any other function at most 52 KB (on lists of some thousand pairs below 3 KB as built for
+ * x86-64). This is no part of the proofs; examples/stack.c measures each function on a thread of 64 KB.
+ *
  * "As it was" is equality of doubles in the proofs, which know one NaN; the payloads of NaNs in a buffer that a call does not write are kept because it
  * does not write them, which the tests show.
  */

@@ -1,8 +1,9 @@
 //! How the port's times grow with the pairs of a list, with the rays of a store and with the entries of a log.
 use crate::{
+    budgets::{self, on_one_ray, scattered},
     commits::{Given, agree, changes, needs, roomy, sides},
     laid::{Laid, laid, uncut},
-    merge, quadratic,
+    merge,
     spans::{ascending, shuffled},
     stock::{CELLS, RAYS},
     timing::{best, best_of},
@@ -11,8 +12,7 @@ use compare::{
     spans::{contains, intersect, normalize, subtract},
     stock::{fill, volume},
 };
-use harness::{Pair, flat, generate::Gen};
-use oracle::dexel::opened::sweep::Entry;
+use harness::{Pair, flat};
 use std::hint::black_box;
 
 /// Seconds per point after which no further repetition starts.
@@ -100,24 +100,6 @@ fn commit_point(n: usize, start: &Laid, given: Given) {
     point(n, best_of(LIMIT, &mut port));
 }
 
-/// Short hits anywhere on any ray of a cube.
-fn scattered(n: usize, cells: f64) -> Vec<Entry> {
-    let mut g = Gen::new(1, "scattered", n as u64);
-    let along = (cells * cells) as u64;
-    let mut one = || {
-        let lo = g.within(0., cells - 2.);
-        let (axis, index) = (g.below(3) as usize, g.below(along) as usize);
-        Entry { axis, index, outer: [lo, lo + 2.], inner: Some([lo + 0.5, lo + 1.5]) }
-    };
-    (0..n).map(|_| one()).collect()
-}
-
-/// n hits on one ray in no order, each of which leaves a pair.
-fn on_one_ray(n: usize) -> Vec<Entry> {
-    let hit = |s: Pair| Entry { axis: 0, index: 0, outer: [s[0] / 4., s[1] / 4.], inner: Some([s[0] / 4., s[1] / 4.]) };
-    shuffled(ascending(n, 1.)).into_iter().map(hit).collect()
-}
-
 fn by_entries() {
     heading(&format!("log commit on {RAYS} rays in no order, budgets out of reach"), "entries");
     for n in ENTRIES {
@@ -145,5 +127,5 @@ pub fn print() {
     by_rays();
     by_entries();
     println!();
-    quadratic::print(&[1_000, 10_000], "");
+    budgets::print(&[1_000, 10_000], "");
 }

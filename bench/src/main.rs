@@ -1,14 +1,14 @@
 //! The port's times beside the Rust's, from one run. Each module has one file here and a line in `modules`.
 //! `bench [NAME]`: all rows and then the growth tables, or the rows whose text has NAME in it. `bench growth`: the growth tables alone.
-//! `bench quadratic N [NAME]`: the log commits that take time with the square of N. `bench count MODULE ROW CALLS ROUNDS`: the port's side of a row alone, for
-//! a count of its instructions.
+//! `bench budgets [N [NAME]]`: log commits of N entries with their budgets out of reach and reached exactly. `bench count MODULE ROW CALLS
+//! ROUNDS`: the port's side of a row alone, for a count of its instructions.
+mod budgets;
 mod commits;
 mod doubles;
 mod geometry;
 mod growth;
 mod laid;
 mod merge;
-mod quadratic;
 mod spans;
 mod stock;
 mod sweep;
@@ -40,10 +40,11 @@ fn main() {
             (Some(module), Rows::Count(Count { row: row.into(), calls: number(calls), rounds: number(rounds) }))
         }
         ["growth"] => return growth::print(),
-        ["quadratic", n] => return quadratic::print(&[number(n)], ""),
-        ["quadratic", n, name] => return quadratic::print(&[number(n)], name),
+        ["budgets"] => return budgets::print(&budgets::SIZES, ""),
+        ["budgets", n] => return budgets::print(&[number(n)], ""),
+        ["budgets", n, name] => return budgets::print(&[number(n)], name),
         [name] => (None, Rows::With(name.into())),
-        _ => panic!("bench [NAME], bench growth, bench quadratic N [NAME] or bench count MODULE ROW CALLS ROUNDS"),
+        _ => panic!("bench [NAME], bench growth, bench budgets [N [NAME]] or bench count MODULE ROW CALLS ROUNDS"),
     };
     let mut table = Table::new(rows);
     for (name, rows) in modules() {

@@ -13,7 +13,7 @@ pub fn ascending(n: usize, at: f64) -> Vec<Pair> {
     (0..n).map(|i| [i as f64 * 2. + at, i as f64 * 2. + 1. + at]).collect()
 }
 
-pub fn shuffled(mut v: Vec<Pair>) -> Vec<Pair> {
+pub fn shuffled<T>(mut v: Vec<T>) -> Vec<T> {
     let mut g = Gen::new(1, "shuffle", v.len() as u64);
     for i in (1..v.len()).rev() {
         v.swap(i, g.below(i as u64 + 1) as usize);

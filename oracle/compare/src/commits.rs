@@ -1,4 +1,6 @@
 //! Runs of commits on one store, change lists and logs, through the C exports of the two commits.
+mod reaching;
+
 use crate::{
     explained::Explained,
     function::{Function, Outcome, Words},
@@ -12,6 +14,7 @@ use harness::{
     store::{LentStore, Match},
 };
 use oracle::dexel::DexelStockSpec;
+use reaching::First;
 use tridexel::raw;
 
 const UNITS: &[u8] = b"mm";
@@ -171,6 +174,18 @@ fn compare_run(r: &Run, reached: &mut Reached) -> Outcome {
     outcome(r.end(&Port, &mut |c, number| count_commit(c, number, reached)).map(|(found, _)| found))
 }
 
+fn compare_long_run(r: &Run, reached: &mut Reached) -> Outcome {
+    count_blank(r, reached);
+    let mut first = First::of(r, reached);
+    let mut seen = |c: &Commit, number| {
+        count_commit(c, number, reached);
+        if let Some(first) = &mut first {
+            first.count(r, c, number, reached);
+        }
+    };
+    outcome(r.end(&Port, &mut seen).map(|(found, _)| found))
+}
+
 fn compare_log_run(r: &LogRun, reached: &mut Reached) -> Outcome {
     count_blank(&r.first, reached);
     outcome(r.play_seen(&Port, &mut |c, number| count_commit(c, number, reached)))
@@ -198,11 +213,12 @@ pub fn functions() -> Vec<Function> {
     let both = wanted(BOTH, ZEROS, &COUNTS);
     let copied = wanted(LOGS, ZEROS, &["1", "10", "100", "1000"]);
     let long = wanted(&["accepted", "9", "10", "15"], ZEROS, &["1", "10", "100", "1000"]);
+    let long = [&long[..], &reaching::WANTED].concat();
     vec![
         Function::counting("commit_changes", &changes, only(Kind::Changes), runs(Some(Kind::Changes)), compare_run),
         Function::counting("commit_log", &logs, only(Kind::Logs), runs(Some(Kind::Logs)), compare_run),
         Function::counting("runs", &both, edges(), runs(None), compare_run),
         Function::counting("log_runs", &copied, vec![], anywhere(log_run), compare_log_run),
-        Function::counting("long_logs", &long, vec![], anywhere(long_run), compare_run),
+        Function::counting("long_logs", &long, vec![], anywhere(long_run), compare_long_run),
     ]
 }

@@ -12,7 +12,7 @@ const CASES: [(&str, u64); 10] = [
     ("commit_log", 15_000),
     ("runs", 15_000),
     ("log_runs", 4_000),
-    ("long_logs", 5_000),
+    ("long_logs", 10_000),
 ];
 
 #[test]

@@ -6,6 +6,7 @@ pub mod grid;
 pub mod lent;
 pub mod log_runs;
 pub mod runs;
+pub mod sized_logs;
 pub mod store;
 pub mod wide;
 

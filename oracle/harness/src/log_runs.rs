@@ -5,6 +5,7 @@ use crate::{
     commits::{Commit, Entries, Run, State, work_pairs},
     generate::Gen,
     runs::{Domain, log},
+    sized_logs::{ROOM, SMALL, sized_run},
     store::{Match, Store},
 };
 use oracle::dexel::DexelStockSpec;
@@ -46,14 +47,14 @@ fn agree(a: &Store, b: &Store) -> bool {
     a.intervals == b.intervals && a.heads.len() == b.heads.len() && (0..a.heads.len()).all(|head| list(a, head) == list(b, head))
 }
 
-fn shuffle<T>(g: &mut Gen, list: &mut [T]) {
+pub fn shuffle<T>(g: &mut Gen, list: &mut [T]) {
     for i in (1..list.len()).rev() {
         list.swap(i, g.below(i as u64 + 1) as usize);
     }
 }
 
 /// The same blank with this interval budget.
-fn with_budget(spec: &DexelStockSpec, max_intervals: usize) -> DexelStockSpec {
+pub fn with_budget(spec: &DexelStockSpec, max_intervals: usize) -> DexelStockSpec {
     DexelStockSpec { max_intervals, ..spec.clone() }
 }
 
@@ -243,9 +244,14 @@ fn long_log(g: &mut Gen, state: &State, entries: usize) -> Commit {
     Commit::Log { log, allowance: 0, work }
 }
 
-/// 1 to 3 logs of up to 40 entries on few rays, once in 16 of up to 1,200 and so with more entries and pairs on a ray than any local array has cells,
-/// under budgets that are often exactly reached, or one short.
+/// 1 to 3 logs of up to 40 entries on few rays, once in 16 of up to 1,200, under budgets that are often exactly reached, or one short; and now and
+/// then one log about as large as local arrays have room for.
 pub fn long_run(g: &mut Gen, domain: Domain) -> Run {
+    match g.below(64) {
+        0 => return sized_run(g, domain, ROOM),
+        1..=4 => return sized_run(g, domain, SMALL),
+        _ => {}
+    }
     let spec = domain.spec(g, NEVER);
     let rays = spec.grid().unwrap().total_rays();
     let longest = if g.once_in(16) { 1200 } else { 40 };

@@ -61,7 +61,7 @@ impl Store {
     }
 
     /// The same, where no record before `from` is free.
-    fn lay_from(&mut self, from: &mut usize, head: usize, list: &[Pair]) {
+    pub fn lay_from(&mut self, from: &mut usize, head: usize, list: &[Pair]) {
         let mut last = None;
         for s in list {
             while self.records[*from].owner != 0 {

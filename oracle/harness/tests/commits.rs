@@ -4,6 +4,7 @@ use harness::{
     generate::Gen,
     log_runs::{LogRun, log_run, long_run},
     runs::{Domain, edges, run, run_of},
+    sized_logs::{ROOM, SMALL, sized_run},
     store::{LentStore, Match},
 };
 use oracle::dexel::DexelStockSpec;
@@ -229,6 +230,35 @@ fn long_runs() {
     println!("by number {refused:?}, most entries on a ray {most_entries}, most pairs {most_pairs}, filled by a log {full}");
     assert!([0, 9, 10].iter().all(|number| refused[*number] > 20), "{refused:?}");
     assert!(most_entries > 512 && most_pairs > 512 && full > LOG_RUNS / 4, "{most_entries} {most_pairs} {full}");
+}
+
+/// A log as large as the arrays is refused as long as a budget is one short, accepted once where neither is, and changes nothing when it comes again.
+#[test]
+fn sized_runs() {
+    let (mut refused, mut exact, mut most_pairs) = ([0; 18], 0, 0);
+    for case in 0..LOG_RUNS {
+        let room = if case.is_multiple_of(8) { ROOM } else { SMALL };
+        let domain = if case.is_multiple_of(3) { Domain::Small } else { Domain::Whole };
+        let r = sized_run(&mut Gen::new(1, "sized_logs", case), domain, room);
+        assert_eq!(r.play(&StandIn(Fault::None)), Ok(Match::Same), "case {case}");
+        assert!(r.start.sound(&r.spec), "case {case}");
+        most_pairs = most_pairs.max((0..r.start.heads.len()).map(|h| r.start.list(h).unwrap().len()).max().unwrap());
+        let mut state = State::of(&r.spec, r.start.clone());
+        let mut accepted = false;
+        for c in &r.commits {
+            let Commit::Log { allowance, .. } = c else { unreachable!() };
+            let due = state.due(c);
+            refused[due.refused as usize] += 1;
+            assert!(!accepted || (due.refused, due.changed) == (0, 0), "case {case}");
+            accepted |= due.refused == 0;
+            let full = due.next.store.intervals == r.spec.max_intervals as u64;
+            exact += (due.changed > 0 && due.changed == *allowance && full) as u64;
+            state = due.next;
+        }
+    }
+    println!("by number {refused:?}, both budgets exactly reached {exact}, most pairs {most_pairs}");
+    assert!([0, 9, 10].iter().all(|number| refused[*number] > LOG_RUNS / 4), "{refused:?}");
+    assert!(exact > LOG_RUNS / 16 && most_pairs > ROOM.entries, "{exact} {most_pairs}");
 }
 
 /// A copy that lost its last accepted log is told apart wherever that log took something that no other takes.
