@@ -31,9 +31,8 @@ pub record InLog (log : List Float) (keys : List ℕ) (m : ℕ) : Type 0 where
   pub room : m ≤ length keys
   pub places : (t : ℕ) → t < m → getD keys t 0 < entryCount log
 
--- `front` is how far the hits of one kind reach that begin at or before b, of the entries before place `passed` that are on the ray;
--- what lies
--- between b and `front` is in a hit of that kind
+-- `front` is how far the hits of one kind reach that begin at or before b, of the entries before place `passed` that are on the ray; what
+-- lies between b and `front` is in a hit of that kind
 pub record FrontReach (rays : ℕ → ℕ) (log : List Float) (ray : ℕ) (b : Float) (passed : ℕ) (w : HitKind) (front : Float) : Type 0 where
   pub number : Number front
   pub all : (i : ℕ) → i < passed → rays i ≡ ray → lt (loOf w (entryAt log i)) (hiOf w (entryAt log i)) ≡ true
