@@ -11,7 +11,7 @@ use lib.ListN.{length}
 use borrow.Author.Tests.{ltb-true, ltb-false}
 use Rattle.doubles.proofs.Bools.{both, and-false, not-true, not-false}
 use Rattle.frame.specs.declared.Frame.{Frame}
-use Rattle.lanes.specs.declared.Chord.{Chord}
+use Rattle.sweep_kernel.specs.declared.Chord.{Chord}
 use Rattle.chords.specs.Chords.{chordOf}
 use Rattle.chords.specs.Limits.{guardFits, endsFit, numbersFit, chordFits, every, chordsFit}
 

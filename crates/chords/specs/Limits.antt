@@ -8,7 +8,7 @@ use Rattle.doubles.specs.Constants.{one, plusZero, two}
 use Rattle.doubles.specs.Doubles.{largerOf, absOf}
 use Rattle.grid.specs.Grid.{within, allWithin}
 use Rattle.frame.specs.declared.Frame.{Frame}
-use Rattle.lanes.specs.declared.Chord.{Chord}
+use Rattle.sweep_kernel.specs.declared.Chord.{Chord}
 use Rattle.chords.specs.Chords.{fromAt, toAt, chordOf}
 
 -- 2e6 and 1000

@@ -6,7 +6,7 @@ ghost use Rattle.chords.specs.Chords.{pointAt, chordOf};
 ghost use Rattle.chords.specs.Limits.{guardFits, endsFit, planSize, lengthFits, numbersFit, chordFits, chordsFit};
 use frame::Frame;
 use grid::Vec3;
-use lanes::Chord;
+use sweep_kernel::Chord;
 
 fn point_at(chords: &[f64], i: usize) -> Vec3
     requires { ⌜ i + 3 ≤ length (now chords) ⌝ }
@@ -59,7 +59,7 @@ fn plan_size(c: Chord) -> f64
 {
     let a = c.a;
     let b = c.b;
-    extremes::larger(doubles::abs(b.x - a.x), doubles::abs(b.y - a.y))
+    doubles_minmax::larger(doubles::abs(b.x - a.x), doubles::abs(b.y - a.y))
 }
 
 fn length_fits(c: Chord) -> bool

@@ -6,9 +6,9 @@
 // with the small record by value, as the C interface calls them.
 // For each entry it writes how many rows agree and how many differ, and how many runs were started, then how many rows can't be read, and the number
 // of the first row that differs.
-use replay::Outcome;
-use replay::Tally;
 use stock::Committed;
+use vector_replay::Outcome;
+use vector_replay::Tally;
 
 // The store of a run and its small record.
 struct Store {
@@ -36,20 +36,20 @@ fn changes_in(
     heads: &mut [u64],
 ) -> stock::Outcome {
     let mut changes = [0; 36];
-    recorded::numbers_at(w, 94, &mut changes);
+    vector_words::numbers_at(w, 94, &mut changes);
     let mut pairs = [0.0; 40];
-    recorded::doubles_at(w, 130, &mut pairs);
-    change_commit::commit_changes_on(
+    vector_words::doubles_at(w, 130, &mut pairs);
+    commit_changes::commit_changes_on(
         generation,
         intervals,
-        recorded::spec_at(w, 1, 3),
+        vector_words::spec_at(w, 1, 3),
         units,
         spans,
         links,
         heads,
         w[15],
-        recorded::first_numbers(&changes, w[16] as usize),
-        recorded::first(&pairs, w[17] as usize),
+        vector_words::first_numbers(&changes, w[16] as usize),
+        vector_words::first(&pairs, w[17] as usize),
     )
 }
 
@@ -65,18 +65,18 @@ fn log_in(
     work: &mut [f64],
 ) -> stock::Outcome {
     let mut log = [0.0; 36];
-    recorded::doubles_at(w, 94, &mut log);
-    commit::commit_log_on(
+    vector_words::doubles_at(w, 94, &mut log);
+    commit_log::commit_log_on(
         generation,
         intervals,
-        recorded::spec_at(w, 1, 3),
+        vector_words::spec_at(w, 1, 3),
         units,
         spans,
         links,
         heads,
-        recorded::first(&log, w[16] as usize),
+        vector_words::first(&log, w[16] as usize),
         w[15],
-        recorded::first_mut(work, w[17] as usize),
+        vector_words::first_mut(work, w[17] as usize),
     )
 }
 
@@ -90,7 +90,7 @@ fn commit_on(
     heads: &mut [u64],
     work: &mut [f64],
 ) -> stock::Outcome {
-    let units = recorded::units_of(w[2]);
+    let units = vector_words::units_of(w[2]);
     if w[0] == 0 {
         return changes_in(w, generation, intervals, &units, spans, links, heads);
     }
@@ -99,18 +99,18 @@ fn commit_on(
 
 // Whether each cell below `cleared` is plus zero, which every word past the row is, and each other one still 7.
 fn work_agrees(w: &[u64; 170], work: &[f64], cleared: usize) -> bool {
-    recorded::cells_agree(work, w, 170, 0, cleared)
+    vector_words::cells_agree(work, w, 170, 0, cleared)
 }
 
 // The spans from word 22 on, the links from 52, the heads from 82.
 fn store_agrees(w: &[u64; 170], spans: &[f64], links: &[u64], heads: &[u64]) -> bool {
-    if !recorded::cells_agree(spans, w, 22, 0, 30) {
+    if !vector_words::cells_agree(spans, w, 22, 0, 30) {
         return false;
     }
-    if !recorded::numbers_agree(links, w, 52, 30) {
+    if !vector_words::numbers_agree(links, w, 52, 30) {
         return false;
     }
-    recorded::numbers_agree(heads, w, 82, 12)
+    vector_words::numbers_agree(heads, w, 82, 12)
 }
 
 // Words 18 to 21: the refusal, 0 for none, the changed rays, the generation and the interval total. An accepted log commit clears the work buffer.
@@ -161,9 +161,9 @@ fn commit_step(w: &[u64; 170], s: Store) -> Shown {
         w,
         s.generation,
         s.intervals,
-        recorded::first_mut(&mut spans, w[12] as usize),
-        recorded::first_numbers_mut(&mut links, w[13] as usize),
-        recorded::first_numbers_mut(&mut heads, w[14] as usize),
+        vector_words::first_mut(&mut spans, w[12] as usize),
+        vector_words::first_numbers_mut(&mut links, w[13] as usize),
+        vector_words::first_numbers_mut(&mut heads, w[14] as usize),
         &mut work,
     );
     let agrees = both(
@@ -171,7 +171,7 @@ fn commit_step(w: &[u64; 170], s: Store) -> Shown {
         store_agrees(w, &spans, &links, &heads),
     );
     Shown {
-        outcome: replay::told(w[0], 2, agrees),
+        outcome: vector_replay::told(w[0], 2, agrees),
         store: Store {
             spans,
             links,
@@ -185,11 +185,11 @@ fn commit_step(w: &[u64; 170], s: Store) -> Shown {
 // The store that a run starts with.
 fn start_step(w: &[u64; 170]) -> Shown {
     let mut spans = [0.0; 30];
-    recorded::doubles_at(w, 22, &mut spans);
+    vector_words::doubles_at(w, 22, &mut spans);
     let mut links = [0; 30];
-    recorded::numbers_at(w, 52, &mut links);
+    vector_words::numbers_at(w, 52, &mut links);
     let mut heads = [0; 12];
-    recorded::numbers_at(w, 82, &mut heads);
+    vector_words::numbers_at(w, 82, &mut heads);
     Shown {
         outcome: Outcome::Agrees(2),
         store: Store {
@@ -204,7 +204,7 @@ fn start_step(w: &[u64; 170]) -> Shown {
 
 fn shown_by(text: &[u8], s: Store) -> Shown {
     let mut w = [0; 170];
-    if !replay::read_words(text, 0, &mut w) {
+    if !vector_replay::read_words(text, 0, &mut w) {
         return Shown {
             outcome: Outcome::Unread,
             store: s,
@@ -234,17 +234,17 @@ fn no_store() -> Store {
 
 // The turns are counted down, since a proved loop has to end and nothing says that the input does.
 fn counted() -> Tally {
-    let mut t = replay::start();
+    let mut t = vector_replay::start();
     let mut store = no_store();
     let mut turns = u64::MAX;
     while turns > 0 {
         let mut text = [0u8; 2890];
-        if !replay::read_row(&mut text) {
+        if !vector_replay::read_row(&mut text) {
             break;
         }
         let s = shown_by(&text, store);
         let outcome = s.outcome;
-        t = replay::count(t, outcome);
+        t = vector_replay::count(t, outcome);
         let left = s.store;
         store = left;
         turns -= 1;
@@ -253,5 +253,5 @@ fn counted() -> Tally {
 }
 
 fn main() {
-    replay::print(b"commit_changes commit_log runs", counted());
+    vector_replay::print(b"commit_changes commit_log runs", counted());
 }

@@ -3,7 +3,7 @@ use mathlib.Core.Bool.{Bool, true, false, cond, not, _||_, _&&_}
 use lib.Ieee.{Float, nan, inf, fin, binary64, add, sub, mul, div, lt, le}
 use Rattle.doubles.specs.Constants.{plusZero, two}
 use Rattle.doubles.specs.Doubles.{largerOf, smallerOf, clampOf}
-use Rattle.square_root.specs.Root.{squareRoot}
+use Rattle.doubles_sqrt.specs.Root.{squareRoot}
 use Rattle.cutter.specs.declared.CutterShape.{CutterShape}
 use Rattle.cutter.specs.declared.CutterShape.the-variants.{Flat, Ball, Bull, Drill, Chamfer, Beam, Probe, Lollipop, Dovetail}
 use Rattle.cutter.specs.declared.PreparedCutter.{PreparedCutter}

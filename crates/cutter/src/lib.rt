@@ -54,7 +54,7 @@ fn is_finite(x: f64) -> bool
 fn arc_at(r: f64, z: f64) -> f64
     ensures { λ a. ⌜ a ≡ arcAt r z ⌝ }
 {
-    square_root::sqrt(extremes::larger(z * (2.0 * r - z), 0.0))
+    doubles_sqrt::sqrt(doubles_minmax::larger(z * (2.0 * r - z), 0.0))
 }
 
 // Within the cutting length. Shapes that widen from the tip have the full radius from the tip height on.
@@ -145,7 +145,7 @@ pub fn radius_at(shape: CutterShape, c: PreparedCutter, z: f64) -> ProfileSlice
 pub fn cut_radius(shape: CutterShape, c: PreparedCutter, h: f64) -> f64
     ensures { λ r. ⌜ r ≡ cutRadius shape c h ⌝ }
 {
-    let s = radius_at(shape, c, extremes::clamp(h, 0.0, c.cutting_length_mm));
+    let s = radius_at(shape, c, doubles_minmax::clamp(h, 0.0, c.cutting_length_mm));
     match s {
         ProfileSlice::Cutting(r) => r,
         ProfileSlice::NonCutting(r) => r,
@@ -157,10 +157,10 @@ pub fn cut_radius(shape: CutterShape, c: PreparedCutter, h: f64) -> f64
 pub fn cut_max(shape: CutterShape, c: PreparedCutter, h0: f64, h1: f64) -> Radius
     ensures { λ r. ⌜ r ≡ cutMax shape c h0 h1 ⌝ }
 {
-    let lo = extremes::larger(h0, 0.0);
-    let hi = extremes::smaller(h1, c.cutting_length_mm);
+    let lo = doubles_minmax::larger(h0, 0.0);
+    let hi = doubles_minmax::smaller(h1, c.cutting_length_mm);
     if lo <= hi {
-        return Radius::Is(cut_radius(shape, c, extremes::clamp(widest_height(c), lo, hi)));
+        return Radius::Is(cut_radius(shape, c, doubles_minmax::clamp(widest_height(c), lo, hi)));
     }
     Radius::Outside
 }
@@ -171,7 +171,7 @@ pub fn cut_min(shape: CutterShape, c: PreparedCutter, h0: f64, h1: f64) -> Radiu
 {
     if h0 >= 0.0 {
         if h1 <= c.cutting_length_mm {
-            return Radius::Is(extremes::smaller(
+            return Radius::Is(doubles_minmax::smaller(
                 cut_radius(shape, c, h0),
                 cut_radius(shape, c, h1),
             ));

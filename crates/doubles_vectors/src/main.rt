@@ -4,8 +4,8 @@
 // before each of these four, and a newline. An argument that the function does not take is 0. The one NaN is 7ff8000000000000.
 // For each function it writes how many rows agree and how many differ, then how many can't be read, and the number
 // of the first row that differs.
-use replay::Outcome;
-use replay::Tally;
+use vector_replay::Outcome;
+use vector_replay::Tally;
 
 fn order_number(o: doubles::Ordering) -> u64 {
     match o {
@@ -25,13 +25,13 @@ fn number_of(b: bool) -> u64 {
 // The answer of a function of doubles.
 fn double_answer(op: u64, x: f64, y: f64, z: f64) -> f64 {
     if op == 0 {
-        return extremes::larger(x, y);
+        return doubles_minmax::larger(x, y);
     }
     if op == 1 {
-        return extremes::smaller(x, y);
+        return doubles_minmax::smaller(x, y);
     }
     if op == 2 {
-        return extremes::clamp(x, y, z);
+        return doubles_minmax::clamp(x, y, z);
     }
     if op == 3 {
         return doubles::floor(x);
@@ -43,7 +43,7 @@ fn double_answer(op: u64, x: f64, y: f64, z: f64) -> f64 {
         return doubles::abs(x);
     }
     if op == 6 {
-        return square_root::sqrt(x);
+        return doubles_sqrt::sqrt(x);
     }
     if op == 14 {
         return x * y;
@@ -53,70 +53,70 @@ fn double_answer(op: u64, x: f64, y: f64, z: f64) -> f64 {
 
 // Whether the test of this number holds. `of_bits` is tried on a whole number's double, made without it.
 fn holds(op: u64, a: u64, b: u64) -> bool {
-    let x = bit_patterns::of_bits(a);
+    let x = doubles_bits::of_bits(a);
     if op == 11 {
         return x == std::num::nearest_u64_to_f64(b);
     }
     if op == 12 {
-        return x < bit_patterns::of_bits(b);
+        return x < doubles_bits::of_bits(b);
     }
-    x <= bit_patterns::of_bits(b)
+    x <= doubles_bits::of_bits(b)
 }
 
 // The answer of each function. `bits_of` is tried on a whole number's double, made without `of_bits`.
 fn answer(op: u64, a: u64, b: u64, c: u64) -> u64 {
     if op == 7 {
-        return bit_patterns::order_key(bit_patterns::of_bits(a));
+        return doubles_bits::order_key(doubles_bits::of_bits(a));
     }
     if op == 8 {
-        return order_number(bit_patterns::total_cmp(
-            bit_patterns::of_bits(a),
-            bit_patterns::of_bits(b),
+        return order_number(doubles_bits::total_cmp(
+            doubles_bits::of_bits(a),
+            doubles_bits::of_bits(b),
         ));
     }
     if op == 9 {
-        return doubles::to_u64(bit_patterns::of_bits(a));
+        return doubles::to_u64(doubles_bits::of_bits(a));
     }
     if op == 10 {
-        return bit_patterns::bits_of(std::num::nearest_u64_to_f64(a));
+        return doubles_bits::bits_of(std::num::nearest_u64_to_f64(a));
     }
     if op > 10 && op < 14 {
         return number_of(holds(op, a, b));
     }
-    bit_patterns::bits_of(double_answer(
+    doubles_bits::bits_of(double_answer(
         op,
-        bit_patterns::of_bits(a),
-        bit_patterns::of_bits(b),
-        bit_patterns::of_bits(c),
+        doubles_bits::of_bits(a),
+        doubles_bits::of_bits(b),
+        doubles_bits::of_bits(c),
     ))
 }
 
 fn compared(text: &[u8]) -> Outcome {
-    let k = replay::value_or(rows::hex_at(text, 0, 2), 256);
+    let k = vector_replay::value_or(hex_text::hex_at(text, 0, 2), 256);
     let mut w = [0; 4];
-    if !replay::read_words(text, 3, &mut w) {
+    if !vector_replay::read_words(text, 3, &mut w) {
         return Outcome::Unread;
     }
-    replay::told(k, 16, answer(k, w[0], w[1], w[2]) == w[3])
+    vector_replay::told(k, 16, answer(k, w[0], w[1], w[2]) == w[3])
 }
 
 // The turns are counted down, since a proved loop has to end and nothing says that the input does.
 fn counted() -> Tally {
-    let mut t = replay::start();
+    let mut t = vector_replay::start();
     let mut turns = u64::MAX;
     while turns > 0 {
         let mut text = [0u8; 71];
-        if !replay::read_row(&mut text) {
+        if !vector_replay::read_row(&mut text) {
             break;
         }
-        t = replay::count(t, compared(&text));
+        t = vector_replay::count(t, compared(&text));
         turns -= 1;
     }
     t
 }
 
 fn main() {
-    replay::print(
+    vector_replay::print(
         b"larger smaller clamp floor ceil abs sqrt order_key total_cmp to_u64 bits_of of_bits lt le mul div",
         counted(),
     );

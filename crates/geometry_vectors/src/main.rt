@@ -6,11 +6,11 @@
 // many differ, then how many can't be read, and the number of the first row that differs.
 use cutter::ProfileSlice;
 use cutter::Radius;
+use cutter_check::ToolCheck;
 use polygons::Point;
 use polygons::Strip;
-use replay::Outcome;
-use replay::Tally;
-use tool_check::ToolCheck;
+use vector_replay::Outcome;
+use vector_replay::Tally;
 
 struct Answer {
     kind: u64,
@@ -85,8 +85,8 @@ fn check_answer(t: ToolCheck) -> Answer {
 
 fn point(x: u64, y: u64) -> Point {
     Point {
-        x: bit_patterns::of_bits(x),
-        y: bit_patterns::of_bits(y),
+        x: doubles_bits::of_bits(x),
+        y: doubles_bits::of_bits(y),
     }
 }
 
@@ -94,9 +94,9 @@ fn answer_strips(op: u64, w: &[u64; 17]) -> Answer {
     if op == 0 {
         return strip_answer(strips::disk_strip(
             point(w[0], w[1]),
-            bit_patterns::of_bits(w[2]),
-            bit_patterns::of_bits(w[3]),
-            bit_patterns::of_bits(w[4]),
+            doubles_bits::of_bits(w[2]),
+            doubles_bits::of_bits(w[3]),
+            doubles_bits::of_bits(w[4]),
         ));
     }
     if op == 1 {
@@ -105,25 +105,25 @@ fn answer_strips(op: u64, w: &[u64; 17]) -> Answer {
             point(w[2], w[3]),
             point(w[4], w[5]),
             point(w[6], w[7]),
-            bit_patterns::of_bits(w[8]),
-            bit_patterns::of_bits(w[9]),
+            doubles_bits::of_bits(w[8]),
+            doubles_bits::of_bits(w[9]),
         ));
     }
     strip_answer(strips::stadium_strip(
         point(w[0], w[1]),
         point(w[2], w[3]),
-        bit_patterns::of_bits(w[4]),
-        bit_patterns::of_bits(w[5]),
-        bit_patterns::of_bits(w[6]),
-        bit_patterns::of_bits(w[7]),
+        doubles_bits::of_bits(w[4]),
+        doubles_bits::of_bits(w[5]),
+        doubles_bits::of_bits(w[6]),
+        doubles_bits::of_bits(w[7]),
     ))
 }
 
 fn answer_cutter(op: u64, w: &[u64; 17]) -> Answer {
-    let shape = recorded::shape_at(w, 0);
-    let c = recorded::cutter_at(w, 3);
-    let h0 = bit_patterns::of_bits(w[12]);
-    let h1 = bit_patterns::of_bits(w[13]);
+    let shape = vector_words::shape_at(w, 0);
+    let c = vector_words::cutter_at(w, 3);
+    let h0 = doubles_bits::of_bits(w[12]);
+    let h1 = doubles_bits::of_bits(w[13]);
     if op == 3 {
         return slice_answer(cutter::radius_at(shape, c, h0));
     }
@@ -140,7 +140,7 @@ fn answer_cutter(op: u64, w: &[u64; 17]) -> Answer {
     if op == 6 {
         return radius_answer(cutter::cut_min(shape, c, h0, h1));
     }
-    check_answer(tool_check::check_tool(shape, c))
+    check_answer(cutter_check::check_tool(shape, c))
 }
 
 // Equal as numbers, or both NaN.
@@ -156,8 +156,8 @@ fn same(a: f64, b: f64) -> bool {
 
 fn agrees(x: Answer, w: &[u64; 17]) -> bool {
     if x.kind == w[14] {
-        if same(x.a, bit_patterns::of_bits(w[15])) {
-            return same(x.b, bit_patterns::of_bits(w[16]));
+        if same(x.a, doubles_bits::of_bits(w[15])) {
+            return same(x.b, doubles_bits::of_bits(w[16]));
         }
     }
     false
@@ -171,31 +171,31 @@ fn answer_of(op: u64, w: &[u64; 17]) -> Answer {
 }
 
 fn compared(text: &[u8]) -> Outcome {
-    let k = replay::value_or(rows::hex_at(text, 0, 2), 256);
+    let k = vector_replay::value_or(hex_text::hex_at(text, 0, 2), 256);
     let mut w = [0; 17];
-    if !replay::read_words(text, 3, &mut w) {
+    if !vector_replay::read_words(text, 3, &mut w) {
         return Outcome::Unread;
     }
-    replay::told(k, 8, agrees(answer_of(k, &w), &w))
+    vector_replay::told(k, 8, agrees(answer_of(k, &w), &w))
 }
 
 // The turns are counted down, since a proved loop has to end and nothing says that the input does.
 fn counted() -> Tally {
-    let mut t = replay::start();
+    let mut t = vector_replay::start();
     let mut turns = u64::MAX;
     while turns > 0 {
         let mut text = [0u8; 292];
-        if !replay::read_row(&mut text) {
+        if !vector_replay::read_row(&mut text) {
             break;
         }
-        t = replay::count(t, compared(&text));
+        t = vector_replay::count(t, compared(&text));
         turns -= 1;
     }
     t
 }
 
 fn main() {
-    replay::print(
+    vector_replay::print(
         b"disk_strip polygon_strip stadium_strip radius_at cut_radius cut_max cut_min check_tool",
         counted(),
     );

@@ -49,5 +49,5 @@ pub fn cell_at(spec: DexelStockSpec, g: DexelGrid, w: WorldAxis, x: f64) -> u64
     let i = doubles::floor((x - along(spec.min_mm, w)) / step_along(g, w));
     let n = cells_along(g, w);
     let last = std::num::nearest_u64_to_f64(n - 1);
-    doubles::to_u64(extremes::clamp(i, 0.0, last))
+    doubles::to_u64(doubles_minmax::clamp(i, 0.0, last))
 }

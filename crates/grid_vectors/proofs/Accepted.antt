@@ -2,11 +2,11 @@
 use mathlib.Core.Path.{_≡_, sym}
 use mathlib.Core.List.{List}
 use Prim.Native.Nat.{ℕ}
-use Rattle.gridding.specs.Grid.{gridOf}
+use Rattle.grid_from_spec.specs.Grid.{gridOf}
 use Rattle.grid.specs.declared.DexelStockSpec.{DexelStockSpec}
 use Rattle.grid.specs.declared.Gridded.{Gridded}
 use Rattle.grid.specs.declared.Gridded.the-variants.{Accepted, Refused}
-use Rattle.gridding.proofs.Facts.{grid-facts}
+use Rattle.grid_from_spec.proofs.Facts.{grid-facts}
 use Rattle.grid_vectors.specs.Facts.{FactsOf}
 
 pub facts-of : (s : DexelStockSpec) (units : List ℕ) (r : Gridded) → r ≡ gridOf s units → FactsOf s r

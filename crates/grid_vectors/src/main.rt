@@ -4,32 +4,32 @@
 // the answer; oracle/harness/src/bin/record_grid.rs, which records them, says which is which. The one NaN is 7ff8000000000000.
 // For accepted descriptions and for each refusal it writes how many rows agree and how many differ, then how many can't be read, and
 // the number of the first row that differs.
-ghost use Rattle.gridding.specs.Causes.{GridFacts};
+ghost use Rattle.grid_from_spec.specs.Causes.{GridFacts};
 ghost use Rattle.grid_vectors.specs.Facts.{FactsOf};
 use grid::DexelGrid;
 use grid::DexelStockSpec;
 use grid::Gridded;
 use grid::WorldAxis;
-use replay::Outcome;
-use replay::Tally;
+use vector_replay::Outcome;
+use vector_replay::Tally;
 
 // The answer of `grid` for the units of this number.
 fn gridded(spec: DexelStockSpec, units: u64) -> Gridded
     ensures { λ r. ⌜ FactsOf spec r ⌝ }
 {
     if units == 0 {
-        return gridding::grid(spec, &[b'm', b'm']);
+        return grid_from_spec::grid(spec, &[b'm', b'm']);
     }
     if units == 1 {
-        return gridding::grid(spec, &[b'm']);
+        return grid_from_spec::grid(spec, &[b'm']);
     }
     if units == 2 {
-        return gridding::grid(spec, &[b'm', b'm', b'm']);
+        return grid_from_spec::grid(spec, &[b'm', b'm', b'm']);
     }
     if units == 3 {
-        return gridding::grid(spec, &[b'c', b'm']);
+        return grid_from_spec::grid(spec, &[b'c', b'm']);
     }
-    gridding::grid(spec, &[b'm', b'n'])
+    grid_from_spec::grid(spec, &[b'm', b'n'])
 }
 
 // The answers about an accepted grid.
@@ -53,14 +53,14 @@ fn asked(
         g.c0,
         g.c1,
         g.c2,
-        bit_patterns::bits_of(g.s0),
-        bit_patterns::bits_of(g.s1),
-        bit_patterns::bits_of(g.s2),
+        doubles_bits::bits_of(g.s0),
+        doubles_bits::bits_of(g.s1),
+        doubles_bits::bits_of(g.s2),
         rays,
         grid_rays::total_rays(g),
-        bit_patterns::bits_of(c.u),
-        bit_patterns::bits_of(c.v),
-        bit_patterns::bits_of(grid_cells::cell_bound(spec, g, axis, i)),
+        doubles_bits::bits_of(c.u),
+        doubles_bits::bits_of(c.v),
+        doubles_bits::bits_of(grid_cells::cell_bound(spec, g, axis, i)),
         grid_cells::cell_at(spec, g, axis, x),
         grid_rays::ray_number(g, axis, index),
     ]
@@ -88,44 +88,44 @@ fn answer(
 fn answer_to(w: &[u64; 29]) -> [u64; 14] {
     let axis = WorldAxis((w[11] % 3) as u8);
     answer(
-        recorded::spec_at(w, 0, 2),
+        vector_words::spec_at(w, 0, 2),
         w[1],
         axis,
         w[12],
         w[13],
-        bit_patterns::of_bits(w[14]),
+        doubles_bits::of_bits(w[14]),
     )
 }
 
 fn agrees(w: &[u64; 29]) -> bool {
     let got = answer_to(w);
-    recorded::numbers_agree(&got, w, 15, 14)
+    vector_words::numbers_agree(&got, w, 15, 14)
 }
 
 // Rows are counted by the number of the refusal that they ask for, or 0.
 fn compared(text: &[u8]) -> Outcome {
     let mut w = [0; 29];
-    if !replay::read_words(text, 0, &mut w) {
+    if !vector_replay::read_words(text, 0, &mut w) {
         return Outcome::Unread;
     }
-    replay::told(w[15], 5, agrees(&w))
+    vector_replay::told(w[15], 5, agrees(&w))
 }
 
 // The turns are counted down, since a proved loop has to end and nothing says that the input does.
 fn counted() -> Tally {
-    let mut t = replay::start();
+    let mut t = vector_replay::start();
     let mut turns = u64::MAX;
     while turns > 0 {
         let mut text = [0u8; 493];
-        if !replay::read_row(&mut text) {
+        if !vector_replay::read_row(&mut text) {
             break;
         }
-        t = replay::count(t, compared(&text));
+        t = vector_replay::count(t, compared(&text));
         turns -= 1;
     }
     t
 }
 
 fn main() {
-    replay::print(b"accepted 1 2 3 4", counted());
+    vector_replay::print(b"accepted 1 2 3 4", counted());
 }

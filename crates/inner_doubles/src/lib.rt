@@ -2,28 +2,28 @@
 ghost use mathlib.Core.Path.{_≡_};
 ghost use lib.Ieee.{binary64, ofBits, toBits, toUnsigned};
 ghost use Rattle.doubles.specs.Doubles.{largerOf, smallerOf, clampOf, floorOf, ceilOf, keyOf, totalOf, absOf};
-ghost use Rattle.square_root.specs.Root.{squareRoot};
+ghost use Rattle.doubles_sqrt.specs.Root.{squareRoot};
 ghost use Rattle.inner_doubles.specs.Orderings.{digitOf};
 
 #[no_mangle]
 pub extern "C" fn tridexel_inner_larger(a: f64, b: f64) -> f64
     ensures { λ r. ⌜ r ≡ largerOf a b ⌝ }
 {
-    extremes::larger(a, b)
+    doubles_minmax::larger(a, b)
 }
 
 #[no_mangle]
 pub extern "C" fn tridexel_inner_smaller(a: f64, b: f64) -> f64
     ensures { λ r. ⌜ r ≡ smallerOf a b ⌝ }
 {
-    extremes::smaller(a, b)
+    doubles_minmax::smaller(a, b)
 }
 
 #[no_mangle]
 pub extern "C" fn tridexel_inner_clamp(x: f64, lo: f64, hi: f64) -> f64
     ensures { λ r. ⌜ r ≡ clampOf x lo hi ⌝ }
 {
-    extremes::clamp(x, lo, hi)
+    doubles_minmax::clamp(x, lo, hi)
 }
 
 #[no_mangle]
@@ -51,21 +51,21 @@ pub extern "C" fn tridexel_inner_abs(x: f64) -> f64
 pub extern "C" fn tridexel_inner_sqrt(x: f64) -> f64
     ensures { λ r. ⌜ r ≡ squareRoot binary64 x ⌝ }
 {
-    square_root::sqrt(x)
+    doubles_sqrt::sqrt(x)
 }
 
 #[no_mangle]
 pub extern "C" fn tridexel_inner_of_bits(bits: u64) -> f64
     ensures { λ r. ⌜ r ≡ ofBits binary64 bits ⌝ }
 {
-    bit_patterns::of_bits(bits)
+    doubles_bits::of_bits(bits)
 }
 
 #[no_mangle]
 pub extern "C" fn tridexel_inner_bits_of(x: f64) -> u64
     ensures { λ r. ⌜ r ≡ toBits binary64 x ⌝ }
 {
-    bit_patterns::bits_of(x)
+    doubles_bits::bits_of(x)
 }
 
 #[no_mangle]
@@ -79,14 +79,14 @@ pub extern "C" fn tridexel_inner_to_u64(x: f64) -> u64
 pub extern "C" fn tridexel_inner_order_key(x: f64) -> u64
     ensures { λ r. ⌜ r ≡ keyOf x ⌝ }
 {
-    bit_patterns::order_key(x)
+    doubles_bits::order_key(x)
 }
 
 #[no_mangle]
 pub extern "C" fn tridexel_inner_total_cmp(a: f64, b: f64) -> u32
     ensures { λ r. ⌜ r ≡ digitOf (totalOf a b) ⌝ }
 {
-    let o = bit_patterns::total_cmp(a, b);
+    let o = doubles_bits::total_cmp(a, b);
     match o {
         doubles::Ordering::Less => 0,
         doubles::Ordering::Equal => 1,

@@ -2,11 +2,11 @@
 use mathlib.Core.Path.{_≡_, refl, subst}
 use mathlib.Core.Logic.{inl, inr}
 use Prim.Native.Nat.{ℕ}
-use Rattle.tool_check.specs.Limits.{Checked}
+use Rattle.cutter_check.specs.Limits.{Checked}
 use Rattle.cutter.specs.declared.CutterShape.{CutterShape}
 use Rattle.cutter.specs.declared.PreparedCutter.{PreparedCutter}
-use Rattle.tool_check.specs.declared.ToolCheck.{ToolCheck}
-use Rattle.tool_check.specs.declared.ToolCheck.the-variants.{Accepted, Refused}
+use Rattle.cutter_check.specs.declared.ToolCheck.{ToolCheck}
+use Rattle.cutter_check.specs.declared.ToolCheck.the-variants.{Accepted, Refused}
 use Rattle.inner_geometry.specs.Geometry.{CheckedAs}
 
 pub accepted : (shape : CutterShape) (c : PreparedCutter) (t : ToolCheck) → t ≡ Accepted → Checked shape c t → CheckedAs (Checked shape c) 0

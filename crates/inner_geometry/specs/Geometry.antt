@@ -9,8 +9,8 @@ use Rattle.cutter.specs.declared.ProfileSlice.{ProfileSlice}
 use Rattle.cutter.specs.declared.ProfileSlice.the-variants.{Cutting, NonCutting}
 use Rattle.cutter.specs.declared.Radius.{Radius}
 use Rattle.cutter.specs.declared.Radius.the-variants.{Is}
-use Rattle.tool_check.specs.declared.ToolCheck.{ToolCheck}
-use Rattle.tool_check.specs.declared.ToolCheck.the-variants.{Accepted, Refused}
+use Rattle.cutter_check.specs.declared.ToolCheck.{ToolCheck}
+use Rattle.cutter_check.specs.declared.ToolCheck.the-variants.{Accepted, Refused}
 use Rattle.inner_geometry.specs.declared.StripNumbers.{StripNumbers}
 use Rattle.inner_geometry.specs.declared.RadiusNumbers.{RadiusNumbers}
 

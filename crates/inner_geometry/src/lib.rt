@@ -3,15 +3,15 @@ ghost use mathlib.Core.Path.{_≡_};
 ghost use Rattle.strips.specs.Strip.{diskStrip, stadiumStrip};
 ghost use Rattle.polygons.specs.Polygon.{polygonStrip};
 ghost use Rattle.cutter.specs.Cutter.{radiusAt, cutRadius, cutMax, cutMin};
-ghost use Rattle.tool_check.specs.Limits.{Checked};
+ghost use Rattle.cutter_check.specs.Limits.{Checked};
 ghost use Rattle.inner_geometry.specs.Geometry.{stripAs, sliceAs, radiusAs, CheckedAs};
-ghost use Rattle.named.specs.Named.{namedShape};
+ghost use Rattle.enum_codes.specs.Named.{namedShape};
 use cutter::PreparedCutter;
 use cutter::ProfileSlice;
 use cutter::Radius;
+use cutter_check::ToolCheck;
 use polygons::Point;
 use polygons::Strip;
-use tool_check::ToolCheck;
 
 #[repr(C)]
 pub struct StripNumbers {
@@ -114,7 +114,7 @@ pub extern "C" fn tridexel_inner_radius_at(
 ) -> RadiusNumbers
     ensures { λ r. ⌜ r ≡ sliceAs (radiusAt (namedShape kind m n) c z) ⌝ }
 {
-    slice_numbers(cutter::radius_at(named::named_shape(kind, m, n), c, z))
+    slice_numbers(cutter::radius_at(enum_codes::named_shape(kind, m, n), c, z))
 }
 
 #[no_mangle]
@@ -134,7 +134,7 @@ pub extern "C" fn tridexel_inner_cut_radius(
 ) -> f64
     ensures { λ r. ⌜ r ≡ cutRadius (namedShape kind m n) c h ⌝ }
 {
-    cutter::cut_radius(named::named_shape(kind, m, n), c, h)
+    cutter::cut_radius(enum_codes::named_shape(kind, m, n), c, h)
 }
 
 // 0 none, 1 a radius.
@@ -149,7 +149,7 @@ pub extern "C" fn tridexel_inner_cut_max(
 ) -> RadiusNumbers
     ensures { λ r. ⌜ r ≡ radiusAs (cutMax (namedShape kind m n) c h0 h1) ⌝ }
 {
-    radius_numbers(cutter::cut_max(named::named_shape(kind, m, n), c, h0, h1))
+    radius_numbers(cutter::cut_max(enum_codes::named_shape(kind, m, n), c, h0, h1))
 }
 
 // 0 none, 1 a radius.
@@ -164,7 +164,7 @@ pub extern "C" fn tridexel_inner_cut_min(
 ) -> RadiusNumbers
     ensures { λ r. ⌜ r ≡ radiusAs (cutMin (namedShape kind m n) c h0 h1) ⌝ }
 {
-    radius_numbers(cutter::cut_min(named::named_shape(kind, m, n), c, h0, h1))
+    radius_numbers(cutter::cut_min(enum_codes::named_shape(kind, m, n), c, h0, h1))
 }
 
 // Document 01's refusal number, or 0.
@@ -172,7 +172,7 @@ pub extern "C" fn tridexel_inner_cut_min(
 pub extern "C" fn tridexel_inner_check_tool(kind: u64, m: f64, n: f64, c: PreparedCutter) -> u32
     ensures { λ r. ⌜ CheckedAs (Checked (namedShape kind m n) c) r ⌝ }
 {
-    let t = tool_check::check_tool(named::named_shape(kind, m, n), c);
+    let t = cutter_check::check_tool(enum_codes::named_shape(kind, m, n), c);
     match t {
         ToolCheck::Accepted => 0,
         ToolCheck::Refused(k) => k,

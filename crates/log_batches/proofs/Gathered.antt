@@ -8,7 +8,7 @@ use native.Mathlib.Nat.{mul-le-mul-right}
 use lib.ListN.{length}
 use lib.Ieee.{Float}
 use Rattle.grid.specs.declared.DexelGrid.{DexelGrid}
-use Rattle.runs.specs.Logs.{entryAt, entryCount, rayOf}
+use Rattle.log_model.specs.Logs.{entryAt, entryCount, rayOf}
 use Rattle.log_batches.specs.Batches.{Batched, AddPre, AddPost, GatherRaysPost}
 use Rattle.log_batches.specs.declared.Batch.{Batch}
 

@@ -6,7 +6,7 @@ use Prim.Native.Nat.{ℕ, _+_, _-_, _*_, _^_, _≤_, _<_}
 use lib.ListN.{length, getD}
 use lib.Ieee.{Float}
 use Rattle.grid.specs.declared.DexelGrid.{DexelGrid}
-use Rattle.runs.specs.Logs.{entryAt, entryCount, rayOf}
+use Rattle.log_model.specs.Logs.{entryAt, entryCount, rayOf}
 use Rattle.log_batches.specs.declared.Batch.{Batch}
 
 -- the key of the entry at place i of n, which is on the ray, in a batch from the ray `first` on

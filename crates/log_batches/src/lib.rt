@@ -4,8 +4,8 @@ ghost use Prim.Native.Nat.{_+_, _*_, _^_, _≤_, _<_};
 ghost use lib.ListN.{length};
 ghost use lib.Dec.{ltb};
 ghost use Rattle.grid.specs.Rays.{rayCount};
-ghost use Rattle.runs.specs.Logs.{entryCount};
-ghost use Rattle.logs.specs.Named.{EachNamed};
+ghost use Rattle.log_model.specs.Logs.{entryCount};
+ghost use Rattle.log_entries.specs.Named.{EachNamed};
 ghost use Rattle.log_keys.specs.KeysKept.{KeysKept};
 ghost use Rattle.log_batches.specs.Batches.{AddPre, BatchRoomPost, AddPost, GatherRaysPost, SameKeys, KeysAscend};
 use grid::DexelGrid;
@@ -99,7 +99,7 @@ pub fn gather_rays(g: DexelGrid, log: &[f64], first: usize, width: usize, keys: 
     };
     let mut i: usize = 0;
     while i < n {
-        let ray = logs::ray_at(g, log, i);
+        let ray = log_entries::ray_at(g, log, i);
         w = add(keys, w, first, ray, n, i);
         if w.full {
             break;

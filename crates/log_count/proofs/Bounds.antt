@@ -18,15 +18,15 @@ use Rattle.store.specs.Store.{placesOf}
 use Rattle.store.specs.Updates.{Cells}
 use Rattle.store.proofs.FreePlaces.{free-records}
 use Rattle.stock.specs.Stock.{Stock, possibleIn, certainIn, SoundStock}
-use Rattle.lists.proofs.Steps.{ends-length}
-use Rattle.runs.specs.Logs.{possible, certain, entryAt, entryCount, entries, rayOf, HitKind, outer, inner}
-use Rattle.runs.specs.Model.{pairs}
-use Rattle.runs.specs.Counts.{hitBy, startsLeft, hitsOn, changesRay, raysChanged, pairsLeft}
-use Rattle.runs.specs.Lent.{listNumber, listIn, listsIn}
-use Rattle.runs.proofs.Lent.{lent-laws}
-use Rattle.runs.proofs.Starts.{pairs-left}
-use Rattle.logs.specs.Named.{pairsNamed, namedFrom, pairsAt}
-use Rattle.logs.proofs.Places.{AllFrom, all-first, all-rest, pairs-named, each-below, pairs-of}
+use Rattle.store_lists.proofs.Steps.{ends-length}
+use Rattle.log_model.specs.Logs.{possible, certain, entryAt, entryCount, entries, rayOf, HitKind, outer, inner}
+use Rattle.log_model.specs.Model.{pairs}
+use Rattle.log_model.specs.Counts.{hitBy, startsLeft, hitsOn, changesRay, raysChanged, pairsLeft}
+use Rattle.log_model.specs.Lent.{listNumber, listIn, listsIn}
+use Rattle.log_model.proofs.Lent.{lent-laws}
+use Rattle.log_model.proofs.Starts.{pairs-left}
+use Rattle.log_entries.specs.Named.{pairsNamed, namedFrom, pairsAt}
+use Rattle.log_entries.proofs.Places.{AllFrom, all-first, all-rest, pairs-named, each-below, pairs-of}
 use Rattle.log_count.specs.Totals.{Countable}
 use Rattle.log_count.specs.Totals.{sum, pairsOf, leftOf, changesOf}
 use Rattle.log_count.proofs.Sums.{sum-over, sum-le, sum-at, sum-one, sum-plus, sum-times, sum-none}

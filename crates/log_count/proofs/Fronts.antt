@@ -6,8 +6,8 @@ use lib.Ieee.{Float, lt, le}
 use Rattle.doubles.specs.Doubles.{Number}
 use Rattle.doubles.proofs.Bools.{by-cases, clash}
 use Rattle.doubles.proofs.Order.{lt-number, lt-irrefl, le-refl, lt→le, not-lt→le, lt-le-trans, lt-trans}
-use Rattle.overlay.specs.Overlay.{higherOf, lowerOf}
-use Rattle.runs.specs.Logs.{Entry, HitKind, outer, inner, loOf, hiOf}
+use Rattle.span_overlay.specs.Overlay.{higherOf, lowerOf}
+use Rattle.log_model.specs.Logs.{Entry, HitKind, outer, inner, loOf, hiOf}
 use Rattle.log_keys.proofs.Hits.{LosesKind, inner-hit, outer-hit}
 use Rattle.log_long.specs.Long.{beginPast, leastPast}
 use Rattle.log_long.specs.declared.LongPart.{LongPart}

@@ -9,8 +9,8 @@ use lib.Ieee.{Float}
 use Rattle.doubles.proofs.Bools.{same-if}
 use Rattle.grid.specs.declared.DexelGrid.{DexelGrid}
 use Rattle.spans.specs.Spans.{holds}
-use Rattle.runs.specs.Logs.{entryCount}
-use Rattle.logs.specs.Named.{EachNamed}
+use Rattle.log_model.specs.Logs.{entryCount}
+use Rattle.log_entries.specs.Named.{EachNamed}
 use Rattle.log_keys.specs.Keys.{entryOfKey, hitsTo}
 use Rattle.log_keys.proofs.Hits.{hits-struck, struck-hits, losesOf, lost-holds, holds-lost}
 use Rattle.log_count.specs.Steps.{KeysOf}

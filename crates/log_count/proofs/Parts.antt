@@ -7,7 +7,7 @@ use lib.ListN.{length, take}
 use lib.Ieee.{Float, le}
 use Rattle.grid.specs.declared.DexelGrid.{DexelGrid}
 use Rattle.spans.specs.Spans.{holds}
-use Rattle.logs.specs.Named.{EachNamed}
+use Rattle.log_entries.specs.Named.{EachNamed}
 use Rattle.log_keys.specs.Keys.{hitsTo}
 use Rattle.log_keys.proofs.Hits.{losesOf}
 use Rattle.log_left.specs.declared.Rest.{Rest}

@@ -11,7 +11,7 @@ use Rattle.grid.specs.declared.DexelStockSpec.{DexelStockSpec}
 use Rattle.grid.specs.declared.DexelGrid.{DexelGrid}
 use Rattle.store.specs.Updates.{Cells}
 use Rattle.stock.specs.Stock.{possibleIn, certainIn}
-use Rattle.runs.specs.Logs.{entryCount}
+use Rattle.log_model.specs.Logs.{entryCount}
 use Rattle.log_count.specs.Totals.{Counting, Prefixed, sum, pairsOf, leftOf, changesOf}
 use Rattle.log_count.specs.Steps.{ListCounted, AddRayPre, AddRayPost, possibleLoses, certainLoses}
 use Rattle.log_count.specs.declared.ListCount.{ListCount}

@@ -6,7 +6,7 @@ use native.Mathlib.Omega.{arith}
 use lib.ListN.{length, length-append}
 use lib.Ieee.{Float, lt}
 use Rattle.spans.specs.Spans.{holds}
-use Rattle.runs.specs.Counts.{losOf, hisOf, among, distinct, startsLeft}
+use Rattle.log_model.specs.Counts.{losOf, hisOf, among, distinct, startsLeft}
 
 his-length : (l : List Float) → 2 * length (hisOf l) ≤ length l
 unfolding hisOf

@@ -14,8 +14,8 @@ use Rattle.doubles.proofs.Bools.{and-left, and-right, both, by-cases}
 use Rattle.doubles.proofs.Order.{lt-number, le-refl, lt→le, le-lt-trans, le-trans}
 use Rattle.grid.specs.declared.DexelGrid.{DexelGrid}
 use Rattle.spans.specs.Spans.{within, holds}
-use Rattle.runs.specs.Logs.{entryAt, entryCount, rayOf, HitKind, outer, inner, loOf, hiOf}
-use Rattle.logs.specs.Named.{EachNamed}
+use Rattle.log_model.specs.Logs.{entryAt, entryCount, rayOf, HitKind, outer, inner, loOf, hiOf}
+use Rattle.log_entries.specs.Named.{EachNamed}
 use Rattle.log_keys.specs.Keys.{entryOfKey, hitsTo, pairsPast, Stretch}
 use Rattle.log_keys.proofs.Hits.{LosesKind, inner-hit, outer-hit, hits-struck, struck-hits, losesOf, Lost, lost-holds, lost-past, holds-lost}
 use Rattle.log_long.specs.Long.{leastPast, FrontReach, GatherRayPost}

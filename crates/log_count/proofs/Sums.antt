@@ -7,8 +7,8 @@ use native.Mathlib.Omega.{arith}
 use native.Mathlib.Decide.{decLt}
 use Rattle.grid.specs.Rays.{rayCount}
 use Rattle.grid.specs.declared.DexelGrid.{DexelGrid}
-use Rattle.runs.specs.Logs.{Ray}
-use Rattle.runs.specs.Model.{sumTo, sumOver}
+use Rattle.log_model.specs.Logs.{Ray}
+use Rattle.log_model.specs.Model.{sumTo, sumOver}
 use Rattle.log_count.specs.Totals.{sum}
 
 -- a sum over rays goes by their numbers

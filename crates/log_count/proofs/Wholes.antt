@@ -7,7 +7,7 @@ use Prim.Native.Nat.{ℕ}
 use lib.Ieee.{Float, lt, le, neg}
 use Rattle.doubles.proofs.Bools.{and-true, and-right, same-if, clash}
 use Rattle.spans.specs.Spans.{holds, sound, less}
-use Rattle.lists.specs.Reading.{listFrom}
+use Rattle.store_lists.specs.Reading.{listFrom}
 use Rattle.log_keys.specs.Keys.{Stretch}
 use Rattle.log_left.specs.ListLeft.{ListWalked}
 use Rattle.log_left.specs.declared.Rest.{Rest}

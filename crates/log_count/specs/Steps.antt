@@ -11,10 +11,10 @@ use Rattle.grid.specs.Rays.{rayCount}
 use Rattle.grid.specs.declared.DexelStockSpec.{DexelStockSpec}
 use Rattle.grid.specs.declared.DexelGrid.{DexelGrid}
 use Rattle.store.specs.Updates.{Cells}
-use Rattle.lists.specs.Reading.{listFrom, Readable}
-use Rattle.runs.specs.Logs.{entries, entryAt, entryCount, rayOf, outer, inner}
-use Rattle.runs.specs.Counts.{hitBy, startsLeft}
-use Rattle.logs.specs.Named.{EachNamed, pairsNamed}
+use Rattle.store_lists.specs.Reading.{listFrom, Readable}
+use Rattle.log_model.specs.Logs.{entries, entryAt, entryCount, rayOf, outer, inner}
+use Rattle.log_model.specs.Counts.{hitBy, startsLeft}
+use Rattle.log_entries.specs.Named.{EachNamed, pairsNamed}
 use Rattle.log_keys.specs.Keys.{entryOfKey, pairsPast}
 use Rattle.log_left.specs.ListLeft.{ListWalked}
 use Rattle.log_left.specs.declared.Rest.{Rest}

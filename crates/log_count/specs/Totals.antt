@@ -6,14 +6,14 @@ use Prim.Native.Nat.{ℕ, zero, suc, _+_, _*_, _/_}
 use lib.ListN.{length}
 use lib.Ieee.{Float}
 use Rattle.grid.specs.Rays.{rayCount}
-use Rattle.gridding.specs.Causes.{GridFacts}
+use Rattle.grid_from_spec.specs.Causes.{GridFacts}
 use Rattle.grid.specs.declared.DexelStockSpec.{DexelStockSpec}
 use Rattle.grid.specs.declared.DexelGrid.{DexelGrid}
 use Rattle.store.specs.Updates.{Cells, Room}
 use Rattle.stock.specs.Stock.{SoundCells, possibleIn, certainIn}
-use Rattle.runs.specs.Logs.{entries, outer, inner}
-use Rattle.runs.specs.Counts.{hitBy, startsLeft}
-use Rattle.logs.specs.Named.{EachNamed, pairsNamed}
+use Rattle.log_model.specs.Logs.{entries, outer, inner}
+use Rattle.log_model.specs.Counts.{hitBy, startsLeft}
+use Rattle.log_entries.specs.Named.{EachNamed, pairsNamed}
 use Rattle.log_count.specs.declared.Totals.{Totals}
 
 -- a log whose entries each name a ray, on a sound store with room

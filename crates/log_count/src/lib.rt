@@ -4,8 +4,8 @@ ghost use mathlib.Core.Path.{_≡_};
 ghost use Prim.Native.Nat.{_+_, _<_};
 ghost use lib.ListN.{length};
 ghost use Rattle.store.specs.Updates.{cells};
-ghost use Rattle.lists.specs.Reading.{Readable};
-ghost use Rattle.runs.specs.Logs.{entryCount};
+ghost use Rattle.store_lists.specs.Reading.{Readable};
+ghost use Rattle.log_model.specs.Logs.{entryCount};
 ghost use Rattle.log_keys.specs.Keys.{hitsTo};
 ghost use Rattle.log_gather.specs.Gathering.{Shaped};
 ghost use Rattle.log_count.specs.Totals.{CountPost};
@@ -43,7 +43,7 @@ fn end_list(spans: &[f64], links: &[u64], n: usize, head: u64, r: Rest) -> ListC
     let left = log_left::finish(spans, links, n, r);
     ListCount {
         changes: left.moved,
-        before: lists::list_pairs(links, n, head) as u64,
+        before: store_lists::list_pairs(links, n, head) as u64,
         after: left.pairs,
     }
 }
@@ -64,7 +64,7 @@ fn count_list(
         (hitsTo (now (log .entry)) (now (keys .entry)) certain (length (now (keys .entry))))
         (now (buffer .entry)) (now (buffer .exit)) r ⌝ }
 {
-    let top = bit_patterns::of_bits(0x7ff0_0000_0000_0000);
+    let top = doubles_bits::of_bits(0x7ff0_0000_0000_0000);
     let r = log_left::start(spans, links, n, head);
     let t = log_stretches::take_hits(
         spans,
@@ -151,7 +151,7 @@ fn take_part(
 {
     let w = log_long::gather_ray(g, log, ray, top, b, keys);
     let m = w.count;
-    let both = overlay::higher(w.outer, w.inner);
+    let both = span_overlay::higher(w.outer, w.inner);
     let possible = log_stretches::take_hits(
         spans,
         links,
@@ -204,7 +204,7 @@ pub fn count_long(
         (now (buffer .entry)) (now (buffer .exit)) r ⌝ }
 {
     let n = spec.max_intervals as usize;
-    let top = bit_patterns::of_bits(0x7ff0_0000_0000_0000);
+    let top = doubles_bits::of_bits(0x7ff0_0000_0000_0000);
     let h = heads[2 * ray];
     let k = heads[2 * ray + 1];
     let mut p = log_left::start(spans, links, n, h);

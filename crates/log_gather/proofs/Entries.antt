@@ -11,7 +11,7 @@ use lib.ListN.{length, getD}
 use lib.Ieee.{Float, lt, le}
 use Rattle.spans.specs.Spans.{holds}
 use Rattle.doubles.proofs.Bools.{and-right}
-use Rattle.runs.specs.Logs.{Entry, entryAt, entryCount, outer, inner, loOf, hiOf}
+use Rattle.log_model.specs.Logs.{Entry, entryAt, entryCount, outer, inner, loOf, hiOf}
 use Rattle.log_keys.specs.Keys.{entryOfKey, withEntry, hitsTo}
 use Rattle.log_gather.specs.declared.HeldHits.{HeldHits}
 use Rattle.log_gather.specs.Gathering.{Shaped, PutPost, PutEntryPost, GatherPost}

@@ -16,7 +16,7 @@ use Rattle.spans.proofs.Points.{front-only, front-in, in-pair, pair-rises, numb
 use Rattle.doubles.specs.Doubles.{Number}
 use Rattle.doubles.proofs.Bools.{and-left, and-right, both, by-cases}
 use Rattle.doubles.proofs.Order.{lt-number, le-refl, lt-trans, lt-le-trans, not-lt→le}
-use Rattle.overlay.specs.Overlay.{lowerOf}
+use Rattle.span_overlay.specs.Overlay.{lowerOf}
 use Rattle.log_keys.specs.Keys.{pairsPast}
 use Rattle.log_gather.specs.declared.HeldHits.{HeldHits}
 use Rattle.log_gather.specs.Gathering.{Shaped, WholePairs, Gathers, MakeRoomPost}

@@ -3,8 +3,8 @@
 ghost use Prim.Native.Nat.{_+_, _*_, _<_};
 ghost use mathlib.Core.Path.{_≡_};
 ghost use lib.ListN.{length};
-ghost use Rattle.overlay.specs.Overlay.{lowerOf};
-ghost use Rattle.runs.specs.Logs.{entryAt, entryCount};
+ghost use Rattle.span_overlay.specs.Overlay.{lowerOf};
+ghost use Rattle.log_model.specs.Logs.{entryAt, entryCount};
 ghost use Rattle.log_keys.specs.Keys.{hitsTo};
 ghost use Rattle.log_gather.specs.Gathering.{Shaped, WholePairs, MakeRoomPost, PutPost, PutEntryPost, GatherPost};
 
@@ -36,7 +36,7 @@ fn make_room(cells: &mut [f64], h: HeldHits) -> HeldHits
     if h.count < size {
         return h;
     }
-    let m = normalizing::normalize_front(cells, h.count);
+    let m = span_normalize::normalize_front(cells, h.count);
     let half = size / 4 * 2;
     if m <= half + half / 2 {
         return HeldHits {

@@ -15,10 +15,10 @@ use Rattle.grid.specs.declared.DexelGrid.{DexelGrid}
 use Rattle.spans.specs.Spans.{within, holds}
 use Rattle.spans.proofs.Sets.{oddN-mod}
 use Rattle.spans.proofs.Points.{holds-append}
-use Rattle.runs.specs.Logs.{Entry, entryAt, entriesFrom, entryCount, entries, namesOne, rayOf, HitKind, outer, inner, loOf, hiOf}
-use Rattle.logs.specs.Named.{EachNamed, pairsNamed}
-use Rattle.logs.proofs.Places.{AllFrom, all-first, all-rest}
-use Rattle.logs.proofs.Sizes.{named-even}
+use Rattle.log_model.specs.Logs.{Entry, entryAt, entriesFrom, entryCount, entries, namesOne, rayOf, HitKind, outer, inner, loOf, hiOf}
+use Rattle.log_entries.specs.Named.{EachNamed, pairsNamed}
+use Rattle.log_entries.proofs.Places.{AllFrom, all-first, all-rest}
+use Rattle.log_entries.proofs.Sizes.{named-even}
 use Rattle.log_keys.specs.Keys.{entryOfKey, withEntry, hitsTo, pairsPast}
 use Rattle.log_keys.proofs.Past.{past-first, past-more}
 

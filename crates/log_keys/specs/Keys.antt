@@ -7,7 +7,7 @@ use Prim.Native.Nat.{ℕ, zero, suc, _%_}
 use lib.ListN.{getD}
 use lib.Ieee.{Float, lt}
 use Rattle.spans.specs.Spans.{within, holds}
-use Rattle.runs.specs.Logs.{Entry, entryAt, entryCount, outer, inner, loOf, hiOf}
+use Rattle.log_model.specs.Logs.{Entry, entryAt, entryCount, outer, inner, loOf, hiOf}
 
 -- the entry that a key stands for: what the key leaves when it is divided by the number of entries is its place
 unfoldable pub entryOfKey : List Float → ℕ → Entry

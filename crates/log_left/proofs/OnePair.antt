@@ -17,8 +17,8 @@ use Rattle.spans.proofs.Ends.{AtMost, Over, Above, all-append, all-map, above-l
 use Rattle.spans.proofs.Ends.{rising-tail, rising-above, rising-append, rising-left, rising-right, rising-before}
 use Rattle.spans.proofs.Sets.{oddN-mod, sound-rising, sound-mod, make-sound}
 use Rattle.spans.proofs.Points.{or-false, holds-append, holds-upTo, holds-above}
-use Rattle.overlay.specs.Overlay.{higherOf}
-use Rattle.overlay.proofs.Less.{higher-first, higher-second, higher-both, pair-all, pair-even, pair-rising, pair-holds}
+use Rattle.span_overlay.specs.Overlay.{higherOf}
+use Rattle.span_overlay.proofs.Less.{higher-first, higher-second, higher-both, pair-all, pair-even, pair-rising, pair-holds}
 
 -- the parts of a list with a pair in its midst
 module _ (done tail : List Float) (from e : Float) (s : rising (done ++ (from ∷ e ∷ tail)) ≡ true) where

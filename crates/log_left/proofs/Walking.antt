@@ -17,11 +17,11 @@ use Rattle.spans.proofs.Ends.{AtMost, Above, all-append, above-less, upTo-more,
 use Rattle.spans.proofs.Sets.{oddN-mod, sound-rising}
 use Rattle.spans.proofs.Points.{holds-append, holds-upTo, holds-above}
 use Rattle.store.specs.Store.{hiAt, nextAt, places}
-use Rattle.lists.specs.Reading.{listFrom, Readable}
-use Rattle.lists.proofs.Steps.{step, no-ends, ends-length}
-use Rattle.runs.specs.Counts.{hitBy}
-use Rattle.runs.proofs.Meets.{kept-unhit, hit-at}
-use Rattle.runs.proofs.Starts.{pairs-left}
+use Rattle.store_lists.specs.Reading.{listFrom, Readable}
+use Rattle.store_lists.proofs.Steps.{step, no-ends, ends-length}
+use Rattle.log_model.specs.Counts.{hitBy}
+use Rattle.log_model.proofs.Meets.{kept-unhit, hit-at}
+use Rattle.log_model.proofs.Starts.{pairs-left}
 use Rattle.log_left.specs.ListLeft.{startingAt, restOf, ListWalked, withoutPair, ListLeftPost}
 use Rattle.log_left.specs.Steps.{BeginPost, StartPost, ClosePairPost, CutPairPost}
 use Rattle.log_left.specs.declared.Rest.{Rest}

@@ -8,8 +8,8 @@ use lib.ListN.{length}
 use lib.Ieee.{Float}
 use Rattle.spans.specs.Spans.{within, holds, less, ListOf}
 use Rattle.spans.specs.Steps.{UpTo}
-use Rattle.lists.specs.Reading.{listFrom}
-use Rattle.runs.specs.Counts.{hitBy, startsLeft}
+use Rattle.store_lists.specs.Reading.{listFrom}
+use Rattle.log_model.specs.Counts.{hitBy, startsLeft}
 use Rattle.log_left.specs.declared.Rest.{Rest}
 use Rattle.log_left.specs.declared.ListLeft.{ListLeft}
 

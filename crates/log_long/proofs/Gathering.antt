@@ -5,7 +5,7 @@ use Prim.Native.Nat.{ℕ, _+_}
 use native.Mathlib.Omega.{arith}
 use lib.Ieee.{Float, neg}
 use Rattle.grid.specs.declared.DexelGrid.{DexelGrid}
-use Rattle.runs.specs.Logs.{entryAt, rayOf, outer, inner}
+use Rattle.log_model.specs.Logs.{entryAt, rayOf, outer, inner}
 use Rattle.log_long.specs.declared.LongPart.{LongPart}
 use Rattle.log_long.specs.Long.{AddKeyPost, AddFrontsPost, GathersTo}
 use Rattle.log_long.proofs.Stretching.{longKeys-start, longKeys-passed}

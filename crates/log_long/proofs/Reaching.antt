@@ -11,7 +11,7 @@ use Rattle.doubles.specs.Doubles.{Number}
 use Rattle.doubles.proofs.Bools.{and-left, and-right, both, clash}
 use Rattle.doubles.proofs.Order.{lt-number, le-number, not-lt→le, le-trans, lt-trans, lt-le-trans}
 use Rattle.spans.specs.Spans.{within}
-use Rattle.runs.specs.Logs.{entryAt, HitKind, loOf, hiOf}
+use Rattle.log_model.specs.Logs.{entryAt, HitKind, loOf, hiOf}
 use Rattle.log_long.specs.Long.{furtherOf, FrontReach}
 
 -- ---- one hit

@@ -11,7 +11,7 @@ use lib.Seq.{getD-set-same, getD-set-other}
 use lib.Ieee.{Float, lt}
 use Rattle.doubles.proofs.Bools.{not-true, not-false, clash}
 use Rattle.doubles.proofs.Order.{lt-irrefl, lt-trans}
-use Rattle.runs.specs.Logs.{entryAt}
+use Rattle.log_model.specs.Logs.{entryAt}
 use Rattle.log_keys.specs.KeysKept.{KeysKept}
 use Rattle.log_long.specs.declared.LongPart.{LongPart}
 use Rattle.log_long.specs.Long.{leastPast, InLog, LongKeys, LongRoomPost, AddKeyPost}

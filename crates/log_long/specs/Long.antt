@@ -8,9 +8,9 @@ use lib.ListN.{length, getD}
 use lib.Ieee.{Float, lt, neg}
 use Rattle.doubles.specs.Doubles.{Number}
 use Rattle.spans.specs.Spans.{within}
-use Rattle.overlay.specs.Overlay.{lowerOf}
+use Rattle.span_overlay.specs.Overlay.{lowerOf}
 use Rattle.grid.specs.declared.DexelGrid.{DexelGrid}
-use Rattle.runs.specs.Logs.{Entry, entryAt, entryCount, rayOf, HitKind, outer, inner, loOf, hiOf}
+use Rattle.log_model.specs.Logs.{Entry, entryAt, entryCount, rayOf, HitKind, outer, inner, loOf, hiOf}
 use Rattle.log_long.specs.declared.LongPart.{LongPart}
 
 -- where a hit begins, if that is past b, or else `top`

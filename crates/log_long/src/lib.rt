@@ -6,8 +6,8 @@ ghost use mathlib.Core.Logic.{_⊎_};
 ghost use lib.ListN.{length};
 ghost use lib.Ieee.{lt};
 ghost use Rattle.grid.specs.Rays.{rayCount};
-ghost use Rattle.runs.specs.Logs.{entryAt, entryCount};
-ghost use Rattle.logs.specs.Named.{EachNamed};
+ghost use Rattle.log_model.specs.Logs.{entryAt, entryCount};
+ghost use Rattle.log_entries.specs.Named.{EachNamed};
 ghost use Rattle.log_keys.specs.KeysKept.{KeysKept};
 ghost use Rattle.log_long.specs.Long.{beginPast, leastPast, furtherOf, InLog, LongRoomPost};
 ghost use Rattle.log_long.specs.Long.{AddKeyPost, AddFrontsPost, GathersTo, GatherRayPost};
@@ -181,7 +181,7 @@ fn add_entry(
         × GathersTo g (now log) ray top b i (now keys) (now keys) w ⌝ }
     ensures { λ r. ⌜ GathersTo g (now (log .entry)) ray top b (i + 1) (now (keys .entry)) (now (keys .exit)) r ⌝ }
 {
-    if logs::ray_at(g, log, i) == ray {
+    if log_entries::ray_at(g, log, i) == ray {
         let t = add_fronts(b, log, w, i);
         return add_key(top, b, log, keys, t, i);
     }

@@ -2,8 +2,8 @@
 // each with as many hits as a lent buffer holds. Of the hits that begin at or before a stretch only how far they reach counts.
 ghost use Prim.Native.Nat.{_<_};
 ghost use lib.ListN.{length, take};
-ghost use Rattle.lists.specs.Reading.{Readable};
-ghost use Rattle.runs.specs.Logs.{entryCount};
+ghost use Rattle.store_lists.specs.Reading.{Readable};
+ghost use Rattle.log_model.specs.Logs.{entryCount};
 ghost use Rattle.log_keys.specs.Keys.{hitsTo};
 ghost use Rattle.log_gather.specs.Gathering.{Shaped, WholePairs};
 ghost use Rattle.log_stretches.specs.Stretches.{TakeHeldPost, TakeHitsPost};
@@ -64,7 +64,7 @@ pub fn take_hits(
     let mut low = b;
     loop {
         let h = log_gather::gather(log, keys, certain, cells, low, u, front);
-        let m = normalizing::normalize_front(cells, h.count);
+        let m = span_normalize::normalize_front(cells, h.count);
         t = take_held(spans, links, n, t, cells, m, low, h.end, h.front);
         if !(h.end < u) {
             break;

@@ -100,8 +100,8 @@ fn widened(e: Extent, p: Point) -> Extent
     ensures { λ r. ⌜ r ≡ widen e p ⌝ }
 {
     Extent {
-        lo: extremes::smaller(e.lo, p.x),
-        hi: extremes::larger(e.hi, p.x),
+        lo: doubles_minmax::smaller(e.lo, p.x),
+        hi: doubles_minmax::larger(e.hi, p.x),
         any: true,
     }
 }

@@ -6,9 +6,9 @@ use Prim.Native.Nat.{ℕ, zero, suc, _+_, _*_, _/_, _%_}
 use lib.Dec.{eqb, leb}
 use lib.ListN.{length, getD}
 use lib.Ieee.{Float, binary64, ofBits}
-use Rattle.rows.specs.Hex.{hexAt}
-use Rattle.rows.specs.declared.Word.{Word}
-use Rattle.rows.specs.declared.Word.the-variants.{Value, Missing}
+use Rattle.hex_text.specs.Hex.{hexAt}
+use Rattle.hex_text.specs.declared.Word.{Word}
+use Rattle.hex_text.specs.declared.Word.the-variants.{Value, Missing}
 
 -- the letters: B bounds, P and C the ray's lists, O and I the hits
 abbrev pub letterB : ℕ

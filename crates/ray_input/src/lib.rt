@@ -6,13 +6,13 @@ ghost use lib.ListN.{length, getD};
 ghost use lib.Ieee.{binary64, ofBits};
 ghost use Rattle.ray_input.specs.Format.{isNumber, bitsAt, isLetter, isLine, lines, count, pairAt, pairs, few, readable};
 ghost use Rattle.ray_input.specs.Steps.{Appended};
-use rows::Word;
+use hex_text::Word;
 
 // Whether 16 small hex digits stand at `at`.
 fn is_number(s: &[u8], at: usize) -> bool
     ensures { λ r. ⌜ r ≡ isNumber (now (s .entry)) at ⌝ }
 {
-    match rows::word_at(s, at) {
+    match hex_text::word_at(s, at) {
         Word::Value(_) => true,
         Word::Missing => false,
     }
@@ -22,9 +22,9 @@ fn is_number(s: &[u8], at: usize) -> bool
 pub fn double_at(s: &[u8], at: usize) -> f64
     ensures { λ r. ⌜ r ≡ ofBits binary64 (bitsAt (now (s .entry)) at) ⌝ }
 {
-    match rows::word_at(s, at) {
-        Word::Value(v) => bit_patterns::of_bits(v),
-        Word::Missing => bit_patterns::of_bits(0),
+    match hex_text::word_at(s, at) {
+        Word::Value(v) => doubles_bits::of_bits(v),
+        Word::Missing => doubles_bits::of_bits(0),
     }
 }
 

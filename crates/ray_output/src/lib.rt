@@ -47,7 +47,7 @@ fn put_field(out: &mut [u8], at: usize, x: f64) -> usize
     requires { ⌜ at + 17 ≤ length (now out) ⌝ }
     ensures { λ r. ⌜ Appended (now (out .entry)) at (fieldText x) (now (out .exit)) r ⌝ }
 {
-    let bits = bit_patterns::bits_of(x);
+    let bits = doubles_bits::bits_of(x);
     let n = put_byte(out, at, b' ');
     put_hex(out, n, bits)
 }

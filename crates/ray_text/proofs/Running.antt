@@ -11,9 +11,9 @@ use lib.ListN.{length, take, drop}
 use lib.Ieee.{Float}
 use Rattle.refusal.specs.Refusal.{Due, NoneDue}
 use Rattle.spans.specs.Spans.{holds}
-use Rattle.taking.specs.Taking.{eitherHit, cellsOf, handed, Spared}
-use Rattle.merge.specs.Merge.{Left, mergeCauses}
-use Rattle.taking.specs.declared.Part.{Part}
+use Rattle.ray_subtract.specs.Taking.{eitherHit, cellsOf, handed, Spared}
+use Rattle.ray_merge.specs.Merge.{Left, mergeCauses}
+use Rattle.ray_subtract.specs.declared.Part.{Part}
 use Rattle.ray_input.specs.Format.{letterB, letterP, letterC, letterO, letterI, lines, letterOf, count, pairs, few, total, readable}
 use Rattle.ray_output.specs.Output.{linesText, endText, refusedText}
 use Rattle.ray_text.specs.Run.{loOf, hiOf, possibleIn, certainIn, outerIn, innerIn, rayCauses, runCauses, Result, refused, written, Printed, Ran, Small}

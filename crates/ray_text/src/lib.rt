@@ -5,7 +5,7 @@ ghost use Prim.Native.Nat.{_≤_};
 ghost use lib.ListN.{length};
 ghost use Rattle.ray_input.specs.Format.{readable};
 ghost use Rattle.ray_text.specs.Run.{Ran, Printed, rayCauses, Small};
-use merge::Merged;
+use ray_merge::Merged;
 
 // Merges the hits into a ray, and prints both lists or the refusal.
 fn print_merged(
@@ -22,7 +22,7 @@ fn print_merged(
         (now (outer .entry)) (now (inner .entry)) (now (out .entry)) (now (out .exit)) r ⌝ }
 {
     let mut work = [0.0; 3072];
-    let answer = merge::merge(possible, certain, lo, hi, outer, inner, &mut work);
+    let answer = ray_merge::merge(possible, certain, lo, hi, outer, inner, &mut work);
     match answer {
         Merged::Refused(k) => ray_output::put_refused(out, k),
         Merged::Lists(p, c) => {
@@ -30,13 +30,13 @@ fn print_merged(
                 out,
                 0,
                 b'P',
-                merged_lists::possible_of(possible, &work, answer),
+                ray_lists::possible_of(possible, &work, answer),
             );
             let m = ray_output::put_lines(
                 out,
                 n,
                 b'C',
-                merged_lists::certain_of(certain, &work, answer),
+                ray_lists::certain_of(certain, &work, answer),
             );
             ray_output::put_end(out, m, p.moved, c.moved)
         }

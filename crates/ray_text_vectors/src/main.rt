@@ -3,20 +3,20 @@
 // A case is a head of ten bytes, the input and the output that it must give. The head has the two lengths in four hexadecimal digits each, with a
 // space between them and a newline behind. It writes how many cases agree and differ, how many can't be read, and the
 // number of the first that differs.
-use replay::Outcome;
-use replay::Tally;
+use vector_replay::Outcome;
+use vector_replay::Tally;
 
 // The most bytes of an input or an output.
 const MOST: usize = 16384;
 
 // Reads n bytes to the front of a buffer, and answers whether they were there.
 fn read_text(buf: &mut [u8], n: usize) -> bool {
-    io::read_full(libc::STDIN_FILENO, recorded::first_bytes_mut(buf, n)) == n
+    io::read_full(libc::STDIN_FILENO, vector_words::first_bytes_mut(buf, n)) == n
 }
 
 // Whether the first n bytes of the buffer are these.
 fn wrote(out: &[u8; 65536], n: usize, wanted: &[u8]) -> bool {
-    check::same(recorded::first_bytes(out, n), wanted)
+    check::same(vector_words::first_bytes(out, n), wanted)
 }
 
 // Whether an input gives this output.
@@ -36,28 +36,28 @@ fn ran(n: usize, m: usize) -> Outcome {
     if !read_text(&mut wanted, m) {
         return Outcome::Unread;
     }
-    let s = recorded::first_bytes(&input, n);
-    replay::told(0, 1, gives(s, recorded::first_bytes(&wanted, m)))
+    let s = vector_words::first_bytes(&input, n);
+    vector_replay::told(0, 1, gives(s, vector_words::first_bytes(&wanted, m)))
 }
 
 // Where the head can't be read, a length is more than the most.
 fn compared(head: &[u8]) -> Outcome {
-    let n = replay::value_or(rows::hex_at(head, 0, 4), 65536);
-    let m = replay::value_or(rows::hex_at(head, 5, 4), 65536);
+    let n = vector_replay::value_or(hex_text::hex_at(head, 0, 4), 65536);
+    let m = vector_replay::value_or(hex_text::hex_at(head, 5, 4), 65536);
     ran(n as usize, m as usize)
 }
 
 // What follows a case that can't be read is not looked at.
 // The turns are counted down, since a proved loop has to end and nothing says that the input does.
 fn counted() -> Tally {
-    let mut t = replay::start();
+    let mut t = vector_replay::start();
     let mut turns = u64::MAX;
     while turns > 0 {
         let mut head = [0u8; 10];
-        if !replay::read_row(&mut head) {
+        if !vector_replay::read_row(&mut head) {
             break;
         }
-        t = replay::count(t, compared(&head));
+        t = vector_replay::count(t, compared(&head));
         if t.unread > 0 {
             break;
         }
@@ -67,5 +67,5 @@ fn counted() -> Tally {
 }
 
 fn main() {
-    replay::print(b"cases", counted());
+    vector_replay::print(b"cases", counted());
 }

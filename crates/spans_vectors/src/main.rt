@@ -5,10 +5,10 @@
 // other cells of a buffer are compared bit for bit.
 // For each function it writes how many rows agree and how many differ, then how many can't be read, and the number of the first row that
 // differs.
-use comparing::Told;
-use replay::Outcome;
-use replay::Tally;
+use span_compare::Told;
 use spans::Listed;
+use vector_replay::Outcome;
+use vector_replay::Tally;
 
 // A refusal's number or 0, and the number of pairs, or 1 for yes.
 struct Reply {
@@ -49,31 +49,31 @@ fn told(t: Told) -> Reply {
 // The function of this number.
 fn reply_of(op: u64, a: &[f64], b: &[f64], out: &mut [f64]) -> Reply {
     if op == 0 {
-        return listed(normalizing::normalize(a, out));
+        return listed(span_normalize::normalize(a, out));
     }
     if op == 1 {
-        return listed(combining::subtract(a, b, out));
+        return listed(span_combine::subtract(a, b, out));
     }
     if op == 2 {
-        return listed(combining::intersect(a, b, out));
+        return listed(span_combine::intersect(a, b, out));
     }
     if op == 3 {
-        return told(comparing::contains(a, b));
+        return told(span_compare::contains(a, b));
     }
-    told(comparing::overlaps(a, b))
+    told(span_compare::overlaps(a, b))
 }
 
 // Words 1 to 3: the cells of the two lists, which stand from 4 and 11 on, and of the buffer.
 fn reply_to(w: &[u64; 35], out: &mut [f64]) -> Reply {
     let mut a = [0.0; 7];
-    recorded::doubles_at(w, 4, &mut a);
+    vector_words::doubles_at(w, 4, &mut a);
     let mut b = [0.0; 7];
-    recorded::doubles_at(w, 11, &mut b);
+    vector_words::doubles_at(w, 11, &mut b);
     reply_of(
         w[0],
-        recorded::first(&a, w[1] as usize),
-        recorded::first(&b, w[2] as usize),
-        recorded::first_mut(out, w[3] as usize),
+        vector_words::first(&a, w[1] as usize),
+        vector_words::first(&b, w[2] as usize),
+        vector_words::first_mut(out, w[3] as usize),
     )
 }
 
@@ -97,32 +97,32 @@ fn agrees(w: &[u64; 35]) -> bool {
     if r.count != w[19] {
         return false;
     }
-    recorded::cells_agree(&out, w, 20, ends_of(w[0], r), 15)
+    vector_words::cells_agree(&out, w, 20, ends_of(w[0], r), 15)
 }
 
 fn compared(text: &[u8]) -> Outcome {
     let mut w = [0; 35];
-    if !replay::read_words(text, 0, &mut w) {
+    if !vector_replay::read_words(text, 0, &mut w) {
         return Outcome::Unread;
     }
-    replay::told(w[0], 5, agrees(&w))
+    vector_replay::told(w[0], 5, agrees(&w))
 }
 
 // The turns are counted down, since a proved loop has to end and nothing says that the input does.
 fn counted() -> Tally {
-    let mut t = replay::start();
+    let mut t = vector_replay::start();
     let mut turns = u64::MAX;
     while turns > 0 {
         let mut text = [0u8; 595];
-        if !replay::read_row(&mut text) {
+        if !vector_replay::read_row(&mut text) {
             break;
         }
-        t = replay::count(t, compared(&text));
+        t = vector_replay::count(t, compared(&text));
         turns -= 1;
     }
     t
 }
 
 fn main() {
-    replay::print(b"normalize subtract intersect contains overlaps", counted());
+    vector_replay::print(b"normalize subtract intersect contains overlaps", counted());
 }

@@ -10,9 +10,9 @@ use Rattle.grid.specs.declared.DexelStockSpec.{DexelStockSpec}
 use Rattle.grid.specs.declared.DexelGrid.{DexelGrid}
 use Rattle.grid.specs.declared.RayBounds.{RayBounds}
 use Rattle.store.specs.Updates.{Cells, Room, SoundStore}
-use Rattle.validity.specs.Ray.{ValidRay}
-use Rattle.lists.specs.Reading.{Readable}
-use Rattle.lists.proofs.Steps.{readable}
+use Rattle.ray_validity.specs.Ray.{ValidRay}
+use Rattle.store_lists.specs.Reading.{Readable}
+use Rattle.store_lists.proofs.Steps.{readable}
 use Rattle.stock.specs.Stock.{possibleIn, certainIn, ValidAt, ValidTo, SoundCells, Tells, Chained}
 
 -- a test that fails, of what P brings with it

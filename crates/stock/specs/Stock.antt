@@ -10,7 +10,7 @@ use Rattle.grid.specs.Rays.{rayCount, boundsOf}
 use Rattle.grid.specs.declared.DexelStockSpec.{DexelStockSpec}
 use Rattle.grid.specs.declared.DexelGrid.{DexelGrid}
 use Rattle.store.specs.Updates.{Cells, Room, SoundStore, held}
-use Rattle.validity.specs.Ray.{ValidRay}
+use Rattle.ray_validity.specs.Ray.{ValidRay}
 
 -- Document 01's store and small record. With a description that `grid` accepts they are a stock.
 pub record Stock : Type 0 where

@@ -2,7 +2,7 @@
 ghost use mathlib.Core.Path.{_≡_};
 ghost use Prim.Native.Nat.{_*_, _<_};
 ghost use Rattle.grid.specs.Rays.{rayCount};
-ghost use Rattle.gridding.specs.Causes.{GridFacts};
+ghost use Rattle.grid_from_spec.specs.Causes.{GridFacts};
 ghost use Rattle.store.specs.Updates.{cells, Room, SoundStore};
 ghost use Rattle.stock.specs.Stock.{Tells, ValidAt, ValidTo, Chained, SoundCells, short};
 use grid::DexelGrid;
@@ -42,7 +42,7 @@ fn check_ray(
     let n = spec.max_intervals as usize;
     let j = 2 * (ray as usize);
     let bounds = grid_rays::ray_bounds(spec, g, ray);
-    stored_rays::valid_ray_at(
+    store_rays::valid_ray_at(
         spans,
         links,
         n,

@@ -3,7 +3,7 @@ use mathlib.Core.Bool.{cond}
 use lib.Ieee.{Float, binary64, add, sub, mul, div, neg, lt, le}
 use Rattle.doubles.specs.Constants.{plusZero}
 use Rattle.doubles.specs.Doubles.{largerOf, smallerOf}
-use Rattle.square_root.specs.Root.{squareRoot}
+use Rattle.doubles_sqrt.specs.Root.{squareRoot}
 use Rattle.polygons.specs.declared.Point.{Point}
 use Rattle.polygons.specs.declared.Strip.{Strip}
 use Rattle.polygons.specs.declared.Strip.the-variants.{Hit, Miss}

@@ -19,7 +19,7 @@ fn band_distance(y: f64, y0: f64, y1: f64) -> f64
 fn half_chord(rho: f64, dy: f64) -> f64
     ensures { λ r. ⌜ r ≡ halfChord rho dy ⌝ }
 {
-    square_root::sqrt(extremes::larger((rho - dy) * (rho + dy), 0.0))
+    doubles_sqrt::sqrt(doubles_minmax::larger((rho - dy) * (rho + dy), 0.0))
 }
 
 fn chord_strip(x: f64, rho: f64, dy: f64) -> Strip
@@ -47,7 +47,10 @@ fn hull_of(a: Strip, b: Strip) -> Strip
         Strip::Hit(lo, hi) => match b {
             Strip::Miss => a,
             Strip::Hit(lo2, hi2) => {
-                Strip::Hit(extremes::smaller(lo, lo2), extremes::larger(hi, hi2))
+                Strip::Hit(
+                    doubles_minmax::smaller(lo, lo2),
+                    doubles_minmax::larger(hi, hi2),
+                )
             }
         },
     }
@@ -62,7 +65,7 @@ fn ends_strip(a: Point, b: Point, rho: f64, y0: f64, y1: f64) -> Strip
     if da <= rho {
         let half = half_chord(rho, da);
         let first = Strip::Hit(a.x - half, a.x + half);
-        if bit_patterns::bits_of(da) == bit_patterns::bits_of(db) {
+        if doubles_bits::bits_of(da) == doubles_bits::bits_of(db) {
             return hull_of(first, Strip::Hit(b.x - half, b.x + half));
         }
         return hull_of(first, chord_strip(b.x, rho, db));

@@ -13,35 +13,35 @@ use Rattle.doubles.specs.Constants.{plusZero}
 use Rattle.doubles.proofs.Bools.{clash, not-true}
 use Rattle.refusal.specs.Refusal.{Cause, cause, Due, NoneDue}
 use Rattle.refusal.proofs.Laws.{first, later}
-use Rattle.gridding.specs.Grid.{gridOf}
-use Rattle.gridding.specs.Causes.{gridCauses, gridIn, GridFacts}
+use Rattle.grid_from_spec.specs.Grid.{gridOf}
+use Rattle.grid_from_spec.specs.Causes.{gridCauses, gridIn, GridFacts}
 use Rattle.grid.specs.declared.DexelStockSpec.{DexelStockSpec}
 use Rattle.grid.specs.declared.DexelGrid.{DexelGrid}
 use Rattle.grid.specs.declared.Gridded.the-variants.{Accepted as Griddable, Refused as NoGrid}
 use Rattle.frame.specs.declared.Frame.{Frame}
-use Rattle.tool_check.specs.Limits.{toolCauses, Checked}
-use Rattle.tool_check.specs.declared.ToolCheck.{ToolCheck}
-use Rattle.tool_check.specs.declared.ToolCheck.the-variants.{Accepted as Usable, Refused as Unusable}
+use Rattle.cutter_check.specs.Limits.{toolCauses, Checked}
+use Rattle.cutter_check.specs.declared.ToolCheck.{ToolCheck}
+use Rattle.cutter_check.specs.declared.ToolCheck.the-variants.{Accepted as Usable, Refused as Unusable}
 use Rattle.stock.specs.Stock.{SoundCells, Tells, short}
 use Rattle.stock.proofs.Causes.{due-first, due-second, none-in-both, room-of}
 use Rattle.stock.proofs.Rays.{sound-chained}
 use Rattle.stock.proofs.Answers.{accepted, refused}
-use Rattle.lanes.specs.declared.Kernel.{Kernel}
-use Rattle.lanes.specs.declared.Profile.{Profile}
+use Rattle.sweep_kernel.specs.declared.Kernel.{Kernel}
+use Rattle.sweep_kernel.specs.declared.Profile.{Profile}
 use Rattle.store.specs.Updates.{Cells}
-use Rattle.visits.specs.Walk.{Walks, Stop}
-use Rattle.visits.specs.declared.Cursor.{Cursor}
-use Rattle.visits.specs.declared.Progress.{Progress}
-use Rattle.visits.specs.declared.Progress.the-variants.{At, Stopped}
-use Rattle.visits.proofs.Walks.{walk-done, walk-stop, stop-is, done-no-stop}
+use Rattle.sweep_visits.specs.Walk.{Walks, Stop}
+use Rattle.sweep_visits.specs.declared.Cursor.{Cursor}
+use Rattle.sweep_visits.specs.declared.Progress.{Progress}
+use Rattle.sweep_visits.specs.declared.Progress.the-variants.{At, Stopped}
+use Rattle.sweep_visits.proofs.Walks.{walk-done, walk-stop, stop-is, done-no-stop}
 use Rattle.chords.specs.Limits.{chordsFit}
-use Rattle.walks.specs.Entries.{Setting, setting, sweepEntries, logOf, Sweepable}
+use Rattle.sweep_walk.specs.Entries.{Setting, setting, sweepEntries, logOf, Sweepable}
 use Rattle.sweep.specs.Answer.{Unsound, settingCauses, walkOf, visitCauses, causesIn, sweepCauses, refusedLog, Sweeps, Checks, endOf, loggedBy, endLog}
 use Rattle.sweep.specs.declared.Swept.{Swept}
 use Rattle.sweep.specs.declared.Swept.the-variants.{Accepted, Refused}
 use Rattle.sweep.specs.declared.SweepCheck.{SweepCheck}
 use Rattle.sweep.specs.declared.SweepCheck.the-variants.{Admitted, Declined}
-use Rattle.walks.proofs.Chords.{sweep-length, log-length}
+use Rattle.sweep_walk.proofs.Chords.{sweep-length, log-length}
 
 -- ---- the check of a setting
 module _ (s : Setting) (intervals : ℕ) (chords : List Float) where

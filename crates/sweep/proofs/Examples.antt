@@ -6,38 +6,38 @@ use Prim.Native.Nat.{ℕ, _*_, _%_}
 use lib.ListN.{length}
 use lib.Ieee.{ofBits, ofInt, toUnsigned, neg, add, sub, mul, div, lt, le, eq, isNan}
 use Rattle.doubles.specs.Doubles.{ratio, largerOf, smallerOf, absOf, clampOf, floorOf, ceilOf}
-use Rattle.square_root.specs.Root.{squareRoot}
+use Rattle.doubles_sqrt.specs.Root.{squareRoot}
 use Rattle.grid.specs.Axes.{byDigit}
 use Rattle.grid.specs.Grid.{within, allWithin}
-use Rattle.gridding.specs.Grid.{anyBelow, anyAbove, isMm, misdescribed, cellsOf, magnitudeOf, leastStep, tooFine, gridOver, gridOf}
-use Rattle.gridding.specs.Causes.{mm, gridIn, gridCauses}
+use Rattle.grid_from_spec.specs.Grid.{anyBelow, anyAbove, isMm, misdescribed, cellsOf, magnitudeOf, leastStep, tooFine, gridOver, gridOf}
+use Rattle.grid_from_spec.specs.Causes.{mm, gridIn, gridCauses}
 use Rattle.grid.specs.declared.Gridded.the-variants.{Accepted as Griddable}
-use Rattle.gridding.proofs.Facts.{grid-facts}
+use Rattle.grid_from_spec.proofs.Facts.{grid-facts}
 use Rattle.refusal.specs.Refusal.{NoneDue}
 use Rattle.doubles.proofs.Bools.{clash}
 use Rattle.grid.specs.Rays.{rayCount, raysAlong, offset, rayAxis, boundsOf, cellAt}
 use Rattle.frame.specs.declared.Axis.the-variants.{PosZ}
 use Rattle.frame.specs.Frame.{frameOf, digitOf, worldAxisOf, localAxisOf, signAlong, localAt, localOf, turned, worldOf}
 use Rattle.cutter.specs.Cutter.{isFinite, cuttingRadius, offTool, radiusAt, cutRadius, cutMax, cutMin}
-use Rattle.tool_check.specs.Limits.{aboveZero, fromZero, number, sizesFit, heightsFit, lengthsFit, diametersFit, shapeFits, withinLimits, isBeam}
+use Rattle.cutter_check.specs.Limits.{aboveZero, fromZero, number, sizesFit, heightsFit, lengthsFit, diametersFit, shapeFits, withinLimits, isBeam}
 use Rattle.cutter.specs.declared.CutterShape.the-variants.{Flat}
 use Rattle.strips.specs.Strip.{bandDistance, halfChord, chordStrip, diskStrip, stadiumStrip, hull, sideStrip}
 use Rattle.store.specs.Store.{places, endsAt}
 use Rattle.stock.specs.Stock.{SoundCells, short}
-use Rattle.filling.specs.Uncut.{recordAt, uncutSpans, uncutLinks, uncutHeads, uncut}
+use Rattle.stock_fill.specs.Uncut.{recordAt, uncutSpans, uncutLinks, uncutHeads, uncut}
 use Rattle.stock.proofs.Causes.{none-in-both, room-of}
 use Rattle.stock.proofs.Answers.{accepted}
-use Rattle.filling.proofs.UncutSound.{uncut-sound}
-use Rattle.meeting.specs.Meets.{lastOf, spansMeet, overlapsOf}
-use Rattle.lanes.specs.Lane.{planPoint, reachOf, sideOf, laneOf, spanOver, cellsMet, cellsAcross, rectangleOf}
-use Rattle.across.specs.Section.{centerOf, sectionWith, sectionOf}
-use Rattle.across.specs.Across.{outerFrom, outerOf, innerFrom, innerOf, hitOf}
-use Rattle.visits.specs.Entries.{entryOf, entryFor, rayEntry, each, rowEntries, rectEntries, raysIn, sum}
-use Rattle.visits.specs.Walk.{walk}
-use Rattle.visits.proofs.Walks.{done-no-stop}
+use Rattle.stock_fill.proofs.UncutSound.{uncut-sound}
+use Rattle.sweep_meet.specs.Meets.{lastOf, spansMeet, overlapsOf}
+use Rattle.sweep_kernel.specs.Lane.{planPoint, reachOf, sideOf, laneOf, spanOver, cellsMet, cellsAcross, rectangleOf}
+use Rattle.sweep_ray.specs.Section.{centerOf, sectionWith, sectionOf}
+use Rattle.sweep_ray.specs.Across.{outerFrom, outerOf, innerFrom, innerOf, hitOf}
+use Rattle.sweep_visits.specs.Entries.{entryOf, entryFor, rayEntry, each, rowEntries, rectEntries, raysIn, sum}
+use Rattle.sweep_visits.specs.Walk.{walk}
+use Rattle.sweep_visits.proofs.Walks.{done-no-stop}
 use Rattle.chords.specs.Chords.{chordOf}
 use Rattle.chords.specs.Limits.{guardFits, endsFit, planSize, lengthFits, numbersFit, chordFits, every, chordsFit}
-use Rattle.walks.specs.Entries.{trackOf, axisEntries, firstAxis, secondAxis, chordEntries, sweepEntries, visitTotal}
+use Rattle.sweep_walk.specs.Entries.{trackOf, axisEntries, firstAxis, secondAxis, chordEntries, sweepEntries, visitTotal}
 use Rattle.sweep.specs.Answer.{Unsound, causesIn, sweepCauses}
 use Rattle.sweep.specs.Examples.{AllRight, halves, lent, blank, flat, sweeping, threeChords, fourEntries, examples}
 

@@ -9,22 +9,22 @@ use lib.Ieee.{Float}
 use lib.ListN.{length, replicate, take}
 use Rattle.doubles.specs.Constants.{plusZero}
 use Rattle.refusal.specs.Refusal.{Cause, cause, Due, NoneDue}
-use Rattle.gridding.specs.Causes.{gridCauses, gridIn}
+use Rattle.grid_from_spec.specs.Causes.{gridCauses, gridIn}
 use Rattle.grid.specs.declared.DexelStockSpec.{DexelStockSpec}
 use Rattle.frame.specs.Frame.{frameOf}
 use Rattle.frame.specs.declared.Axis.{Axis}
-use Rattle.tool_check.specs.Limits.{toolCauses}
+use Rattle.cutter_check.specs.Limits.{toolCauses}
 use Rattle.cutter.specs.declared.CutterShape.{CutterShape}
 use Rattle.cutter.specs.declared.PreparedCutter.{PreparedCutter}
 use Rattle.store.specs.Updates.{Cells}
 use Rattle.stock.specs.Stock.{SoundCells, short}
-use Rattle.lanes.specs.Lane.{profileOf}
-use Rattle.visits.specs.Entries.{entryCount}
-use Rattle.visits.specs.Walk.{Walked, Stop, walk}
-use Rattle.visits.specs.declared.Progress.{Progress}
-use Rattle.visits.specs.declared.Progress.the-variants.{At, Stopped}
+use Rattle.sweep_kernel.specs.Lane.{profileOf}
+use Rattle.sweep_visits.specs.Entries.{entryCount}
+use Rattle.sweep_visits.specs.Walk.{Walked, Stop, walk}
+use Rattle.sweep_visits.specs.declared.Progress.{Progress}
+use Rattle.sweep_visits.specs.declared.Progress.the-variants.{At, Stopped}
 use Rattle.chords.specs.Limits.{chordsFit}
-use Rattle.walks.specs.Entries.{Setting, setting, sweepEntries, logOf, visitTotal, Sweepable}
+use Rattle.sweep_walk.specs.Entries.{Setting, setting, sweepEntries, logOf, visitTotal, Sweepable}
 use Rattle.sweep.specs.declared.Totals.{Totals}
 use Rattle.sweep.specs.declared.Swept.{Swept}
 use Rattle.sweep.specs.declared.Swept.the-variants.{Accepted, Refused}

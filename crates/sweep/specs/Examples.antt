@@ -13,11 +13,11 @@ use Rattle.cutter.specs.declared.CutterShape.the-variants.{Flat}
 use Rattle.cutter.specs.declared.PreparedCutter.{PreparedCutter}
 use Rattle.grid.specs.declared.Vec3.{Vec3}
 use Rattle.grid.specs.declared.DexelStockSpec.{DexelStockSpec}
-use Rattle.gridding.specs.Causes.{gridIn}
+use Rattle.grid_from_spec.specs.Causes.{gridIn}
 use Rattle.store.specs.Updates.{Cells, cells}
-use Rattle.filling.specs.Uncut.{uncut}
-use Rattle.visits.specs.Walk.{Walked, Done, Stop}
-use Rattle.walks.specs.Entries.{Setting}
+use Rattle.stock_fill.specs.Uncut.{uncut}
+use Rattle.sweep_visits.specs.Walk.{Walked, Done, Stop}
+use Rattle.sweep_walk.specs.Entries.{Setting}
 use Rattle.sweep.specs.Answer.{settingOf, walkOf}
 
 -- n / 2 and -n / 2

@@ -2,20 +2,20 @@
 ghost use mathlib.Core.Path.{_≡_};
 ghost use Prim.Native.Nat.{_≤_};
 ghost use lib.ListN.{length};
-ghost use Rattle.gridding.specs.Causes.{GridFacts};
+ghost use Rattle.grid_from_spec.specs.Causes.{GridFacts};
 ghost use Rattle.store.specs.Updates.{cells};
-ghost use Rattle.walks.specs.Entries.{setting};
+ghost use Rattle.sweep_walk.specs.Entries.{setting};
 ghost use Rattle.sweep.specs.Answer.{settingOf, causesIn, sweepCauses, Sweeps, Checks, endOf, loggedBy, endLog};
 use cutter::CutterShape;
 use cutter::PreparedCutter;
+use cutter_check::ToolCheck;
 use frame::Axis;
 use grid::DexelGrid;
 use grid::DexelStockSpec;
 use grid::Gridded;
-use lanes::Kernel;
-use lanes::Profile;
-use tool_check::ToolCheck;
-use visits::Progress;
+use sweep_kernel::Kernel;
+use sweep_kernel::Profile;
+use sweep_visits::Progress;
 
 // The number of entries in the log, and document 01's visit total.
 pub struct Totals {
@@ -79,7 +79,7 @@ fn check_sweep(
         return SweepCheck::Declined(11);
     }
     let shape = p.shape;
-    let tool = tool_check::check_tool(shape, p.cutter);
+    let tool = cutter_check::check_tool(shape, p.cutter);
     match tool {
         ToolCheck::Refused(n) => {
             return SweepCheck::Declined(n);
@@ -117,7 +117,18 @@ fn sweep_grid(
             return Swept::Refused(n);
         }
         SweepCheck::Admitted => {
-            let x = walks::sweep_chords(spec, g, k, p, chords, budget, spans, links, heads, log);
+            let x = sweep_walk::sweep_chords(
+                spec,
+                g,
+                k,
+                p,
+                chords,
+                budget,
+                spans,
+                links,
+                heads,
+                log,
+            );
             return end_log(x, log);
         }
     }
@@ -142,7 +153,7 @@ pub fn sweep(
     ensures { λ r. ⌜ Sweeps (sweepCauses (now (units .entry)) (settingOf spec axis shape cutter guard (cells (now (spans .entry)) (now (links .entry)) (now (heads .entry)))) intervals (now (chords .entry)) budget (length (now (log .entry))))
         (settingOf spec axis shape cutter guard (cells (now (spans .entry)) (now (links .entry)) (now (heads .entry)))) intervals (now (chords .entry)) (now (log .entry)) (now (log .exit)) r ⌝ }
 {
-    match gridding::grid(spec, units) {
+    match grid_from_spec::grid(spec, units) {
         Gridded::Refused(n) => {
             return Swept::Refused(n);
         }
@@ -151,7 +162,7 @@ pub fn sweep(
                 frame: axis.frame(),
                 guard: guard,
             };
-            let p = lanes::profile_of(shape, cutter);
+            let p = sweep_kernel::profile_of(shape, cutter);
             return sweep_grid(
                 spec,
                 g,

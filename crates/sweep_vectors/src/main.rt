@@ -6,9 +6,9 @@
 // For accepted and for refused sweeps it writes how many rows agree and how many differ, then how many can't be read, and the number of the first
 // row that differs.
 use frame::Axis;
-use replay::Outcome;
-use replay::Tally;
 use sweep::Swept;
+use vector_replay::Outcome;
+use vector_replay::Tally;
 
 // A sweep's answer as numbers, 0 for no refusal, and whether the store and the chords are as they were.
 struct Answer {
@@ -54,21 +54,21 @@ fn sweep_on(
 ) -> Swept {
     let units = [byte_of(w[2]), byte_of(w[3]), byte_of(w[4])];
     let axis = axis_of(w[18]);
-    let shape = recorded::shape_at(w, 19);
+    let shape = vector_words::shape_at(w, 19);
     sweep::sweep(
-        recorded::spec_at(w, 0, 5),
-        recorded::first_bytes(&units, w[1] as usize),
+        vector_words::spec_at(w, 0, 5),
+        vector_words::first_bytes(&units, w[1] as usize),
         spans,
         links,
         heads,
         w[17],
         axis,
         shape,
-        recorded::cutter_at(w, 22),
-        bit_patterns::of_bits(w[31]),
+        vector_words::cutter_at(w, 22),
+        doubles_bits::of_bits(w[31]),
         chords,
         w[33],
-        recorded::first_mut(log, w[34] as usize),
+        vector_words::first_mut(log, w[34] as usize),
     )
 }
 
@@ -80,16 +80,16 @@ fn store_agrees(
     links: &[u64],
     heads: &[u64],
 ) -> bool {
-    if !recorded::cells_agree(chords, w, 38, 0, 25) {
+    if !vector_words::cells_agree(chords, w, 38, 0, 25) {
         return false;
     }
-    if !recorded::cells_agree(spans, w, 63, 0, 48) {
+    if !vector_words::cells_agree(spans, w, 63, 0, 48) {
         return false;
     }
-    if !recorded::numbers_agree(links, w, 111, 48) {
+    if !vector_words::numbers_agree(links, w, 111, 48) {
         return false;
     }
-    recorded::numbers_agree(heads, w, 159, 24)
+    vector_words::numbers_agree(heads, w, 159, 24)
 }
 
 fn answer_of(s: Swept, kept: bool) -> Answer {
@@ -120,10 +120,10 @@ fn swept_on(
 ) -> Answer {
     let s = sweep_on(
         w,
-        recorded::first(spans, w[14] as usize),
-        recorded::first_numbers(links, w[15] as usize),
-        recorded::first_numbers(heads, w[16] as usize),
-        recorded::first(chords, w[32] as usize),
+        vector_words::first(spans, w[14] as usize),
+        vector_words::first_numbers(links, w[15] as usize),
+        vector_words::first_numbers(heads, w[16] as usize),
+        vector_words::first(chords, w[32] as usize),
         log,
     );
     answer_of(s, store_agrees(w, chords, spans, links, heads))
@@ -131,13 +131,13 @@ fn swept_on(
 
 fn swept(w: &[u64; 243], log: &mut [f64]) -> Answer {
     let mut chords = [0.0; 25];
-    recorded::doubles_at(w, 38, &mut chords);
+    vector_words::doubles_at(w, 38, &mut chords);
     let mut spans = [0.0; 48];
-    recorded::doubles_at(w, 63, &mut spans);
+    vector_words::doubles_at(w, 63, &mut spans);
     let mut links = [0; 48];
-    recorded::numbers_at(w, 111, &mut links);
+    vector_words::numbers_at(w, 111, &mut links);
     let mut heads = [0; 24];
-    recorded::numbers_at(w, 159, &mut heads);
+    vector_words::numbers_at(w, 159, &mut heads);
     swept_on(w, &spans, &links, &heads, &chords, log)
 }
 
@@ -152,15 +152,15 @@ fn cells_of(entries: u64) -> usize {
 // The log from word 183 on. Refusals 8 and 16 leave it zero, the others as it was.
 fn log_agrees(w: &[u64; 243], log: &[f64], refusal: u64) -> bool {
     if refusal == 0 {
-        return recorded::cells_agree(log, w, 183, cells_of(w[36]), w[34] as usize);
+        return vector_words::cells_agree(log, w, 183, cells_of(w[36]), w[34] as usize);
     }
     if refusal == 8 {
-        return recorded::cells_agree(log, w, 183, 0, w[34] as usize);
+        return vector_words::cells_agree(log, w, 183, 0, w[34] as usize);
     }
     if refusal == 16 {
-        return recorded::cells_agree(log, w, 183, 0, w[34] as usize);
+        return vector_words::cells_agree(log, w, 183, 0, w[34] as usize);
     }
-    recorded::cells_agree(log, w, 183, 0, 0)
+    vector_words::cells_agree(log, w, 183, 0, 0)
 }
 
 // Words 35 to 37: the refusal, the number of entries and the visit total.
@@ -192,27 +192,27 @@ fn kind_of(refusal: u64) -> u64 {
 
 fn compared(text: &[u8]) -> Outcome {
     let mut w = [0; 243];
-    if !replay::read_words(text, 0, &mut w) {
+    if !vector_replay::read_words(text, 0, &mut w) {
         return Outcome::Unread;
     }
-    replay::told(kind_of(w[35]), 2, agrees(&w))
+    vector_replay::told(kind_of(w[35]), 2, agrees(&w))
 }
 
 // The turns are counted down, since a proved loop has to end and nothing says that the input does.
 fn counted() -> Tally {
-    let mut t = replay::start();
+    let mut t = vector_replay::start();
     let mut turns = u64::MAX;
     while turns > 0 {
         let mut text = [0u8; 4131];
-        if !replay::read_row(&mut text) {
+        if !vector_replay::read_row(&mut text) {
             break;
         }
-        t = replay::count(t, compared(&text));
+        t = vector_replay::count(t, compared(&text));
         turns -= 1;
     }
     t
 }
 
 fn main() {
-    replay::print(b"accepted refused", counted());
+    vector_replay::print(b"accepted refused", counted());
 }

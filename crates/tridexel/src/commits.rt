@@ -1,12 +1,12 @@
 // The two commits. The small record is two numbers that the caller keeps; a refused commit leaves both as they were.
-ghost use Rattle.change_commit.specs.Commit.{ChangeCommits};
-ghost use Rattle.commit.specs.Commit.{LogCommits};
+ghost use Rattle.commit_changes.specs.Commit.{ChangeCommits};
+ghost use Rattle.commit_log.specs.Commit.{LogCommits};
 ghost use Rattle.stock.specs.Outcomes.{stock};
 ghost use Rattle.stock.specs.declared.Committed.{Committed};
-ghost use Rattle.handing.specs.Numbers.{AnsweredBy, committedNumbers};
+ghost use Rattle.c_results.specs.Numbers.{AnsweredBy, committedNumbers};
 use grid::DexelStockSpec;
 
-// `change_commit::commit_changes`; `changed` becomes the number of changed rays.
+// `commit_changes::commit_changes`; `changed` becomes the number of changed rays.
 #[no_mangle]
 pub extern "C" fn tridexel_commit_changes(
     spec: DexelStockSpec,
@@ -26,7 +26,7 @@ pub extern "C" fn tridexel_commit_changes(
         (stock (now (spans .exit)) (now (links .exit)) (now (heads .exit)) (now (generation .exit)) (now (intervals .exit)))) r
         (now (changed .entry)) (now (changed .exit)) ⌝ }
 {
-    let done = change_commit::commit_changes_on(
+    let done = commit_changes::commit_changes_on(
         *generation,
         *intervals,
         spec,
@@ -41,10 +41,10 @@ pub extern "C" fn tridexel_commit_changes(
     *generation = done.generation;
     *intervals = done.intervals;
     let a = done.answer;
-    handing::hand_committed(a, changed)
+    c_results::hand_committed(a, changed)
 }
 
-// `commit::commit_log`; `changed` becomes the number of changed rays.
+// `commit_log::commit_log`; `changed` becomes the number of changed rays.
 #[no_mangle]
 pub extern "C" fn tridexel_commit_log(
     spec: DexelStockSpec,
@@ -64,7 +64,7 @@ pub extern "C" fn tridexel_commit_log(
         (stock (now (spans .exit)) (now (links .exit)) (now (heads .exit)) (now (generation .exit)) (now (intervals .exit))) (now (work .exit))) r
         (now (changed .entry)) (now (changed .exit)) ⌝ }
 {
-    let done = commit::commit_log_on(
+    let done = commit_log::commit_log_on(
         *generation,
         *intervals,
         spec,
@@ -79,5 +79,5 @@ pub extern "C" fn tridexel_commit_log(
     *generation = done.generation;
     *intervals = done.intervals;
     let a = done.answer;
-    handing::hand_committed(a, changed)
+    c_results::hand_committed(a, changed)
 }

@@ -8,37 +8,37 @@ mod sweeps;
 ghost use Rattle.spans.specs.Spans.{NormalOf};
 ghost use lib.ListN.{length};
 ghost use Rattle.spans.specs.Results.{Answer};
-ghost use Rattle.normalizing.specs.Normalizing.{normalizeCauses};
-ghost use Rattle.combining.specs.Combining.{combineCauses, LessOf, CommonOf};
-ghost use Rattle.comparing.specs.Verdicts.{Verdict, compareCauses, Contains, Overlaps};
-ghost use Rattle.comparing.specs.declared.Told.{Told};
-ghost use Rattle.merge.specs.Merge.{MergeAnswer};
-ghost use Rattle.merge.specs.declared.Merged.{Merged};
+ghost use Rattle.span_normalize.specs.Normalizing.{normalizeCauses};
+ghost use Rattle.span_combine.specs.Combining.{combineCauses, LessOf, CommonOf};
+ghost use Rattle.span_compare.specs.Verdicts.{Verdict, compareCauses, Contains, Overlaps};
+ghost use Rattle.span_compare.specs.declared.Told.{Told};
+ghost use Rattle.ray_merge.specs.Merge.{MergeAnswer};
+ghost use Rattle.ray_merge.specs.declared.Merged.{Merged};
 ghost use Rattle.spans.specs.declared.Listed.{Listed};
-ghost use Rattle.handing.specs.Numbers.{AnsweredBy, listedNumbers, toldNumbers, mergedNumbers, partCells};
+ghost use Rattle.c_results.specs.Numbers.{AnsweredBy, listedNumbers, toldNumbers, mergedNumbers, partCells};
 
-// `normalizing::normalize`; `pairs` becomes the number of pairs.
+// `span_normalize::normalize`; `pairs` becomes the number of pairs.
 #[no_mangle]
 pub extern "C" fn tridexel_normalize(spans: &[f64], out: &mut [f64], pairs: &mut usize) -> u32
     ensures { λ r. ⌜ AnsweredBy listedNumbers Listed.Refused (Answer (NormalOf (now (spans .entry))) (normalizeCauses (now (spans .entry)) (length (now (out .entry)))) (now (out .entry)) (now (out .exit)))
         r (now (pairs .entry)) (now (pairs .exit)) ⌝ }
 {
-    let l = normalizing::normalize(spans, out);
-    handing::hand_listed(l, pairs)
+    let l = span_normalize::normalize(spans, out);
+    c_results::hand_listed(l, pairs)
 }
 
-// `combining::subtract`; `pairs` becomes the number of pairs.
+// `span_combine::subtract`; `pairs` becomes the number of pairs.
 #[no_mangle]
 pub extern "C" fn tridexel_subtract(a: &[f64], b: &[f64], out: &mut [f64], pairs: &mut usize) -> u32
     ensures { λ r. ⌜ AnsweredBy listedNumbers Listed.Refused (Answer (LessOf (now (a .entry)) (now (b .entry)))
         (combineCauses (now (a .entry)) (now (b .entry)) (length (now (out .entry)))) (now (out .entry)) (now (out .exit)))
         r (now (pairs .entry)) (now (pairs .exit)) ⌝ }
 {
-    let l = combining::subtract(a, b, out);
-    handing::hand_listed(l, pairs)
+    let l = span_combine::subtract(a, b, out);
+    c_results::hand_listed(l, pairs)
 }
 
-// `combining::intersect`; `pairs` becomes the number of pairs.
+// `span_combine::intersect`; `pairs` becomes the number of pairs.
 #[no_mangle]
 pub extern "C" fn tridexel_intersect(
     a: &[f64],
@@ -50,33 +50,33 @@ pub extern "C" fn tridexel_intersect(
         (combineCauses (now (a .entry)) (now (b .entry)) (length (now (out .entry)))) (now (out .entry)) (now (out .exit)))
         r (now (pairs .entry)) (now (pairs .exit)) ⌝ }
 {
-    let l = combining::intersect(a, b, out);
-    handing::hand_listed(l, pairs)
+    let l = span_combine::intersect(a, b, out);
+    c_results::hand_listed(l, pairs)
 }
 
-// `comparing::contains`; `yes` becomes 1 or 0.
+// `span_compare::contains`; `yes` becomes 1 or 0.
 #[no_mangle]
 pub extern "C" fn tridexel_contains(outer: &[f64], inner: &[f64], yes: &mut u32) -> u32
     ensures { λ r. ⌜ AnsweredBy toldNumbers Told.Refused (Verdict (compareCauses (now (outer .entry)) (now (inner .entry)))
         (Contains (now (outer .entry)) (now (inner .entry))))
         r (now (yes .entry)) (now (yes .exit)) ⌝ }
 {
-    let t = comparing::contains(outer, inner);
-    handing::hand_told(t, yes)
+    let t = span_compare::contains(outer, inner);
+    c_results::hand_told(t, yes)
 }
 
-// `comparing::overlaps`; `yes` becomes 1 or 0.
+// `span_compare::overlaps`; `yes` becomes 1 or 0.
 #[no_mangle]
 pub extern "C" fn tridexel_overlaps(a: &[f64], b: &[f64], yes: &mut u32) -> u32
     ensures { λ r. ⌜ AnsweredBy toldNumbers Told.Refused (Verdict (compareCauses (now (a .entry)) (now (b .entry)))
         (Overlaps (now (a .entry)) (now (b .entry))))
         r (now (yes .entry)) (now (yes .exit)) ⌝ }
 {
-    let t = comparing::overlaps(a, b);
-    handing::hand_told(t, yes)
+    let t = span_compare::overlaps(a, b);
+    c_results::hand_told(t, yes)
 }
 
-// `merge::merge`; for possible and certain, in this order, `moved` becomes 1 where the list is a new one in the work buffer and 0 where it is the
+// `ray_merge::merge`; for possible and certain, in this order, `moved` becomes 1 where the list is a new one in the work buffer and 0 where it is the
 // caller's own, and `pairs` the number of its pairs.
 #[no_mangle]
 pub extern "C" fn tridexel_merge(
@@ -94,6 +94,6 @@ pub extern "C" fn tridexel_merge(
         (now (outer .entry)) (now (inner .entry)) (now (work .entry)) (now (work .exit))) r
         (partCells (now (moved .entry)) (now (pairs .entry))) (partCells (now (moved .exit)) (now (pairs .exit))) ⌝ }
 {
-    let m = merge::merge(possible, certain, lo, hi, outer, inner, work);
-    handing::hand_merged(m, moved, pairs)
+    let m = ray_merge::merge(possible, certain, lo, hi, outer, inner, work);
+    c_results::hand_merged(m, moved, pairs)
 }

@@ -1,15 +1,15 @@
 // The grid of a blank and its stock. A store is three slices: the ends of the records, their links, and the heads.
-ghost use Rattle.gridding.specs.Causes.{gridIn, GridPost};
+ghost use Rattle.grid_from_spec.specs.Causes.{gridIn, GridPost};
 ghost use Rattle.grid.specs.declared.Gridded.{Gridded};
 ghost use Rattle.store.specs.Updates.{cells};
-ghost use Rattle.filling.specs.Uncut.{Fills, fillCauses};
-ghost use Rattle.measuring.specs.Volume.{Measures, volumeCauses};
-ghost use Rattle.filling.specs.declared.Filled.{Filled};
-ghost use Rattle.measuring.specs.declared.Measured.{Measured};
-ghost use Rattle.handing.specs.Numbers.{AnsweredBy, gridNumbers, gridCells, filledNumbers, tally, volumeNumbers};
+ghost use Rattle.stock_fill.specs.Uncut.{Fills, fillCauses};
+ghost use Rattle.stock_volume.specs.Volume.{Measures, volumeCauses};
+ghost use Rattle.stock_fill.specs.declared.Filled.{Filled};
+ghost use Rattle.stock_volume.specs.declared.Measured.{Measured};
+ghost use Rattle.c_results.specs.Numbers.{AnsweredBy, gridNumbers, gridCells, filledNumbers, tally, volumeNumbers};
 use grid::DexelStockSpec;
 
-// `gridding::grid`; `counts` and `steps` become the cells along x, y and z and their widths.
+// `grid_from_spec::grid`; `counts` and `steps` become the cells along x, y and z and their widths.
 #[no_mangle]
 pub extern "C" fn tridexel_grid(
     spec: DexelStockSpec,
@@ -20,11 +20,11 @@ pub extern "C" fn tridexel_grid(
     ensures { λ r. ⌜ AnsweredBy gridNumbers Gridded.Refused (GridPost spec (now (units .entry))) r
         (gridCells (now (counts .entry)) (now (steps .entry))) (gridCells (now (counts .exit)) (now (steps .exit))) ⌝ }
 {
-    let g = gridding::grid(spec, units);
-    handing::hand_grid(g, counts, steps)
+    let g = grid_from_spec::grid(spec, units);
+    c_results::hand_grid(g, counts, steps)
 }
 
-// `filling::fill`; `generation` and `intervals` become the small record of the stock.
+// `stock_fill::fill`; `generation` and `intervals` become the small record of the stock.
 #[no_mangle]
 pub extern "C" fn tridexel_fill(
     spec: DexelStockSpec,
@@ -40,11 +40,11 @@ pub extern "C" fn tridexel_fill(
         (cells (now (spans .entry)) (now (links .entry)) (now (heads .entry))) (cells (now (spans .exit)) (now (links .exit)) (now (heads .exit)))) r
         (tally (now (generation .entry)) (now (intervals .entry))) (tally (now (generation .exit)) (now (intervals .exit))) ⌝ }
 {
-    let f = filling::fill(spec, units, spans, links, heads);
-    handing::hand_filled(f, generation, intervals)
+    let f = stock_fill::fill(spec, units, spans, links, heads);
+    c_results::hand_filled(f, generation, intervals)
 }
 
-// `measuring::volume`; `volume` becomes the ten numbers of the Rust's `DexelVolume`, in its order.
+// `stock_volume::volume`; `volume` becomes the ten numbers of the Rust's `DexelVolume`, in its order.
 #[no_mangle]
 pub extern "C" fn tridexel_volume(
     spec: DexelStockSpec,
@@ -60,6 +60,6 @@ pub extern "C" fn tridexel_volume(
         spec (gridIn spec) (cells (now (spans .entry)) (now (links .entry)) (now (heads .entry))) intervals) r
         (now (volume .entry)) (now (volume .exit)) ⌝ }
 {
-    let m = measuring::volume(spec, units, spans, links, heads, intervals);
-    handing::hand_measured(m, volume)
+    let m = stock_volume::volume(spec, units, spans, links, heads, intervals);
+    c_results::hand_measured(m, volume)
 }

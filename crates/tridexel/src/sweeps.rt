@@ -3,8 +3,8 @@ ghost use lib.ListN.{length};
 ghost use Rattle.store.specs.Updates.{cells};
 ghost use Rattle.sweep.specs.Answer.{settingOf, sweepCauses, Sweeps};
 ghost use Rattle.sweep.specs.declared.Swept.{Swept};
-ghost use Rattle.named.specs.Named.{axisOf, shapeOf};
-ghost use Rattle.handing.specs.Numbers.{AnsweredBy, sweptNumbers, totals};
+ghost use Rattle.enum_codes.specs.Named.{axisOf, shapeOf};
+ghost use Rattle.c_results.specs.Numbers.{AnsweredBy, sweptNumbers, totals};
 use cutter::PreparedCutter;
 use grid::DexelStockSpec;
 
@@ -33,8 +33,8 @@ pub extern "C" fn tridexel_sweep(
         (settingOf spec (axisOf axis) (shapeOf axis kind m n) cutter guard (cells (now (spans .entry)) (now (links .entry)) (now (heads .entry)))) intervals (now (chords .entry)) (now (log .entry)) (now (log .exit)))
         r (totals (now (entries .entry)) (now (visits .entry))) (totals (now (entries .exit)) (now (visits .exit))) ⌝ }
 {
-    let a = named::axis_of(axis);
-    let shape = named::shape_of(axis, kind, m, n);
+    let a = enum_codes::axis_of(axis);
+    let shape = enum_codes::shape_of(axis, kind, m, n);
     let s = sweep::sweep(
         spec,
         units,
@@ -50,5 +50,5 @@ pub extern "C" fn tridexel_sweep(
         budget,
         log,
     );
-    handing::hand_swept(s, entries, visits)
+    c_results::hand_swept(s, entries, visits)
 }

@@ -11,11 +11,11 @@ use Rattle.doubles.specs.Doubles.{absOf, ceilOf}
 use Rattle.doubles.proofs.Bools.{and-left, and-right, not-true, not-false, or-cases}
 use Rattle.spans.specs.Spans.{All, Point, holds, sound, retained, Within, Outside, NormalOf}
 use Rattle.spans.proofs.Pieces.{agree, by-ends, Piecewise, of-list, of-none, in-left, in-right, one-of}
-use Rattle.overlay.specs.Overlay.{lessOf, commonOf}
+use Rattle.span_overlay.specs.Overlay.{lessOf, commonOf}
 use Rattle.grid.specs.Grid.{within, allWithin}
 use Rattle.grid.specs.Rays.{rayCount}
-use Rattle.gridding.specs.Grid.{anyBelow, anyAbove, isMm, misdescribed, cellsOf, magnitudeOf, leastStep, tooFine, gridOver, gridOf}
-use Rattle.square_root.specs.Root.{squareRoot}
+use Rattle.grid_from_spec.specs.Grid.{anyBelow, anyAbove, isMm, misdescribed, cellsOf, magnitudeOf, leastStep, tooFine, gridOver, gridOf}
+use Rattle.doubles_sqrt.specs.Root.{squareRoot}
 use Rattle.strips.specs.Strip.{bandDistance, halfChord, chordStrip, diskStrip}
 use Rattle.cutter.specs.Cutter.{isFinite, offTool, arcAt, cuttingRadius, radiusAt}
 use Rattle.frame.specs.Frame.{worldOf}

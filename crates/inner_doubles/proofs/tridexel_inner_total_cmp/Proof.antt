@@ -6,7 +6,7 @@ use Rattle.inner_doubles.proofs.tridexel_inner_total_cmp.Statement.{sta
 use Rattle.inner_doubles.proofs.tridexel_inner_total_cmp.Tie as tie
 use Rattle.inner_doubles.proofs.tridexel_inner_total_cmp.Reads as reads
 use Rattle.inner_doubles.proofs.tridexel_inner_total_cmp.Lts as lts
-use Rattle.bit_patterns.proofs.total_cmp.Reads as total-cmp-reads
+use Rattle.doubles_bits.proofs.total_cmp.Reads as total-cmp-reads
 
 total-cmp-requires : tie.Need-total-cmp-requires
 total-cmp-requires c κs = search needs

@@ -2,7 +2,7 @@
 use Prim.Native.Nat.{_-_}
 use native.Mathlib.Omega.{arith}
 use borrow.Author.Needs.{needs}
-use Rattle.logs.specs.Named.{EachNamed}
+use Rattle.log_entries.specs.Named.{EachNamed}
 use Rattle.log_batches.proofs.Gathered.{
   GatherRaysLoop,
   gathering-widthed,

@@ -1,6 +1,6 @@
 -- The outer pair is put first, if it counts, then the inner one.
 use borrow.Author.Needs.{needs}
-use Rattle.runs.specs.Logs.{entryAt, loOf, hiOf}
+use Rattle.log_model.specs.Logs.{entryAt, loOf, hiOf}
 use Rattle.log_gather.proofs.Entries.{puts-inner, puts-both}
 use Rattle.log_gather.proofs.put_entry.Statement.{statement}
 use Rattle.log_gather.proofs.put_entry.Tie as tie

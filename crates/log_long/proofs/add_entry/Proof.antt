@@ -2,7 +2,7 @@
 use borrow.Author.Needs.{needs}
 use native.Mathlib.Omega.{arith}
 use mathlib.Core.Path.{sym, _∙_}
-use Rattle.logs.specs.Named.{EachNamed}
+use Rattle.log_entries.specs.Named.{EachNamed}
 use Rattle.log_long.proofs.Gathering.{gathers-passed, gathers-added}
 use Rattle.log_long.proofs.add_entry.Statement.{statement}
 use Rattle.log_long.proofs.add_entry.Tie as tie

@@ -1,7 +1,7 @@
 -- `log_long::add_fronts` meets its contract.
 use borrow.Author.Needs.{needs}
 use mathlib.Core.Path.{refl}
-use Rattle.runs.specs.Logs.{entryAt, loOf, hiOf}
+use Rattle.log_model.specs.Logs.{entryAt, loOf, hiOf}
 use Rattle.log_long.proofs.add_fronts.Statement.{statement}
 use Rattle.log_long.proofs.add_fronts.Tie as tie
 

@@ -3,7 +3,7 @@ use borrow.Author.Needs.{needs}
 use mathlib.Core.Path.{_≡_}
 use native.Mathlib.Omega.{arith}
 use Prim.Native.Nat.{_≤_, _-_}
-use Rattle.runs.specs.Logs.{entryCount}
+use Rattle.log_model.specs.Logs.{entryCount}
 use Rattle.log_long.specs.Long.{GathersTo}
 use Rattle.log_long.proofs.Gathering.{gathers-start, gathers-onward, gathers-here}
 use Rattle.log_long.proofs.gather_ray.Statement.{statement}

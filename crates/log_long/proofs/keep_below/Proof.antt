@@ -4,7 +4,7 @@ use native.Mathlib.Omega.{arith}
 use mathlib.Core.Path.{_≡_, ap}
 use Prim.Native.Nat.{_≤_, _-_}
 use lib.Ieee.{Float, lt}
-use Rattle.runs.specs.Logs.{entryAt}
+use Rattle.log_model.specs.Logs.{entryAt}
 use Rattle.log_keys.specs.KeysKept.{KeysKept}
 use Rattle.log_keys.proofs.Keeping.{kept-start, kept-turn}
 use Rattle.log_long.specs.Long.{leastPast}

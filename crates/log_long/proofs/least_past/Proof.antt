@@ -1,7 +1,7 @@
 -- `log_long::least_past` meets its contract.
 use borrow.Author.Needs.{needs}
 use Rattle.log_long.specs.Long.{leastPast}
-use Rattle.runs.specs.Logs.{entryAt, loOf, hiOf}
+use Rattle.log_model.specs.Logs.{entryAt, loOf, hiOf}
 use Rattle.log_long.proofs.least_past.Statement.{statement}
 use Rattle.log_long.proofs.least_past.Tie as tie
 

@@ -13,7 +13,7 @@ use Rattle.log_stretches.proofs.take_hits.Reads as reads
 use Rattle.log_stretches.proofs.take_hits.Lts as lts
 use Rattle.log_gather.proofs.gather.Reads as gather-reads
 use Rattle.log_stretches.proofs.take_held.Reads as take-held-reads
-use Rattle.normalizing.proofs.normalize_front.Reads as normalize-front-reads
+use Rattle.span_normalize.proofs.normalize_front.Reads as normalize-front-reads
 
 abbrev Inv-loop : tie.InvT-loop
 Inv-loop spans links n log keys certain cells₀ b u front t₀ low₀ cells t low =

@@ -1,6 +1,6 @@
 -- `ray_input::double_at` meets its contract.
 use mathlib.Core.Path.{sym, _∙_, ap}
-use Rattle.rows.specs.declared.Word.{Word}
+use Rattle.hex_text.specs.declared.Word.{Word}
 use lib.Ieee.{binary64, ofBits}
 use Rattle.ray_input.specs.Format.{valueOf}
 use borrow.Author.Needs.{needs}

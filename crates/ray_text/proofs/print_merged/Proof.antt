@@ -5,9 +5,9 @@ use lib.ListN.{length}
 use lib.Ieee.{Float}
 use denote.Ref.{now}
 use Rattle.refusal.specs.Refusal.{Due, NoneDue}
-use Rattle.taking.specs.Taking.{handed, cellsOf}
-use Rattle.merge.specs.Merge.{mergeCauses, Left}
-use Rattle.taking.specs.declared.Part.{Part}
+use Rattle.ray_subtract.specs.Taking.{handed, cellsOf}
+use Rattle.ray_merge.specs.Merge.{mergeCauses, Left}
+use Rattle.ray_subtract.specs.declared.Part.{Part}
 use Rattle.ray_input.specs.Format.{letterP, letterC}
 use Rattle.ray_output.specs.Output.{linesText}
 use Rattle.ray_input.specs.Steps.{Appended}

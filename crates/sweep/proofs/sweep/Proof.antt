@@ -2,9 +2,9 @@ use borrow.Author.Needs.{needs}
 use mathlib.Core.Path.{sym, _∙_}
 use Rattle.store.specs.Updates.{cells}
 use Rattle.frame.specs.Frame.{frameOf}
-use Rattle.lanes.specs.Lane.{profileOf}
-use Rattle.lanes.specs.declared.Kernel.{Kernel}
-use Rattle.gridding.proofs.Facts.{grid-facts}
+use Rattle.sweep_kernel.specs.Lane.{profileOf}
+use Rattle.sweep_kernel.specs.declared.Kernel.{Kernel}
+use Rattle.grid_from_spec.proofs.Facts.{grid-facts}
 use Rattle.sweep.proofs.Answers.{sweep-refused, sweep-accepted, same-tool}
 use Rattle.sweep.proofs.sweep.Statement.{statement}
 use Rattle.sweep.proofs.sweep.Tie as tie

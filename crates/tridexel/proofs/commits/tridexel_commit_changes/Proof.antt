@@ -1,5 +1,5 @@
 -- `tridexel::commits::tridexel_commit_changes` meets its contract.
-use Rattle.handing.proofs.Handing.{answered, changes-above}
+use Rattle.c_results.proofs.Handing.{answered, changes-above}
 use Rattle.stock.specs.Outcomes.{stock}
 use borrow.Author.Needs.{needs}
 use Rattle.tridexel.proofs.commits.tridexel_commit_changes.Statement.{statement}

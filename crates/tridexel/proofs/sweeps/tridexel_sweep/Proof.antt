@@ -1,7 +1,7 @@
 -- `tridexel::sweeps::tridexel_sweep` meets its contract.
 use borrow.Author.Needs.{needs}
 use Rattle.store.specs.Updates.{cells}
-use Rattle.handing.proofs.Sweeping.{swept-by}
+use Rattle.c_results.proofs.Sweeping.{swept-by}
 use Rattle.tridexel.proofs.sweeps.tridexel_sweep.Statement.{statement}
 use Rattle.tridexel.proofs.sweeps.tridexel_sweep.Tie as tie
 

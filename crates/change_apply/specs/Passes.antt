@@ -1,0 +1,33 @@
+-- What the passes over a change list ask and leave.
+use mathlib.Core.Path.{_≡_}
+use mathlib.Core.List.{List}
+use Prim.Native.Nat.{ℕ, _+_, _-_, _*_, _≤_}
+use lib.Ieee.{Float}
+use Rattle.grid.specs.Rays.{rayCount}
+use Rattle.grid.specs.declared.DexelStockSpec.{DexelStockSpec}
+use Rattle.grid.specs.declared.DexelGrid.{DexelGrid}
+use Rattle.store.specs.Updates.{Cells, Update, Room, freedAll, pairsFreed, pairsLaid}
+use Rattle.stock.specs.Stock.{SoundCells}
+use Rattle.change_list.specs.Changes.{changesOf, AllGood, updatesOf}
+
+-- what a lent change list does to the store
+abbrev pub updatesIn : DexelGrid → List ℕ → List Float → List Update
+updatesIn g changes pairs = updatesOf g (changesOf changes pairs)
+
+-- good changes of a sound store with that total, which stay within the budget
+pub record Fitting (spec : DexelStockSpec) (g : DexelGrid) (c : Cells) (total : ℕ) (changes : List ℕ) (pairs : List Float) : Type 0 where
+  pub room : Room (spec .«max_intervals») (2 * rayCount g) c
+  pub isSound : SoundCells spec g c total
+  pub good : AllGood spec g c pairs 0 (changesOf changes pairs)
+  pub budget : total - pairsFreed (spec .«max_intervals») c (updatesIn g changes pairs) + pairsLaid (updatesIn g changes pairs) ≤ spec .«max_intervals»
+
+-- the lists of all changed rays are freed, whatever the pairs are that will be laid
+abbrev pub Frees : DexelStockSpec → DexelGrid → List ℕ → (before after : Cells) → Type 0
+Frees spec g changes before after = (total : ℕ) (pairs : List Float) → Fitting spec g before total changes pairs → after ≡ freedAll (spec .«max_intervals») before (updatesIn g changes pairs)
+
+-- the lists of all changed rays were freed
+pub record Emptied (spec : DexelStockSpec) (g : DexelGrid) (changes : List ℕ) (pairs : List Float) (now : Cells) : Type 0 where
+  pub before : Cells
+  pub total : ℕ
+  pub fitting : Fitting spec g before total changes pairs
+  pub is : now ≡ freedAll (spec .«max_intervals») before (updatesIn g changes pairs)

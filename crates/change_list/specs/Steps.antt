@@ -1,0 +1,55 @@
+-- What the functions that check a change list ask and answer.
+use mathlib.Core.Path.{_≡_}
+use mathlib.Core.List.{List, [], _∷_}
+use Prim.Native.Nat.{ℕ, _+_, _*_, _%_, _≤_}
+use lib.ListN.{length}
+use lib.Ieee.{Float}
+use Rattle.refusal.specs.Refusal.{Cause, cause, Due}
+use Rattle.grid.specs.declared.DexelStockSpec.{DexelStockSpec}
+use Rattle.grid.specs.declared.DexelGrid.{DexelGrid}
+use Rattle.store.specs.Updates.{Cells, pairsFreed, pairsLaid}
+use Rattle.change_list.specs.Changes.{Change, rayOf, end4, changeBy, Good, AllGood, updatesOf}
+use Rattle.change_list.specs.declared.ChangeHead.{ChangeHead}
+use Rattle.change_list.specs.declared.Cursor.{Cursor}
+use Rattle.change_list.specs.declared.Checked.{Checked}
+use Rattle.change_list.specs.declared.Checked.the-variants.{Next, Bad}
+
+-- how many pairs the four lists of a change have
+abbrev pub pairsIn : ChangeHead → ℕ
+pairsIn h = h .«before_possible» + h .«before_certain» + h .«after_possible» + h .«after_certain»
+
+abbrev pub cursorOf : (at from before after : ℕ) → Cursor
+cursorOf at from before after = record { at = at; from = from; before = before; after = after }
+
+-- past a change: the cell past its lists, one more than its ray, and the sums of the pairs before and after
+abbrev pub onward : DexelGrid → ChangeHead → Cursor → Cursor
+onward g h cur =
+    cursorOf (end4 h (cur .at)) (rayOf g (h .axis) (h .index) + 1) (cur .before + h .«before_possible» + h .«before_certain») (cur .after + h .«after_possible» + h .«after_certain»)
+
+-- the cursor stands within whole pairs, and its sums are of pairs before it
+pub record Stands (pairs : List Float) (cur : Cursor) : Type 0 where
+  pub whole : length pairs % 2 ≡ 0
+  pub even : cur .at % 2 ≡ 0
+  pub within : cur .at ≤ length pairs
+  pub sums : 2 * (cur .before + cur .after) ≤ cur .at
+
+-- document 01's number of each answer, 0 where the check goes on: 13 for a change that `validate` turns away, or whose lists
+-- reach past the lent pairs
+abbrev pub numberOf : Checked → ℕ
+numberOf (Next n) = 0
+numberOf Bad = 13
+
+-- the cause of 13: not all that is asked of the changes holds
+abbrev pub badCauses : Type 0 → List Cause
+badCauses good = cause 13 (good → ⊥) ∷ []
+
+-- the answer on one change
+abbrev pub Checks : DexelStockSpec → DexelGrid → Cells → List Float → ChangeHead → Cursor → Checked → Type 0
+Checks spec g c pairs h cur Bad = Due (badCauses (Good spec g c pairs (cur .from) (changeBy h pairs (cur .at)))) (numberOf Bad)
+Checks spec g c pairs h cur (Next n) = Good spec g c pairs (cur .from) (changeBy h pairs (cur .at)) × (n ≡ onward g h cur)
+
+-- the answer on all changes: where they are good, the sums are those of the pairs that the updates free and lay, which the lent pairs hold
+abbrev pub ChecksAll : DexelStockSpec → DexelGrid → Cells → List Float → List Change → Checked → Type 0
+ChecksAll spec g c pairs ds Bad = Due (badCauses (AllGood spec g c pairs 0 ds)) (numberOf Bad)
+ChecksAll spec g c pairs ds (Next n) =
+    AllGood spec g c pairs 0 ds × (n .before ≡ pairsFreed (spec .«max_intervals») c (updatesOf g ds)) × (n .after ≡ pairsLaid (updatesOf g ds)) × (2 * n .after ≤ length pairs)

@@ -1,0 +1,86 @@
+-- What the commit answers and leaves, by its causes.
+use mathlib.Core.Path.{_≡_, refl, sym, ap, _∙_, subst}
+use mathlib.Core.List.{List}
+use Prim.Native.Nat.{ℕ, _+_, _-_, _*_, _/_, _^_, _<_}
+use native.Mathlib.Omega.{arith}
+use lib.Ieee.{Float}
+use lib.ListN.{length}
+use Rattle.refusal.specs.Refusal.{NoneDue}
+use Rattle.grid_from_spec.specs.Grid.{gridOf}
+use Rattle.grid_from_spec.specs.Causes.{gridCauses, gridIn}
+use Rattle.grid.specs.declared.DexelStockSpec.{DexelStockSpec}
+use Rattle.grid.specs.declared.DexelGrid.{DexelGrid}
+use Rattle.grid.specs.declared.Gridded.the-variants.{Accepted as Griddable, Refused as NoGrid}
+use Rattle.store.specs.Updates.{Cells, applied}
+use Rattle.stock.specs.Stock.{Stock, possibleIn, certainIn}
+use Rattle.stock.specs.declared.Committed.{Committed}
+use Rattle.stock.specs.declared.Committed.the-variants.{Changed, Refused}
+use Rattle.stock.proofs.Causes.{due-first, due-second, none-in-both}
+use Rattle.stock.proofs.Answers.{accepted, refused}
+use Rattle.change_list.specs.Changes.{changesOf, rayOf}
+use Rattle.change_list.proofs.Applying.{changed-has, other-keeps, changes-update, changes-sound}
+use Rattle.change_apply.specs.Passes.{updatesIn, Fitting}
+use Rattle.commit_changes.specs.Commit.{changed, changeCauses, commitCauses, Leaves, Commits}
+use Rattle.commit_changes.specs.Verdicts.{Judges}
+use Rattle.commit_changes.specs.declared.Judged.{Judged}
+use Rattle.commit_changes.specs.declared.Judged.the-variants.{Fits, Refused as No}
+
+-- ---- over a grid that is accepted
+module _ (spec : DexelStockSpec) (g : DexelGrid) (s : Stock) (changes : List ℕ) (pairs : List Float) (base : ℕ) (r : Judged) (ens : Judges (changeCauses spec g base s changes pairs) spec g s changes pairs r) where
+  pub judged-no : (k : ℕ) → r ≡ No k → Commits (changeCauses spec g base s changes pairs) spec g changes pairs s s (Refused k)
+  judged-no k e = (subst (Judges (changeCauses spec g base s changes pairs) spec g s changes pairs) e ens, refl)
+
+  module _ (t : ℕ) (e : r ≡ Fits t) where
+    told : Judges (changeCauses spec g base s changes pairs) spec g s changes pairs (Fits t)
+    told = subst (Judges (changeCauses spec g base s changes pairs) spec g s changes pairs) e ens
+
+    pub judged-fitting : Fitting spec g (s .cells) (s .intervals) changes pairs
+    judged-fitting = told .2
+
+    pub generation-steps : s .generation < 2 ^ 64 → s .generation + 1 < 2 ^ 64
+    unfolding NoneDue
+    generation-steps h = step (s .generation) h (told .0 .1 .1 .1 .1 .1 .0)
+      where
+        step : (n : ℕ) → n < 2 ^ 64 → (n ≡ 2 ^ 64 - 1 → ⊥) → n + 1 < 2 ^ 64
+        step n l ne = omega arith
+
+    leaves : Leaves spec g changes pairs s (changed spec g s changes pairs)
+    leaves =
+        let f = judged-fitting in
+        let u = changes-update spec g (s .cells) pairs (s .intervals) (f .isSound) (f .room) (changesOf changes pairs) (f .good) (f .budget) in
+        record {
+          is = refl;
+          isSound = changes-sound spec g (s .cells) pairs (s .intervals) (f .isSound) (f .room) (changesOf changes pairs) (f .good) (f .budget);
+          changed-rays = λ d m.
+              let h = changed-has spec g (s .cells) pairs (changesOf changes pairs) 0 (f .good) d m (possibleIn spec (s .cells) (rayOf g (d .axis) (d .index))) (certainIn spec (s .cells) (rayOf g (d .axis) (d .index))) in
+              let b = h .below in
+              (u .lists (2 * rayOf g (d .axis) (d .index)) (omega arith) ∙ h .possible, u .lists (2 * rayOf g (d .axis) (d .index) + 1) (omega arith) ∙ h .certain);
+          other-rays = λ ray l apart.
+              let h = other-keeps spec g (s .cells) pairs (changesOf changes pairs) ray apart (possibleIn spec (s .cells) ray) (certainIn spec (s .cells) ray) in
+              (u .lists (2 * ray) (omega arith) ∙ h .0, u .lists (2 * ray + 1) (omega arith) ∙ h .1);
+          kept = u .kept;
+        }
+
+    pub judged-fits : (d : Cells) → d ≡ applied (spec .«max_intervals») (s .cells) (updatesIn g changes pairs)
+        → Commits (changeCauses spec g base s changes pairs) spec g changes pairs s (record { cells = d; generation = s .generation + 1; intervals = t }) (Changed (length changes / 6))
+    judged-fits d h =
+        let is : record { cells = d; generation = s .generation + 1; intervals = t } ≡ changed spec g s changes pairs
+        = ap (λ (x : Cells). record { cells = x; generation = s .generation + 1; intervals = t }) h
+        ∙ ap (λ (x : ℕ). record { cells = applied (spec .«max_intervals») (s .cells) (updatesIn g changes pairs); generation = s .generation + 1; intervals = x }) (told .1) in
+        (told .0, refl, subst (Leaves spec g changes pairs s) (sym is) leaves)
+
+-- ---- over any description
+module _ (spec : DexelStockSpec) (units : List ℕ) (s : Stock) (changes : List ℕ) (pairs : List Float) (base : ℕ) where
+  pub grid-accepted : (g : DexelGrid) (after : Stock) (r : Committed) → gridOf spec units ≡ Griddable g → Commits (changeCauses spec g base s changes pairs) spec g changes pairs s after r
+      → Commits (commitCauses spec units base s changes pairs) spec (gridIn spec) changes pairs s after r
+  grid-accepted g after r h f =
+      let a = accepted spec units g h in
+      at r (a .0) (subst (λ (x : DexelGrid). Commits (changeCauses spec x base s changes pairs) spec x changes pairs s after r) (a .1) f)
+    where
+      at : (r : Committed) → NoneDue (gridCauses spec units) → Commits (changeCauses spec (gridIn spec) base s changes pairs) spec (gridIn spec) changes pairs s after r
+          → Commits (commitCauses spec units base s changes pairs) spec (gridIn spec) changes pairs s after r
+      at (Refused k) n f = (due-second (gridCauses spec units) (changeCauses spec (gridIn spec) base s changes pairs) k n (f .0), f .1)
+      at (Changed m) n f = (none-in-both (gridCauses spec units) (changeCauses spec (gridIn spec) base s changes pairs) n (f .0), f .1, f .2)
+
+  pub grid-refused : (k : ℕ) → gridOf spec units ≡ NoGrid k → Commits (commitCauses spec units base s changes pairs) spec (gridIn spec) changes pairs s s (Refused k)
+  grid-refused k h = (due-first (gridCauses spec units) (changeCauses spec (gridIn spec) base s changes pairs) k (refused spec units k h), refl)

@@ -1,0 +1,109 @@
+-- What the tests of a change list tell, by its causes.
+use mathlib.Core.Path.{_≡_, refl, ap, _∙_, subst}
+use mathlib.Core.Bool.{Bool, true, false, not}
+use mathlib.Core.List.{List}
+use mathlib.Core.Logic.{inl, inr}
+use Prim.Native.Nat.{ℕ, _+_, _-_, _*_, _%_, _^_, _≤_, _<_}
+use native.Mathlib.Omega.{arith}
+use lib.Ieee.{Float}
+use lib.ListN.{length}
+use Rattle.doubles.proofs.Bools.{not-true, clash}
+use Rattle.refusal.specs.Refusal.{Due, NoneDue}
+use Rattle.grid.specs.Rays.{rayCount}
+use Rattle.grid.specs.declared.DexelStockSpec.{DexelStockSpec}
+use Rattle.grid.specs.declared.DexelGrid.{DexelGrid}
+use Rattle.store.specs.Updates.{Room, pairsFreed}
+use Rattle.store.proofs.FreePlaces.{free-records}
+use Rattle.store.proofs.Updating.{freed-all}
+use Rattle.stock.specs.Stock.{Stock, SoundStock, Tells, short}
+use Rattle.stock.proofs.Causes.{due-first}
+use Rattle.change_list.specs.Changes.{changesOf, AllGood}
+use Rattle.change_list.specs.Steps.{badCauses, ChecksAll}
+use Rattle.change_list.specs.declared.Cursor.{Cursor}
+use Rattle.change_list.specs.declared.Checked.{Checked}
+use Rattle.change_list.specs.declared.Checked.the-variants.{Next, Bad}
+use Rattle.change_list.proofs.Applying.{good-ascend}
+use Rattle.change_apply.specs.Passes.{updatesIn}
+use Rattle.commit_changes.specs.Commit.{intervalsAfter, Unsound, listCauses, changeCauses}
+use Rattle.commit_changes.specs.Verdicts.{Judges}
+use Rattle.commit_changes.specs.declared.Judged.{Judged}
+use Rattle.commit_changes.specs.declared.Judged.the-variants.{Fits, Refused}
+
+module _ (spec : DexelStockSpec) (g : DexelGrid) (s : Stock) (changes : List ℕ) (pairs : List Float) where
+  -- ---- 13, 10, 15
+  module _ (r : Checked) (ens : ChecksAll spec g (s .cells) pairs (changesOf changes pairs) r) where
+    pub bad-list : r ≡ Bad → Judges (listCauses spec g s changes pairs) spec g s changes pairs (Refused 13)
+    bad-list e =
+        due-first (badCauses (AllGood spec g (s .cells) pairs 0 (changesOf changes pairs))) _ 13
+        (subst (ChecksAll spec g (s .cells) pairs (changesOf changes pairs)) e ens)
+
+    module _ (cur : Cursor) (e : r ≡ Next cur) (room : Room (spec .«max_intervals») (2 * rayCount g) (s .cells)) (sound : SoundStock spec g s) where
+      told : ChecksAll spec g (s .cells) pairs (changesOf changes pairs) (Next cur)
+      told = subst (ChecksAll spec g (s .cells) pairs (changesOf changes pairs)) e ens
+
+      -- no more pairs are freed than the store has
+      pub freed-fewer : cur .before ≤ s .intervals
+      freed-fewer =
+          let f = freed-all (sound .store) room (good-ascend spec g (s .cells) pairs (changesOf changes pairs) 0 0 (omega arith) (told .0)) in
+          omega (arith, told .1, f .fewer)
+
+      -- the total needs no more than 64 bits
+      pub total-fits : length (s .cells .spans) < 2 ^ 64 → length pairs < 2 ^ 64 → s .intervals - cur .before + cur .after < 2 ^ 64
+      total-fits hs hp =
+          let most = free-records (spec .«max_intervals») (2 * rayCount g) (s .intervals) (s .cells .spans) (s .cells .links) (s .cells .heads) (sound .store) in
+          omega (arith, most, room .in-spans, told .3)
+
+      total-is : s .intervals - cur .before + cur .after ≡ intervalsAfter spec g s changes pairs
+      total-is = ap (λ (x : ℕ). s .intervals - x + cur .after) (told .1) ∙ ap (λ (x : ℕ). s .intervals - pairsFreed (spec .«max_intervals») (s .cells) (updatesIn g changes pairs) + x) (told .2)
+
+      pub over-budget : spec .«max_intervals» < s .intervals - cur .before + cur .after → Judges (listCauses spec g s changes pairs) spec g s changes pairs (Refused 10)
+      unfolding Due
+      over-budget l = inr ((λ (bad : AllGood spec g (s .cells) pairs 0 (changesOf changes pairs) → ⊥). bad (told .0)), inl (subst (λ (x : ℕ). spec .«max_intervals» < x) total-is l, refl))
+
+      module _ (l : s .intervals - cur .before + cur .after ≤ spec .«max_intervals») where
+        within : spec .«max_intervals» < intervalsAfter spec g s changes pairs → ⊥
+        within h = omega (arith, total-is)
+
+        pub last-generation : s .generation ≡ 18446744073709551615 → Judges (listCauses spec g s changes pairs) spec g s changes pairs (Refused 15)
+        unfolding Due
+        last-generation h = inr ((λ (bad : AllGood spec g (s .cells) pairs 0 (changesOf changes pairs) → ⊥). bad (told .0)), inr (within, inl (h, refl)))
+
+        pub list-fits : (s .generation ≡ 18446744073709551615 → ⊥) → Judges (listCauses spec g s changes pairs) spec g s changes pairs (Fits (s .intervals - cur .before + cur .after))
+        unfolding NoneDue
+        list-fits h = (
+          ((λ (bad : AllGood spec g (s .cells) pairs 0 (changesOf changes pairs) → ⊥). bad (told .0)), (within, (h, tt))),
+          total-is,
+          record { room = room; isSound = sound; good = told .0; budget = subst (λ (x : ℕ). x ≤ spec .«max_intervals») total-is l },
+        )
+
+  -- ---- 12, 11, 14
+  module _ (base : ℕ) where
+    pub too-short : short spec g (s .cells) ≡ true → Judges (changeCauses spec g base s changes pairs) spec g s changes pairs (Refused 12)
+    unfolding Due
+    too-short h = inl (h, refl)
+
+    module _ (long : short spec g (s .cells) ≡ false) where
+      not-short : short spec g (s .cells) ≡ true → ⊥
+      not-short h = clash (short spec g (s .cells)) h long
+
+      pub unsound : Unsound spec g s changes pairs → Judges (changeCauses spec g base s changes pairs) spec g s changes pairs (Refused 11)
+      unfolding Due
+      unsound h = inr (not-short, inl (h, refl))
+
+      pub store-unsound : (r : Bool) → Tells (SoundStock spec g s) r → not r ≡ true → Judges (changeCauses spec g base s changes pairs) spec g s changes pairs (Refused 11)
+      store-unsound r t h = unsound (inl (λ p. clash r (t .1 p) (not-true r h)))
+
+      module _ (sound : SoundStock spec g s) (six : length changes % 6 ≡ 0) (two : length pairs % 2 ≡ 0) where
+        not-unsound : Unsound spec g s changes pairs → ⊥
+        not-unsound (inl h) = h sound
+        not-unsound (inr (inl h)) = h six
+        not-unsound (inr (inr h)) = h two
+
+        pub other-base : (base ≡ s .generation → ⊥) → Judges (changeCauses spec g base s changes pairs) spec g s changes pairs (Refused 14)
+        unfolding Due
+        other-base h = inr (not-short, inr (not-unsound, inl (h, refl)))
+
+        pub list-judged : base ≡ s .generation → (r : Judged) → Judges (listCauses spec g s changes pairs) spec g s changes pairs r → Judges (changeCauses spec g base s changes pairs) spec g s changes pairs r
+        unfolding Due NoneDue
+        list-judged e (Refused k) d = inr (not-short, inr (not-unsound, inr ((λ (ne : base ≡ s .generation → ⊥). ne e), d)))
+        list-judged e (Fits t) d = ((not-short, (not-unsound, ((λ (ne : base ≡ s .generation → ⊥). ne e), d .0))), d .1, d .2)

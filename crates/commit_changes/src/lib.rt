@@ -1,0 +1,221 @@
+// The commit of a change list.
+ghost use mathlib.Core.Path.{_≡_};
+ghost use Prim.Native.Nat.{_*_, _%_};
+ghost use lib.ListN.{length};
+ghost use Rattle.grid.specs.Rays.{rayCount};
+ghost use Rattle.grid_from_spec.specs.Causes.{GridFacts};
+ghost use Rattle.store.specs.Updates.{cells, Room};
+ghost use Rattle.stock.specs.Stock.{SoundCells};
+ghost use Rattle.stock.specs.Outcomes.{stock};
+ghost use Rattle.commit_changes.specs.Commit.{GridCommits, ChangeCommits};
+ghost use Rattle.commit_changes.specs.Verdicts.{ListJudges, GridJudges};
+use change_list::Checked;
+use grid::DexelGrid;
+use grid::DexelStockSpec;
+use grid::Gridded;
+use stock::Committed;
+use stock::Outcome;
+use stock::Tally;
+
+// The interval total that a change list leaves, or why it is refused.
+pub enum Judged {
+    Fits(u64),
+    Refused(u32),
+}
+
+// Finds whether changes of a sound store are refused: 13, 10, 15.
+fn judge_list(
+    generation: u64,
+    intervals: u64,
+    spec: DexelStockSpec,
+    g: DexelGrid,
+    spans: &[f64],
+    links: &[u64],
+    heads: &[u64],
+    changes: &[u64],
+    pairs: &[f64],
+) -> Judged
+    requires { ⌜ Room (spec .«max_intervals») (2 * rayCount g) (cells (now spans) (now links) (now heads)) × SoundCells spec g (cells (now spans) (now links) (now heads)) intervals × (length (now pairs) % 2 ≡ 0) ⌝ }
+    ensures { λ r. ⌜ ListJudges spec g (stock (now (spans .entry)) (now (links .entry)) (now (heads .entry)) generation intervals) (now (changes .entry)) (now (pairs .entry)) r ⌝ }
+{
+    let Checked::Next(cur) = change_list::check_changes(
+        spec,
+        g,
+        spans,
+        links,
+        heads,
+        changes,
+        pairs,
+    ) else {
+        return Judged::Refused(13);
+    };
+    let total = intervals - (cur.before as u64) + (cur.after as u64);
+    if spec.max_intervals < total {
+        return Judged::Refused(10);
+    }
+    if generation == 0xffff_ffff_ffff_ffff {
+        return Judged::Refused(15);
+    }
+    Judged::Fits(total)
+}
+
+// Finds whether a change list is refused, once the grid is accepted: 12, 11, 14, 13, 10, 15.
+fn judge(
+    generation: u64,
+    intervals: u64,
+    spec: DexelStockSpec,
+    g: DexelGrid,
+    spans: &[f64],
+    links: &[u64],
+    heads: &[u64],
+    base: u64,
+    changes: &[u64],
+    pairs: &[f64],
+) -> Judged
+    requires { ⌜ GridFacts spec g ⌝ }
+    ensures { λ r. ⌜ GridJudges spec g base (stock (now (spans .entry)) (now (links .entry)) (now (heads .entry)) generation intervals) (now (changes .entry)) (now (pairs .entry)) r ⌝ }
+{
+    if stock::is_short(spec, g, spans, links, heads) {
+        return Judged::Refused(12);
+    }
+    if !stock::check_stock(spec, g, spans, links, heads, intervals) {
+        return Judged::Refused(11);
+    }
+    if changes.len() % 6 != 0 {
+        return Judged::Refused(11);
+    }
+    if pairs.len() % 2 != 0 {
+        return Judged::Refused(11);
+    }
+    if base != generation {
+        return Judged::Refused(14);
+    }
+    judge_list(
+        generation,
+        intervals,
+        spec,
+        g,
+        spans,
+        links,
+        heads,
+        changes,
+        pairs,
+    )
+}
+
+// The commit over a grid that is accepted.
+fn commit_grid(
+    generation: u64,
+    intervals: u64,
+    spec: DexelStockSpec,
+    g: DexelGrid,
+    spans: &mut [f64],
+    links: &mut [u64],
+    heads: &mut [u64],
+    base: u64,
+    changes: &[u64],
+    pairs: &[f64],
+) -> Outcome
+    requires { ⌜ GridFacts spec g ⌝ }
+    ensures { λ r. ⌜ GridCommits spec g base (now (changes .entry)) (now (pairs .entry))
+        (stock (now (spans .entry)) (now (links .entry)) (now (heads .entry)) generation intervals)
+        (stock (now (spans .exit)) (now (links .exit)) (now (heads .exit)) (r .generation) (r .intervals)) (r .answer) ⌝ }
+{
+    match judge(
+        generation,
+        intervals,
+        spec,
+        g,
+        spans,
+        links,
+        heads,
+        base,
+        changes,
+        pairs,
+    ) {
+        Judged::Fits(total) => {
+            change_apply::apply_changes(spec, g, spans, links, heads, changes, pairs);
+            Outcome {
+                answer: Committed::Changed((changes.len() / 6) as u64),
+                generation: generation + 1,
+                intervals: total,
+            }
+        }
+        Judged::Refused(k) => Outcome {
+            answer: Committed::Refused(k),
+            generation,
+            intervals,
+        },
+    }
+}
+
+// The commit of a change list on plain numbers and slices. Refusals: 1, 2, 3, 4, 12, 11, 14, 13, 10, 15.
+pub fn commit_changes_on(
+    generation: u64,
+    intervals: u64,
+    spec: DexelStockSpec,
+    units: &[u8],
+    spans: &mut [f64],
+    links: &mut [u64],
+    heads: &mut [u64],
+    base: u64,
+    changes: &[u64],
+    pairs: &[f64],
+) -> Outcome
+    ensures { λ r. ⌜ ChangeCommits spec (now (units .entry)) base (now (changes .entry)) (now (pairs .entry))
+        (stock (now (spans .entry)) (now (links .entry)) (now (heads .entry)) generation intervals)
+        (stock (now (spans .exit)) (now (links .exit)) (now (heads .exit)) (r .generation) (r .intervals)) (r .answer) ⌝ }
+{
+    match grid_from_spec::grid(spec, units) {
+        Gridded::Accepted(g) => commit_grid(
+            generation,
+            intervals,
+            spec,
+            g,
+            spans,
+            links,
+            heads,
+            base,
+            changes,
+            pairs,
+        ),
+        Gridded::Refused(k) => Outcome {
+            answer: Committed::Refused(k),
+            generation,
+            intervals,
+        },
+    }
+}
+
+// Commits a change list to a stock. The small record is taken apart, and both its fields are stored, refused or not.
+pub fn commit_changes(
+    tally: &mut Tally,
+    spec: DexelStockSpec,
+    units: &[u8],
+    spans: &mut [f64],
+    links: &mut [u64],
+    heads: &mut [u64],
+    base: u64,
+    changes: &[u64],
+    pairs: &[f64],
+) -> Committed
+    ensures { λ r. ⌜ ChangeCommits spec (now (units .entry)) base (now (changes .entry)) (now (pairs .entry))
+        (stock (now (spans .entry)) (now (links .entry)) (now (heads .entry)) (now (tally .entry) .generation) (now (tally .entry) .intervals))
+        (stock (now (spans .exit)) (now (links .exit)) (now (heads .exit)) (now (tally .exit) .generation) (now (tally .exit) .intervals)) r ⌝ }
+{
+    let done = commit_changes_on(
+        tally.generation,
+        tally.intervals,
+        spec,
+        units,
+        spans,
+        links,
+        heads,
+        base,
+        changes,
+        pairs,
+    );
+    tally.generation = done.generation;
+    tally.intervals = done.intervals;
+    done.answer
+}

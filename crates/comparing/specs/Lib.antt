@@ -1,2 +1,0 @@
--- The definitions that the contracts of `comparing` cite.
-pub mod Verdicts

@@ -1,6 +1,0 @@
--- The laws of `counting`.
-pub mod Answers
-pub mod Division
-pub mod Passing
-pub mod Sorting
-pub mod Turns

@@ -1,3 +1,0 @@
--- The definitions that the contracts of `counting` cite.
-pub mod Answer
-pub mod Steps

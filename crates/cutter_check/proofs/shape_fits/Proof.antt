@@ -1,0 +1,120 @@
+use Rattle.cutter_check.specs.Limits.{shapeFits}
+use borrow.Author.Needs.{needs}
+use Rattle.cutter_check.proofs.shape_fits.Statement.{statement}
+use Rattle.cutter_check.proofs.shape_fits.Tie as tie
+
+enum-told : tie.Need-enum-told
+enum-told c = search needs
+
+enum-told-2 : tie.Need-enum-told-2
+enum-told-2 c = search needs
+
+enum-known-shape : tie.Need-enum-known-shape
+enum-known-shape c = search needs
+
+is-from-zero-requires : tie.Need-is-from-zero-requires
+is-from-zero-requires c κs = search needs
+
+enum-known-shape-2 : tie.Need-enum-known-shape-2
+enum-known-shape-2 c = search needs
+
+is-from-zero-requires-2 : tie.Need-is-from-zero-requires-2
+is-from-zero-requires-2 c κs = search needs
+
+enum-known-shape-3 : tie.Need-enum-known-shape-3
+enum-known-shape-3 c = search needs
+
+is-from-zero-requires-3 : tie.Need-is-from-zero-requires-3
+is-from-zero-requires-3 c κs = search needs
+
+is-from-zero-requires-4 : tie.Need-is-from-zero-requires-4
+is-from-zero-requires-4 c κs = search needs
+
+returns : tie.Need-returns
+unfolding shapeFits
+returns c = simp (← c .is-from-zero4 .ensures, c .before .if1 .taken, ← c .before .before .is-from-zero3 .ensures, c .before .before .before .before .shape3 .given .1)
+
+enum-told-3 : tie.Need-enum-told-3
+enum-told-3 c = search needs
+
+enum-told-4 : tie.Need-enum-told-4
+enum-told-4 c = search needs
+
+enum-told-5 : tie.Need-enum-told-5
+enum-told-5 c = search needs
+
+enum-known-shape-4 : tie.Need-enum-known-shape-4
+enum-known-shape-4 c = search needs
+
+is-from-zero-requires-5 : tie.Need-is-from-zero-requires-5
+is-from-zero-requires-5 c κs = search needs
+
+returns-2 : tie.Need-returns-2
+unfolding shapeFits
+returns-2 c = simp (c .if2 .taken, ← c .before .is-from-zero5 .ensures, c .before .before .before .shape4 .given .1)
+
+returns-3 : tie.Need-returns-3
+unfolding shapeFits
+returns-3 c = simp (c .enum-told .given .1)
+
+returns-4 : tie.Need-returns-4
+unfolding shapeFits
+returns-4 c = simp (c .enum-told2 .given .1)
+
+returns-5 : tie.Need-returns-5
+unfolding shapeFits
+returns-5 c = simp (← c .is-from-zero .ensures, c .before .before .shape .given .1)
+
+returns-6 : tie.Need-returns-6
+unfolding shapeFits
+returns-6 c = simp (← c .is-from-zero2 .ensures, c .before .before .shape2 .given .1)
+
+returns-7 : tie.Need-returns-7
+unfolding shapeFits
+returns-7 c = simp (c .if1 .left, ← c .before .is-from-zero3 .ensures, c .before .before .before .shape3 .given .1)
+
+returns-8 : tie.Need-returns-8
+unfolding shapeFits
+returns-8 c = simp (c .enum-told3 .given .1)
+
+returns-9 : tie.Need-returns-9
+unfolding shapeFits
+returns-9 c = simp (c .enum-told4 .given .1)
+
+returns-10 : tie.Need-returns-10
+unfolding shapeFits
+returns-10 c = simp (c .enum-told5 .given .1)
+
+returns-11 : tie.Need-returns-11
+unfolding shapeFits
+returns-11 c = simp (c .if2 .left, ← c .before .is-from-zero5 .ensures, c .before .before .before .shape4 .given .1)
+
+pub shape-fits-spec : {M : Type 1} → statement M
+shape-fits-spec =
+    tie.close
+    (tie.spec
+    enum-told
+    enum-told-2
+    enum-known-shape
+    is-from-zero-requires
+    enum-known-shape-2
+    is-from-zero-requires-2
+    enum-known-shape-3
+    is-from-zero-requires-3
+    is-from-zero-requires-4
+    returns
+    enum-told-3
+    enum-told-4
+    enum-told-5
+    enum-known-shape-4
+    is-from-zero-requires-5
+    returns-2
+    returns-3
+    returns-4
+    returns-5
+    returns-6
+    returns-7
+    returns-8
+    returns-9
+    returns-10
+    returns-11)

@@ -1,0 +1,176 @@
+// The grid of a blank: its description tested, its cells and steps worked out.
+ghost use mathlib.Core.Path.{_≡_};
+ghost use Rattle.grid_from_spec.specs.Grid.{anyBelow, anyAbove, isMm, misdescribed, cellsOf, dimsOf, gridWith, magnitudeOf, tooFine, gridOver};
+ghost use Rattle.grid_from_spec.specs.Causes.{GridPost};
+use grid::DexelGrid;
+use grid::DexelStockSpec;
+use grid::Gridded;
+use grid::Vec3;
+
+fn is_mm(units: &[u8]) -> bool
+    ensures { λ r. ⌜ r ≡ isMm (now (units .entry)) ⌝ }
+{
+    if units.len() != 2 {
+        return false;
+    }
+    if units[0] != 109 {
+        return false;
+    }
+    units[1] == 109
+}
+
+fn any_below(p: Vec3, limit: f64) -> bool
+    ensures { λ r. ⌜ r ≡ anyBelow p limit ⌝ }
+{
+    if p.x < limit {
+        return true;
+    }
+    if p.y < limit {
+        return true;
+    }
+    p.z < limit
+}
+
+fn any_above(p: Vec3, limit: f64) -> bool
+    ensures { λ r. ⌜ r ≡ anyAbove p limit ⌝ }
+{
+    if p.x > limit {
+        return true;
+    }
+    if p.y > limit {
+        return true;
+    }
+    p.z > limit
+}
+
+// Refusal 1 but for the units, over a cell size per axis.
+fn is_misdescribed(spec: DexelStockSpec, sizes: Vec3, extents: Vec3) -> bool
+    ensures { λ r. ⌜ r ≡ misdescribed spec sizes extents ⌝ }
+{
+    if spec.version != 1 {
+        return true;
+    }
+    if !grid::all_within(spec.min_mm, -1e6, 1e6) {
+        return true;
+    }
+    if !grid::all_within(spec.max_mm, -1e6, 1e6) {
+        return true;
+    }
+    if !grid::all_within(sizes, 1e-5, 1e6) {
+        return true;
+    }
+    if spec.max_rays == 0 {
+        return true;
+    }
+    if spec.max_rays > 4294967295 {
+        return true;
+    }
+    if spec.max_intervals == 0 {
+        return true;
+    }
+    any_below(extents, 1e-6)
+}
+
+// How many cells an extent has, as a double.
+fn cells(extent: f64, size: f64) -> f64
+    ensures { λ r. ⌜ r ≡ cellsOf extent size ⌝ }
+{
+    doubles_minmax::larger(doubles::ceil(extent / size), 1.0)
+}
+
+fn dims(extents: Vec3, sizes: Vec3) -> Vec3
+    ensures { λ r. ⌜ r ≡ dimsOf extents sizes ⌝ }
+{
+    Vec3 {
+        x: cells(extents.x, sizes.x),
+        y: cells(extents.y, sizes.y),
+        z: cells(extents.z, sizes.z),
+    }
+}
+
+// The grid with these cells.
+fn grid_with(extents: Vec3, dims: Vec3) -> DexelGrid
+    ensures { λ r. ⌜ r ≡ gridWith extents dims ⌝ }
+{
+    DexelGrid {
+        c0: doubles::to_u64(dims.x),
+        c1: doubles::to_u64(dims.y),
+        c2: doubles::to_u64(dims.z),
+        s0: extents.x / dims.x,
+        s1: extents.y / dims.y,
+        s2: extents.z / dims.z,
+    }
+}
+
+// The largest size of a bound, at least 1.
+fn magnitude(p: Vec3, q: Vec3) -> f64
+    ensures { λ r. ⌜ r ≡ magnitudeOf p q ⌝ }
+{
+    let x = doubles_minmax::larger(1.0, doubles::abs(p.x));
+    let y = doubles_minmax::larger(x, doubles::abs(p.y));
+    let z = doubles_minmax::larger(y, doubles::abs(p.z));
+    let u = doubles_minmax::larger(z, doubles::abs(q.x));
+    let v = doubles_minmax::larger(u, doubles::abs(q.y));
+    doubles_minmax::larger(v, doubles::abs(q.z))
+}
+
+// Refusal 4: a step below what doubles of this size resolve.
+fn is_too_fine(min: Vec3, max: Vec3, g: DexelGrid) -> bool
+    ensures { λ r. ⌜ r ≡ tooFine min max g ⌝ }
+{
+    let steps = Vec3 {
+        x: g.s0,
+        y: g.s1,
+        z: g.s2,
+    };
+    let least = doubles_minmax::larger(1e-6, 128.0 * 2.220446049250313e-16 * magnitude(min, max));
+    any_below(steps, least)
+}
+
+// Refusals 2, 3 and 4 and the grid, over the cells along each axis.
+fn grid_over(spec: DexelStockSpec, extents: Vec3, dims: Vec3) -> Gridded
+    ensures { λ r. ⌜ r ≡ gridOver spec extents dims ⌝ }
+{
+    let rays = dims.x * dims.y + dims.y * dims.z + dims.z * dims.x;
+    let max_rays = std::num::nearest_u64_to_f64(spec.max_rays);
+    if any_above(dims, max_rays) {
+        return Gridded::Refused(2);
+    }
+    if rays > max_rays {
+        return Gridded::Refused(2);
+    }
+    if 2.0 * rays > std::num::nearest_u64_to_f64(spec.max_intervals) {
+        return Gridded::Refused(3);
+    }
+    let g = grid_with(extents, dims);
+    if is_too_fine(spec.min_mm, spec.max_mm, g) {
+        return Gridded::Refused(4);
+    }
+    Gridded::Accepted(g)
+}
+
+// The grids that a description asks for, or why it is refused: 1, 2, 3 or 4.
+pub fn grid(spec: DexelStockSpec, units: &[u8]) -> Gridded
+    ensures { λ r. ⌜ GridPost spec (now (units .entry)) r ⌝ }
+{
+    if !is_mm(units) {
+        return Gridded::Refused(1);
+    }
+    let min = spec.min_mm;
+    let max = spec.max_mm;
+    let size = spec.cell_size_mm;
+    let sizes = Vec3 {
+        x: size,
+        y: size,
+        z: size,
+    };
+    let extents = Vec3 {
+        x: max.x - min.x,
+        y: max.y - min.y,
+        z: max.z - min.z,
+    };
+    if is_misdescribed(spec, sizes, extents) {
+        return Gridded::Refused(1);
+    }
+    grid_over(spec, extents, dims(extents, sizes))
+}

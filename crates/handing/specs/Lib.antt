@@ -1,2 +1,0 @@
--- The definitions that the contracts of `handing` cite.
-pub mod Numbers

@@ -1,2 +1,0 @@
--- The definitions that the contracts of `hits` cite.
-pub mod Hits

@@ -1,2 +1,0 @@
--- The definitions that the contracts of `inserting` cite.
-pub mod Steps

@@ -1,2 +1,0 @@
--- The definitions that the contracts of `joining` cite.
-pub mod Steps

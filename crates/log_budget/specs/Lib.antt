@@ -1,0 +1,3 @@
+-- The definitions that the contracts of `log_budget` cite.
+pub mod Answer
+pub mod Steps

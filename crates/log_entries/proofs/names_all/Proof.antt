@@ -1,0 +1,56 @@
+use mathlib.Core.Path.{_≡_, sym, _∙_}
+use mathlib.Core.Bool.{true, true≢false, false≢true}
+use borrow.Author.Count.{below-more}
+use Prim.Native.Nat.{ℕ, _≤_, _<_, _-_}
+use borrow.Author.Needs.{needs}
+use native.Mathlib.Omega.{arith}
+use Rattle.log_model.specs.Logs.{entryAt, namesOne}
+use Rattle.log_model.specs.Model.{NoRay}
+use Rattle.log_model.proofs.Entries.{entry-in}
+use Rattle.doubles.proofs.Bools.{not-true, not-false}
+use Rattle.log_entries.specs.Named.{EachNamed}
+use Rattle.log_entries.proofs.names_all.Statement.{statement}
+use Rattle.log_entries.proofs.names_all.Tie as tie
+
+abbrev Inv-loop : tie.InvT-loop
+Inv-loop g log n i₀ i = (i ≤ n) × ((j : ℕ) → j < i → namesOne g (entryAt log j) ≡ true)
+
+abbrev μ-loop : tie.MeasureT-loop
+μ-loop g log n i₀ i = n - i
+
+loop-holds : tie.Need-loop-holds Inv-loop μ-loop
+loop-holds c = (omega arith, λ j h. absurd (omega arith))
+
+named-requires : tie.Need-named-requires Inv-loop μ-loop
+named-requires c κs = search needs
+
+returns : tie.Need-returns Inv-loop μ-loop
+unfolding EachNamed NoRay
+returns c = record { yes = λ h. absurd (false≢true h); no = λ _. (entryAt (c .before .before .before .before .before .args .log .now) (c .before .before .before .loop .i), entry-in (c .before .before .before .before .before .args .log .now) (c .before .before .before .loop .i) (omega arith), sym (c .before .named .ensures) ∙ not-true _ (c .if1 .taken)) }
+
+add-i : tie.Need-add-i Inv-loop μ-loop
+add-i c = search needs
+
+loop-less : tie.Need-loop-less Inv-loop μ-loop
+loop-less c = search needs
+
+loop-again : tie.Need-loop-again Inv-loop μ-loop
+loop-again c = (omega arith, below-more _ _ (c .before .before .before .loop .inv .1) (sym (c .before .named .ensures) ∙ not-false _ (c .if1 .left)))
+
+returns-2 : tie.Need-returns-2 Inv-loop μ-loop
+unfolding EachNamed
+returns-2 c = record { yes = λ h. λ j k. c .before .loop .inv .1 j (omega arith); no = λ h. absurd (true≢false h) }
+
+pub names-all-spec : {M : Type 1} → statement M
+names-all-spec =
+    tie.close
+    (tie.spec
+    Inv-loop
+    μ-loop
+    loop-holds
+    named-requires
+    returns
+    add-i
+    loop-less
+    loop-again
+    returns-2)

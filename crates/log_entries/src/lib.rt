@@ -1,0 +1,93 @@
+// Reads a log: which rays its entries name.
+ghost use mathlib.Core.Path.{_≡_};
+ghost use mathlib.Core.Bool.{true};
+ghost use Prim.Native.Nat.{_+_, _*_, _^_, _<_};
+ghost use lib.ListN.{length};
+ghost use Rattle.grid.specs.Rays.{rayCount};
+ghost use Rattle.log_model.specs.Logs.{entryAt, isWhole, wholeOf, namesOne, rayOf};
+ghost use Rattle.log_entries.specs.Named.{NamesAll, beforeAxis};
+use grid::DexelGrid;
+use grid::WorldAxis;
+
+// Whether x is a whole number from 0 up.
+fn is_whole(x: f64) -> bool
+    ensures { λ r. ⌜ r ≡ isWhole x ⌝ }
+{
+    x == std::num::nearest_u64_to_f64(doubles::to_u64(x))
+}
+
+// Whether the entry at place i names a ray.
+fn named(g: DexelGrid, log: &[f64], i: usize) -> bool
+    requires { ⌜ (rayCount g < 2 ^ 64) × (6 * i + 5 < length (now log)) ⌝ }
+    ensures { λ r. ⌜ r ≡ namesOne g (entryAt (now (log .entry)) i) ⌝ }
+{
+    let axis = log[6 * i];
+    let index = log[6 * i + 1];
+    if !is_whole(axis) {
+        return false;
+    }
+    let a = doubles::to_u64(axis);
+    if a >= 3 {
+        return false;
+    }
+    if !is_whole(index) {
+        return false;
+    }
+    doubles::to_u64(index) < grid_rays::rays(g, WorldAxis(a as u8))
+}
+
+// The whole number that x is. One from 1 up and below 2^32 is cast, which the machine does at once.
+fn whole_number(x: f64) -> u64
+    requires { ⌜ isWhole x ≡ true ⌝ }
+    ensures { λ r. ⌜ r ≡ wholeOf x ⌝ }
+{
+    if 1.0 <= x {
+        if x < 4294967296.0 {
+            return (x as u32) as u64;
+        }
+    }
+    doubles::to_u64(x)
+}
+
+// How many rays stand before those along the axis, which is 0, 1 or 2. Entries name the axes in no order, which a processor cannot foresee,
+// so that both tests only choose a number.
+fn rays_before(axis: f64, first: u64, second: u64) -> u64
+    requires { ⌜ first + second < 2 ^ 64 ⌝ }
+    ensures { λ r. ⌜ r ≡ beforeAxis axis first second ⌝ }
+{
+    let mut n: u64 = 0;
+    if 1.0 <= axis {
+        n = first;
+    }
+    if 2.0 <= axis {
+        n = first + second;
+    }
+    n
+}
+
+// The number of the ray that the entry at place i names.
+pub fn ray_at(g: DexelGrid, log: &[f64], i: usize) -> usize
+    requires { ⌜ (rayCount g < 2 ^ 64) × (6 * i + 5 < length (now log)) × (namesOne g (entryAt (now log) i) ≡ true) ⌝ }
+    ensures { λ r. ⌜ r ≡ rayOf g (entryAt (now (log .entry)) i) ⌝ }
+{
+    let index = whole_number(log[6 * i + 1]);
+    let first = grid_rays::rays(g, WorldAxis(0));
+    let second = grid_rays::rays(g, WorldAxis(1));
+    (rays_before(log[6 * i], first, second) + index) as usize
+}
+
+// Whether each whole entry of the log names a ray.
+pub fn names_all(g: DexelGrid, log: &[f64]) -> bool
+    requires { ⌜ rayCount g < 2 ^ 64 ⌝ }
+    ensures { λ r. ⌜ NamesAll g (now (log .entry)) r ⌝ }
+{
+    let n = log.len() / 6;
+    let mut i: usize = 0;
+    while i < n {
+        if !named(g, log, i) {
+            return false;
+        }
+        i += 1;
+    }
+    true
+}

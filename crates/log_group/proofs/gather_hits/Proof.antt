@@ -1,0 +1,113 @@
+-- `log_group::gather_hits` meets its contract.
+use borrow.Author.Needs.{needs}
+use native.Mathlib.Omega.{arith}
+use mathlib.Core.Path.{ap}
+use Prim.Native.Nat.{_-_}
+use lib.ListN.{length, length-set}
+use Rattle.log_group.specs.Groups.{kindOf}
+use Rattle.log_group.proofs.Gathering.{Gathering, Turn, turn, gathers, gathered, again, column-most}
+use Rattle.log_group.proofs.gather_hits.Statement.{statement}
+use Rattle.log_group.proofs.gather_hits.Tie as tie
+
+abbrev Inv-loop : tie.InvT-loop
+Inv-loop log work₀ ray inner at rays c t₀ k₀ work t k = Gathering rays log (kindOf inner) ray at work₀ work t k
+
+abbrev μ-loop : tie.MeasureT-loop
+μ-loop log work₀ ray inner at rays c t₀ k₀ work t k = length work₀ - t
+
+turned-at : (c : tie.In-loop Inv-loop μ-loop)
+    → let a = c .before .before .before .before .before .before .before .before .args in
+    Turn (c .before .before .before .before .before .total-rays .result) (a .log .now) (kindOf (a .inner)) (a .ray) (a .at) (a .work .now) (c .before .loop .work) (c .before .loop .t) (c .before .loop .k)
+turned-at c =
+    let a = c .before .before .before .before .before .before .before .before .args in
+    turn (c .before .before .before .before .before .total-rays .result) (a .log .now) (kindOf (a .inner)) (a .ray) (a .at) (a .work .now) (c .before .loop .work) (c .before .loop .t) (c .before .loop .k)
+    (c .loop-test .taken) (c .before .loop .inv)
+
+total-rays-requires : tie.Need-total-rays-requires Inv-loop μ-loop
+total-rays-requires c κs = search needs
+
+column-requires : tie.Need-column-requires Inv-loop μ-loop
+column-requires c κs = search needs
+
+number-at-requires : tie.Need-number-at-requires Inv-loop μ-loop
+number-at-requires c κs = search needs
+
+loop-holds : tie.Need-loop-holds Inv-loop μ-loop
+loop-holds c =
+    let m = c .before .before .before in
+    let b = m .before .before .before in
+    let a = b .args in
+    gathers (a .g) (a .log .now) (a .work .now) (b .pre .0) (a .ray) (b .pre .1) (m .total-rays .result) (m .total-rays .ensures) (kindOf (a .inner)) (a .at) (b .pre .3) (b .pre .2)
+    (c .number-at .result) (c .number-at .ensures)
+
+sub-i : tie.Need-sub-i Inv-loop μ-loop
+sub-i c = search needs
+
+put-hit-requires : tie.Need-put-hit-requires Inv-loop μ-loop
+put-hit-requires c κs =
+    let t = turned-at (c .before) in
+    let m = c .before .before .before .before .before in
+    let l = c .before .before in
+    (omega (arith, t .below, m .column .ensures, column-most (kindOf (m .before .before .before .before .args .inner))), omega (arith, t .room, l .loop .inv .size))
+
+add-number-at : tie.Need-add-number-at Inv-loop μ-loop
+add-number-at c =
+    let t = turned-at (c .before .before .before .before .before) in
+    let p = c .before .before .before in
+    let l = p .before .before .before in
+    omega (arith, t .below, l .loop .inv .past, t .room)
+
+number-at-requires-2 : tie.Need-number-at-requires-2 Inv-loop μ-loop
+number-at-requires-2 c κs =
+    let t = turned-at (c .before .before .before .before .before) in
+    let p = c .before .before .before in
+    let l = p .before .before .before in
+    omega (arith, t .below, l .loop .inv .past, t .room, l .loop .inv .size, simp length-set at (ap length (p .put-hit .ensures)))
+
+add-t : tie.Need-add-t Inv-loop μ-loop
+add-t c = omega (arith, turned-at (c .before .before .before .before .before .before) .room)
+
+loop-less : tie.Need-loop-less Inv-loop μ-loop
+loop-less c = omega (arith, turned-at (c .before .before .before .before .before .before) .room)
+
+loop-again : tie.Need-loop-again Inv-loop μ-loop
+loop-again c =
+    let p = c .before .before .before .before in
+    let l = p .before .before .before in
+    let m = l .before .before .before in
+    let t = turned-at (c .before .before .before .before .before .before) in
+    let a = m .before .before .before .before .args in
+    again (m .before .total-rays .result) (a .log .now) (kindOf (a .inner)) (a .ray) (a .at) (a .work .now) (l .loop .work) (l .loop .t) (l .loop .k) (m .column .result) (p .put-hit .last .1 .1 .1 .0)
+    (c .number-at2 .result) (m .column .ensures) (p .put-hit .ensures) (c .number-at2 .ensures) (t .again)
+
+same-length : tie.Need-same-length Inv-loop μ-loop
+same-length c = c .before .loop .inv .size
+
+returns : tie.Need-returns Inv-loop μ-loop
+returns c =
+    let l = c .before in
+    let m = l .before .before .before .before in
+    let b = m .before .before .before in
+    let a = b .args in
+    gathered (a .g) (a .log .now) (a .work .now) (b .pre .0) (a .ray) (b .pre .1) (m .total-rays .result) (m .total-rays .ensures) (kindOf (a .inner)) (a .at)
+    (l .loop .work) (l .loop .t) (l .loop .k) (c .loop-test .left) (l .loop .inv)
+
+pub gather-hits-spec : {M : Type 1} → statement M
+gather-hits-spec =
+    tie.close
+    (tie.spec
+    Inv-loop
+    μ-loop
+    total-rays-requires
+    column-requires
+    number-at-requires
+    loop-holds
+    sub-i
+    put-hit-requires
+    add-number-at
+    number-at-requires-2
+    add-t
+    loop-less
+    loop-again
+    same-length
+    returns)

@@ -1,0 +1,81 @@
+// Groups the entries of a log by ray: the entries of each ray are chained in the work buffer, in the log's order.
+ghost use mathlib.Core.Path.{_≡_};
+ghost use Prim.Native.Nat.{_+_, _*_, _<_, _≤_};
+ghost use lib.Ieee.{nan};
+ghost use lib.ListN.{length, getD, set};
+ghost use Rattle.log_numbers.specs.Numbers.{numberCell};
+ghost use Rattle.grid.specs.Rays.{rayCount};
+ghost use Rattle.log_model.specs.Logs.{entries, entryCount};
+ghost use Rattle.log_entries.specs.Named.{EachNamed, pairsNamed};
+ghost use Rattle.store_lists.specs.Reading.{Copied};
+ghost use Rattle.log_group.specs.Groups.{Grouped, Groups, kindOf, columnOf};
+use grid::DexelGrid;
+
+// Puts place i in front of the chain of the ray.
+fn link(work: &mut [f64], rays: usize, ray: usize, i: usize)
+    requires { ⌜ (ray < rays) × (rays + i < length (now work)) ⌝ }
+    ensures { λ _. ⌜ now (work .exit) ≡ set (set (now (work .entry)) (rays + i) (getD (now (work .entry)) ray nan)) ray (numberCell (i + 1)) ⌝ }
+{
+    work[rays + i] = work[ray];
+    log_numbers::put_number(work, ray, (i + 1) as u64);
+}
+
+// Chains the entries of each ray. Each goes in front of those behind it, so that no entry is looked at twice.
+pub fn group(g: DexelGrid, log: &[f64], work: &mut [f64])
+    requires { ⌜ EachNamed g (now log) × (rayCount g + entryCount (now log) ≤ length (now work)) ⌝ }
+    ensures { λ _. ⌜ Groups g (now (log .entry)) (now (work .entry)) (now (work .exit)) ⌝ }
+{
+    let rays = grid_rays::total_rays(g) as usize;
+    spans::clear_from(&mut work[..rays], 0);
+    let mut i = log.len() / 6;
+    while 0 < i {
+        i -= 1;
+        let ray = log_entries::ray_at(g, log, i);
+        link(work, rays, ray, i);
+    }
+}
+
+// Where an entry's pair begins.
+fn column(inner: bool) -> usize
+    ensures { λ r. ⌜ r ≡ columnOf (kindOf inner) ⌝ }
+{
+    if inner {
+        return 4;
+    }
+    2
+}
+
+// Copies the pair that begins at column c of the entry at place i to cell t.
+fn put_hit(log: &[f64], i: usize, c: usize, work: &mut [f64], t: usize)
+    requires { ⌜ (6 * i + c + 1 < length (now log)) × (t + 1 < length (now work)) ⌝ }
+    ensures { λ _. ⌜ now (work .exit) ≡ set (set (now (work .entry)) t (getD (now (log .entry)) (6 * i + c) nan)) (t + 1) (getD (now (log .entry)) (6 * i + c + 1) nan) ⌝ }
+{
+    work[t] = log[6 * i + c];
+    work[t + 1] = log[6 * i + c + 1];
+}
+
+// Copies the outer or the inner pairs of the entries on a ray into the buffer from cell `at` on, past the chains, and says which cell is past them.
+pub fn gather_hits(
+    g: DexelGrid,
+    log: &[f64],
+    work: &mut [f64],
+    ray: usize,
+    inner: bool,
+    at: usize,
+) -> usize
+    requires { ⌜ Grouped g (now log) (now work) × (ray < rayCount g) × (rayCount g + entryCount (now log) ≤ at)
+        × (at + length (pairsNamed g (entries (now log)) ray (kindOf inner)) ≤ length (now work)) ⌝ }
+    ensures { λ r. ⌜ Copied (pairsNamed g (entries (now (log .entry))) ray (kindOf inner)) (now (work .entry)) at (now (work .exit)) r ⌝ }
+{
+    let rays = grid_rays::total_rays(g) as usize;
+    let c = column(inner);
+    let mut t = at;
+    let mut k = log_numbers::number_at(work, ray);
+    while k != 0 {
+        let i = (k - 1) as usize;
+        put_hit(log, i, c, work, t);
+        k = log_numbers::number_at(work, rays + i);
+        t += 2;
+    }
+    t
+}

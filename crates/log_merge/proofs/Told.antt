@@ -1,0 +1,100 @@
+-- What the merge of one ray says of the log: whether the ray changes, and which lists are left.
+use mathlib.Core.Path.{_≡_, refl, sym, ap, _∙_, subst}
+use mathlib.Core.Bool.{Bool, true, false}
+use mathlib.Core.List.{List}
+use Prim.Native.Nat.{ℕ, _+_, _*_, _/_, _≤_, _<_}
+use native.Mathlib.Omega.{arith}
+use lib.ListN.{length}
+use lib.Ieee.{Float}
+use Rattle.spans.specs.Spans.{holds, ListOf, NormalOf}
+use Rattle.span_overlay.specs.Overlay.{lessOf}
+use Rattle.grid.specs.Rays.{rayCount}
+use Rattle.grid.specs.declared.DexelStockSpec.{DexelStockSpec}
+use Rattle.grid.specs.declared.DexelGrid.{DexelGrid}
+use Rattle.stock.specs.Stock.{Stock, possibleIn, certainIn, SoundCells}
+use Rattle.log_model.specs.Logs.{Ray, Kind, possible, certain, entries, outer, inner}
+use Rattle.log_model.specs.Model.{Changes}
+use Rattle.log_model.specs.Counts.{changesRay, startsLeft, hitsOn}
+use Rattle.log_model.specs.Lent.{listNumber, listIn}
+use Rattle.log_model.proofs.Decided.{changes-by}
+use Rattle.log_model.proofs.Doubles.{Doubles}
+use Rattle.log_entries.proofs.Places.{pairs-named}
+use Rattle.log_updates.specs.Merges.{ExactOf, listsOf}
+use Rattle.log_updates.proofs.Asked.{exact-possible, exact-certain, exact-changes}
+use Rattle.log_updates.proofs.Totals.{each, one-pairs}
+use Rattle.ray_subtract.specs.Steps.{part}
+use Rattle.ray_subtract.proofs.Places.{part-length}
+use Rattle.log_merge.specs.Rays.{RayMerged, limitOf}
+use Rattle.log_merge.specs.declared.Change.{Change}
+
+-- ---- over a sound store
+module _ (spec : DexelStockSpec) (g : DexelGrid) (s : Stock) (total : ℕ) (snd : SoundCells spec g (s .cells) total) (log : List Float) where
+  -- the same cells with the total that they have
+  abbrev whole : Stock
+  whole = record { cells = s .cells; generation = 0; intervals = total }
+
+  abbrev sets : Ray g → Kind → Float → Bool
+  sets r k = holds (listsOf spec g s r k)
+
+  listed : (r : Ray g) (k : Kind) → ListOf (sets r k) (listsOf spec g s r k)
+  unfolding listIn
+  listed r k = each spec g whole snd (entries log) r k
+
+  module _ (ray : ℕ) (h : ray < rayCount g) (q : ℕ) (before after : List Float) (r : Change)
+      (m : RayMerged spec g (s .cells) log ray q before after r) where
+    -- both lists less what normalising makes of the hits
+    exact : (p c : List Float) → p ≡ lessOf (possibleIn spec (s .cells) ray) (m .innerNormal)
+        → c ≡ lessOf (lessOf (certainIn spec (s .cells) ray) (m .outerNormal)) (m .innerNormal)
+        → ExactOf g (listsOf spec g s) (entries log) (ray, h) p c
+    unfolding listIn listNumber
+    exact p c a b = record {
+      outerNormal = m .outerNormal;
+      innerNormal = m .innerNormal;
+      outerIs = subst (λ (l : List Float). NormalOf l (m .outerNormal)) (sym (pairs-named g (entries log) (ray, h) outer)) (m .outerIs);
+      innerIs = subst (λ (l : List Float). NormalOf l (m .innerNormal)) (sym (pairs-named g (entries log) (ray, h) inner)) (m .innerIs);
+      possibleIs = a;
+      certainIs = b;
+    }
+
+    pub new-exact : r .changed ≡ true
+        → ExactOf g (listsOf spec g s) (entries log) (ray, h) (part q (2 * r .possible) after)
+        (part (q + 2 * r .possible) (2 * r .certain) after)
+    new-exact e = exact (part q (2 * r .possible) after) (part (q + 2 * r .possible) (2 * r .certain) after)
+        (m .cut .lists e .possibleIs) (m .cut .lists e .certainIs)
+
+    -- the ray changes where a boundary moves
+    changed-by : r .changed ≡ changesRay g (listsOf spec g s) (entries log) (ray, h)
+    unfolding listIn listNumber
+    changed-by =
+        m .cut .moved
+        ∙ exact-changes g (listsOf spec g s) (entries log) (ray, h) (lessOf (possibleIn spec (s .cells) ray) (m .innerNormal))
+        (lessOf (lessOf (certainIn spec (s .cells) ray) (m .outerNormal)) (m .innerNormal)) (exact _ _ refl refl)
+        (listed (ray, h) possible .isSound) (listed (ray, h) certain .isSound)
+
+    pub changes : Doubles g (listsOf spec g s) (entries log) → r .changed ≡ true → Changes g sets (entries log) (ray, h)
+    changes d e = changes-by g sets (listsOf spec g s) listed (entries log) d (ray, h) .0 (sym changed-by ∙ e)
+
+    pub changes-not : Doubles g (listsOf spec g s) (entries log) → r .changed ≡ false → ¬ Changes g sets (entries log) (ray, h)
+    changes-not d e = changes-by g sets (listsOf spec g s) listed (entries log) d (ray, h) .1 (sym changed-by ∙ e)
+
+    -- how many pairs both new lists have
+    pub pairs-most : q + limitOf spec log ≤ length after
+        → r .possible + r .certain ≤ startsLeft (listsOf spec g s (ray, h) possible) (hitsOn g (entries log) (ray, h) possible)
+        + startsLeft (listsOf spec g s (ray, h) certain) (hitsOn g (entries log) (ray, h) certain)
+    unfolding listIn
+    pairs-most fit = go (r .changed) refl
+      where
+        half : (k : ℕ) → 2 * k / 2 ≡ k
+        half k = omega arith
+
+        go : (b : Bool) → r .changed ≡ b → r .possible + r .certain ≤ startsLeft (listsOf spec g s (ray, h) possible) (hitsOn g (entries log) (ray, h) possible)
+            + startsLeft (listsOf spec g s (ray, h) certain) (hitsOn g (entries log) (ray, h) certain)
+        go true e =
+            let p = one-pairs spec g whole snd (entries log) (ray, h) possible (part q (2 * r .possible) after)
+            (exact-possible g (listsOf spec g s) (entries log) (ray, h) _ _ (new-exact e) (listed (ray, h) possible .isSound)) in
+            let c = one-pairs spec g whole snd (entries log) (ray, h) certain (part (q + 2 * r .possible) (2 * r .certain) after)
+            (exact-certain g (listsOf spec g s) (entries log) (ray, h) _ _ (new-exact e) (listed (ray, h) certain .isSound)) in
+            let lp = part-length q (2 * r .possible) after (omega (arith, m .cut .most)) in
+            let lc = part-length (q + 2 * r .possible) (2 * r .certain) after (omega (arith, m .cut .most)) in
+            omega (arith, sym p ∙ ap (λ (n : ℕ). n / 2) lp ∙ half (r .possible), sym c ∙ ap (λ (n : ℕ). n / 2) lc ∙ half (r .certain))
+        go false e = let z = m .cut .none e in omega (arith, z .0, z .1)

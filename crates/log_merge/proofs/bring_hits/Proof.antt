@@ -1,0 +1,76 @@
+-- `log_merge::bring_hits` meets its contract.
+use borrow.Author.Needs.{needs}
+use native.Mathlib.Omega.{arith}
+use borrow.Author.Needs.{needs}
+use mathlib.Core.Path.{_≡_}
+use Prim.Native.Nat.{_-_}
+use lib.ListN.{length, take, drop, length-drop}
+use lib.Seq.{length-take-le}
+use Rattle.log_model.specs.Logs.{entries}
+use Rattle.log_entries.specs.Named.{pairsNamed}
+use Rattle.log_entries.proofs.Sizes.{named-even}
+use Rattle.log_group.specs.Groups.{kindOf}
+use Rattle.log_merge.proofs.Bringing.{copied-size, hits-brought}
+use Rattle.log_merge.proofs.bring_hits.Statement.{statement}
+use Rattle.log_merge.proofs.bring_hits.Tie as tie
+
+part-long : (y : tie.After-gather-hits) → let a = y .before .before .before .before .args in
+    let w = y .gather-hits .last .1 .1 .0 in length (take (length w - a .at) (drop (a .at) w)) ≡ length (a .work .now) - a .at
+part-long y =
+    let s = y .before .before .before .before in
+    let a = s .args in
+    let w = y .gather-hits .last .1 .1 .0 in
+    let size = copied-size (pairsNamed (a .g) (entries (a .log .now)) (a .ray) (kindOf (a .inner))) (a .work .now) (a .at) w (y .gather-hits .result) (s .pre .3) (y .gather-hits .ensures) in
+    omega (arith, size, length-drop (a .at) w, length-take-le (length w - a .at) (drop (a .at) w) (omega (arith, length-drop (a .at) w)))
+
+gather-hits-requires : tie.Need-gather-hits-requires
+gather-hits-requires c κs = search needs
+
+mul-normalize-front : tie.Need-mul-normalize-front
+mul-normalize-front c = search needs
+
+sub-normalize-front : tie.Need-sub-normalize-front
+sub-normalize-front c = search needs
+
+part-normalize-front-start : tie.Need-part-normalize-front-start
+part-normalize-front-start c = search needs
+
+part-normalize-front-end : tie.Need-part-normalize-front-end
+part-normalize-front-end c = search needs
+
+sub-normalize-front-2 : tie.Need-sub-normalize-front-2
+sub-normalize-front-2 c = search needs
+
+normalize-front-requires : tie.Need-normalize-front-requires
+normalize-front-requires c κs =
+    let y = c .before .before .before in
+    let s = y .before .before .before .before in
+    let a = s .args in
+    let e = y .gather-hits .ensures in
+    (omega (arith, e .past, named-even (a .g) (a .ray) (kindOf (a .inner)) (entries (a .log .now))), omega (arith, e .past, s .pre .3, part-long y))
+
+same-length : tie.Need-same-length
+same-length c = search needs
+
+returns : tie.Need-returns
+returns c =
+    let z = c .before .before in
+    let y = z .before .before .before .before in
+    let s = y .before .before .before .before in
+    let a = s .args in
+    hits-brought (pairsNamed (a .g) (entries (a .log .now)) (a .ray) (kindOf (a .inner))) (a .work .now) (y .gather-hits .last .1 .1 .0) (z .normalize-front .last .0) (a .at) (y .gather-hits .result) (z .normalize-front .result)
+    (s .pre .3) (y .gather-hits .ensures) (z .normalize-front .kept .0) (z .normalize-front .ensures)
+
+pub bring-hits-spec : {M : Type 1} → statement M
+bring-hits-spec =
+    tie.close
+    (tie.spec
+    gather-hits-requires
+    mul-normalize-front
+    sub-normalize-front
+    part-normalize-front-start
+    part-normalize-front-end
+    sub-normalize-front-2
+    normalize-front-requires
+    same-length
+    returns)

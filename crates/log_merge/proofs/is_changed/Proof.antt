@@ -1,0 +1,54 @@
+-- `log_merge::is_changed` meets its contract.
+use borrow.Author.Needs.{needs}
+use Prim.Native.Nat.{_+_}
+use Rattle.spans.specs.Spans.{equal}
+use Rattle.span_overlay.specs.Overlay.{lessOf}
+use Rattle.ray_subtract.specs.Steps.{part, lessHits}
+use Rattle.log_merge.proofs.Cutting.{moves-first, moves-second}
+use Rattle.log_merge.proofs.is_changed.Statement.{statement}
+use Rattle.log_merge.proofs.is_changed.Tie as tie
+
+add-c : tie.Need-add-c
+add-c c = search needs
+
+add-share-point : tie.Need-add-share-point
+add-share-point c = search needs
+
+add-share-point-2 : tie.Need-add-share-point-2
+add-share-point-2 c = search needs
+
+share-point-requires : tie.Need-share-point-requires
+share-point-requires c κs = search needs
+
+returns : tie.Need-returns
+returns c =
+    let a = c .before .before .before .args in
+    let h = c .before .share-point in
+    moves-first (equal (part (a .at) (a .np) (a .w .now)) (lessOf (part (a .at) (a .np) (a .w .now))
+    (part (a .at + a .np + a .nc + a .no) (a .ni) (a .w .now))))
+    (equal (part (a .at + a .np) (a .nc) (a .w .now)) (lessHits (a .at + a .np) (a .nc) (a .no) (a .ni) (a .w .now))) (h .result)
+    (h .ensures) (c .if1 .taken)
+
+is-hit-requires : tie.Need-is-hit-requires
+is-hit-requires c κs = search needs
+
+returns-2 : tie.Need-returns-2
+returns-2 c =
+    let a = c .before .before .before .before .args in
+    let h = c .before .before .share-point in
+    moves-second (equal (part (a .at) (a .np) (a .w .now)) (lessOf (part (a .at) (a .np) (a .w .now))
+    (part (a .at + a .np + a .nc + a .no) (a .ni) (a .w .now))))
+    (equal (part (a .at + a .np) (a .nc) (a .w .now)) (lessHits (a .at + a .np) (a .nc) (a .no) (a .ni) (a .w .now)))
+    (h .result) (h .ensures) (c .before .if1 .left) (c .is-hit .result) (c .is-hit .ensures)
+
+pub is-changed-spec : {M : Type 1} → statement M
+is-changed-spec =
+    tie.close
+    (tie.spec
+    add-c
+    add-share-point
+    add-share-point-2
+    share-point-requires
+    returns
+    is-hit-requires
+    returns-2)

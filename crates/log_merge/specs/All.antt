@@ -1,0 +1,51 @@
+-- What a merge leaves of all rays: behind the chains of the log two sizes for each ray, behind these the new lists.
+use mathlib.Core.Path.{_≡_}
+use mathlib.Core.Bool.{cond}
+use mathlib.Core.List.{List}
+use Prim.Native.Nat.{ℕ, _+_, _*_, _≤_}
+use lib.ListN.{length}
+use lib.Ieee.{Float}
+use Rattle.grid.specs.Rays.{rayCount}
+use Rattle.grid_from_spec.specs.Causes.{GridFacts}
+use Rattle.grid.specs.declared.DexelStockSpec.{DexelStockSpec}
+use Rattle.grid.specs.declared.DexelGrid.{DexelGrid}
+use Rattle.store.specs.Updates.{Cells, Room}
+use Rattle.stock.specs.Stock.{Stock, SoundStock}
+use Rattle.log_model.specs.Logs.{entries, entryCount}
+use Rattle.log_model.specs.Counts.{pairsLeft}
+use Rattle.log_lay.specs.Updates.{updatesFrom, listsEnd}
+use Rattle.log_updates.specs.Merges.{Merges, listsOf}
+use Rattle.log_group.specs.Groups.{Grouped}
+use Rattle.log_merge.specs.declared.Change.{Change}
+
+-- the first size of a ray: 0 where it does not change, else one more than the pairs of its new possible list
+abbrev pub firstOf : Change → ℕ
+firstOf m = cond (m .changed) (m .possible + 1) 0
+
+-- what the ray adds to the number of those that change
+abbrev pub countOf : Change → ℕ
+countOf m = cond (m .changed) 1 0
+
+-- where the sizes stand, and the lists
+abbrev pub sizesAt : DexelGrid → (log : List Float) → ℕ
+sizesAt g log = rayCount g + entryCount log
+
+abbrev pub listsFrom : DexelGrid → (log : List Float) → ℕ
+listsFrom g log = sizesAt g log + 2 * rayCount g
+
+-- a sound stock of these cells, a grouped log that leaves it no more pairs than it has records, and document 01's work pairs
+pub record AllMergeable (spec : DexelStockSpec) (g : DexelGrid) (c : Cells) (log work : List Float) : Type 0 where
+  pub grid : GridFacts spec g
+  pub room : Room (spec .«max_intervals») (2 * rayCount g) c
+  pub stock : Stock
+  pub of-cells : stock .cells ≡ c
+  pub sound : SoundStock spec g stock
+  pub grouped : Grouped g log work
+  pub budget : pairsLeft g (listsOf spec g stock) (entries log) ≤ spec .«max_intervals»
+  pub pairs : 12 * spec .«max_intervals» + 36 * entryCount log ≤ length work
+
+-- the sizes and the new lists in the buffer are the updates that the log asks of each stock of these cells, and so many rays change
+pub record AllMerged (spec : DexelStockSpec) (g : DexelGrid) (c : Cells) (log before after : List Float) (changed : ℕ) : Type 0 where
+  pub size : length after ≡ length before
+  pub merges : (s : Stock) → s .cells ≡ c → Merges g (listsOf spec g s) (entries log) 0 (updatesFrom after (sizesAt g log) (listsFrom g log) 0 (rayCount g)) changed
+  pub ends : listsEnd after (sizesAt g log) (listsFrom g log) 0 (rayCount g) ≤ length after

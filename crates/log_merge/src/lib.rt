@@ -1,0 +1,214 @@
+// Merges the hits of a log into the rays of a store: the new lists of each ray that changes, one ray after the other, in the work buffer.
+ghost use mathlib.Core.Path.{_≡_};
+ghost use Prim.Native.Nat.{_+_, _*_, _^_, _<_, _≤_};
+ghost use lib.ListN.{length, set};
+ghost use Rattle.log_numbers.specs.Numbers.{numberCell};
+ghost use Rattle.grid.specs.Rays.{rayCount};
+ghost use Rattle.log_model.specs.Logs.{entries, entryCount, outer, inner};
+ghost use Rattle.store.specs.Updates.{cells};
+ghost use Rattle.stock.specs.Stock.{possibleIn, certainIn};
+ghost use Rattle.log_entries.specs.Named.{pairsNamed};
+ghost use Rattle.log_group.specs.Groups.{Grouped, kindOf};
+ghost use Rattle.ray_subtract.specs.Steps.{part, Ready, Normal};
+ghost use Rattle.log_merge.specs.Rays.{rayMoves, RayCut, Bringable, Brought, limitOf, RayMerged};
+ghost use Rattle.log_merge.specs.All.{firstOf, countOf, AllMergeable, AllMerged};
+use grid::DexelGrid;
+use grid::DexelStockSpec;
+
+// Whether a ray changes, and if so how many pairs its new lists have.
+pub struct Change {
+    pub changed: bool,
+    pub possible: usize,
+    pub certain: usize,
+}
+
+// The cells that a ray's lists and the lists that normalising makes of its hits have.
+pub struct Sizes {
+    pub possible: usize,
+    pub certain: usize,
+    pub outer: usize,
+    pub inner: usize,
+}
+
+// Whether a boundary of one of the ray's lists moves.
+fn is_changed(w: &[f64], at: usize, np: usize, nc: usize, no: usize, ni: usize) -> bool
+    requires { ⌜ Ready at np nc no ni (now w) ⌝ }
+    ensures { λ r. ⌜ r ≡ rayMoves (part at np (now (w .entry))) (part (at + np) nc (now (w .entry))) (part (at + np + nc) no (now (w .entry)))
+        (part (at + np + nc + no) ni (now (w .entry))) ⌝ }
+{
+    let c = at + np;
+    if ray_subtract::share_point(w, at, np, c + nc + no, ni) {
+        return true;
+    }
+    ray_subtract::is_hit(w, c, nc, no, ni)
+}
+
+// Where the ray changes, writes both its lists less the hits to the start of w, possible's before certain's: the one that no hit touches as well,
+// since both are laid again.
+fn cut_ray(w: &mut [f64], at: usize, np: usize, nc: usize, no: usize, ni: usize) -> Change
+    requires { ⌜ Ready at np nc no ni (now w) ⌝ }
+    ensures { λ r. ⌜ RayCut (part at np (now (w .entry))) (part (at + np) nc (now (w .entry))) (part (at + np + nc) no (now (w .entry)))
+        (part (at + np + nc + no) ni (now (w .entry))) 0 (np + nc + no + 2 * ni) (now (w .entry)) (now (w .exit)) r ⌝ }
+{
+    if !is_changed(w, at, np, nc, no, ni) {
+        return Change {
+            changed: false,
+            possible: 0,
+            certain: 0,
+        };
+    }
+    let c = at + np;
+    let p = ray_subtract::subtract_at(w, at, np, c + nc + no, ni);
+    let r = ray_subtract::subtract_both(w, p, np + 2 * ni, c, nc, no, ni);
+    Change {
+        changed: true,
+        possible: p / 2,
+        certain: r / 2,
+    }
+}
+
+// Brings the list that normalising makes of the outer or the inner hits on a ray to cell `at`, and says how many cells it has.
+fn bring_hits(
+    g: DexelGrid,
+    log: &[f64],
+    work: &mut [f64],
+    ray: usize,
+    inner: bool,
+    at: usize,
+) -> usize
+    requires { ⌜ Grouped g (now log) (now work) × (ray < rayCount g) × (rayCount g + entryCount (now log) ≤ at)
+        × (at + length (pairsNamed g (entries (now log)) ray (kindOf inner)) ≤ length (now work)) ⌝ }
+    ensures { λ r. ⌜ Normal (pairsNamed g (entries (now (log .entry))) ray (kindOf inner)) at (now (work .entry)) (now (work .exit)) r ⌝ }
+{
+    let e = log_group::gather_hits(g, log, work, ray, inner, at);
+    span_normalize::normalize_front(&mut work[at..], e - at)
+}
+
+// Brings both lists of a ray and those that normalising makes of its hits, one after the other, to cell s.
+fn bring(
+    spec: DexelStockSpec,
+    g: DexelGrid,
+    spans: &[f64],
+    links: &[u64],
+    heads: &[u64],
+    log: &[f64],
+    work: &mut [f64],
+    ray: usize,
+    s: usize,
+) -> Sizes
+    requires { ⌜ Bringable spec g (cells (now spans) (now links) (now heads)) (now log) (now work) ray s ⌝ }
+    ensures { λ r. ⌜ Brought (possibleIn spec (cells (now (spans .entry)) (now (links .entry)) (now (heads .entry))) ray)
+        (certainIn spec (cells (now (spans .entry)) (now (links .entry)) (now (heads .entry))) ray)
+        (pairsNamed g (entries (now (log .entry))) ray outer) (pairsNamed g (entries (now (log .entry))) ray inner) s (now (work .entry)) (now (work .exit)) r ⌝ }
+{
+    let n = spec.max_intervals as usize;
+    let j = 2 * ray;
+    let c = store_lists::read_list(spans, links, n, heads[j], work, s);
+    let o = store_lists::read_list(spans, links, n, heads[j + 1], work, c);
+    let no = bring_hits(g, log, work, ray, false, o);
+    let ni = bring_hits(g, log, work, ray, true, o + no);
+    Sizes {
+        possible: c - s,
+        certain: o - c,
+        outer: no,
+        inner: ni,
+    }
+}
+
+// Merges the hits on a ray: where it changes, both its new lists stand from cell q on. Its lists and hits are brought to cell s on the way.
+fn merge_ray(
+    spec: DexelStockSpec,
+    g: DexelGrid,
+    spans: &[f64],
+    links: &[u64],
+    heads: &[u64],
+    log: &[f64],
+    work: &mut [f64],
+    ray: usize,
+    q: usize,
+    s: usize,
+) -> Change
+    requires { ⌜ Bringable spec g (cells (now spans) (now links) (now heads)) (now log) (now work) ray s
+        × (q + limitOf spec (now log) ≤ s) ⌝ }
+    ensures { λ r. ⌜ RayMerged spec g (cells (now (spans .entry)) (now (links .entry)) (now (heads .entry))) (now (log .entry)) ray q
+        (now (work .entry)) (now (work .exit)) r ⌝ }
+{
+    if log_numbers::number_at(work, ray) == 0 {
+        return Change {
+            changed: false,
+            possible: 0,
+            certain: 0,
+        };
+    }
+    let b = bring(spec, g, spans, links, heads, log, work, ray, s);
+    let np = b.possible;
+    let nc = b.certain;
+    let no = b.outer;
+    let ni = b.inner;
+    cut_ray(&mut work[q..], s - q, np, nc, no, ni)
+}
+
+// The first size of a ray.
+fn first_size(m: Change) -> u64
+    requires { ⌜ m .possible + 1 < 2 ^ 64 ⌝ }
+    ensures { λ r. ⌜ r ≡ firstOf m ⌝ }
+{
+    if m.changed {
+        return (m.possible + 1) as u64;
+    }
+    0
+}
+
+// Writes both sizes of a ray.
+fn put_sizes(work: &mut [f64], at: usize, m: Change)
+    requires { ⌜ (at + 1 < length (now work)) × (m .possible + 1 < 2 ^ 64) ⌝ }
+    ensures { λ _. ⌜ now (work .exit) ≡ set (set (now (work .entry)) at (numberCell (firstOf m))) (at + 1) (numberCell (m .certain)) ⌝ }
+{
+    let first = first_size(m);
+    let second = m.certain;
+    log_numbers::put_number(work, at, first);
+    log_numbers::put_number(work, at + 1, second as u64);
+}
+
+// What a ray adds to the number of those that change.
+fn count(m: Change) -> u64
+    ensures { λ r. ⌜ r ≡ countOf m ⌝ }
+{
+    if m.changed {
+        return 1;
+    }
+    0
+}
+
+// Merges the hits of a grouped log into all rays, and says how many change. The sizes of the new lists stand behind the chains, two for each ray,
+// the lists behind the sizes.
+pub fn merge_all(
+    spec: DexelStockSpec,
+    g: DexelGrid,
+    spans: &[f64],
+    links: &[u64],
+    heads: &[u64],
+    log: &[f64],
+    work: &mut [f64],
+) -> u64
+    requires { ⌜ AllMergeable spec g (cells (now spans) (now links) (now heads)) (now log) (now work) ⌝ }
+    ensures { λ r. ⌜ AllMerged spec g (cells (now (spans .entry)) (now (links .entry)) (now (heads .entry))) (now (log .entry))
+        (now (work .entry)) (now (work .exit)) r ⌝ }
+{
+    let rays = grid_rays::total_rays(g) as usize;
+    let e = log.len() / 6;
+    let n = spec.max_intervals as usize;
+    let sizes = rays + e;
+    let mut q = sizes + 2 * rays;
+    let s = q + 6 * n + 6 * e;
+    let mut changed: u64 = 0;
+    let mut ray = 0;
+    while ray < rays {
+        let m = merge_ray(spec, g, spans, links, heads, log, work, ray, q, s);
+        put_sizes(work, sizes + 2 * ray, m);
+        q += 2 * m.possible + 2 * m.certain;
+        changed += count(m);
+        ray += 1;
+    }
+    changed
+}

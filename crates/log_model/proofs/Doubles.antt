@@ -1,0 +1,111 @@
+-- Where every cell of the spans and of the logs is a double, so is each end of every list, of every hit, and of what hits leave of a list.
+use mathlib.Core.Bool.{Bool, true, false, cond}
+use mathlib.Core.List.{List, [], _∷_}
+use Prim.Native.Nat.{ℕ, zero, suc, _+_, _*_}
+use lib.ListN.{getD}
+use lib.Ieee.{Float, nan, lt}
+use Rattle.spans.specs.Spans.{All, Double}
+use Rattle.spans.proofs.Ends.{all-append}
+use Rattle.grid.specs.declared.DexelStockSpec.{DexelStockSpec}
+use Rattle.grid.specs.declared.DexelGrid.{DexelGrid}
+use Rattle.store.specs.Store.{placesOf, endsAt}
+use Rattle.stock.specs.Stock.{Stock}
+use Rattle.log_model.specs.Logs.{Ray, Kind, possible, certain, Entry, entryAt, entriesFrom, entryCount, entries, names, HitKind, outer, inner, loOf, hiOf, pairsOn}
+use Rattle.log_model.specs.Counts.{hitsOn}
+use Rattle.log_model.specs.Lent.{listNumber, listIn}
+use Rattle.log_model.proofs.Less.{piece, lower, higher, lessPair, less}
+
+-- every cell is a double, which a slice of doubles knows of itself; past its end stands nan, a double too
+abbrev pub DoubleCells : List Float → Type 0
+DoubleCells l = (i : ℕ) → Double (getD l i nan)
+
+-- ---- the lists of a store
+
+module _ (spans : List Float) (d : DoubleCells spans) where
+  ends-doubles : (ps : List ℕ) → All Double (endsAt spans ps)
+  unfolding endsAt
+  ends-doubles [] = tt
+  ends-doubles (i ∷ ps) = (d (2 * i), (d (2 * i + 1), ends-doubles ps))
+
+pub list-doubles : (spec : DexelStockSpec) (s : Stock) → DoubleCells (s .cells .spans) → (r : ℕ) (k : Kind) → All Double (listIn spec s r k)
+unfolding listIn
+list-doubles spec s d r k = ends-doubles (s .cells .spans) d
+    (placesOf (spec .«max_intervals») (s .cells .links) (s .cells .heads) (listNumber r k))
+
+-- ---- the hits of a log
+
+module _ (g : DexelGrid) (log : List Float) (d : DoubleCells log) (r : Ray g) where
+  lo-double : (i : ℕ) (w : HitKind) → Double (loOf w (entryAt log i))
+  unfolding loOf entryAt
+  lo-double i outer = d (6 * i + 2)
+  lo-double i inner = d (6 * i + 4)
+
+  hi-double : (i : ℕ) (w : HitKind) → Double (hiOf w (entryAt log i))
+  unfolding hiOf entryAt
+  hi-double i outer = d (6 * i + 3)
+  hi-double i inner = d (6 * i + 5)
+
+  from-doubles : (i n : ℕ) (w : HitKind) → All Double (pairsOn g (entriesFrom log i n) r w)
+  unfolding pairsOn entriesFrom
+  from-doubles i zero w = tt
+  from-doubles i (suc n) w = go (names g (entryAt log i) r) (from-doubles (suc i) n w)
+    where
+      go : (b : Bool) → All Double (pairsOn g (entriesFrom log (suc i) n) r w)
+          → All Double (cond b (loOf w (entryAt log i) ∷ hiOf w (entryAt log i) ∷ pairsOn g (entriesFrom log (suc i) n) r w)
+          (pairsOn g (entriesFrom log (suc i) n) r w))
+      go true h = (lo-double i w, (hi-double i w, h))
+      go false h = h
+
+  pub pairs-doubles : (w : HitKind) → All Double (pairsOn g (entries log) r w)
+  unfolding entries
+  pairs-doubles w = from-doubles 0 (entryCount log) w
+
+  pub hits-doubles : (k : Kind) → All Double (hitsOn g (entries log) r k)
+  unfolding hitsOn
+  hits-doubles possible = pairs-doubles inner
+  hits-doubles certain = all-append Double (pairsOn g (entries log) r outer) (pairsOn g (entries log) r inner)
+      (pairs-doubles outer) (pairs-doubles inner)
+
+-- ---- both
+
+-- each end of a list, and of a hit on its ray, is a double
+pub record Doubles (g : DexelGrid) (lists : Ray g → Kind → List Float) (es : List Entry) : Type 0 where
+  pub of-lists : (r : Ray g) (k : Kind) → All Double (lists r k)
+  pub of-hits : (r : Ray g) (k : Kind) → All Double (hitsOn g es r k)
+
+-- so it is where a store and a log stand in slices of doubles
+pub all-doubles : (spec : DexelStockSpec) (g : DexelGrid) (s : Stock) (log : List Float) → DoubleCells (s .cells .spans) → DoubleCells log
+    → Doubles g (λ r k. listIn spec s (r .0) k) (entries log)
+all-doubles spec g s log ds dl = record { of-lists = λ r k. list-doubles spec s ds (r .0) k; of-hits = hits-doubles g log dl }
+
+-- ---- what hits leave of a list
+
+one-of : (b : Bool) (x y : Float) → Double x → Double y → Double (cond b x y)
+one-of true x y dx dy = dx
+one-of false x y dx dy = dy
+
+piece-doubles : (x y : Float) (l : List Float) → Double x → Double y → All Double l → All Double (piece x y l)
+unfolding piece
+piece-doubles x y l dx dy dl = go (lt x y)
+  where
+    go : (b : Bool) → All Double (cond b (x ∷ y ∷ l) l)
+    go true = (dx, (dy, dl))
+    go false = dl
+
+pair-doubles : (lo hi : Float) (l : List Float) → Double lo → Double hi → All Double l → All Double (lessPair lo hi l)
+unfolding lessPair lower higher
+pair-doubles lo hi [] a b d = tt
+pair-doubles lo hi (x ∷ []) a b d = tt
+pair-doubles lo hi (x ∷ y ∷ l) a b d =
+    piece-doubles x (lower y lo) (piece (higher x hi) y (lessPair lo hi l)) (d .0) (one-of (lt lo y) lo y a (d .1 .0))
+    (piece-doubles (higher x hi) y (lessPair lo hi l) (one-of (lt x hi) hi x b (d .0)) (d .1 .0) (pair-doubles lo hi l a b (d .1 .1)))
+
+pub less-doubles : (l hits : List Float) → All Double l → All Double hits → All Double (less l hits)
+unfolding less
+less-doubles l [] d h = d
+less-doubles l (lo ∷ []) d h = d
+less-doubles l (lo ∷ hi ∷ hits) d h = go (lt lo hi) (λ m e. less-doubles m hits e (h .1 .1))
+  where
+    go : (b : Bool) → ((m : List Float) → All Double m → All Double (less m hits)) → All Double (less (cond b (lessPair lo hi l) l) hits)
+    go true f = f (lessPair lo hi l) (pair-doubles lo hi l (h .0) (h .1 .0) d)
+    go false f = f l d

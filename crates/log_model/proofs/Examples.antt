@@ -1,0 +1,463 @@
+-- Worked examples of the definitions: each is computed.
+use mathlib.Core.Path.{_≡_, refl, sym, ap, ap₂, _∙_, subst}
+use mathlib.Core.Bool.{Bool, true, false, not, _&&_, _||_, false≢true}
+use mathlib.Core.List.{List, [], _∷_, _++_, map, List·Memᴰ, List·Memᴰ·head, List·Memᴰ·tail}
+use mathlib.Core.Logic.{inl, inr}
+use Prim.Native.Nat.{ℕ, zero, suc, _+_, _<_}
+use native.Mathlib.Omega.{arith}
+use native.Mathlib.Decide.{decLt}
+use borrow.Author.Tests.{eqb-true}
+use lib.Dec.{T, lit<, eqb}
+use lib.ListN.{length, getD, replicate}
+use lib.Ieee.{Float, nan, inf, binary64, fits, lt, le, eq, neg, ofInt, ofBits, toUnsigned, isNan, sub, add, mul, div}
+use Rattle.doubles.specs.Doubles.{ratio, largerOf, ceilOf, absOf}
+use Rattle.doubles.proofs.Bools.{or-cases, and-left, and-right, clash, not-true}
+use Rattle.spans.specs.Spans.{All, Double, holds, sound, equal, ListOf}
+use Rattle.doubles.proofs.Order.{lt-number, eq-refl}
+use Rattle.spans.proofs.Pieces.{agree, by-ends, of-list, in-left, in-right, both-of}
+use Rattle.grid.specs.Axes.{byDigit}
+use Rattle.grid.specs.Grid.{allWithin, within}
+use Rattle.grid_from_spec.specs.Grid.{gridOf, isMm, misdescribed, anyBelow, gridOver, anyAbove, cellsOf, tooFine, leastStep, magnitudeOf}
+use Rattle.grid.specs.Rays.{rayCount, raysAlong, offset, rayAxis, boundsOf}
+use Rattle.grid.specs.declared.Gridded.the-variants.{Accepted}
+use Rattle.store.specs.Store.{usedAt, places, Chain, ends, more, placesOf, chained, endsAt}
+use Rattle.ray_validity.specs.Ray.{bounded, ValidRay}
+use Rattle.log_model.specs.Logs.{Ray, Kind, possible, certain, entries, namesOne, loOf, hiOf, Among, Alike, Commit}
+use Rattle.log_model.specs.Model.{Answer, changed, refused, causes, Judged, accepted}
+use Rattle.log_model.specs.Counts.{hitsOn, raysChanged}
+use Rattle.log_model.specs.Runs.{points, Left, Committed, Run, done, next, Settled, Agree}
+use Rattle.log_model.specs.Examples.{num, box, grid, filled, hit, commit, notAllowed, innerWider, threeLogs, threeAnswers, listAfter, AtEnd, RunRight}
+use Rattle.store.specs.Updates.{cells}
+use Rattle.stock.specs.Stock.{Stock, ValidAt, SoundStock}
+use Rattle.stock_fill.specs.Uncut.{uncut as uncutCells, uncutSpans, uncutLinks, uncutHeads, recordAt}
+use Rattle.log_model.specs.Lent.{listIn, lentStore}
+use Rattle.log_model.proofs.Unique.{judged-unsound}
+use Rattle.log_model.proofs.Less.{less}
+use Rattle.log_model.proofs.Doubles.{DoubleCells, all-doubles}
+use Rattle.log_model.proofs.Decided.{tests, answerBy, judged, left-list}
+use Rattle.log_model.proofs.Lent.{lent-laws, demand3-lent}
+use Rattle.log_model.proofs.Plain.{Plain, Valid, answers, final}
+
+accepted-box : gridOf (box 8) (109 ∷ 109 ∷ []) ≡ Accepted grid
+unfolding gridOf isMm misdescribed allWithin within anyBelow gridOver anyAbove cellsOf tooFine leastStep magnitudeOf largerOf ceilOf absOf le lt neg ofBits ofInt toUnsigned isNan sub add mul div
+accepted-box = refl
+
+-- minus zero names axis 0; an axis of 3, a fraction, a negative number, an infinity and NaN name no ray
+naming : map (λ log. map (namesOne grid) (entries log))
+    (hit (neg (num 0)) (num 0) ∷ hit (num 2) (neg (num 0)) ∷ hit (num 3) (num 0) ∷ hit (num 0) (num 1) ∷ hit (num 1) (ratio 1 2) ∷ hit (num 1) (neg (num 1))
+    ∷ hit (inf false) (num 0) ∷ hit (num 0) nan ∷ [])
+    ≡ (true ∷ []) ∷ (true ∷ []) ∷ (false ∷ []) ∷ (false ∷ []) ∷ (false ∷ []) ∷ (false ∷ []) ∷ (false ∷ []) ∷ (false ∷ []) ∷ []
+unfolding namesOne entries ratio eq neg ofInt byDigit
+naming = refl
+
+-- ---- doubles, by a test
+
+all-fit : List Float → Bool
+unfolding fits
+all-fit [] = true
+all-fit (x ∷ l) = fits binary64 x && all-fit l
+
+fit-doubles : (l : List Float) → all-fit l ≡ true → All Double l
+unfolding all-fit
+fit-doubles [] h = tt
+fit-doubles (x ∷ l) h = (
+  subst T (sym (and-left (fits binary64 x) (all-fit l) h)) tt,
+  fit-doubles l (and-right (fits binary64 x) (all-fit l) h),
+)
+
+cells-doubles : (l : List Float) → All Double l → DoubleCells l
+unfolding fits
+cells-doubles [] d i = tt
+cells-doubles (x ∷ l) d zero = d .0
+cells-doubles (x ∷ l) d (suc i) = cells-doubles l (d .1) i
+
+by-fit : (l : List Float) → all-fit l ≡ true → DoubleCells l
+by-fit l h = cells-doubles l (fit-doubles l h)
+
+-- ---- a run on full rays. The log hits the ray along axis 1, which is ray 1.
+
+abbrev uncut : ℕ → Plain grid
+uncut n = record { lists = λ r k. num 0 ∷ num 10 ∷ []; generation = 0; lent = record { records = n; heads = 6 } }
+
+full : (n : ℕ) → Valid grid (uncut n)
+unfolding sound lt ofInt all-fit fits
+full n = record { isSound = λ r k. refl; doubles = λ r k. fit-doubles (num 0 ∷ num 10 ∷ []) refl; within = λ r p t. t }
+
+-- the ray changes once; the same log again is accepted and changes nothing, even with no ray allowed
+twice : answers (box 8) grid (uncut 8) (commit 0 1 66 ∷ commit 0 0 66 ∷ []) ≡ changed 1 ∷ changed 0 ∷ []
+unfolding answers rayCount byDigit eq lt le
+twice = refl
+
+-- one work pair short; part of an entry over; no such ray; no ray allowed; and after those refusals the log is accepted
+refusals : answers (box 8) grid (uncut 8) (commit 0 1 65 ∷ record { log = num 1 ∷ []; allowance = 1; work = 66 } ∷ commit 1 1 66 ∷ commit 0 0 66 ∷ commit 0 1 66 ∷ [])
+    ≡ refused 12 ∷ refused 11 ∷ refused 17 ∷ refused 9 ∷ changed 1 ∷ []
+unfolding answers rayCount byDigit eq lt le
+refusals = refl
+
+-- eight intervals would be left where seven are allowed
+over-budget : answers (box 7) grid (uncut 7) (commit 0 1 60 ∷ []) ≡ refused 10 ∷ []
+unfolding answers rayCount byDigit eq lt le
+over-budget = refl
+
+-- both lists of ray 1
+ray-one : Plain grid → List (List Float)
+unfolding rayCount
+ray-one s = s .lists (1, lit< tt) possible ∷ s .lists (1, lit< tt) certain ∷ []
+
+-- after the two commits of `twice`
+cut-ray : ray-one (final (box 8) grid (uncut 8) (commit 0 1 66 ∷ commit 0 0 66 ∷ []))
+    ≡ (num 0 ∷ num 2 ∷ num 3 ∷ num 10 ∷ []) ∷ (num 0 ∷ num 1 ∷ num 4 ∷ num 10 ∷ []) ∷ []
+unfolding final ray-one rayCount byDigit eq lt le
+cut-ray = refl
+
+cut-generation : final (box 8) grid (uncut 8) (commit 0 1 66 ∷ commit 0 0 66 ∷ []) .generation ≡ 2
+unfolding final rayCount byDigit eq lt le
+cut-generation = refl
+
+-- ---- the worked run on the lent store
+
+-- records 3 and 4 were freed; possible has 3 and 4, certain 7 and 8
+abbrev cut : Stock
+cut = record {
+  cells = record {
+    spans = num 0 ∷ num 10 ∷ num 0 ∷ num 10 ∷ num 0 ∷ num 2 ∷ num 3 ∷ num 10 ∷ num 0 ∷ num 10 ∷ num 0 ∷ num 10 ∷ num 0 ∷ num 1 ∷ num 4 ∷ num 10 ∷ [];
+    links = 0 ∷ 1 ∷ 0 ∷ 2 ∷ 4 ∷ 3 ∷ 0 ∷ 3 ∷ 0 ∷ 5 ∷ 0 ∷ 6 ∷ 8 ∷ 4 ∷ 0 ∷ 4 ∷ [];
+    heads = 1 ∷ 2 ∷ 3 ∷ 7 ∷ 5 ∷ 6 ∷ [];
+  };
+  generation = 1;
+  intervals = 8;
+}
+
+-- those four were freed; possible has 3 and 4, certain 7
+abbrev cut-again : Stock
+cut-again = record {
+  cells = record {
+    spans = num 0 ∷ num 10 ∷ num 0 ∷ num 10 ∷ num 0 ∷ num 2 ∷ num 3 ∷ num 4 ∷ num 0 ∷ num 10 ∷ num 0 ∷ num 10 ∷ num 0 ∷ num 1 ∷ num 0 ∷ num 0 ∷ [];
+    links = 0 ∷ 1 ∷ 0 ∷ 2 ∷ 4 ∷ 3 ∷ 0 ∷ 3 ∷ 0 ∷ 5 ∷ 0 ∷ 6 ∷ 0 ∷ 4 ∷ 0 ∷ 0 ∷ [];
+    heads = 1 ∷ 2 ∷ 3 ∷ 7 ∷ 5 ∷ 6 ∷ [];
+  };
+  generation = 2;
+  intervals = 7;
+}
+
+-- what holds of each of the three rays holds of every ray
+three : (P : Ray grid → Type 0) → ((h : 0 < rayCount grid) → P (0, h)) → ((h : 1 < rayCount grid) → P (1, h)) → ((h : 2 < rayCount grid) → P (2, h)) → (r : Ray grid) → P r
+unfolding rayCount
+three P a b c (zero, h) = a h
+three P a b c (suc zero, h) = b h
+three P a b c (suc (suc zero), h) = c h
+three P a b c (suc (suc (suc n)), h) = absurd (no n h)
+  where
+    no : (n : ℕ) → suc (suc (suc n)) < 3 → ⊥
+    no n h = omega arith
+
+-- and of the six lists
+six : (P : ℕ → Type 0) → P 0 → P 1 → P 2 → P 3 → P 4 → P 5 → (j : ℕ) → j < 6 → P j
+six P a b c d e f zero h = a
+six P a b c d e f (suc zero) h = b
+six P a b c d e f (suc (suc zero)) h = c
+six P a b c d e f (suc (suc (suc zero))) h = d
+six P a b c d e f (suc (suc (suc (suc zero)))) h = e
+six P a b c d e f (suc (suc (suc (suc (suc zero))))) h = f
+six P a b c d e f (suc (suc (suc (suc (suc (suc n)))))) h = absurd (no n h)
+  where
+    no : (n : ℕ) → suc (suc (suc (suc (suc (suc n))))) < 6 → ⊥
+    no n h = omega arith
+
+-- a place in a list, by a test
+elem : ℕ → List ℕ → Bool
+elem i [] = false
+elem i (j ∷ l) = eqb i j || elem i l
+
+elem-is : (i : ℕ) (l : List ℕ) → elem i l ≡ true → List·Memᴰ i l
+unfolding elem
+elem-is i [] h = absurd (false≢true h)
+elem-is i (j ∷ l) h = elim (or-cases (eqb i j) (elem i l) h) [ inl u ↦ List·Memᴰ·head (eqb-true i j u) | inr u ↦ List·Memᴰ·tail (elem-is i l u) ]
+
+-- each place up to n is in the list or fails the test
+all-used : (List ℕ) → (ℕ → Bool) → ℕ → Bool
+all-used l used zero = true
+all-used l used (suc n) = (not (used n) || elem n l) && all-used l used n
+
+used-in : (l : List ℕ) (used : ℕ → Bool) (n : ℕ) → all-used l used n ≡ true → (i : ℕ) → i < n → used i ≡ true → List·Memᴰ i l
+unfolding all-used
+used-in l used zero h i k u = absurd (no i k)
+  where
+    no : (i : ℕ) → i < 0 → ⊥
+    no i k = omega arith
+used-in l used (suc n) h i k u = elim (decLt i n) [
+  | yes m ↦ used-in l used n (and-right (not (used n) || elem n l) (all-used l used n) h) i m u
+  | no m ↦ elem-is i l (found (last i n k m))
+]
+  where
+    last : (i n : ℕ) → i < suc n → (i < n → ⊥) → i ≡ n
+    last i n k m = omega arith
+
+    found : i ≡ n → elem i l ≡ true
+    found e = elim (or-cases (not (used n)) (elem n l) (and-left (not (used n) || elem n l) (all-used l used n) h)) [
+      | inl v ↦ absurd (clash (used i) u (ap used e ∙ not-true (used n) v))
+      | inr v ↦ rw e v
+    ]
+
+-- a full ray
+whole-ray : ValidRay (num 0) (num 10) (num 0 ∷ num 10 ∷ []) (num 0 ∷ num 10 ∷ [])
+unfolding sound bounded lt le ofInt
+whole-ray = record { possible-sound = refl; certain-sound = refl; possible-bounded = refl; certain-bounded = refl; inside = λ p t. t }
+
+-- certain lies within possible, by a test at the ends
+inside-of : (P C : List Float) → agree (C ++ P) (λ (q : Float). holds C q && holds P q) (holds C) ≡ true → (p : Float) → holds C p ≡ true → holds P p ≡ true
+inside-of P C h p t =
+    and-right (holds C p) (holds P p)
+    (by-ends (C ++ P) (λ (q : Float). holds C q && holds P q) (holds C) (both-of (C ++ P) (holds C) (holds P) (in-left C P (holds C) (of-list C)) (in-right C P (holds P) (of-list P))) (in-left C P (holds C) (of-list C)) h p ∙ t)
+
+-- the ray that was cut: 0 to 1 and 4 to 10 lie within 0 to 2 and 3 to 10
+cut-whole : ValidRay (num 0) (num 10) (num 0 ∷ num 2 ∷ num 3 ∷ num 10 ∷ []) (num 0 ∷ num 1 ∷ num 4 ∷ num 10 ∷ [])
+unfolding sound bounded holds lt le ofInt
+cut-whole = record {
+  possible-sound = refl;
+  certain-sound = refl;
+  possible-bounded = refl;
+  certain-bounded = refl;
+  inside = inside-of (num 0 ∷ num 2 ∷ num 3 ∷ num 10 ∷ []) (num 0 ∷ num 1 ∷ num 4 ∷ num 10 ∷ []) refl;
+}
+
+-- and cut again: 0 to 1 lies within 0 to 2 and 3 to 4
+again-whole : ValidRay (num 0) (num 10) (num 0 ∷ num 2 ∷ num 3 ∷ num 4 ∷ []) (num 0 ∷ num 1 ∷ [])
+unfolding sound bounded holds lt le ofInt
+again-whole = record {
+  possible-sound = refl;
+  certain-sound = refl;
+  possible-bounded = refl;
+  certain-bounded = refl;
+  inside = inside-of (num 0 ∷ num 2 ∷ num 3 ∷ num 4 ∷ []) (num 0 ∷ num 1 ∷ []) refl;
+}
+
+filled-sound : SoundStock (box 8) grid filled
+unfolding rayCount boundsOf rayAxis offset raysAlong byDigit listIn chained places endsAt usedAt all-used elem ofInt
+filled-sound = record {
+  store = record {
+    chains = six (λ j. Chain (filled .cells .links) 8 (suc j) (getD (filled .cells .heads) j 0) (placesOf 8 (filled .cells .links) (filled .cells .heads) j))
+        (more (lit< tt) refl ends) (more (lit< tt) refl ends) (more (lit< tt) refl ends) (more (lit< tt) refl ends) (more (lit< tt) refl ends) (more (lit< tt) refl ends);
+    others = used-in (chained 8 (filled .cells .links) (filled .cells .heads) 0 6) (usedAt (filled .cells .spans) (filled .cells .links)) 8 refl;
+    counts = refl;
+  };
+  valid = λ ray h. three (λ r. ValidAt (box 8) grid (filled .cells) (r .0)) (λ h. whole-ray) (λ h. whole-ray) (λ h. whole-ray) (ray, h);
+}
+
+cut-sound : SoundStock (box 8) grid cut
+unfolding rayCount boundsOf rayAxis offset raysAlong byDigit listIn chained places endsAt usedAt all-used elem ofInt
+cut-sound = record {
+  store = record {
+    chains = six (λ j. Chain (cut .cells .links) 8 (suc j) (getD (cut .cells .heads) j 0) (placesOf 8 (cut .cells .links) (cut .cells .heads) j))
+        (more (lit< tt) refl ends) (more (lit< tt) refl ends) (more (lit< tt) refl (more (lit< tt) refl ends)) (more (lit< tt) refl (more (lit< tt) refl ends)) (more (lit< tt) refl ends) (more (lit< tt) refl ends);
+    others = used-in (chained 8 (cut .cells .links) (cut .cells .heads) 0 6) (usedAt (cut .cells .spans) (cut .cells .links)) 8 refl;
+    counts = refl;
+  };
+  valid = λ ray h. three (λ r. ValidAt (box 8) grid (cut .cells) (r .0)) (λ h. whole-ray) (λ h. cut-whole) (λ h. whole-ray) (ray, h);
+}
+
+again-sound : SoundStock (box 8) grid cut-again
+unfolding rayCount boundsOf rayAxis offset raysAlong byDigit listIn chained places endsAt usedAt all-used elem ofInt
+again-sound = record {
+  store = record {
+    chains = six (λ j. Chain (cut-again .cells .links) 8 (suc j) (getD (cut-again .cells .heads) j 0) (placesOf 8 (cut-again .cells .links) (cut-again .cells .heads) j))
+        (more (lit< tt) refl ends) (more (lit< tt) refl ends) (more (lit< tt) refl (more (lit< tt) refl ends)) (more (lit< tt) refl ends) (more (lit< tt) refl ends) (more (lit< tt) refl ends);
+    others = used-in (chained 8 (cut-again .cells .links) (cut-again .cells .heads) 0 6) (usedAt (cut-again .cells .spans) (cut-again .cells .links)) 8 refl;
+    counts = refl;
+  };
+  valid = λ ray h. three (λ r. ValidAt (box 8) grid (cut-again .cells) (r .0)) (λ h. whole-ray) (λ h. again-whole) (λ h. whole-ray) (ray, h);
+}
+
+-- the answer that the order gives to a commit on a sound stock, worked out
+abbrev answer-on : Stock → Commit → Answer
+answer-on s c =
+    answerBy (causes (box 8) grid (lentStore (box 8) grid .lent s) ⊥ (points grid (lentStore (box 8) grid) s) (s .generation) c)
+    (tests (box 8) grid (lentStore (box 8) grid .lent s) (λ r k. listIn (box 8) s (r .0) k) (s .generation) c)
+    (changed (raysChanged grid (λ r k. listIn (box 8) s (r .0) k) (entries (c .log))))
+
+module _ (s : Stock) (S : SoundStock (box 8) grid s) (ds : DoubleCells (s .cells .spans)) (c : Commit) (dc : DoubleCells (c .log)) where
+  -- the lists of the stock are those of its sets
+  lists-on : (r : Ray grid) (k : Kind) → ListOf (points grid (lentStore (box 8) grid) s r k) (listIn (box 8) s (r .0) k)
+  unfolding points
+  lists-on r k = record { isSound = lent-laws (box 8) grid .sound-list s S r k; points = λ p. refl }
+
+  judged-on : (a : Answer) → answer-on s c ≡ a
+      → Judged (box 8) grid (lentStore (box 8) grid .lent s) (¬ SoundStock (box 8) grid s) (points grid (lentStore (box 8) grid) s) (s .generation) c a
+  judged-on a e = judged-unsound (box 8) grid (lentStore (box 8) grid .lent s) (¬ SoundStock (box 8) grid s) (λ n. n S) (points grid (lentStore (box 8) grid) s) (s .generation) c a
+      (subst (λ (b : Answer). Judged (box 8) grid (lentStore (box 8) grid .lent s) ⊥ (points grid (lentStore (box 8) grid) s) (s .generation) c b) e
+      (judged (box 8) grid (lentStore (box 8) grid .lent s) (points grid (lentStore (box 8) grid) s)
+      (λ r k. listIn (box 8) s (r .0) k) lists-on (s .generation) c
+      (all-doubles (box 8) grid s (c .log) ds dc)))
+
+  refuses : (k : ℕ) → answer-on s c ≡ refused k → Committed (box 8) grid (lentStore (box 8) grid) s c (refused k) s
+  unfolding Left
+  refuses k e = record { answers = judged-on (refused k) e; leaves = refl }
+
+  -- the lists that are left are the old ones less the hits
+  cuts-to : (n : ℕ) (t : Stock) → answer-on s c ≡ changed n → SoundStock (box 8) grid t
+      → ((r : Ray grid) (k : Kind) → listIn (box 8) t (r .0) k ≡ less (listIn (box 8) s (r .0) k) (hitsOn grid (entries (c .log)) r k))
+      → t .generation ≡ suc (s .generation) → lentStore (box 8) grid .lent t ≡ lentStore (box 8) grid .lent s
+      → Committed (box 8) grid (lentStore (box 8) grid) s c (changed n) t
+  unfolding Left
+  cuts-to n t e T l g h = record {
+    answers = judged-on (changed n) e;
+    leaves = record {
+      sound = T;
+      exactly = λ r k p.
+          unfold points in ap (λ (l : List Float). holds l p) (l r k)
+          ∙ left-list grid (points grid (lentStore (box 8) grid) s) (λ r k. listIn (box 8) s (r .0) k) lists-on (entries (c .log)) r k .points p;
+      generation = g;
+      lent = h;
+    };
+  }
+
+first-answer : answer-on filled (commit 0 1 66) ≡ changed 1
+unfolding answerBy causes tests raysChanged rayCount eq byDigit lt listIn endsAt places le
+first-answer = refl
+
+second-answer : answer-on cut notAllowed ≡ refused 9
+unfolding answerBy causes tests raysChanged rayCount eq byDigit lt listIn endsAt places le
+second-answer = refl
+
+third-answer : answer-on cut innerWider ≡ changed 1
+unfolding answerBy causes tests raysChanged rayCount eq byDigit lt listIn endsAt places le
+third-answer = refl
+
+-- the lists after the first log, and the pairs that the first and the third take from each
+abbrev cut-at : ℕ → Kind → List Float
+cut-at zero k = num 0 ∷ num 10 ∷ []
+cut-at (suc zero) possible = num 0 ∷ num 2 ∷ num 3 ∷ num 10 ∷ []
+cut-at (suc zero) certain = num 0 ∷ num 1 ∷ num 4 ∷ num 10 ∷ []
+cut-at (suc (suc n)) k = num 0 ∷ num 10 ∷ []
+
+abbrev first-pairs : ℕ → Kind → List Float
+first-pairs zero k = []
+first-pairs (suc zero) possible = num 2 ∷ num 3 ∷ []
+first-pairs (suc zero) certain = num 1 ∷ num 4 ∷ num 2 ∷ num 3 ∷ []
+first-pairs (suc (suc n)) k = []
+
+abbrev third-pairs : ℕ → Kind → List Float
+third-pairs zero k = []
+third-pairs (suc zero) possible = num 4 ∷ num 10 ∷ []
+third-pairs (suc zero) certain = num 9 ∷ num 10 ∷ num 4 ∷ num 10 ∷ []
+third-pairs (suc (suc n)) k = []
+
+filled-lists : (r : Ray grid) (k : Kind) → listIn (box 8) filled (r .0) k ≡ num 0 ∷ num 10 ∷ []
+unfolding listIn endsAt places
+filled-lists r possible = three (λ r. listIn (box 8) filled (r .0) possible ≡ num 0 ∷ num 10 ∷ []) (λ h. refl) (λ h. refl) (λ h. refl) r
+filled-lists r certain = three (λ r. listIn (box 8) filled (r .0) certain ≡ num 0 ∷ num 10 ∷ []) (λ h. refl) (λ h. refl) (λ h. refl) r
+
+cut-lists : (r : Ray grid) (k : Kind) → listIn (box 8) cut (r .0) k ≡ cut-at (r .0) k
+unfolding listIn endsAt places
+cut-lists r possible = three (λ r. listIn (box 8) cut (r .0) possible ≡ cut-at (r .0) possible) (λ h. refl) (λ h. refl) (λ h. refl) r
+cut-lists r certain = three (λ r. listIn (box 8) cut (r .0) certain ≡ cut-at (r .0) certain) (λ h. refl) (λ h. refl) (λ h. refl) r
+
+again-lists : (r : Ray grid) (k : Kind) → listIn (box 8) cut-again (r .0) k ≡ listAfter (r .0) k
+unfolding listIn endsAt places
+again-lists r possible = three (λ r. listIn (box 8) cut-again (r .0) possible ≡ listAfter (r .0) possible) (λ h. refl) (λ h. refl) (λ h. refl) r
+again-lists r certain = three (λ r. listIn (box 8) cut-again (r .0) certain ≡ listAfter (r .0) certain) (λ h. refl) (λ h. refl) (λ h. refl) r
+
+first-hits : (r : Ray grid) (k : Kind) → hitsOn grid (entries (commit 0 1 66 .log)) r k ≡ first-pairs (r .0) k
+unfolding hitsOn entries eq byDigit
+first-hits r possible = three (λ r. hitsOn grid (entries (commit 0 1 66 .log)) r possible ≡ first-pairs (r .0) possible) (λ h. refl) (λ h. refl) (λ h. refl) r
+first-hits r certain = three (λ r. hitsOn grid (entries (commit 0 1 66 .log)) r certain ≡ first-pairs (r .0) certain) (λ h. refl) (λ h. refl) (λ h. refl) r
+
+third-hits : (r : Ray grid) (k : Kind) → hitsOn grid (entries (innerWider .log)) r k ≡ third-pairs (r .0) k
+unfolding hitsOn entries eq byDigit
+third-hits r possible = three (λ r. hitsOn grid (entries (innerWider .log)) r possible ≡ third-pairs (r .0) possible) (λ h. refl) (λ h. refl) (λ h. refl) r
+third-hits r certain = three (λ r. hitsOn grid (entries (innerWider .log)) r certain ≡ third-pairs (r .0) certain) (λ h. refl) (λ h. refl) (λ h. refl) r
+
+-- the lists that are left are the old ones less the hits
+first-less : (r : Ray grid) (k : Kind) → cut-at (r .0) k ≡ less (num 0 ∷ num 10 ∷ []) (first-pairs (r .0) k)
+unfolding less lt ofInt
+first-less r possible = three (λ r. cut-at (r .0) possible ≡ less (num 0 ∷ num 10 ∷ []) (first-pairs (r .0) possible)) (λ h. refl) (λ h. refl) (λ h. refl) r
+first-less r certain = three (λ r. cut-at (r .0) certain ≡ less (num 0 ∷ num 10 ∷ []) (first-pairs (r .0) certain)) (λ h. refl) (λ h. refl) (λ h. refl) r
+
+third-less : (r : Ray grid) (k : Kind) → listAfter (r .0) k ≡ less (cut-at (r .0) k) (third-pairs (r .0) k)
+unfolding less lt ofInt
+third-less r possible = three (λ r. listAfter (r .0) possible ≡ less (cut-at (r .0) possible) (third-pairs (r .0) possible)) (λ h. refl) (λ h. refl) (λ h. refl) r
+third-less r certain = three (λ r. listAfter (r .0) certain ≡ less (cut-at (r .0) certain) (third-pairs (r .0) certain)) (λ h. refl) (λ h. refl) (λ h. refl) r
+
+first-lists : (r : Ray grid) (k : Kind) → listIn (box 8) cut (r .0) k ≡ less (listIn (box 8) filled (r .0) k) (hitsOn grid (entries (commit 0 1 66 .log)) r k)
+first-lists r k = cut-lists r k ∙ first-less r k ∙ ap₂ less (sym (filled-lists r k)) (sym (first-hits r k))
+
+third-lists : (r : Ray grid) (k : Kind) → listIn (box 8) cut-again (r .0) k ≡ less (listIn (box 8) cut (r .0) k) (hitsOn grid (entries (innerWider .log)) r k)
+third-lists r k = again-lists r k ∙ third-less r k ∙ ap₂ less (sym (cut-lists r k)) (sym (third-hits r k))
+
+-- every cell is a double
+filled-doubles : DoubleCells (filled .cells .spans)
+unfolding all-fit ofInt
+filled-doubles = by-fit (filled .cells .spans) refl
+
+cut-doubles : DoubleCells (cut .cells .spans)
+unfolding all-fit ofInt
+cut-doubles = by-fit (cut .cells .spans) refl
+
+first-doubles : DoubleCells (commit 0 1 66 .log)
+unfolding all-fit ofInt
+first-doubles = by-fit (commit 0 1 66 .log) refl
+
+second-doubles : DoubleCells (notAllowed .log)
+unfolding all-fit ofInt
+second-doubles = by-fit (notAllowed .log) refl
+
+third-doubles : DoubleCells (innerWider .log)
+unfolding all-fit ofInt
+third-doubles = by-fit (innerWider .log) refl
+
+three-run : Run (box 8) grid (lentStore (box 8) grid) filled threeLogs threeAnswers cut-again
+three-run =
+    next (cuts-to filled filled-sound filled-doubles (commit 0 1 66) first-doubles 1 cut first-answer cut-sound first-lists refl refl)
+    (next (refuses cut cut-sound cut-doubles notAllowed second-doubles 9 second-answer)
+    (next (cuts-to cut cut-sound cut-doubles innerWider third-doubles 1 cut-again third-answer again-sound third-lists refl refl) done))
+
+-- what demand 3 says of it
+three-settled : Settled (box 8) grid (lentStore (box 8) grid) filled threeLogs threeAnswers cut-again
+three-settled = demand3-lent (box 8) grid .settles filled cut-again threeLogs threeAnswers filled-sound three-run
+
+-- ---- and of every other run of the three logs
+
+alike-self : (ls : List (List Float)) → Alike grid ls ls
+unfolding Alike Among
+alike-self ls = (self, self)
+  where
+    self : Among grid ls ls
+    self r w h =
+        let n = lt-number (loOf w (h .entry)) (hiOf w (h .entry)) (h .proper) in
+        (h, eq-refl (loOf w (h .entry)) (n .0), eq-refl (hiOf w (h .entry)) (n .1))
+
+module _ (vs : List Answer) (t : Stock) (x : Run (box 8) grid (lentStore (box 8) grid) filled threeLogs vs t) where
+  same-answers : threeAnswers ≡ vs
+  same-answers = demand3-lent (box 8) grid .settles filled t threeLogs vs filled-sound x .no-others threeAnswers (three-settled .answers)
+
+  same-end : Agree grid (lentStore (box 8) grid) t cut-again
+  same-end = demand3-lent (box 8) grid .agrees filled t cut-again threeLogs threeLogs vs threeAnswers filled-sound x three-run
+      (subst (λ (ws : List Answer). Alike grid (accepted threeLogs ws) (accepted threeLogs threeAnswers)) same-answers (alike-self (accepted threeLogs threeAnswers)))
+
+  two-accepted : t .generation ≡ 2
+  unfolding accepted
+  two-accepted = demand3-lent (box 8) grid .settles filled t threeLogs vs filled-sound x .generation ∙ ap (λ (ws : List Answer). 0 + length (accepted threeLogs ws)) (sym same-answers)
+
+  at-end : AtEnd t
+  at-end = record {
+    lists = λ r k. subst (λ (l : List Float). equal (listIn (box 8) t (r .0) k) l ≡ true) (again-lists r k) (same-end .same-lists r k);
+    generation = two-accepted;
+    intervals = same-end .same-total;
+  }
+
+-- the uncut store of the box
+fill-lays : uncutCells (box 8) grid (cells (replicate 16 (num 7)) (replicate 16 7) (replicate 6 7)) ≡ filled .cells
+unfolding uncutSpans uncutLinks uncutHeads recordAt rayCount boundsOf rayAxis offset raysAlong byDigit ofInt ofBits
+fill-lays = refl
+
+pub run-right : RunRight
+unfolding rayCount
+run-right = record {
+  accepted = accepted-box;
+  fills = fill-lays;
+  fills-record = refl;
+  end = cut-again;
+  ran = three-run;
+  answers = λ vs t x. sym (same-answers vs t x);
+  ends = at-end;
+}

@@ -1,0 +1,139 @@
+-- `Committed` can be met: over a store that is nothing but its lists and numbers, every list of commits whose logs are doubles has a run
+-- from a sound store, and it is worked out here. So neither the run nor demand 3 is empty.
+use mathlib.Core.Path.{_≡_, refl, sym, ap, _∙_}
+use mathlib.Core.Bool.{true, false, not}
+use mathlib.Core.List.{List, [], _∷_}
+use mathlib.Core.Logic.{inl, inr}
+use Prim.Native.Nat.{ℕ, suc}
+use lib.Ieee.{Float}
+use Rattle.doubles.proofs.Bools.{or-right, and-left, and-right, both, by-cases, clash, not-true}
+use Rattle.spans.specs.Spans.{All, Double, holds, sound, ListOf}
+use Rattle.grid.specs.declared.DexelStockSpec.{DexelStockSpec}
+use Rattle.grid.specs.declared.DexelGrid.{DexelGrid}
+use Rattle.log_model.specs.Logs.{Ray, Kind, possible, certain, entries, outer, inner, pairsOn, taken, Commit}
+use Rattle.log_model.specs.Model.{without, pairs, Lent, Answer, changed, refused, causes}
+use Rattle.log_model.specs.Counts.{hitsOn, raysChanged}
+use Rattle.log_model.specs.Runs.{Reading, Lawful, points, Cut, Left, Committed, Run, done, next}
+use Rattle.log_model.proofs.Unique.{judged-unsound}
+use Rattle.log_model.proofs.Less.{less}
+use Rattle.log_model.proofs.Doubles.{DoubleCells, Doubles, hits-doubles, less-doubles}
+use Rattle.log_model.proofs.Decided.{tests, answerBy, judged, left-list}
+
+pub record Plain (g : DexelGrid) : Type 0 where
+  pub lists : Ray g → Kind → List Float
+  pub generation : ℕ
+  pub lent : Lent
+
+pub record Valid (g : DexelGrid) (s : Plain g) : Type 0 where
+  pub isSound : (r : Ray g) (k : Kind) → sound (s .lists r k) ≡ true
+  pub doubles : (r : Ray g) (k : Kind) → All Double (s .lists r k)
+  pub within : (r : Ray g) (p : Float) → holds (s .lists r certain) p ≡ true → holds (s .lists r possible) p ≡ true
+
+-- the logs are slices of doubles
+abbrev pub DoubleLogs : List Commit → Type 0
+DoubleLogs [] = Unit {0}
+DoubleLogs (c ∷ cs) = DoubleCells (c .log) × DoubleLogs cs
+
+abbrev pub plain : (g : DexelGrid) → Reading g
+plain g = record {
+  Store = Plain g;
+  lists = λ s. s .lists;
+  intervals = λ s. pairs g (s .lists);
+  generation = λ s. s .generation;
+  lent = λ s. s .lent;
+  Sound = Valid g;
+}
+
+pub plain-laws : (g : DexelGrid) → Lawful g (plain g)
+plain-laws g = record { sound-list = λ s v. v .isSound; within = λ s v. v .within; all-pairs = λ s v. refl }
+
+-- ---- the run, worked out
+
+module _ (spec : DexelStockSpec) (g : DexelGrid) where
+  unfoldable pub answer : Plain g → Commit → Answer
+  unfolding answerBy causes tests points raysChanged
+  answer s c =
+      answerBy (causes spec g (s .lent) ⊥ (points g (plain g) s) (s .generation) c) (tests spec g (s .lent) (s .lists) (s .generation) c)
+      (changed (raysChanged g (s .lists) (entries (c .log))))
+
+  unfoldable pub after : Plain g → Commit → Answer → Plain g
+  unfolding less hitsOn entries
+  after s c (refused k) = s
+  after s c (changed n) = record { lists = λ r k. less (s .lists r k) (hitsOn g (entries (c .log)) r k); generation = suc (s .generation); lent = s .lent }
+
+  unfoldable pub answers : Plain g → List Commit → List Answer
+  unfolding answer after
+  answers s [] = []
+  answers s (c ∷ cs) = answer s c ∷ answers (after s c (answer s c)) cs
+
+  unfoldable pub final : Plain g → List Commit → Plain g
+  unfolding answer after
+  final s [] = s
+  final s (c ∷ cs) = final (after s c (answer s c)) cs
+
+  -- ---- it is a run
+
+  module _ (s : Plain g) (v : Valid g s) (c : Commit) (d : DoubleCells (c .log)) where
+    listed : (r : Ray g) (k : Kind) → ListOf (points g (plain g) s r k) (s .lists r k)
+    unfolding points
+    listed r k = record { isSound = v .isSound r k; points = λ p. refl }
+
+    new : (r : Ray g) (k : Kind) → ListOf (without g (points g (plain g) s) (entries (c .log)) r k) (less (s .lists r k) (hitsOn g (entries (c .log)) r k))
+    new r k = left-list g (points g (plain g) s) (s .lists) listed (entries (c .log)) r k
+
+    -- certain loses what possible loses
+    lost-too : (r : Ray g) (p : Float) → taken g (entries (c .log)) r possible p ≡ true → taken g (entries (c .log)) r certain p ≡ true
+    unfolding taken
+    lost-too r p t = or-right (holds (pairsOn g (entries (c .log)) r outer) p) (holds (pairsOn g (entries (c .log)) r inner) p) t
+
+    inside-still : (r : Ray g) (p : Float) → holds (less (s .lists r certain) (hitsOn g (entries (c .log)) r certain)) p ≡ true
+        → holds (less (s .lists r possible) (hitsOn g (entries (c .log)) r possible)) p ≡ true
+    unfolding without points
+    inside-still r p t =
+        let es = entries (c .log) in
+        let u = sym (new r certain .points p) ∙ t in
+        let kept : taken g es r possible p ≡ false = elim (by-cases (taken g es r possible p)) [
+          | inl w ↦ absurd (clash (taken g es r certain p) (lost-too r p w) (not-true (taken g es r certain p) (and-right (holds (s .lists r certain) p) (not (taken g es r certain p)) u)))
+          | inr w ↦ w
+        ] in
+        new r possible .points p
+        ∙ both (holds (s .lists r possible) p) (not (taken g es r possible p)) (v .within r p (and-left (holds (s .lists r certain) p) (not (taken g es r certain p)) u))
+        (ap not kept)
+
+    cuts : (n : ℕ) → Cut g (plain g) s c (after s c (changed n))
+    unfolding points after
+    cuts n = record {
+      sound = record {
+        isSound = λ r k. new r k .isSound;
+        doubles = λ r k. less-doubles (s .lists r k) (hitsOn g (entries (c .log)) r k) (v .doubles r k) (hits-doubles g (c .log) d r k);
+        within = inside-still;
+      };
+      exactly = λ r k p. new r k .points p;
+      generation = refl;
+      lent = refl;
+    }
+
+    still-valid : (a : Answer) → Valid g (after s c a)
+    unfolding after
+    still-valid (refused k) = v
+    still-valid (changed n) = cuts n .sound
+
+    leaves : (a : Answer) → Left g (plain g) s c a (after s c a)
+    unfolding Left after
+    leaves (refused k) = refl
+    leaves (changed n) = cuts n
+
+    committed : Committed spec g (plain g) s c (answer s c) (after s c (answer s c))
+    unfolding answer
+    committed = record {
+      answers = judged-unsound spec g (s .lent) (¬ Valid g s) (λ n. n v) (points g (plain g) s) (s .generation) c (answer s c)
+          (judged spec g (s .lent) (points g (plain g) s) (s .lists) listed (s .generation) c
+          (record { of-lists = v .doubles; of-hits = hits-doubles g (c .log) d }));
+      leaves = leaves (answer s c);
+    }
+
+  -- every list of commits has a run
+  pub runs : (s : Plain g) → Valid g s → (cs : List Commit) → DoubleLogs cs → Run spec g (plain g) s cs (answers s cs) (final s cs)
+  unfolding answers final
+  runs s v [] d = done
+  runs s v (c ∷ cs) d = next (committed s v c (d .0)) (runs (after s c (answer s c)) (still-valid s v c (d .0) (answer s c)) cs (d .1))

@@ -1,0 +1,46 @@
+-- How a run reads a stock: the lent store and its small record, as crate `stock` defines them.
+use mathlib.Core.Path.{_≡_}
+use mathlib.Core.List.{List}
+use Prim.Native.Nat.{ℕ, _+_, _*_, _/_, min}
+use lib.ListN.{length}
+use lib.Ieee.{Float}
+use Rattle.grid.specs.declared.DexelStockSpec.{DexelStockSpec}
+use Rattle.grid.specs.declared.DexelGrid.{DexelGrid}
+use Rattle.grid.specs.declared.Gridded.{Gridded}
+use Rattle.grid.specs.declared.Gridded.the-variants.{Accepted, Refused}
+use Rattle.store.specs.Store.{listOf}
+use Rattle.store.specs.Updates.{Cells, held}
+use Rattle.stock.specs.Stock.{Stock, SoundStock}
+use Rattle.log_model.specs.Logs.{Ray, Kind, possible, certain, Commit}
+use Rattle.log_model.specs.Model.{Answer, refused}
+use Rattle.log_model.specs.Runs.{Reading, Committed}
+
+-- the lists of the store count through the rays, possible first
+unfoldable pub listNumber : ℕ → Kind → ℕ
+listNumber r possible = 2 * r
+listNumber r certain = 2 * r + 1
+
+-- the list of the ray r and the kind k, as it stands in the cells
+unfoldable pub listIn : DexelStockSpec → Stock → ℕ → Kind → List Float
+unfolding listNumber
+listIn spec s r k = listOf (spec .«max_intervals») (s .cells .spans) (s .cells .links) (s .cells .heads) (listNumber r k)
+
+-- the same of all rays, from the cells alone
+abbrev pub listsIn : DexelStockSpec → (g : DexelGrid) → Cells → Ray g → Kind → List Float
+listsIn spec g c r k = held (spec .«max_intervals») c (listNumber (r .0) k)
+
+-- the reading that the log commit's contract cites
+abbrev pub lentStore : DexelStockSpec → (g : DexelGrid) → Reading g
+lentStore spec g = record {
+  Store = Stock;
+  lists = λ s r k. listIn spec s (r .0) k;
+  intervals = λ s. s .intervals;
+  generation = λ s. s .generation;
+  lent = λ s. record { records = min (length (s .cells .spans) / 2) (length (s .cells .links) / 2); heads = length (s .cells .heads) };
+  Sound = SoundStock spec g;
+}
+
+-- A log commit on the lent store, whatever the description is. The answer of `grid` stands first: its causes 1 to 4 come before all others.
+unfoldable pub LogCommit : Gridded → DexelStockSpec → Stock → Commit → Answer → Stock → Type 0
+LogCommit (Refused k) spec s c a t = (a ≡ refused k) × (t ≡ s)
+LogCommit (Accepted g) spec s c a t = Committed spec g (lentStore spec g) s c a t

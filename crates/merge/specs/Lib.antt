@@ -1,2 +1,0 @@
--- The definitions that the contracts of `merge` cite.
-pub mod Merge

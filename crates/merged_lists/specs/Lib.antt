@@ -1,2 +1,0 @@
--- The definitions that the contracts of `merged_lists` cite.
-pub mod Handed

@@ -1,2 +1,0 @@
--- The definitions that the contracts of `named` cite.
-pub mod Named

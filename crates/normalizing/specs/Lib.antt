@@ -1,2 +1,0 @@
--- The definitions that the contracts of `normalizing` cite.
-pub mod Normalizing

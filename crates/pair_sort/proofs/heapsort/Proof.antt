@@ -1,0 +1,61 @@
+-- `pair_sort::heapsort` meets its contract.
+use borrow.Author.Needs.{needs}
+use native.Mathlib.Omega.{arith}
+use Prim.Native.Nat.{_≤_}
+use Rattle.pair_moves.specs.Pairs.{SamePairs}
+use Rattle.pair_moves.proofs.Laws.{unchanged, after}
+use Rattle.pair_sort.proofs.heapsort.Statement.{statement}
+use Rattle.pair_sort.proofs.heapsort.Tie as tie
+
+abbrev Inv-loop : tie.InvT-loop
+Inv-loop s₀ l n e₀ s e = SamePairs s₀ s × (e ≤ n)
+
+abbrev μ-loop : tie.MeasureT-loop
+μ-loop s₀ l n e₀ s e = e
+
+make-heap-requires : tie.Need-make-heap-requires Inv-loop μ-loop
+make-heap-requires c κs = search needs
+
+loop-holds : tie.Need-loop-holds Inv-loop μ-loop
+loop-holds c = (unchanged _, omega arith)
+
+sub-e : tie.Need-sub-e Inv-loop μ-loop
+sub-e c = search needs
+
+add-swap-pairs : tie.Need-add-swap-pairs Inv-loop μ-loop
+add-swap-pairs c = search needs
+
+swap-pairs-requires : tie.Need-swap-pairs-requires Inv-loop μ-loop
+swap-pairs-requires c κs = search needs
+
+sift-requires : tie.Need-sift-requires Inv-loop μ-loop
+sift-requires c κs = search needs
+
+loop-less : tie.Need-loop-less Inv-loop μ-loop
+loop-less c = search needs
+
+loop-again : tie.Need-loop-again Inv-loop μ-loop
+loop-again c = (after (after (c .before .before .before .before .before .before .before .before .before .loop .inv .0) (c .before .before .before .before .before .before .swap-pairs .ensures)) (c .before .before .sift .ensures), omega arith)
+
+same-length : tie.Need-same-length Inv-loop μ-loop
+same-length c = search needs
+
+returns : tie.Need-returns Inv-loop μ-loop
+returns c = after (c .before .before .before .before .make-heap .ensures) (c .before .loop .inv .0)
+
+pub heapsort-spec : {M : Type 1} → statement M
+heapsort-spec =
+    tie.close
+    (tie.spec
+    Inv-loop
+    μ-loop
+    make-heap-requires
+    loop-holds
+    sub-e
+    add-swap-pairs
+    swap-pairs-requires
+    sift-requires
+    loop-less
+    loop-again
+    same-length
+    returns)

@@ -1,0 +1,48 @@
+-- `pair_sort::insertion` meets its contract.
+use borrow.Author.Needs.{needs}
+use Prim.Native.Nat.{_-_}
+use Rattle.pair_moves.specs.Pairs.{SamePairs}
+use Rattle.pair_moves.proofs.Laws.{unchanged, after}
+use Rattle.pair_sort.proofs.insertion.Statement.{statement}
+use Rattle.pair_sort.proofs.insertion.Tie as tie
+
+abbrev Inv-loop : tie.InvT-loop
+Inv-loop s₀ l r k₀ s k = SamePairs s₀ s
+
+abbrev μ-loop : tie.MeasureT-loop
+μ-loop s₀ l r k₀ s k = r - k
+
+loop-holds : tie.Need-loop-holds Inv-loop μ-loop
+loop-holds c = unchanged _
+
+place-pair-requires : tie.Need-place-pair-requires Inv-loop μ-loop
+place-pair-requires c κs = search needs
+
+add-k : tie.Need-add-k Inv-loop μ-loop
+add-k c = search needs
+
+loop-less : tie.Need-loop-less Inv-loop μ-loop
+loop-less c = search needs
+
+loop-again : tie.Need-loop-again Inv-loop μ-loop
+loop-again c = after (c .before .before .before .before .before .loop .inv) (c .before .before .place-pair .ensures)
+
+same-length : tie.Need-same-length Inv-loop μ-loop
+same-length c = search needs
+
+returns : tie.Need-returns Inv-loop μ-loop
+returns c = search needs
+
+pub insertion-spec : {M : Type 1} → statement M
+insertion-spec =
+    tie.close
+    (tie.spec
+    Inv-loop
+    μ-loop
+    loop-holds
+    place-pair-requires
+    add-k
+    loop-less
+    loop-again
+    same-length
+    returns)

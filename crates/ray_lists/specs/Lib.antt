@@ -1,0 +1,2 @@
+-- The definitions that the contracts of `ray_lists` cite.
+pub mod Handed

@@ -1,0 +1,2 @@
+-- The definitions that the contracts of `ray_merge` cite.
+pub mod Merge

@@ -1,2 +1,0 @@
--- The definitions that the contracts of `rearranging` cite.
-pub mod Pairs

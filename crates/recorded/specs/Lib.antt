@@ -1,3 +1,0 @@
--- The definitions that the contracts of `recorded` cite.
-pub mod Words
-pub mod Agreement

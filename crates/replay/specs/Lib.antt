@@ -1,3 +1,0 @@
--- The definitions that the contracts of `replay` cite.
-pub mod Tallies
-pub mod Words

@@ -1,0 +1,2 @@
+-- The definitions that the contracts of `span_hits` cite.
+pub mod Hits

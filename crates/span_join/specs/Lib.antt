@@ -1,0 +1,2 @@
+-- The definitions that the contracts of `span_join` cite.
+pub mod Steps

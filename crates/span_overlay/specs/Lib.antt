@@ -1,0 +1,3 @@
+-- The definitions that the contracts of `span_overlay` cite.
+pub mod Overlay
+pub mod Steps

@@ -1,0 +1,126 @@
+// Lays lists in the lowest free records of a store: one list, and both lists of a ray.
+ghost use mathlib.Core.Path.{_≡_};
+ghost use Prim.Native.Nat.{_+_, _-_, _*_, _<_, _≤_};
+ghost use lib.ListN.{length};
+ghost use Rattle.store.specs.Store.{freeFrom, putSpan, putLink};
+ghost use Rattle.store.specs.Fills.{NextFree, Cursor, Fillable, Fills};
+ghost use Rattle.store.specs.Updates.{cells, update, part, Layable, Laid};
+ghost use Rattle.store_lay.specs.Rays.{LayableRay, LaidRay};
+
+// The first free place from `from` on, of which there is one.
+fn next_free(spans: &[f64], links: &[u64], n: usize, from: usize) -> usize
+    requires { ⌜ (2 * n ≤ length (now spans)) × (2 * n ≤ length (now links)) × (0 < length (freeFrom (now spans) (now links) from (n - from))) ⌝ }
+    ensures { λ r. ⌜ NextFree (now (spans .entry)) (now (links .entry)) n from r ⌝ }
+{
+    let mut at = from;
+    while store::used(spans, links, at) {
+        at += 1;
+    }
+    at
+}
+
+// The record number of a list's head, and the place past its last record.
+pub struct Filled {
+    pub head: u64,
+    pub cursor: usize,
+}
+
+// Writes the record at place i.
+pub fn put_record(
+    spans: &mut [f64],
+    links: &mut [u64],
+    i: usize,
+    lo: f64,
+    hi: f64,
+    next: u64,
+    owner: u64,
+)
+    requires { ⌜ (2 * i + 1 < length (now spans)) × (2 * i + 1 < length (now links)) ⌝ }
+    ensures { λ _. ⌜ (now (spans .exit) ≡ putSpan (now (spans .entry)) i lo hi) × (now (links .exit) ≡ putLink (now (links .entry)) i next owner) ⌝ }
+{
+    spans[2 * i] = lo;
+    spans[2 * i + 1] = hi;
+    links[2 * i] = next;
+    links[2 * i + 1] = owner;
+}
+
+// Lays the pairs as a chain of the owner, each in the lowest free record. None before place `from` is free.
+fn fill_list(
+    spans: &mut [f64],
+    links: &mut [u64],
+    n: usize,
+    from: usize,
+    owner: u64,
+    pairs: &[f64],
+    count: usize,
+) -> Filled
+    requires { ⌜ Fillable n (now spans) (now links) owner (now pairs) count from ⌝ }
+    ensures { λ r. ⌜ Fills n (now (spans .entry)) (now (links .entry)) owner (now (pairs .entry)) count (r .head) (r .cursor) (now (spans .exit)) (now (links .exit)) ⌝ }
+{
+    let first = next_free(spans, links, n, from);
+    let mut at = first;
+    let mut t: usize = 0;
+    while t + 1 < count {
+        let after = next_free(spans, links, n, at + 1);
+        let lo = pairs[2 * t];
+        let hi = pairs[2 * t + 1];
+        put_record(spans, links, at, lo, hi, (after as u64) + 1, owner);
+        at = after;
+        t += 1;
+    }
+    let lo = pairs[2 * t];
+    let hi = pairs[2 * t + 1];
+    put_record(spans, links, at, lo, hi, 0, owner);
+    Filled {
+        head: (first as u64) + 1,
+        cursor: at + 1,
+    }
+}
+
+// Lays list j from the lowest free record, and says before which place no record is free then. The lists of a commit take this place one from the other, so that it only rises.
+fn lay_list(
+    spans: &mut [f64],
+    links: &mut [u64],
+    heads: &mut [u64],
+    n: usize,
+    from: usize,
+    j: usize,
+    pairs: &[f64],
+) -> usize
+    requires { ⌜ Layable n (cells (now spans) (now links) (now heads)) (update j (now pairs)) × Cursor n (now spans) (now links) from ⌝ }
+    ensures { λ r. ⌜ Laid n (cells (now (spans .entry)) (now (links .entry)) (now (heads .entry))) (update j (now (pairs .entry))) r (cells (now (spans .exit)) (now (links .exit)) (now (heads .exit))) ⌝ }
+{
+    let count = pairs.len() / 2;
+    if count == 0 {
+        heads[j] = 0;
+        return from;
+    }
+    let filled = fill_list(spans, links, n, from, (j as u64) + 1, pairs, count);
+    heads[j] = filled.head;
+    filled.cursor
+}
+
+// Lays both lists of a ray, which stand end to end in the pairs from cell `at` on. None before place `from` is free.
+pub fn lay_ray(
+    spans: &mut [f64],
+    links: &mut [u64],
+    heads: &mut [u64],
+    n: usize,
+    from: usize,
+    ray: usize,
+    pairs: &[f64],
+    at: usize,
+    possible: usize,
+    certain: usize,
+) -> usize
+    requires { ⌜ (at + 2 * possible + 2 * certain ≤ length (now pairs)) × Cursor n (now spans) (now links) from
+        × LayableRay n (cells (now spans) (now links) (now heads)) ray (part (now pairs) at possible) (part (now pairs) (at + 2 * possible) certain) ⌝ }
+    ensures { λ r. ⌜ LaidRay n (cells (now (spans .entry)) (now (links .entry)) (now (heads .entry))) ray (part (now (pairs .entry)) at possible) (part (now (pairs .entry)) (at + 2 * possible) certain)
+        r (cells (now (spans .exit)) (now (links .exit)) (now (heads .exit))) ⌝ }
+{
+    let j = 2 * ray;
+    let e = at + 2 * possible;
+    let f = e + 2 * certain;
+    let next = lay_list(spans, links, heads, n, from, j, &pairs[at..e]);
+    lay_list(spans, links, heads, n, next, j + 1, &pairs[e..f])
+}

@@ -1,0 +1,224 @@
+// What a chord has in common for all rays of a world axis, and the rectangle of rays that it visits (sweep.rs: `Kernel::rays`).
+ghost use mathlib.Core.Path.{_≡_};
+ghost use Rattle.grid_from_spec.specs.Causes.{GridFacts};
+ghost use Rattle.sweep_kernel.specs.Lane.{planPoint, reachOf, sideOf, profileOf, laneOf, spanOver, cellsMet, cellsAcross, rectangleOf};
+use cutter::CutterShape;
+use cutter::PreparedCutter;
+use frame::Frame;
+use frame::LocalAxis;
+use frame::Pair;
+use grid::DexelGrid;
+use grid::DexelStockSpec;
+use grid::Vec3;
+use grid::WorldAxis;
+use polygons::Point;
+
+// The cutting part; `radius` is half the diameter.
+pub struct Profile {
+    pub shape: CutterShape,
+    pub cutter: PreparedCutter,
+    pub radius: f64,
+}
+
+pub struct Kernel {
+    pub frame: Frame,
+    pub guard: f64,
+}
+
+// A chord in the tool's frame, with its error and its plan length.
+pub struct Chord {
+    pub a: Vec3,
+    pub b: Vec3,
+    pub e: f64,
+    pub length: f64,
+}
+
+// The cells along a world axis across a ray: the sign of its local axis, the box's end and the step.
+pub struct Side {
+    pub sign: f64,
+    pub min: f64,
+    pub step: f64,
+}
+
+// What a chord has in common for all rays of a world axis.
+pub struct Lane {
+    pub frame: Frame,
+    pub la: LocalAxis,
+    pub guard: f64,
+    pub a: Point,
+    pub b: Point,
+    pub length: f64,
+    pub e: f64,
+    pub z_lo: f64,
+    pub z_hi: f64,
+    pub reach: Pair,
+    pub u: Side,
+    pub v: Side,
+    pub u_is_tool: bool,
+}
+
+// Cells from the first to the second, or none.
+pub enum Cells {
+    Met(u64, u64),
+    Missed,
+}
+
+// Rays from u0 to u1 and from v0 to v1.
+pub struct Rect {
+    pub u0: u64,
+    pub u1: u64,
+    pub v0: u64,
+    pub v1: u64,
+}
+
+pub enum Rectangle {
+    Rays(Rect),
+    NoRays,
+}
+
+pub fn profile_of(shape: CutterShape, cutter: PreparedCutter) -> Profile
+    ensures { λ r. ⌜ r ≡ profileOf shape cutter ⌝ }
+{
+    Profile {
+        shape: shape,
+        cutter: cutter,
+        radius: cutter.diameter_mm / 2.0,
+    }
+}
+
+// A point of a chord as rays along the local axis la see it: x along the ray, y across it.
+fn plan_point(p: Vec3, la: LocalAxis) -> Point
+    ensures { λ r. ⌜ r ≡ planPoint p la ⌝ }
+{
+    if la.0 == 0 {
+        return Point { x: p.x, y: p.y };
+    }
+    Point { x: p.y, y: p.x }
+}
+
+// A superset of every outer interval along the rays, in world coordinates.
+fn reach_of(k: Kernel, la: LocalAxis, pad: f64, a: Point, b: Point) -> Pair
+    ensures { λ r. ⌜ r ≡ reachOf k la pad a b ⌝ }
+{
+    let s = Pair {
+        lo: doubles_minmax::smaller(a.x, b.x) - pad - k.guard,
+        hi: doubles_minmax::larger(a.x, b.x) + pad + k.guard,
+    };
+    frame::world(k.frame, la, s)
+}
+
+fn side_of(spec: DexelStockSpec, g: DexelGrid, f: Frame, w: WorldAxis) -> Side
+    ensures { λ r. ⌜ r ≡ sideOf spec g f w ⌝ }
+{
+    Side {
+        sign: frame::sign_along(f, frame::local_axis(f, w)),
+        min: grid::along(spec.min_mm, w),
+        step: grid::step_along(g, w),
+    }
+}
+
+pub fn lane_of(
+    spec: DexelStockSpec,
+    g: DexelGrid,
+    k: Kernel,
+    p: Profile,
+    c: Chord,
+    axis: WorldAxis,
+) -> Lane
+    ensures { λ r. ⌜ r ≡ laneOf spec g k p c axis ⌝ }
+{
+    let f = k.frame;
+    let la = frame::local_axis(f, axis);
+    let a = plan_point(c.a, la);
+    let b = plan_point(c.b, la);
+    let w = grid::cross(axis);
+    let lu = frame::local_axis(f, w.u);
+    Lane {
+        frame: f,
+        la: la,
+        guard: k.guard,
+        a: a,
+        b: b,
+        length: c.length,
+        e: c.e,
+        z_lo: doubles_minmax::smaller(c.a.z, c.b.z),
+        z_hi: doubles_minmax::larger(c.a.z, c.b.z),
+        reach: reach_of(k, la, p.radius + c.e, a, b),
+        u: side_of(spec, g, f, w.u),
+        v: side_of(spec, g, f, w.v),
+        u_is_tool: lu.0 == 2,
+    }
+}
+
+// The local range of a chord's rays along a local axis that crosses them.
+fn span_over(p: Profile, l: Lane, i: LocalAxis) -> Pair
+    ensures { λ r. ⌜ r ≡ spanOver p l i ⌝ }
+{
+    if i.0 == 2 {
+        return Pair {
+            lo: l.z_lo - l.e,
+            hi: l.z_hi + p.cutter.cutting_length_mm + l.e,
+        };
+    }
+    let pad = p.radius + l.e;
+    Pair {
+        lo: doubles_minmax::smaller(l.a.y, l.b.y) - pad,
+        hi: doubles_minmax::larger(l.a.y, l.b.y) + pad,
+    }
+}
+
+// The cells along a world axis that the pair s meets.
+fn cells_met(spec: DexelStockSpec, g: DexelGrid, w: WorldAxis, s: Pair) -> Cells
+    requires { ⌜ GridFacts spec g ⌝ }
+    ensures { λ r. ⌜ r ≡ cellsMet spec g w s ⌝ }
+{
+    if s.hi < grid::along(spec.min_mm, w) {
+        return Cells::Missed;
+    }
+    if s.lo > grid::along(spec.max_mm, w) {
+        return Cells::Missed;
+    }
+    if s.lo > s.hi {
+        return Cells::Missed;
+    }
+    Cells::Met(
+        grid_cells::cell_at(spec, g, w, s.lo),
+        grid_cells::cell_at(spec, g, w, s.hi),
+    )
+}
+
+fn cells_across(spec: DexelStockSpec, g: DexelGrid, p: Profile, l: Lane, w: WorldAxis) -> Cells
+    requires { ⌜ GridFacts spec g ⌝ }
+    ensures { λ r. ⌜ r ≡ cellsAcross spec g p l w ⌝ }
+{
+    let i = frame::local_axis(l.frame, w);
+    cells_met(spec, g, w, frame::world(l.frame, i, span_over(p, l, i)))
+}
+
+// The rays of an axis that a chord visits.
+pub fn rectangle_of(
+    spec: DexelStockSpec,
+    g: DexelGrid,
+    p: Profile,
+    l: Lane,
+    axis: WorldAxis,
+) -> Rectangle
+    requires { ⌜ GridFacts spec g ⌝ }
+    ensures { λ r. ⌜ r ≡ rectangleOf spec g p l axis ⌝ }
+{
+    let w = grid::cross(axis);
+    let us = cells_across(spec, g, p, l, w.u);
+    let vs = cells_across(spec, g, p, l, w.v);
+    match us {
+        Cells::Missed => Rectangle::NoRays,
+        Cells::Met(u0, u1) => match vs {
+            Cells::Missed => Rectangle::NoRays,
+            Cells::Met(v0, v1) => Rectangle::Rays(Rect {
+                u0: u0,
+                u1: u1,
+                v0: v0,
+                v1: v1,
+            }),
+        },
+    }
+}

@@ -1,0 +1,55 @@
+use mathlib.Core.Path.{sym, _∙_}
+use Rattle.sweep_ray.proofs.Hitting.{hit-off, hit-miss, hit-clear, hit-on}
+use Rattle.doubles.proofs.Bools.{not-true, not-false}
+use borrow.Author.Needs.{needs}
+use Rattle.sweep_ray.proofs.ray_hit.Statement.{statement}
+use Rattle.sweep_ray.proofs.ray_hit.Tie as tie
+
+spans-meet-requires : tie.Need-spans-meet-requires
+spans-meet-requires c κs = c .before .before .pre
+
+returns : tie.Need-returns
+returns c = hit-off _ _ _ _ (sym (c .before .spans-meet .ensures) ∙ not-true (c .before .spans-meet .result) (c .if1 .taken))
+
+section-of-requires : tie.Need-section-of-requires
+section-of-requires c κs = search needs
+
+outer-of-requires : tie.Need-outer-of-requires
+outer-of-requires c κs = search needs
+
+enum-told : tie.Need-enum-told
+enum-told c = search needs
+
+enum-known-o : tie.Need-enum-known-o
+enum-known-o c = search needs
+
+overlaps-at-requires : tie.Need-overlaps-at-requires
+overlaps-at-requires c κs = c .before .before .before .before .before .before .before .before .before .pre .0
+
+inner-of-requires : tie.Need-inner-of-requires
+inner-of-requires c κs = search needs
+
+returns-2 : tie.Need-returns-2
+returns-2 c = rw (← c .before .before .before .before .before .before .before .section-of .ensures, c .inner-of .ensures) (hit-on _ _ _ _ _ _ (sym (c .before .before .before .before .before .before .before .before .before .spans-meet .ensures) ∙ not-false (c .before .before .before .before .before .before .before .before .before .spans-meet .result) (c .before .before .before .before .before .before .before .before .if1 .left)) (sym (c .before .before .before .before .before .before .outer-of .ensures) ∙ c .before .before .before .before .o .given .1) (sym (c .before .before .overlaps-at .ensures) ∙ c .before .if2 .taken))
+
+returns-3 : tie.Need-returns-3
+returns-3 c = rw (← c .before .before .before .section-of .ensures) (hit-miss _ _ _ _ (sym (c .before .before .before .before .before .spans-meet .ensures) ∙ not-false (c .before .before .before .before .before .spans-meet .result) (c .before .before .before .before .if1 .left)) (sym (c .before .before .outer-of .ensures) ∙ c .enum-told .given .1))
+
+returns-4 : tie.Need-returns-4
+returns-4 c = rw (← c .before .before .before .before .before .before .section-of .ensures) (hit-clear _ _ _ _ _ _ (sym (c .before .before .before .before .before .before .before .before .spans-meet .ensures) ∙ not-false (c .before .before .before .before .before .before .before .before .spans-meet .result) (c .before .before .before .before .before .before .before .if1 .left)) (sym (c .before .before .before .before .before .outer-of .ensures) ∙ c .before .before .before .o .given .1) (sym (c .before .overlaps-at .ensures) ∙ c .if2 .left))
+
+pub ray-hit-spec : {M : Type 1} → statement M
+ray-hit-spec =
+    tie.close
+    (tie.spec
+    spans-meet-requires
+    returns
+    section-of-requires
+    outer-of-requires
+    enum-told
+    enum-known-o
+    overlaps-at-requires
+    inner-of-requires
+    returns-2
+    returns-3
+    returns-4)

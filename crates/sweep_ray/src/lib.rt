@@ -1,0 +1,180 @@
+// One ray across the tool axis: the section that a swept cutter meets, and what it adds to the log (sweep.rs: `across`).
+ghost use mathlib.Core.Path.{_≡_};
+ghost use mathlib.Core.Bool.{true};
+ghost use Rattle.spans.specs.Spans.{sound};
+ghost use Rattle.store_lists.specs.Reading.{listFrom, Readable};
+ghost use Rattle.sweep_ray.specs.Section.{centerOf, sectionWith, sectionOf};
+ghost use Rattle.sweep_ray.specs.Across.{outerFrom, outerOf, innerFrom, innerOf, hitOf};
+use cutter::Radius;
+use frame::Pair;
+use polygons::Strip;
+use sweep_kernel::Lane;
+use sweep_kernel::Profile;
+use sweep_kernel::Side;
+
+// A ray's cross-section: the band from y0 to y1, and the window of tool heights from w0 to w1.
+pub struct Section {
+    pub y0: f64,
+    pub y1: f64,
+    pub w0: f64,
+    pub w1: f64,
+}
+
+// What a hit ray is given.
+pub struct Hits {
+    pub outer: Pair,
+    pub inner: Pair,
+}
+
+pub enum RayHit {
+    On(Hits),
+    Off,
+}
+
+fn center_of(s: Side, i: u64) -> f64
+    ensures { λ r. ⌜ r ≡ centerOf s i ⌝ }
+{
+    s.sign * (s.min + (std::num::nearest_u64_to_f64(i) + 0.5) * s.step)
+}
+
+fn section_with(l: Lane, yc: f64, hy: f64, zc: f64, hz: f64) -> Section
+    ensures { λ r. ⌜ r ≡ sectionWith l yc hy zc hz ⌝ }
+{
+    Section {
+        y0: yc - hy,
+        y1: yc + hy,
+        w0: zc - hz - l.z_hi - l.e,
+        w1: zc + hz - l.z_lo + l.e,
+    }
+}
+
+// The cross-section of the ray at the cells iu and iv.
+fn section_of(l: Lane, iu: u64, iv: u64) -> Section
+    ensures { λ r. ⌜ r ≡ sectionOf l iu iv ⌝ }
+{
+    let cu = center_of(l.u, iu);
+    let cv = center_of(l.v, iv);
+    let hu = l.u.step / 2.0;
+    let hv = l.v.step / 2.0;
+    if l.u_is_tool {
+        return section_with(l, cv, hv, cu, hu);
+    }
+    section_with(l, cu, hu, cv, hv)
+}
+
+// An extent of the largest section, widened by the guard, in world coordinates.
+fn outer_from(l: Lane, s: Strip) -> Strip
+    ensures { λ r. ⌜ r ≡ outerFrom l s ⌝ }
+{
+    match s {
+        Strip::Miss => Strip::Miss,
+        Strip::Hit(lo, hi) => {
+            let q = frame::world(
+                l.frame,
+                l.la,
+                Pair {
+                    lo: lo - l.guard,
+                    hi: hi + l.guard,
+                },
+            );
+            Strip::Hit(q.lo, q.hi)
+        }
+    }
+}
+
+// Where the cutter may touch the ray's cross-section.
+fn outer_of(p: Profile, l: Lane, s: Section) -> Strip
+    ensures { λ r. ⌜ r ≡ outerOf p l s ⌝ }
+{
+    let shape = p.shape;
+    let most = cutter::cut_max(shape, p.cutter, s.w0, s.w1);
+    match most {
+        Radius::Outside => Strip::Miss,
+        Radius::Is(r) => {
+            outer_from(
+                l,
+                strips::stadium_strip(l.a, l.b, l.length, r + l.e, s.y0, s.y1),
+            )
+        }
+    }
+}
+
+// What both edges of the cross-section have in common, narrowed by the guard, in world coordinates; [0, 0] for none.
+fn inner_from(l: Lane, s: Strip, t: Strip) -> Pair
+    ensures { λ r. ⌜ r ≡ innerFrom l s t ⌝ }
+{
+    let none = Pair { lo: 0.0, hi: 0.0 };
+    match s {
+        Strip::Miss => none,
+        Strip::Hit(lo, hi) => match t {
+            Strip::Miss => none,
+            Strip::Hit(lo2, hi2) => {
+                let q = Pair {
+                    lo: doubles_minmax::larger(lo, lo2) + l.guard,
+                    hi: doubles_minmax::smaller(hi, hi2) - l.guard,
+                };
+                if q.lo < q.hi {
+                    return frame::world(l.frame, l.la, q);
+                }
+                none
+            }
+        },
+    }
+}
+
+// Where the cutter certainly covers the ray's cross-section.
+fn inner_of(p: Profile, l: Lane, s: Section) -> Pair
+    ensures { λ r. ⌜ r ≡ innerOf p l s ⌝ }
+{
+    let shape = p.shape;
+    let least = cutter::cut_min(shape, p.cutter, s.w0, s.w1);
+    let none = Pair { lo: 0.0, hi: 0.0 };
+    match least {
+        Radius::Outside => none,
+        Radius::Is(r) => {
+            let rho = r - l.e;
+            if rho > 0.0 {
+                return inner_from(
+                    l,
+                    strips::stadium_strip(l.a, l.b, l.length, rho, s.y0, s.y0),
+                    strips::stadium_strip(l.a, l.b, l.length, rho, s.y1, s.y1),
+                );
+            }
+            none
+        }
+    }
+}
+
+// What the ray at the cells iu and iv, whose possible list begins at record `head`, is given.
+pub fn ray_hit(
+    spans: &[f64],
+    links: &[u64],
+    n: usize,
+    head: u64,
+    p: Profile,
+    l: Lane,
+    iu: u64,
+    iv: u64,
+) -> RayHit
+    requires { ⌜ Readable n (now spans) (now links) head × (sound (listFrom n (now spans) (now links) head) ≡ true) ⌝ }
+    ensures { λ r. ⌜ r ≡ hitOf p l (sectionOf l iu iv) (listFrom n (now (spans .entry)) (now (links .entry)) head) ⌝ }
+{
+    if !sweep_meet::spans_meet(spans, links, n, head, l.reach) {
+        return RayHit::Off;
+    }
+    let s = section_of(l, iu, iv);
+    let o = outer_of(p, l, s);
+    match o {
+        Strip::Miss => RayHit::Off,
+        Strip::Hit(lo, hi) => {
+            let outer = Pair { lo: lo, hi: hi };
+            if sweep_meet::overlaps_at(spans, links, n, head, outer) {
+                return RayHit::On(Hits {
+                    outer: outer,
+                    inner: inner_of(p, l, s),
+                });
+            }
+            RayHit::Off
+        }
+    }
+}

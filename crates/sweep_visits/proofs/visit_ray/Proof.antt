@@ -1,0 +1,86 @@
+use Rattle.sweep_visits.proofs.Walks.{halt-8, halt-full, went-on, went-off, entry-off, entry-on, entry-length}
+use native.Mathlib.Omega.{arith}
+use mathlib.Core.Path.{sym, ap, _∙_}
+use lib.ListN.{length}
+use borrow.Author.Needs.{needs}
+use Rattle.sweep_visits.proofs.visit_ray.Statement.{statement}
+use Rattle.sweep_visits.proofs.visit_ray.Tie as tie
+
+returns : tie.Need-returns
+returns c = halt-8 (c .before .before .before .before .before .before .pre .1) (c .if1 .taken)
+
+add-next : tie.Need-add-next
+add-next c = let h = c .before .if1 .left in let g = c .before .before .before .before .before .before .before .good in search needs
+
+mul-index : tie.Need-mul-index
+mul-index c = let h = c .before .before .before .before .before .before .before .before .pre .0 .few in search needs
+
+add-index : tie.Need-add-index
+add-index c = let h = c .before .before .before .before .before .before .before .before .pre .0 .few in search needs
+
+add-ray : tie.Need-add-ray
+add-ray c = let h = c .before .before .before .before .before .before .before .before .before .pre .0 .few in search needs
+
+mul-head : tie.Need-mul-head
+mul-head c = let h = c .before .before .before .before .before .before .before .before .before .pre .0 .few in search needs
+
+mul-head-2 : tie.Need-mul-head-2
+mul-head-2 c = let h = c .before .before .before .before .before .before .before .before .before .pre .0 .few in search needs
+
+shared-slice-read-head : tie.Need-shared-slice-read-head
+shared-slice-read-head c = c .before .before .before .before .before .before .before .before .before .before .pre .0 .ray .in-heads
+
+ray-hit-requires : tie.Need-ray-hit-requires
+ray-hit-requires c κs = (c .before .before .before .before .before .before .before .before .before .before .pre .0 .ray .readable, c .before .before .before .before .before .before .before .before .before .before .pre .0 .ray .isSound)
+
+enum-told : tie.Need-enum-told
+enum-told c = search needs
+
+returns-2 : tie.Need-returns-2
+returns-2 c = went-off (c .before .before .before .before .before .before .before .before .before .before .before .before .before .pre .1) (entry-off _ _ _ _ _ _ _ _ _ (sym (c .before .before .ray-hit .ensures) ∙ c .enum-told .given .1)) (c .before .before .before .before .before .before .before .if1 .left)
+
+enum-known-h : tie.Need-enum-known-h
+enum-known-h c = search needs
+
+sub-if2 : tie.Need-sub-if2
+sub-if2 c = search needs
+
+returns-3 : tie.Need-returns-3
+returns-3 c = halt-full (c .before .before .before .before .before .before .before .before .before .before .before .before .before .before .before .before .pre .1) _ (entry-on _ _ _ _ _ _ _ _ _ _ (sym (c .before .before .before .before .before .ray-hit .ensures) ∙ c .before .before .before .h .given .1)) (entry-length _ _ _) (c .before .before .before .before .before .before .before .before .before .before .if1 .left) (c .if2 .taken)
+
+add-end : tie.Need-add-end
+add-end c = let g = c .before .before .before .before .before .before .before .before .before .before .before .before .before .before .before .before .before .good .1 .1 .1 .1 .1 .1 .1 .1 .1 .1 .1 .0 .1 in let h = c .before .if2 .left in let a = c .before .before .before .before .before .before .before .before .before .before .before .before .before .before .before .before .before .pre .1 in search needs
+
+put-requires : tie.Need-put-requires
+put-requires c κs = search needs
+
+same-length : tie.Need-same-length
+same-length c = search needs
+
+returns-4 : tie.Need-returns-4
+returns-4 c =
+    let pre = c .before .before .before .before .before .before .before .before .before .before .before .before .before .before .before .before .before .before .before .before .before .pre in
+    let e = entry-on _ _ _ _ _ _ _ _ _ _ (sym (c .before .before .before .before .before .before .before .before .before .before .ray-hit .ensures) ∙ c .before .before .before .before .before .before .before .before .h .given .1) in went-on (pre .1) 6 (ap length e ∙ entry-length _ _ _) _ (c .before .before .before .before .before .before .before .before .before .before .before .before .before .before .before .if1 .left) (omega (arith, pre .1, c .before .before .before .before .before .if2 .left)) (rw e (c .before .before .put .ensures))
+
+pub visit-ray-spec : {M : Type 1} → statement M
+visit-ray-spec =
+    tie.close
+    (tie.spec
+    returns
+    add-next
+    mul-index
+    add-index
+    add-ray
+    mul-head
+    mul-head-2
+    shared-slice-read-head
+    ray-hit-requires
+    enum-told
+    returns-2
+    enum-known-h
+    sub-if2
+    returns-3
+    add-end
+    put-requires
+    same-length
+    returns-4)

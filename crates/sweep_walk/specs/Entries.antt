@@ -1,0 +1,87 @@
+-- The rays that a sweep visits, in order, each with its log entry or none; and how many they are.
+use mathlib.Core.List.{List, _++_}
+use Prim.Native.Nat.{ℕ, _+_, _/_}
+use lib.Ieee.{Float}
+use lib.ListN.{length}
+use Rattle.grid.specs.Axes.{byDigit, worldAxis, cellsAlong, crossOf}
+use Rattle.grid.specs.Rays.{rayCount, offset}
+use Rattle.grid_from_spec.specs.Causes.{GridFacts}
+use Rattle.grid.specs.declared.WorldAxis.{WorldAxis}
+use Rattle.grid.specs.declared.DexelStockSpec.{DexelStockSpec}
+use Rattle.grid.specs.declared.DexelGrid.{DexelGrid}
+use Rattle.frame.specs.Frame.{localAxis, worldAxisOf}
+use Rattle.frame.specs.declared.Frame.{Frame}
+use Rattle.store.specs.Updates.{Cells}
+use Rattle.stock.specs.Stock.{Chained, ValidTo}
+use Rattle.sweep_kernel.specs.Lane.{laneOf, rectangleOf}
+use Rattle.sweep_kernel.specs.declared.Profile.{Profile}
+use Rattle.sweep_kernel.specs.declared.Kernel.{Kernel}
+use Rattle.sweep_kernel.specs.declared.Chord.{Chord}
+use Rattle.sweep_kernel.specs.declared.Lane.{Lane}
+use Rattle.sweep_kernel.specs.declared.Rectangle.{Rectangle}
+use Rattle.sweep_visits.specs.Entries.{each, sum, rayEntry, rectangleEntries, raysIn, joined}
+use Rattle.sweep_visits.specs.declared.Track.{Track}
+use Rattle.chords.specs.Chords.{chordOf}
+
+-- the rays of a world axis: the number of the first, the cells of a row and the rows
+unfoldable pub trackOf : DexelGrid → WorldAxis → Track
+trackOf g a = record { axis = a; first = offset g a; row = cellsAlong g (crossOf a .u); rows = cellsAlong g (crossOf a .v) }
+
+-- what a sweep is made on and with
+pub record Setting : Type 0 where
+  pub spec : DexelStockSpec
+  pub grid : DexelGrid
+  pub kernel : Kernel
+  pub profile : Profile
+  pub cells : Cells
+
+abbrev pub setting : DexelStockSpec → DexelGrid → Kernel → Profile → Cells → Setting
+setting spec g k p c = record { spec = spec; grid = g; kernel = k; profile = p; cells = c }
+
+abbrev pub laneIn : Setting → Chord → WorldAxis → Lane
+laneIn s c a = laneOf (s .spec) (s .grid) (s .kernel) (s .profile) c a
+
+-- document 01's clamped rectangle of a chord and a world axis
+abbrev pub rectangleIn : Setting → Chord → WorldAxis → Rectangle
+rectangleIn s c a = rectangleOf (s .spec) (s .grid) (s .profile) (laneIn s c a) a
+
+-- the rays along a world axis that a chord visits
+unfoldable pub axisEntries : Setting → Chord → WorldAxis → List (List Float)
+axisEntries s c a =
+    rectangleEntries
+    (rayEntry (s .spec .«max_intervals») (trackOf (s .grid) a) (s .profile) (laneIn s c a) (s .cells .spans) (s .cells .links) (s .cells .heads))
+    (rectangleIn s c a)
+
+-- the two world axes other than the tool's, ascending
+unfoldable pub firstAxis : Frame → WorldAxis
+firstAxis f = byDigit (worldAxisOf f (localAxis 2) .0) (worldAxis 1) (worldAxis 0) (worldAxis 0)
+
+unfoldable pub secondAxis : Frame → WorldAxis
+secondAxis f = byDigit (worldAxisOf f (localAxis 2) .0) (worldAxis 2) (worldAxis 2) (worldAxis 1)
+
+unfoldable pub chordEntries : Setting → Chord → List (List Float)
+chordEntries s c = axisEntries s c (firstAxis (s .kernel .frame)) ++ axisEntries s c (secondAxis (s .kernel .frame))
+
+abbrev pub chordIn : Setting → List Float → ℕ → Chord
+chordIn s chords i = chordOf (s .kernel .frame) chords i
+
+-- chords in order
+unfoldable pub sweepEntries : Setting → (chords : List Float) → List (List Float)
+sweepEntries s chords = each (λ i. chordEntries s (chordIn s chords i)) 0 (length chords / 8)
+
+-- what a sweep logs
+unfoldable pub logOf : Setting → (chords : List Float) → List Float
+logOf s chords = joined (sweepEntries s chords)
+
+-- document 01's visit total: the number of rays in the clamped rectangles of all chords, two for each
+abbrev pub chordVisits : Setting → Chord → ℕ
+chordVisits s c = raysIn (rectangleIn s c (firstAxis (s .kernel .frame))) + raysIn (rectangleIn s c (secondAxis (s .kernel .frame)))
+
+unfoldable pub visitTotal : Setting → (chords : List Float) → ℕ
+visitTotal s chords = sum (λ i. chordVisits s (chordIn s chords i)) 0 (length chords / 8)
+
+-- a store that can be swept: an accepted grid, and sound cells
+pub record Sweepable (spec : DexelStockSpec) (g : DexelGrid) (c : Cells) : Type 0 where
+  pub facts : GridFacts spec g
+  pub chained : Chained spec g c
+  pub valid : ValidTo spec g c (rayCount g)

@@ -1,0 +1,3 @@
+-- The definitions that the contracts of `vector_words` cite.
+pub mod Words
+pub mod Agreement
