@@ -14,15 +14,6 @@ lay-changes-requires c κs =
     let pre = c .before .before .before .before .before .before .before .before .before .before .before .before .before .before .before .before .before .before .pre in
     let a = c .before .before .before .before .before .before .before .before .before .before .before .before .before .before .before .before .before .before .args in record { before = cells (a .spans .now) (a .links .now) (a .heads .now); total = pre .0; fitting = pre .1; is = c .before .before .before .before .before .before .before .before .before .free-changes .ensures (pre .0) (a .pairs .now) (pre .1) }
 
-same-length : tie.Need-same-length
-same-length c = search needs
-
-same-length-2 : tie.Need-same-length-2
-same-length-2 c = search needs
-
-same-length-3 : tie.Need-same-length-3
-same-length-3 c = search needs
-
 returns : tie.Need-returns
 returns c =
     let pre = c .before .before .before .before .before .before .before .before .before .before .before .before .before .before .before .before .before .before .before .before .before .before .before .before .before .pre in
@@ -34,7 +25,7 @@ apply-changes-spec =
     (tie.spec
     free-changes-requires
     lay-changes-requires
-    same-length
-    same-length-2
-    same-length-3
+    (λ c. search needs)
+    (λ c. search needs)
+    (λ c. search needs)
     returns)

@@ -33,12 +33,6 @@ free-ray-requires c κs =
     let inv = c .before .before .before .before .before .before .loop .inv in
     let f = c .before .before .before .before .before .before .before .before .before .before .before .pre in ray-freeable _ _ _ _ _ (f .0) (f .2) _ _ (inv .3 (f .0) (f .1) (f .2)) (omega (arith, inv .0)) (c .before .before .before .before .head .result) (c .before .before .before .before .head .ensures) _ (c .before .before .before .ray-named .ensures)
 
-add-k : tie.Need-add-k Inv-loop μ-loop
-add-k c = search needs
-
-loop-less : tie.Need-loop-less Inv-loop μ-loop
-loop-less c = search needs
-
 loop-again : tie.Need-loop-again Inv-loop μ-loop
 loop-again c =
     let inv = c .before .before .before .before .before .before .before .before .before .before .before .before .before .loop .inv in
@@ -66,8 +60,8 @@ free-changes-spec =
     head-requires
     ray-named-requires
     free-ray-requires
-    add-k
-    loop-less
+    (λ c. search needs)
+    (λ c. search needs)
     loop-again
     same-length
     same-length-2

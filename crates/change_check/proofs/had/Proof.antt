@@ -7,29 +7,11 @@ use Rattle.change_check.proofs.Tests.{had-no, had-second}
 use Rattle.change_check.proofs.had.Statement.{statement}
 use Rattle.change_check.proofs.had.Tie as tie
 
-mul-j : tie.Need-mul-j
-mul-j c = search needs
-
-mul-list-is : tie.Need-mul-list-is
-mul-list-is c = search needs
-
-shared-slice-read-list-is : tie.Need-shared-slice-read-list-is
-shared-slice-read-list-is c = search needs
-
 list-is-requires : tie.Need-list-is-requires
 list-is-requires c κs = let a = c .before .before .before .before .before .before in let s = cells (a .args .spans .now) (a .args .links .now) (a .args .heads .now) in list-readable (a .args .spec) (a .args .g) s (a .pre .0) (2 * a .args .ray) (omega (arith, a .pre .1))
 
 returns : tie.Need-returns
 returns c = let a = c .before .before .before .before .before .before .before .before in let s = cells (a .args .spans .now) (a .args .links .now) (a .args .heads .now) in had-no (a .args .spec) (a .args .g) s (a .args .ray) (a .args .p .now) (a .args .q .now) (c .before .list-is .result) (c .before .list-is .ensures) (c .if1 .taken)
-
-add-list-is : tie.Need-add-list-is
-add-list-is c = search needs
-
-mul-list-is-2 : tie.Need-mul-list-is-2
-mul-list-is-2 c = search needs
-
-shared-slice-read-list-is-2 : tie.Need-shared-slice-read-list-is-2
-shared-slice-read-list-is-2 c = search needs
 
 list-is-requires-2 : tie.Need-list-is-requires-2
 list-is-requires-2 c κs = let a = c .before .before .before .before .before .before .before .before .before in let s = cells (a .args .spans .now) (a .args .links .now) (a .args .heads .now) in list-readable (a .args .spec) (a .args .g) s (a .pre .0) (2 * a .args .ray + 1) (omega (arith, a .pre .1))
@@ -41,13 +23,13 @@ pub had-spec : {M : Type 1} → statement M
 had-spec =
     tie.close
     (tie.spec
-    mul-j
-    mul-list-is
-    shared-slice-read-list-is
+    (λ c. search needs)
+    (λ c. search needs)
+    (λ c. search needs)
     list-is-requires
     returns
-    add-list-is
-    mul-list-is-2
-    shared-slice-read-list-is-2
+    (λ c. search needs)
+    (λ c. search needs)
+    (λ c. search needs)
     list-is-requires-2
     returns-2)

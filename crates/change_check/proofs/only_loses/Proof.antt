@@ -4,9 +4,6 @@ use Rattle.change_check.proofs.Tests.{covers-good, only-1, only-2, only
 use Rattle.change_check.proofs.only_loses.Statement.{statement}
 use Rattle.change_check.proofs.only_loses.Tie as tie
 
-valid-ray-requires : tie.Need-valid-ray-requires
-valid-ray-requires c κs = search needs
-
 returns : tie.Need-returns
 returns c = let a = c .before .before .before .before .before .before .args in only-1 (a .lo) (a .hi) (a .p .now) (a .q .now) (a .np .now) (a .nq .now) (c .before .valid-ray .result) (c .before .valid-ray .ensures) (c .if1 .taken)
 
@@ -22,16 +19,10 @@ covers-requires-2 c κs = let v = tells-good _ (c .before .before .before .valid
 returns-3 : tie.Need-returns-3
 returns-3 c = let a = c .before .before .before .before .before .before .before .before .before .before .args in only-3 (a .lo) (a .hi) (a .p .now) (a .q .now) (a .np .now) (a .nq .now) (c .before .covers2 .result) (c .before .covers2 .ensures) (c .if3 .taken)
 
-same-ends-requires : tie.Need-same-ends-requires
-same-ends-requires c κs = search needs
-
 returns-4 : tie.Need-returns-4
 returns-4 c =
     let a = c .before .before .before .before .before .before .before .before .before .before .before .before .args in
     only-4 (a .lo) (a .hi) (a .p .now) (a .q .now) (a .np .now) (a .nq .now) (c .before .same-ends .result) (tells-good _ (c .before .before .before .before .before .before .before .valid-ray .result) (c .before .before .before .before .before .before .before .valid-ray .ensures) (c .before .before .before .before .before .before .if1 .left)) (covers-good _ _ (c .before .before .before .before .before .covers .result) (c .before .before .before .before .before .covers .ensures) (c .before .before .before .before .if2 .left)) (covers-good _ _ (c .before .before .before .covers2 .result) (c .before .before .before .covers2 .ensures) (c .before .before .if3 .left)) (c .before .same-ends .ensures) (c .if4 .taken)
-
-same-ends-requires-2 : tie.Need-same-ends-requires-2
-same-ends-requires-2 c κs = search needs
 
 returns-5 : tie.Need-returns-5
 returns-5 c =
@@ -42,13 +33,13 @@ pub only-loses-spec : {M : Type 1} → statement M
 only-loses-spec =
     tie.close
     (tie.spec
-    valid-ray-requires
+    (λ c κs. search needs)
     returns
     covers-requires
     returns-2
     covers-requires-2
     returns-3
-    same-ends-requires
+    (λ c κs. search needs)
     returns-4
-    same-ends-requires-2
+    (λ c κs. search needs)
     returns-5)

@@ -12,12 +12,6 @@ use Rattle.change_list.proofs.Tests.{cell-fits, ray-fits, change-long, 
 use Rattle.change_list.proofs.check_change.Statement.{statement}
 use Rattle.change_list.proofs.check_change.Tie as tie
 
-sub-fits : tie.Need-sub-fits
-sub-fits c = search needs
-
-fits-requires : tie.Need-fits-requires
-fits-requires c κs = search needs
-
 returns : tie.Need-returns
 returns c = let a = c .before .before .before .before .before .before .before in let s = cells (a .args .spans .now) (a .args .links .now) (a .args .heads .now) in let st = a .pre .1 in change-long (a .args .spec) (a .args .g) s (a .args .pairs .now) (a .args .h) (a .args .cur) (c .before .fits2 .result) (st .whole) (st .even) (st .within) (c .before .fits2 .ensures) (c .if1 .taken)
 
@@ -58,8 +52,8 @@ pub check-change-spec : {M : Type 1} → statement M
 check-change-spec =
     tie.close
     (tie.spec
-    sub-fits
-    fits-requires
+    (λ c. search needs)
+    (λ c κs. search needs)
     returns
     names-requires
     returns-2

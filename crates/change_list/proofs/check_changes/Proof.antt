@@ -24,22 +24,10 @@ head-requires c κs = omega (arith, c .before .loop .inv .0)
 check-change-requires : tie.Need-check-change-requires Inv-loop μ-loop
 check-change-requires c κs = (c .before .before .before .before .before .before .before .before .pre .0, c .before .before .loop .inv .2 .stands)
 
-enum-known-next : tie.Need-enum-known-next Inv-loop μ-loop
-enum-known-next c = search needs
-
-enum-told : tie.Need-enum-told Inv-loop μ-loop
-enum-told c = search needs
-
 returns : tie.Need-returns Inv-loop μ-loop
 returns c =
     let inv = c .before .before .before .before .before .loop .inv in
     let a = c .before .before .before .before .before .before .before .before .before .before .before in let s = cells (a .args .spans .now) (a .args .links .now) (a .args .heads .now) in bad-change (a .args .spec) (a .args .g) s (a .args .changes .now) (a .args .pairs .now) (c .before .before .before .before .before .loop .k) (c .before .before .before .before .before .loop .cur) (c .before .before .before .head .result) (inv .2) (omega (arith, inv .0)) (c .before .before .before .head .ensures) (subst (Checks (a .args .spec) (a .args .g) s (a .args .pairs .now) (c .before .before .before .head .result) (c .before .before .before .before .before .loop .cur)) (c .enum-told .given .1) (c .before .before .check-change .ensures))
-
-add-k : tie.Need-add-k Inv-loop μ-loop
-add-k c = search needs
-
-loop-less : tie.Need-loop-less Inv-loop μ-loop
-loop-less c = search needs
 
 loop-again : tie.Need-loop-again Inv-loop μ-loop
 loop-again c =
@@ -58,10 +46,10 @@ check-changes-spec =
     loop-holds
     head-requires
     check-change-requires
-    enum-known-next
-    enum-told
+    (λ c. search needs)
+    (λ c. search needs)
     returns
-    add-k
-    loop-less
+    (λ c. search needs)
+    (λ c. search needs)
     loop-again
     returns-2)

@@ -14,9 +14,6 @@ Inv-loop f guard chords n i₀ i = (i ≤ n) × (every (chordFits f chords) i �
 abbrev μ-loop : tie.MeasureT-loop
 μ-loop f guard chords n i₀ i = n - i
 
-guard-fits-requires : tie.Need-guard-fits-requires Inv-loop μ-loop
-guard-fits-requires c κs = search needs
-
 returns : tie.Need-returns Inv-loop μ-loop
 returns c = guard-out _ _ _ (c .before .guard-fits .result) (c .before .guard-fits .ensures) (c .if1 .taken)
 
@@ -28,9 +25,6 @@ chord-fits-requires c κs = omega (arith, c .loop-test .taken)
 
 returns-2 : tie.Need-returns-2 Inv-loop μ-loop
 returns-2 c = chord-out _ _ _ (c .before .before .before .loop .i) (c .before .chord-fits .result) (c .before .before .loop-test .taken) (c .before .chord-fits .ensures) (c .if2 .taken)
-
-add-i : tie.Need-add-i Inv-loop μ-loop
-add-i c = search needs
 
 loop-less : tie.Need-loop-less Inv-loop μ-loop
 loop-less c = omega (arith, c .before .before .loop-test .taken)
@@ -47,12 +41,12 @@ check-chords-spec =
     (tie.spec
     Inv-loop
     μ-loop
-    guard-fits-requires
+    (λ c κs. search needs)
     returns
     loop-holds
     chord-fits-requires
     returns-2
-    add-i
+    (λ c. search needs)
     loop-less
     loop-again
     returns-3)

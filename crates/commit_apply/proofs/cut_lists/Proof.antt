@@ -30,9 +30,6 @@ group-requires c κs = (c .before .before .before .before .before .before .pre .
 merge-all-requires : tie.Need-merge-all-requires
 merge-all-requires c κs = mergeable _ _ _ _ _ (c .before .before .before .before .before .before .before .before .before .before .before .before .before .pre) _ (c .before .before .before .before .before .before .group .ensures)
 
-total-rays-requires : tie.Need-total-rays-requires
-total-rays-requires c κs = search needs
-
 add-sizes : tie.Need-add-sizes
 add-sizes c = sum-fits (c .total-rays .result) (length (c .before .before .before .before .before .before .before .before .before .before .before .before .before .before .before .before .before .args .log .now) / 6) (length (c .before .before .before .before .before .before .before .before .before .before .before .before .before .before .before .before .before .args .work .now)) (room (c)) (bound (c))
 
@@ -60,9 +57,6 @@ lay-all-requires c κs =
     (grouped .before .before .before .before .before .before .slice-known .given)
     (grouped .before .before .before .shared-slice-known .given)
 
-clear-from-requires : tie.Need-clear-from-requires
-clear-from-requires c κs = search needs
-
 -- the cells and the work buffer at the end
 finished : tie.Need-returns
 finished c =
@@ -74,15 +68,6 @@ finished c =
     let grouped = merged .before .before .before .before .before .before .before in
     let start = grouped .before .before .before .before .before .before .before in
     done _ _ _ _ _ (start .pre) _ _ _ (grouped .group .ensures) (merged .merge-all .ensures) _ (counted .total-rays .ensures) _ (freed .free-all .ensures) _ _ (laid .lay-all .ensures) (cleared .clear-from .ensures)
-
-same-length : tie.Need-same-length
-same-length c = search needs
-
-same-length-2 : tie.Need-same-length-2
-same-length-2 c = search needs
-
-same-length-3 : tie.Need-same-length-3
-same-length-3 c = search needs
 
 same-length-4 : tie.Need-same-length-4
 same-length-4 c = cleared-size _ _ _ _ _ _ _ _ (finished c)
@@ -96,15 +81,15 @@ cut-lists-spec =
     (tie.spec
     group-requires
     merge-all-requires
-    total-rays-requires
+    (λ c κs. search needs)
     add-sizes
     free-all-requires
     mul-lay-all
     add-lay-all
     lay-all-requires
-    clear-from-requires
-    same-length
-    same-length-2
-    same-length-3
+    (λ c κs. search needs)
+    (λ c. search needs)
+    (λ c. search needs)
+    (λ c. search needs)
     same-length-4
     returns)

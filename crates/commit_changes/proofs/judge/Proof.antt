@@ -9,9 +9,6 @@ use Rattle.commit_changes.proofs.Verdicts.{too-short, unsound, store-un
 use Rattle.commit_changes.proofs.judge.Statement.{statement}
 use Rattle.commit_changes.proofs.judge.Tie as tie
 
-is-short-requires : tie.Need-is-short-requires
-is-short-requires c κs = search needs
-
 returns : tie.Need-returns
 returns c = let a = c .before .before .before .before .before .before .before .args in too-short (a .spec) (a .g) (stock (a .spans .now) (a .links .now) (a .heads .now) (a .generation) (a .intervals)) (a .changes .now) (a .pairs .now) (a .base) (sym (c .before .is-short .ensures) ∙ c .if1 .taken)
 
@@ -46,7 +43,7 @@ pub judge-spec : {M : Type 1} → statement M
 judge-spec =
     tie.close
     (tie.spec
-    is-short-requires
+    (λ c κs. search needs)
     returns
     check-stock-requires
     returns-2

@@ -5,15 +5,6 @@ use Rattle.commit_changes.proofs.Verdicts.{bad-list, freed-fewer, total
 use Rattle.commit_changes.proofs.judge_list.Statement.{statement}
 use Rattle.commit_changes.proofs.judge_list.Tie as tie
 
-check-changes-requires : tie.Need-check-changes-requires
-check-changes-requires c κs = search needs
-
-enum-known-cur : tie.Need-enum-known-cur
-enum-known-cur c = search needs
-
-enum-told : tie.Need-enum-told
-enum-told c = search needs
-
 returns : tie.Need-returns
 returns c = let a = c .before .before .before .before .before .before .before .before .args in bad-list (a .spec) (a .g) (stock (a .spans .now) (a .links .now) (a .heads .now) (a .generation) (a .intervals)) (a .changes .now) (a .pairs .now) _ (c .before .before .check-changes .ensures) (c .enum-told .given .1)
 
@@ -46,9 +37,9 @@ pub judge-list-spec : {M : Type 1} → statement M
 judge-list-spec =
     tie.close
     (tie.spec
-    check-changes-requires
-    enum-known-cur
-    enum-told
+    (λ c κs. search needs)
+    (λ c. search needs)
+    (λ c. search needs)
     returns
     sub-total
     add-total

@@ -36,9 +36,6 @@ named c =
     let a = c .before .before .before .before .before .before .before .before .before .before .before .before .before .before .before .args in
     named-of-test (a .spec) (a .g) (stock (a .spans .now) (a .links .now) (a .heads .now) (a .generation) (a .intervals)) (a .log .now) (a .allowance) (a .work .now) (room (c .before .before .before .before .before .before .before .before)) (enough (c .before .before .before .before .before .before)) (c .before .before .before .before .before .if3 .left) (sound (c .before .before .before)) (c .before .before .if5 .left) _ (c .before .names-all .ensures) (c .if6 .left)
 
-is-short-requires : tie.Need-is-short-requires
-is-short-requires c κs = search needs
-
 returns : tie.Need-returns
 returns c = short-due _ _ _ _ _ _ _ (c .before .is-short .ensures) (c .if1 .taken)
 
@@ -69,15 +66,6 @@ returns-6 c = unnamed-due _ _ _ _ _ _ (room (c .before .before .before .before .
 budget-requires : tie.Need-budget-requires
 budget-requires c κs = record { facts = c .before .before .before .before .before .before .before .before .before .before .before .before .before .before .before .pre; room = room (c .before .before .before .before .before .before .before .before); isSound = sound (c .before .before .before); named = named c }
 
-enum-told : tie.Need-enum-told
-enum-told c = search needs
-
-enum-told-2 : tie.Need-enum-told-2
-enum-told-2 c = search needs
-
-enum-told-3 : tie.Need-enum-told-3
-enum-told-3 c = search needs
-
 returns-7 : tie.Need-returns-7
 returns-7 c = rays-due _ _ _ _ _ _ (room (c .before .before .before .before .before .before .before .before .before .before .before))
     (enough (c .before .before .before .before .before .before .before .before .before))
@@ -101,7 +89,7 @@ pub refusal-spec : {M : Type 1} → statement M
 refusal-spec =
     tie.close
     (tie.spec
-    is-short-requires
+    (λ c κs. search needs)
     returns
     is-work-short-requires
     returns-2
@@ -112,9 +100,9 @@ refusal-spec =
     names-all-requires
     returns-6
     budget-requires
-    enum-told
-    enum-told-2
-    enum-told-3
+    (λ c. search needs)
+    (λ c. search needs)
+    (λ c. search needs)
     returns-7
     returns-8
     returns-9)

@@ -4,21 +4,6 @@ use Rattle.commit_log.proofs.Answers.{refuse, ready, accept}
 use Rattle.commit_log.proofs.commit_grid.Statement.{statement}
 use Rattle.commit_log.proofs.commit_grid.Tie as tie
 
-refusal-requires : tie.Need-refusal-requires
-refusal-requires c κs = search needs
-
-same-length : tie.Need-same-length
-same-length c = search needs
-
-same-length-2 : tie.Need-same-length-2
-same-length-2 c = search needs
-
-same-length-3 : tie.Need-same-length-3
-same-length-3 c = search needs
-
-same-length-4 : tie.Need-same-length-4
-same-length-4 c = search needs
-
 returns : tie.Need-returns
 returns c = refuse _ _ _ _ _ _ _ (c .before .refusal .ensures) (c .if1 .taken)
 
@@ -30,18 +15,6 @@ count-used-requires c κs = let r = c .before .before .before .before .before .b
 
 add-t39 : tie.Need-add-t39
 add-t39 c = omega (arith, c .before .before .before .before .before .before .before .before .before .before .before .before .before .before .before .before .before .refusal .ensures .passed (c .before .before .before .before .before .before .before .before .before .before .before .before .before .before .before .before .if1 .left) .below)
-
-same-length-5 : tie.Need-same-length-5
-same-length-5 c = search needs
-
-same-length-6 : tie.Need-same-length-6
-same-length-6 c = search needs
-
-same-length-7 : tie.Need-same-length-7
-same-length-7 c = search needs
-
-same-length-8 : tie.Need-same-length-8
-same-length-8 c = search needs
 
 returns-2 : tie.Need-returns-2
 returns-2 c =
@@ -57,17 +30,17 @@ pub commit-grid-spec : {M : Type 1} → statement M
 commit-grid-spec =
     tie.close
     (tie.spec
-    refusal-requires
-    same-length
-    same-length-2
-    same-length-3
-    same-length-4
+    (λ c κs. search needs)
+    (λ c. search needs)
+    (λ c. search needs)
+    (λ c. search needs)
+    (λ c. search needs)
     returns
     cut-lists-requires
     count-used-requires
     add-t39
-    same-length-5
-    same-length-6
-    same-length-7
-    same-length-8
+    (λ c. search needs)
+    (λ c. search needs)
+    (λ c. search needs)
+    (λ c. search needs)
     returns-2)

@@ -17,15 +17,6 @@ abbrev μ-loop : tie.MeasureT-loop
 loop-holds : tie.Need-loop-holds Inv-loop μ-loop
 loop-holds c = run-start _ _ _ _ _ _ _ _ (c .before .before .before .before .before .before .before .slice-known .given)
 
-mul-end : tie.Need-mul-end Inv-loop μ-loop
-mul-end c = search needs
-
-shared-slice-read-end : tie.Need-shared-slice-read-end Inv-loop μ-loop
-shared-slice-read-end c = search needs
-
-mul-run-one : tie.Need-mul-run-one Inv-loop μ-loop
-mul-run-one c = search needs
-
 shared-slice-read-run-one : tie.Need-shared-slice-read-run-one Inv-loop μ-loop
 shared-slice-read-run-one c = omega (arith, c .before .before .before .before .before .loop-test .taken, c .before .before .before .before .before .before .before .before .before .before .before .before .before .before .before .before .pre .allowed)
 
@@ -73,9 +64,9 @@ run-logs-spec =
     Inv-loop
     μ-loop
     loop-holds
-    mul-end
-    shared-slice-read-end
-    mul-run-one
+    (λ c. search needs)
+    (λ c. search needs)
+    (λ c. search needs)
     shared-slice-read-run-one
     run-one-requires
     add-i

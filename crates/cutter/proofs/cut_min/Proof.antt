@@ -3,15 +3,6 @@ use borrow.Author.Needs.{needs}
 use Rattle.cutter.proofs.cut_min.Statement.{statement}
 use Rattle.cutter.proofs.cut_min.Tie as tie
 
-cut-radius-requires : tie.Need-cut-radius-requires
-cut-radius-requires c κs = search needs
-
-cut-radius-requires-2 : tie.Need-cut-radius-requires-2
-cut-radius-requires-2 c κs = search needs
-
-smaller-requires : tie.Need-smaller-requires
-smaller-requires c κs = search needs
-
 returns : tie.Need-returns
 unfolding cutMin
 returns c = simp (← c .smaller .ensures, ← c .before .cut-radius2 .ensures, ← c .before .before .cut-radius .ensures, c .before .before .before .if2 .taken, c .before .before .before .before .before .if1 .taken)
@@ -28,9 +19,9 @@ pub cut-min-spec : {M : Type 1} → statement M
 cut-min-spec =
     tie.close
     (tie.spec
-    cut-radius-requires
-    cut-radius-requires-2
-    smaller-requires
+    (λ c κs. search needs)
+    (λ c κs. search needs)
+    (λ c κs. search needs)
     returns
     returns-2
     returns-3)

@@ -3,64 +3,25 @@ use borrow.Author.Needs.{needs}
 use Rattle.cutter.proofs.cutting_radius.Statement.{statement}
 use Rattle.cutter.proofs.cutting_radius.Tie as tie
 
-enum-told : tie.Need-enum-told
-enum-told c = search needs
-
-enum-told-2 : tie.Need-enum-told-2
-enum-told-2 c = search needs
-
 returns : tie.Need-returns
 unfolding cuttingRadius
 returns c = simp (c .if1 .taken, c .before .before .enum-told2 .given .1)
-
-arc-at-requires : tie.Need-arc-at-requires
-arc-at-requires c κs = search needs
-
-enum-known-shape : tie.Need-enum-known-shape
-enum-known-shape c = search needs
 
 returns-2 : tie.Need-returns-2
 unfolding cuttingRadius
 returns-2 c = simp (c .if2 .taken, c .before .before .before .shape .given .1)
 
-arc-at-requires-2 : tie.Need-arc-at-requires-2
-arc-at-requires-2 c κs = search needs
-
-enum-told-3 : tie.Need-enum-told-3
-enum-told-3 c = search needs
-
 returns-3 : tie.Need-returns-3
 unfolding cuttingRadius
 returns-3 c = simp (c .if3 .taken, c .before .before .enum-told3 .given .1)
-
-enum-known-shape-2 : tie.Need-enum-known-shape-2
-enum-known-shape-2 c = search needs
 
 returns-4 : tie.Need-returns-4
 unfolding cuttingRadius
 returns-4 c = simp (c .if4 .taken, c .before .before .before .shape2 .given .1)
 
-enum-told-4 : tie.Need-enum-told-4
-enum-told-4 c = search needs
-
-enum-told-5 : tie.Need-enum-told-5
-enum-told-5 c = search needs
-
 returns-5 : tie.Need-returns-5
 unfolding cuttingRadius
 returns-5 c = simp (c .if5 .taken, c .before .before .enum-told5 .given .1)
-
-arc-at-requires-3 : tie.Need-arc-at-requires-3
-arc-at-requires-3 c κs = search needs
-
-enum-told-6 : tie.Need-enum-told-6
-enum-told-6 c = search needs
-
-arc-at-requires-4 : tie.Need-arc-at-requires-4
-arc-at-requires-4 c κs = search needs
-
-enum-told-7 : tie.Need-enum-told-7
-enum-told-7 c = search needs
 
 returns-6 : tie.Need-returns-6
 unfolding cuttingRadius
@@ -102,24 +63,24 @@ pub cutting-radius-spec : {M : Type 1} → statement M
 cutting-radius-spec =
     tie.close
     (tie.spec
-    enum-told
-    enum-told-2
+    (λ c. search needs)
+    (λ c. search needs)
     returns
-    arc-at-requires
-    enum-known-shape
+    (λ c κs. search needs)
+    (λ c. search needs)
     returns-2
-    arc-at-requires-2
-    enum-told-3
+    (λ c κs. search needs)
+    (λ c. search needs)
     returns-3
-    enum-known-shape-2
+    (λ c. search needs)
     returns-4
-    enum-told-4
-    enum-told-5
+    (λ c. search needs)
+    (λ c. search needs)
     returns-5
-    arc-at-requires-3
-    enum-told-6
-    arc-at-requires-4
-    enum-told-7
+    (λ c κs. search needs)
+    (λ c. search needs)
+    (λ c κs. search needs)
+    (λ c. search needs)
     returns-6
     returns-7
     returns-8

@@ -3,22 +3,13 @@ use borrow.Author.Needs.{needs}
 use Rattle.cutter.proofs.radius_at.Statement.{statement}
 use Rattle.cutter.proofs.radius_at.Tie as tie
 
-is-off-tool-requires : tie.Need-is-off-tool-requires
-is-off-tool-requires c κs = search needs
-
 returns : tie.Need-returns
 unfolding radiusAt
 returns c = simp (c .if1 .taken, ← c .before .is-off-tool .ensures)
 
-cutting-radius-requires : tie.Need-cutting-radius-requires
-cutting-radius-requires c κs = search needs
-
 returns-2 : tie.Need-returns-2
 unfolding radiusAt
 returns-2 c = simp (← c .cutting-radius .ensures, c .before .if2 .taken, c .before .before .before .if1 .left, ← c .before .before .before .before .is-off-tool .ensures)
-
-shank-diameter-requires : tie.Need-shank-diameter-requires
-shank-diameter-requires c κs = search needs
 
 returns-3 : tie.Need-returns-3
 unfolding radiusAt
@@ -28,9 +19,9 @@ pub radius-at-spec : {M : Type 1} → statement M
 radius-at-spec =
     tie.close
     (tie.spec
-    is-off-tool-requires
+    (λ c κs. search needs)
     returns
-    cutting-radius-requires
+    (λ c κs. search needs)
     returns-2
-    shank-diameter-requires
+    (λ c κs. search needs)
     returns-3)

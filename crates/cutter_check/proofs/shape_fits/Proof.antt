@@ -3,51 +3,9 @@ use borrow.Author.Needs.{needs}
 use Rattle.cutter_check.proofs.shape_fits.Statement.{statement}
 use Rattle.cutter_check.proofs.shape_fits.Tie as tie
 
-enum-told : tie.Need-enum-told
-enum-told c = search needs
-
-enum-told-2 : tie.Need-enum-told-2
-enum-told-2 c = search needs
-
-enum-known-shape : tie.Need-enum-known-shape
-enum-known-shape c = search needs
-
-is-from-zero-requires : tie.Need-is-from-zero-requires
-is-from-zero-requires c κs = search needs
-
-enum-known-shape-2 : tie.Need-enum-known-shape-2
-enum-known-shape-2 c = search needs
-
-is-from-zero-requires-2 : tie.Need-is-from-zero-requires-2
-is-from-zero-requires-2 c κs = search needs
-
-enum-known-shape-3 : tie.Need-enum-known-shape-3
-enum-known-shape-3 c = search needs
-
-is-from-zero-requires-3 : tie.Need-is-from-zero-requires-3
-is-from-zero-requires-3 c κs = search needs
-
-is-from-zero-requires-4 : tie.Need-is-from-zero-requires-4
-is-from-zero-requires-4 c κs = search needs
-
 returns : tie.Need-returns
 unfolding shapeFits
 returns c = simp (← c .is-from-zero4 .ensures, c .before .if1 .taken, ← c .before .before .is-from-zero3 .ensures, c .before .before .before .before .shape3 .given .1)
-
-enum-told-3 : tie.Need-enum-told-3
-enum-told-3 c = search needs
-
-enum-told-4 : tie.Need-enum-told-4
-enum-told-4 c = search needs
-
-enum-told-5 : tie.Need-enum-told-5
-enum-told-5 c = search needs
-
-enum-known-shape-4 : tie.Need-enum-known-shape-4
-enum-known-shape-4 c = search needs
-
-is-from-zero-requires-5 : tie.Need-is-from-zero-requires-5
-is-from-zero-requires-5 c κs = search needs
 
 returns-2 : tie.Need-returns-2
 unfolding shapeFits
@@ -93,21 +51,21 @@ pub shape-fits-spec : {M : Type 1} → statement M
 shape-fits-spec =
     tie.close
     (tie.spec
-    enum-told
-    enum-told-2
-    enum-known-shape
-    is-from-zero-requires
-    enum-known-shape-2
-    is-from-zero-requires-2
-    enum-known-shape-3
-    is-from-zero-requires-3
-    is-from-zero-requires-4
+    (λ c. search needs)
+    (λ c. search needs)
+    (λ c. search needs)
+    (λ c κs. search needs)
+    (λ c. search needs)
+    (λ c κs. search needs)
+    (λ c. search needs)
+    (λ c κs. search needs)
+    (λ c κs. search needs)
     returns
-    enum-told-3
-    enum-told-4
-    enum-told-5
-    enum-known-shape-4
-    is-from-zero-requires-5
+    (λ c. search needs)
+    (λ c. search needs)
+    (λ c. search needs)
+    (λ c. search needs)
+    (λ c κs. search needs)
     returns-2
     returns-3
     returns-4

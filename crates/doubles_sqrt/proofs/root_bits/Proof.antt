@@ -10,23 +10,8 @@ use Rattle.doubles_sqrt.proofs.Result.{root-under, pattern, root-by-uni
 use Rattle.doubles_sqrt.proofs.root_bits.Statement.{statement}
 use Rattle.doubles_sqrt.proofs.root_bits.Tie as tie
 
-radicand-of-requires : tie.Need-radicand-of-requires
-radicand-of-requires c κs = search needs
-
-normalized-requires : tie.Need-normalized-requires
-normalized-requires c κs = search needs
-
-wide-root-requires : tie.Need-wide-root-requires
-wide-root-requires c κs = search needs
-
-mul-result : tie.Need-mul-result
-mul-result c = search needs
-
 add-result : tie.Need-add-result
 add-result c = omega (arith, root-under (c .before .before .normalized .result .m) (c .before .before .normalized .ensures .small))
-
-add-result-2 : tie.Need-add-result-2
-add-result-2 c = search needs
 
 returns : tie.Need-returns
 returns c =
@@ -55,10 +40,10 @@ pub root-bits-spec : {M : Type 1} → statement M
 root-bits-spec =
     tie.close
     (tie.spec
-    radicand-of-requires
-    normalized-requires
-    wide-root-requires
-    mul-result
+    (λ c κs. search needs)
+    (λ c κs. search needs)
+    (λ c κs. search needs)
+    (λ c. search needs)
     add-result
-    add-result-2
+    (λ c. search needs)
     returns)

@@ -15,15 +15,6 @@ Inv-loop m root₀ root = (m < suc root * suc root) × (root < 2 ^ 30)
 abbrev μ-loop : tie.MeasureT-loop
 μ-loop m root₀ root = root
 
-first-guess-requires : tie.Need-first-guess-requires Inv-loop μ-loop
-first-guess-requires c κs = search needs
-
-heron-requires : tie.Need-heron-requires Inv-loop μ-loop
-heron-requires c κs = search needs
-
-heron-requires-2 : tie.Need-heron-requires-2 Inv-loop μ-loop
-heron-requires-2 c κs = search needs
-
 loop-holds : tie.Need-loop-holds Inv-loop μ-loop
 loop-holds c = (c .heron2 .ensures .above, c .heron2 .ensures .small)
 
@@ -90,9 +81,9 @@ whole-root-spec =
     (tie.spec
     Inv-loop
     μ-loop
-    first-guess-requires
-    heron-requires
-    heron-requires-2
+    (λ c κs. search needs)
+    (λ c κs. search needs)
+    (λ c κs. search needs)
     loop-holds
     mul-loop
     sub-root

@@ -46,27 +46,6 @@ module _ (m s : ℕ) (r : RootOf m s) where
   one-less : rest m s % (s * 2) * 2 ^ 27 < low m s * low m s → s * 2 ^ 27 + low m s - 1 ≡ wholeRoot (m * 2 ^ 54)
   one-less h = found (s * 2 ^ 27 + low m s - 1) (less m (2 ^ 27) s (low m s) (rest m s % (s * 2)) (r .lower, r .upper) positive wide (sym (div-add-mod' (rest m s) (s * 2))) remainder h)
 
-whole-root-requires : tie.Need-whole-root-requires
-whole-root-requires c κs = search needs
-
-mul-rest : tie.Need-mul-rest
-mul-rest c = search needs
-
-sub-rest : tie.Need-sub-rest
-sub-rest c = search needs
-
-mul-rest-2 : tie.Need-mul-rest-2
-mul-rest-2 c = search needs
-
-mul-twice : tie.Need-mul-twice
-mul-twice c = search needs
-
-div-low : tie.Need-div-low
-div-low c = search needs
-
-mul-root : tie.Need-mul-root
-mul-root c = search needs
-
 add-root : tie.Need-add-root
 add-root c = omega (arith, low-small (c .before .args .m) (c .whole-root .result) (c .whole-root .ensures))
 
@@ -75,17 +54,11 @@ mul-if1 c =
     let l = low-small (c .before .args .m) (c .whole-root .result) (c .whole-root .ensures) in
     omega (arith, mul-le-mul l l)
 
-rem-if1 : tie.Need-rem-if1
-rem-if1 c = search needs
-
 mul-if1-2 : tie.Need-mul-if1-2
 mul-if1-2 c = omega (arith, remainder (c .before .args .m) (c .whole-root .result) (c .whole-root .ensures))
 
 returns : tie.Need-returns
 returns c = kept (c .before .before .args .m) (c .before .whole-root .result) (c .before .whole-root .ensures) (c .if1 .taken)
-
-sub-result : tie.Need-sub-result
-sub-result c = search needs
 
 returns-2 : tie.Need-returns-2
 returns-2 c = one-less (c .before .before .args .m) (c .before .whole-root .result) (c .before .whole-root .ensures) (c .if1 .left)
@@ -94,17 +67,17 @@ pub wide-root-spec : {M : Type 1} → statement M
 wide-root-spec =
     tie.close
     (tie.spec
-    whole-root-requires
-    mul-rest
-    sub-rest
-    mul-rest-2
-    mul-twice
-    div-low
-    mul-root
+    (λ c κs. search needs)
+    (λ c. search needs)
+    (λ c. search needs)
+    (λ c. search needs)
+    (λ c. search needs)
+    (λ c. search needs)
+    (λ c. search needs)
     add-root
     mul-if1
-    rem-if1
+    (λ c. search needs)
     mul-if1-2
     returns
-    sub-result
+    (λ c. search needs)
     returns-2)

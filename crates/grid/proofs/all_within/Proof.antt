@@ -4,15 +4,6 @@ use borrow.Author.Needs.{needs}
 use Rattle.grid.proofs.all_within.Statement.{statement}
 use Rattle.grid.proofs.all_within.Tie as tie
 
-is-within-requires : tie.Need-is-within-requires
-is-within-requires c κs = search needs
-
-is-within-requires-2 : tie.Need-is-within-requires-2
-is-within-requires-2 c κs = search needs
-
-is-within-requires-3 : tie.Need-is-within-requires-3
-is-within-requires-3 c κs = search needs
-
 returns : tie.Need-returns
 unfolding allWithin
 returns c = simp (← c .is-within3 .ensures, c .before .if2 .taken, ← c .before .before .is-within2 .ensures, c .before .before .before .if1 .taken, ← c .before .before .before .before .is-within .ensures)
@@ -29,9 +20,9 @@ pub all-within-spec : {M : Type 1} → statement M
 all-within-spec =
     tie.close
     (tie.spec
-    is-within-requires
-    is-within-requires-2
-    is-within-requires-3
+    (λ c κs. search needs)
+    (λ c κs. search needs)
+    (λ c κs. search needs)
     returns
     returns-2
     returns-3)

@@ -4,30 +4,6 @@ use borrow.Author.Needs.{needs}
 use Rattle.grid_cells.proofs.cell_at.Statement.{statement}
 use Rattle.grid_cells.proofs.cell_at.Tie as tie
 
-along-requires : tie.Need-along-requires
-along-requires c κs = search needs
-
-step-along-requires : tie.Need-step-along-requires
-step-along-requires c κs = search needs
-
-floor-requires : tie.Need-floor-requires
-floor-requires c κs = search needs
-
-cells-along-requires : tie.Need-cells-along-requires
-cells-along-requires c κs = search needs
-
-sub-nearest-u64-to-f64 : tie.Need-sub-nearest-u64-to-f64
-sub-nearest-u64-to-f64 c = search needs
-
-nearest-u64-to-f64-requires : tie.Need-nearest-u64-to-f64-requires
-nearest-u64-to-f64-requires c κs = search needs
-
-clamp-requires : tie.Need-clamp-requires
-clamp-requires c κs = search needs
-
-to-u64-requires : tie.Need-to-u64-requires
-to-u64-requires c κs = search needs
-
 returns : tie.Need-returns
 unfolding cellAt
 returns c =
@@ -39,12 +15,12 @@ pub cell-at-spec : {M : Type 1} → statement M
 cell-at-spec =
     tie.close
     (tie.spec
-    along-requires
-    step-along-requires
-    floor-requires
-    cells-along-requires
-    sub-nearest-u64-to-f64
-    nearest-u64-to-f64-requires
-    clamp-requires
-    to-u64-requires
+    (λ c κs. search needs)
+    (λ c κs. search needs)
+    (λ c κs. search needs)
+    (λ c κs. search needs)
+    (λ c. search needs)
+    (λ c κs. search needs)
+    (λ c κs. search needs)
+    (λ c κs. search needs)
     returns)

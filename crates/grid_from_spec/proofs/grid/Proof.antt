@@ -5,27 +5,15 @@ use Rattle.grid_from_spec.proofs.Causes.{grid-post}
 use Rattle.grid_from_spec.proofs.grid.Statement.{statement}
 use Rattle.grid_from_spec.proofs.grid.Tie as tie
 
-is-mm-requires : tie.Need-is-mm-requires
-is-mm-requires c κs = search needs
-
 returns : tie.Need-returns
 unfolding gridOf
 returns c = grid-post _ _ _ (rw (← c .before .is-mm .ensures, c .if1 .taken))
-
-is-misdescribed-requires : tie.Need-is-misdescribed-requires
-is-misdescribed-requires c κs = search needs
 
 returns-2 : tie.Need-returns-2
 unfolding gridOf
 returns-2 c =
     let t = c .before .before .before .before .before .before .before .before .before .before in
     grid-post _ _ _ (rw (← t .before .is-mm .ensures, t .if1 .left, ← c .before .is-misdescribed .ensures, c .if2 .taken))
-
-dims-requires : tie.Need-dims-requires
-dims-requires c κs = search needs
-
-grid-over-requires : tie.Need-grid-over-requires
-grid-over-requires c κs = search needs
 
 returns-3 : tie.Need-returns-3
 unfolding gridOf
@@ -46,10 +34,10 @@ pub grid-spec : {M : Type 1} → statement M
 grid-spec =
     tie.close
     (tie.spec
-    is-mm-requires
+    (λ c κs. search needs)
     returns
-    is-misdescribed-requires
+    (λ c κs. search needs)
     returns-2
-    dims-requires
-    grid-over-requires
+    (λ c κs. search needs)
+    (λ c κs. search needs)
     returns-3)

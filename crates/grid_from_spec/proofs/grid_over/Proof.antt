@@ -4,12 +4,6 @@ use borrow.Author.Needs.{needs}
 use Rattle.grid_from_spec.proofs.grid_over.Statement.{statement}
 use Rattle.grid_from_spec.proofs.grid_over.Tie as tie
 
-nearest-u64-to-f64-requires : tie.Need-nearest-u64-to-f64-requires
-nearest-u64-to-f64-requires c κs = search needs
-
-any-above-requires : tie.Need-any-above-requires
-any-above-requires c κs = search needs
-
 returns : tie.Need-returns
 unfolding gridOver
 returns c =
@@ -22,21 +16,12 @@ returns-2 c =
     let n = c .before .before .before in
     rw (← n .nearest-u64-to-f64 .ensures, ← c .before .before .any-above .ensures, c .before .if1 .left, c .if2 .taken)
 
-nearest-u64-to-f64-requires-2 : tie.Need-nearest-u64-to-f64-requires-2
-nearest-u64-to-f64-requires-2 c κs = search needs
-
 returns-3 : tie.Need-returns-3
 unfolding gridOver
 returns-3 c =
     let u = c .before .before in
     let n = u .before .before .before in
     rw (← n .nearest-u64-to-f64 .ensures, ← u .before .before .any-above .ensures, u .before .if1 .left, u .if2 .left, ← c .before .nearest-u64-to-f642 .ensures, c .if3 .taken)
-
-grid-with-requires : tie.Need-grid-with-requires
-grid-with-requires c κs = search needs
-
-is-too-fine-requires : tie.Need-is-too-fine-requires
-is-too-fine-requires c κs = search needs
 
 returns-4 : tie.Need-returns-4
 unfolding gridOver
@@ -58,13 +43,13 @@ pub grid-over-spec : {M : Type 1} → statement M
 grid-over-spec =
     tie.close
     (tie.spec
-    nearest-u64-to-f64-requires
-    any-above-requires
+    (λ c κs. search needs)
+    (λ c κs. search needs)
     returns
     returns-2
-    nearest-u64-to-f64-requires-2
+    (λ c κs. search needs)
     returns-3
-    grid-with-requires
-    is-too-fine-requires
+    (λ c κs. search needs)
+    (λ c κs. search needs)
     returns-4
     returns-5)

@@ -11,18 +11,12 @@ returns c =
     let t1 = c in
     simp (ne-eqb _ _ (t1 .if1 .taken))
 
-all-within-requires : tie.Need-all-within-requires
-all-within-requires c κs = search needs
-
 returns-2 : tie.Need-returns-2
 unfolding misdescribed
 returns-2 c =
     let t2 = c in
     let t1 = t2 .before .before in
     simp (eq-eqb _ _ (t1 .if1 .left), ← t2 .before .all-within .ensures, t2 .if2 .taken)
-
-all-within-requires-2 : tie.Need-all-within-requires-2
-all-within-requires-2 c κs = search needs
 
 returns-3 : tie.Need-returns-3
 unfolding misdescribed
@@ -31,9 +25,6 @@ returns-3 c =
     let t2 = t3 .before .before in
     let t1 = t2 .before .before in
     simp (eq-eqb _ _ (t1 .if1 .left), ← t2 .before .all-within .ensures, t2 .if2 .left, ← t3 .before .all-within2 .ensures, t3 .if3 .taken)
-
-all-within-requires-3 : tie.Need-all-within-requires-3
-all-within-requires-3 c κs = search needs
 
 returns-4 : tie.Need-returns-4
 unfolding misdescribed
@@ -77,9 +68,6 @@ returns-7 c =
     let t1 = t2 .before .before in
     simp (eq-eqb _ _ (t1 .if1 .left), ← t2 .before .all-within .ensures, t2 .if2 .left, ← t3 .before .all-within2 .ensures, t3 .if3 .left, ← t4 .before .all-within3 .ensures, t4 .if4 .left, ne-eqb _ _ (t5 .if5 .left), le-ltb _ _ (t6 .if6 .left), eq-eqb _ _ (t7 .if7 .taken))
 
-any-below-requires : tie.Need-any-below-requires
-any-below-requires c κs = search needs
-
 returns-8 : tie.Need-returns-8
 unfolding misdescribed
 returns-8 c =
@@ -97,14 +85,14 @@ is-misdescribed-spec =
     tie.close
     (tie.spec
     returns
-    all-within-requires
+    (λ c κs. search needs)
     returns-2
-    all-within-requires-2
+    (λ c κs. search needs)
     returns-3
-    all-within-requires-3
+    (λ c κs. search needs)
     returns-4
     returns-5
     returns-6
     returns-7
-    any-below-requires
+    (λ c κs. search needs)
     returns-8)

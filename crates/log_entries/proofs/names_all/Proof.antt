@@ -21,18 +21,9 @@ abbrev μ-loop : tie.MeasureT-loop
 loop-holds : tie.Need-loop-holds Inv-loop μ-loop
 loop-holds c = (omega arith, λ j h. absurd (omega arith))
 
-named-requires : tie.Need-named-requires Inv-loop μ-loop
-named-requires c κs = search needs
-
 returns : tie.Need-returns Inv-loop μ-loop
 unfolding EachNamed NoRay
 returns c = record { yes = λ h. absurd (false≢true h); no = λ _. (entryAt (c .before .before .before .before .before .args .log .now) (c .before .before .before .loop .i), entry-in (c .before .before .before .before .before .args .log .now) (c .before .before .before .loop .i) (omega arith), sym (c .before .named .ensures) ∙ not-true _ (c .if1 .taken)) }
-
-add-i : tie.Need-add-i Inv-loop μ-loop
-add-i c = search needs
-
-loop-less : tie.Need-loop-less Inv-loop μ-loop
-loop-less c = search needs
 
 loop-again : tie.Need-loop-again Inv-loop μ-loop
 loop-again c = (omega arith, below-more _ _ (c .before .before .before .loop .inv .1) (sym (c .before .named .ensures) ∙ not-false _ (c .if1 .left)))
@@ -48,9 +39,9 @@ names-all-spec =
     Inv-loop
     μ-loop
     loop-holds
-    named-requires
+    (λ c κs. search needs)
     returns
-    add-i
-    loop-less
+    (λ c. search needs)
+    (λ c. search needs)
     loop-again
     returns-2)

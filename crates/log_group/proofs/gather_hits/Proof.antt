@@ -23,15 +23,6 @@ turned-at c =
     turn (c .before .before .before .before .before .total-rays .result) (a .log .now) (kindOf (a .inner)) (a .ray) (a .at) (a .work .now) (c .before .loop .work) (c .before .loop .t) (c .before .loop .k)
     (c .loop-test .taken) (c .before .loop .inv)
 
-total-rays-requires : tie.Need-total-rays-requires Inv-loop μ-loop
-total-rays-requires c κs = search needs
-
-column-requires : tie.Need-column-requires Inv-loop μ-loop
-column-requires c κs = search needs
-
-number-at-requires : tie.Need-number-at-requires Inv-loop μ-loop
-number-at-requires c κs = search needs
-
 loop-holds : tie.Need-loop-holds Inv-loop μ-loop
 loop-holds c =
     let m = c .before .before .before in
@@ -39,9 +30,6 @@ loop-holds c =
     let a = b .args in
     gathers (a .g) (a .log .now) (a .work .now) (b .pre .0) (a .ray) (b .pre .1) (m .total-rays .result) (m .total-rays .ensures) (kindOf (a .inner)) (a .at) (b .pre .3) (b .pre .2)
     (c .number-at .result) (c .number-at .ensures)
-
-sub-i : tie.Need-sub-i Inv-loop μ-loop
-sub-i c = search needs
 
 put-hit-requires : tie.Need-put-hit-requires Inv-loop μ-loop
 put-hit-requires c κs =
@@ -98,11 +86,11 @@ gather-hits-spec =
     (tie.spec
     Inv-loop
     μ-loop
-    total-rays-requires
-    column-requires
-    number-at-requires
+    (λ c κs. search needs)
+    (λ c κs. search needs)
+    (λ c κs. search needs)
     loop-holds
-    sub-i
+    (λ c. search needs)
     put-hit-requires
     add-number-at
     number-at-requires-2

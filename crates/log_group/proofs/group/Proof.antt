@@ -39,17 +39,8 @@ begun y = let t = y .before .before in y .clear-from .last .0 ++ drop (t .total-
 begun-size : (y : tie.After-clear-from Inv-loop μ-loop) → length (begun y) ≡ length (y .before .before .before .before .before .args .work .now)
 begun-size y = let t = y .before .before in cleared-size (t .total-rays .result) (t .before .before .before .args .work .now) (y .clear-from .last .0) (fits t) (y .clear-from .ensures)
 
-total-rays-requires : tie.Need-total-rays-requires Inv-loop μ-loop
-total-rays-requires c κs = search needs
-
-slice-relend-prefix-clear-from : tie.Need-slice-relend-prefix-clear-from Inv-loop μ-loop
-slice-relend-prefix-clear-from c = search needs
-
 slice-aggregate-clear-from : tie.Need-slice-aggregate-clear-from Inv-loop μ-loop
 slice-aggregate-clear-from c = sym (length-take-le (c .before .total-rays .result) (c .before .before .before .before .args .work .now) (fits (c .before)))
-
-clear-from-requires : tie.Need-clear-from-requires Inv-loop μ-loop
-clear-from-requires c κs = search needs
 
 loop-holds : tie.Need-loop-holds Inv-loop μ-loop
 loop-holds c =
@@ -59,9 +50,6 @@ loop-holds c =
     let e = t .total-rays .ensures in
     grouping-start (a .args .g) (a .args .log .now) (begun y) (begun y) (omega (arith, a .pre .1, begun-size y)) refl
     (λ q h. cleared-none (t .total-rays .result) (a .args .work .now) (y .clear-from .last .0) (fits t) (y .clear-from .ensures) q (omega arith)) (λ q h. refl)
-
-sub-i : tie.Need-sub-i Inv-loop μ-loop
-sub-i c = search needs
 
 ray-at-requires : tie.Need-ray-at-requires Inv-loop μ-loop
 ray-at-requires c κs =
@@ -116,12 +104,12 @@ group-spec =
     (tie.spec
     Inv-loop
     μ-loop
-    total-rays-requires
-    slice-relend-prefix-clear-from
+    (λ c κs. search needs)
+    (λ c. search needs)
     slice-aggregate-clear-from
-    clear-from-requires
+    (λ c κs. search needs)
     loop-holds
-    sub-i
+    (λ c. search needs)
     ray-at-requires
     link-requires
     loop-less

@@ -18,9 +18,6 @@ loop-holds c = freed-start _ _ _ _ _ (c .before .before .before .before .pre)
 free-ray-requires : tie.Need-free-ray-requires Inv-loop μ-loop
 free-ray-requires c κs = turn-freeable _ _ _ _ _ _ (c .before .before .before .before .loop .inv .still) (c .before .before .before .loop-test .taken)
 
-add-ray : tie.Need-add-ray Inv-loop μ-loop
-add-ray c = search needs
-
 loop-less : tie.Need-loop-less Inv-loop μ-loop
 loop-less c = omega arith
 
@@ -47,7 +44,7 @@ free-all-spec =
     μ-loop
     loop-holds
     free-ray-requires
-    add-ray
+    (λ c. search needs)
     loop-less
     loop-again
     same-length

@@ -18,9 +18,6 @@ loop-holds c = laid-start _ _ _ _ _ _ (c .before .before .before .before .pre)
 lay-ray-requires : tie.Need-lay-ray-requires Inv-loop μ-loop
 lay-ray-requires c κs = turn-layable _ _ _ _ _ _ (c .before .before .before .before .before .before .before .before .before .pre) _ _ _ (c .before .before .before .before .loop .inv) (c .before .before .before .loop-test .taken)
 
-add-ray : tie.Need-add-ray Inv-loop μ-loop
-add-ray c = search needs
-
 loop-less : tie.Need-loop-less Inv-loop μ-loop
 loop-less c = omega arith
 
@@ -47,7 +44,7 @@ lay-all-spec =
     μ-loop
     loop-holds
     lay-ray-requires
-    add-ray
+    (λ c. search needs)
     loop-less
     loop-again
     same-length

@@ -7,29 +7,11 @@ use Rattle.log_merge.proofs.Bringing.{possible-ready, certain-ready, ou
 use Rattle.log_merge.proofs.bring.Statement.{statement}
 use Rattle.log_merge.proofs.bring.Tie as tie
 
-mul-j : tie.Need-mul-j
-mul-j c = search needs
-
-mul-read-list : tie.Need-mul-read-list
-mul-read-list c = search needs
-
-shared-slice-read-read-list : tie.Need-shared-slice-read-read-list
-shared-slice-read-read-list c = search needs
-
 read-list-requires : tie.Need-read-list-requires
 read-list-requires c κs =
     let t = c .before .before .before .before .before .before .before in
     let a = t .args in
     possible-ready (a .spec) (a .g) (cells (a .spans .now) (a .links .now) (a .heads .now)) (a .log .now) (a .work .now) (a .ray) (a .s) (t .pre)
-
-add-read-list : tie.Need-add-read-list
-add-read-list c = search needs
-
-mul-read-list-2 : tie.Need-mul-read-list-2
-mul-read-list-2 c = search needs
-
-shared-slice-read-read-list-2 : tie.Need-shared-slice-read-read-list-2
-shared-slice-read-read-list-2 c = search needs
 
 read-list-requires-2 : tie.Need-read-list-requires-2
 read-list-requires-2 c κs =
@@ -68,15 +50,6 @@ bring-hits-requires-2 c κs =
     inner-ready (a .spec) (a .g) (cells (a .spans .now) (a .links .now) (a .heads .now)) (a .log .now) (a .work .now) (a .ray) (a .s) (t .pre) (y .read-list .last .1 .1 .1 .1 .0) (y .read-list .result) (y .read-list .ensures)
     (z .read-list2 .last .1 .1 .1 .1 .0) (z .read-list2 .result) (z .read-list2 .ensures) (h .bring-hits .last .1 .1 .0) (h .bring-hits .result) (h .bring-hits .ensures)
 
-sub-t21 : tie.Need-sub-t21
-sub-t21 c = search needs
-
-sub-t16 : tie.Need-sub-t16
-sub-t16 c = search needs
-
-same-length : tie.Need-same-length
-same-length c = search needs
-
 returns : tie.Need-returns
 returns c =
     let k = c .before .before in
@@ -93,18 +66,18 @@ pub bring-spec : {M : Type 1} → statement M
 bring-spec =
     tie.close
     (tie.spec
-    mul-j
-    mul-read-list
-    shared-slice-read-read-list
+    (λ c. search needs)
+    (λ c. search needs)
+    (λ c. search needs)
     read-list-requires
-    add-read-list
-    mul-read-list-2
-    shared-slice-read-read-list-2
+    (λ c. search needs)
+    (λ c. search needs)
+    (λ c. search needs)
     read-list-requires-2
     bring-hits-requires
     add-bring-hits
     bring-hits-requires-2
-    sub-t21
-    sub-t16
-    same-length
+    (λ c. search needs)
+    (λ c. search needs)
+    (λ c. search needs)
     returns)

@@ -23,24 +23,6 @@ part-long y =
     let size = copied-size (pairsNamed (a .g) (entries (a .log .now)) (a .ray) (kindOf (a .inner))) (a .work .now) (a .at) w (y .gather-hits .result) (s .pre .3) (y .gather-hits .ensures) in
     omega (arith, size, length-drop (a .at) w, length-take-le (length w - a .at) (drop (a .at) w) (omega (arith, length-drop (a .at) w)))
 
-gather-hits-requires : tie.Need-gather-hits-requires
-gather-hits-requires c κs = search needs
-
-mul-normalize-front : tie.Need-mul-normalize-front
-mul-normalize-front c = search needs
-
-sub-normalize-front : tie.Need-sub-normalize-front
-sub-normalize-front c = search needs
-
-part-normalize-front-start : tie.Need-part-normalize-front-start
-part-normalize-front-start c = search needs
-
-part-normalize-front-end : tie.Need-part-normalize-front-end
-part-normalize-front-end c = search needs
-
-sub-normalize-front-2 : tie.Need-sub-normalize-front-2
-sub-normalize-front-2 c = search needs
-
 normalize-front-requires : tie.Need-normalize-front-requires
 normalize-front-requires c κs =
     let y = c .before .before .before in
@@ -48,9 +30,6 @@ normalize-front-requires c κs =
     let a = s .args in
     let e = y .gather-hits .ensures in
     (omega (arith, e .past, named-even (a .g) (a .ray) (kindOf (a .inner)) (entries (a .log .now))), omega (arith, e .past, s .pre .3, part-long y))
-
-same-length : tie.Need-same-length
-same-length c = search needs
 
 returns : tie.Need-returns
 returns c =
@@ -65,12 +44,12 @@ pub bring-hits-spec : {M : Type 1} → statement M
 bring-hits-spec =
     tie.close
     (tie.spec
-    gather-hits-requires
-    mul-normalize-front
-    sub-normalize-front
-    part-normalize-front-start
-    part-normalize-front-end
-    sub-normalize-front-2
+    (λ c κs. search needs)
+    (λ c. search needs)
+    (λ c. search needs)
+    (λ c. search needs)
+    (λ c. search needs)
+    (λ c. search needs)
     normalize-front-requires
-    same-length
+    (λ c. search needs)
     returns)

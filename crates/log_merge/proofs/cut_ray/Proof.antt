@@ -8,12 +8,6 @@ use Rattle.log_merge.proofs.Cutting.{untouched, second-ready, both-cut}
 use Rattle.log_merge.proofs.cut_ray.Statement.{statement}
 use Rattle.log_merge.proofs.cut_ray.Tie as tie
 
-is-changed-requires : tie.Need-is-changed-requires
-is-changed-requires c κs = search needs
-
-same-length : tie.Need-same-length
-same-length c = search needs
-
 returns : tie.Need-returns
 returns c =
     let a = c .before .before .before .before .args in
@@ -23,33 +17,12 @@ returns c =
     (part (a .at + a .np + a .nc + a .no) (a .ni) (a .w .now)) 0 (a .np + a .nc + a .no + 2 * a .ni) (a .w .now)
     (sym (h .ensures) ∙ not-true (h .result) (c .if1 .taken))
 
-add-c : tie.Need-add-c
-add-c c = search needs
-
-add-subtract-at : tie.Need-add-subtract-at
-add-subtract-at c = search needs
-
-add-subtract-at-2 : tie.Need-add-subtract-at-2
-add-subtract-at-2 c = search needs
-
-subtract-at-requires : tie.Need-subtract-at-requires
-subtract-at-requires c κs = search needs
-
-mul-subtract-both : tie.Need-mul-subtract-both
-mul-subtract-both c = search needs
-
-add-subtract-both : tie.Need-add-subtract-both
-add-subtract-both c = search needs
-
 subtract-both-requires : tie.Need-subtract-both-requires
 subtract-both-requires c κs =
     let y = c .before .before .before in
     let s = y .before .before .before .before .before .before in
     let a = s .args in
     second-ready (a .at) (a .np) (a .nc) (a .no) (a .ni) (a .w .now) (y .subtract-at .last .0) (y .subtract-at .last .0) (y .subtract-at .result) 0 (s .pre) (y .subtract-at .ensures)
-
-same-length-2 : tie.Need-same-length-2
-same-length-2 c = search needs
 
 returns-2 : tie.Need-returns-2
 returns-2 c =
@@ -66,15 +39,15 @@ pub cut-ray-spec : {M : Type 1} → statement M
 cut-ray-spec =
     tie.close
     (tie.spec
-    is-changed-requires
-    same-length
+    (λ c κs. search needs)
+    (λ c. search needs)
     returns
-    add-c
-    add-subtract-at
-    add-subtract-at-2
-    subtract-at-requires
-    mul-subtract-both
-    add-subtract-both
+    (λ c. search needs)
+    (λ c. search needs)
+    (λ c. search needs)
+    (λ c κs. search needs)
+    (λ c. search needs)
+    (λ c. search needs)
     subtract-both-requires
-    same-length-2
+    (λ c. search needs)
     returns-2)

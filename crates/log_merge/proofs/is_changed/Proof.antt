@@ -8,18 +8,6 @@ use Rattle.log_merge.proofs.Cutting.{moves-first, moves-second}
 use Rattle.log_merge.proofs.is_changed.Statement.{statement}
 use Rattle.log_merge.proofs.is_changed.Tie as tie
 
-add-c : tie.Need-add-c
-add-c c = search needs
-
-add-share-point : tie.Need-add-share-point
-add-share-point c = search needs
-
-add-share-point-2 : tie.Need-add-share-point-2
-add-share-point-2 c = search needs
-
-share-point-requires : tie.Need-share-point-requires
-share-point-requires c κs = search needs
-
 returns : tie.Need-returns
 returns c =
     let a = c .before .before .before .args in
@@ -28,9 +16,6 @@ returns c =
     (part (a .at + a .np + a .nc + a .no) (a .ni) (a .w .now))))
     (equal (part (a .at + a .np) (a .nc) (a .w .now)) (lessHits (a .at + a .np) (a .nc) (a .no) (a .ni) (a .w .now))) (h .result)
     (h .ensures) (c .if1 .taken)
-
-is-hit-requires : tie.Need-is-hit-requires
-is-hit-requires c κs = search needs
 
 returns-2 : tie.Need-returns-2
 returns-2 c =
@@ -45,10 +30,10 @@ pub is-changed-spec : {M : Type 1} → statement M
 is-changed-spec =
     tie.close
     (tie.spec
-    add-c
-    add-share-point
-    add-share-point-2
-    share-point-requires
+    (λ c. search needs)
+    (λ c. search needs)
+    (λ c. search needs)
+    (λ c κs. search needs)
     returns
-    is-hit-requires
+    (λ c κs. search needs)
     returns-2)

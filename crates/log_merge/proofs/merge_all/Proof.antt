@@ -18,30 +18,6 @@ count-most : (b : Bool) → cond b 1 0 ≤ 1
 count-most true = omega arith
 count-most false = omega arith
 
-total-rays-requires : tie.Need-total-rays-requires Inv-loop μ-loop
-total-rays-requires c κs = search needs
-
-add-sizes : tie.Need-add-sizes Inv-loop μ-loop
-add-sizes c = search needs
-
-mul-q : tie.Need-mul-q Inv-loop μ-loop
-mul-q c = search needs
-
-add-q : tie.Need-add-q Inv-loop μ-loop
-add-q c = search needs
-
-mul-s : tie.Need-mul-s Inv-loop μ-loop
-mul-s c = search needs
-
-add-s : tie.Need-add-s Inv-loop μ-loop
-add-s c = search needs
-
-mul-s-2 : tie.Need-mul-s-2 Inv-loop μ-loop
-mul-s-2 c = search needs
-
-add-s-2 : tie.Need-add-s-2 Inv-loop μ-loop
-add-s-2 c = search needs
-
 loop-holds : tie.Need-loop-holds Inv-loop μ-loop
 loop-holds c =
     let b = c .before .before .before .before .before .before in
@@ -55,9 +31,6 @@ merge-ray-requires c κs =
     let b = t .before .before .before .before .before .before in
     let a = b .args in
     ray-ready (a .spec) (a .g) (cells (a .spans .now) (a .links .now) (a .heads .now)) (a .log .now) (a .work .now) (b .pre) (t .total-rays .result) (t .total-rays .ensures) (l .loop .work) (l .loop .ray) (l .loop .q) (l .loop .changed) (l .loop .inv) (c .before .loop-test .taken)
-
-mul-put-sizes : tie.Need-mul-put-sizes Inv-loop μ-loop
-mul-put-sizes c = search needs
 
 add-put-sizes : tie.Need-add-put-sizes Inv-loop μ-loop
 add-put-sizes c =
@@ -114,9 +87,6 @@ add-q-3 c =
     let f = fits (a .spec) (a .g) (cells (a .spans .now) (a .links .now) (a .heads .now)) (a .log .now) (a .work .now) (b .pre) (t .total-rays .result) (t .total-rays .ensures) (l .loop .work) (l .loop .ray) (l .loop .q) (l .loop .changed) (l .loop .inv) in
     omega (arith, f .high, f .all, c .before .before .before .before .before .before .before .before .merge-ray .ensures .cut .most, b .good .1 .1 .1 .1 .1 .1 .0 .1)
 
-count-requires : tie.Need-count-requires Inv-loop μ-loop
-count-requires c κs = search needs
-
 add-changed : tie.Need-add-changed Inv-loop μ-loop
 add-changed c =
     let l = c .before .before .before .before .before .before .before .before .before .before .before .before in
@@ -125,9 +95,6 @@ add-changed c =
     let a = b .args in
     let f = fits (a .spec) (a .g) (cells (a .spans .now) (a .links .now) (a .heads .now)) (a .log .now) (a .work .now) (b .pre) (t .total-rays .result) (t .total-rays .ensures) (l .loop .work) (l .loop .ray) (l .loop .q) (l .loop .changed) (l .loop .inv) in
     omega (arith, f .few, c .before .before .before .before .before .before .before .before .before .before .before .loop-test .taken, count-most (c .before .before .before .before .before .before .before .before .before .merge-ray .result .changed), c .count .ensures)
-
-add-ray : tie.Need-add-ray Inv-loop μ-loop
-add-ray c = search needs
 
 loop-less : tie.Need-loop-less Inv-loop μ-loop
 loop-less c = omega (arith, c .before .before .before .before .before .before .before .before .before .before .before .loop-test .taken)
@@ -160,26 +127,26 @@ merge-all-spec =
     (tie.spec
     Inv-loop
     μ-loop
-    total-rays-requires
-    add-sizes
-    mul-q
-    add-q
-    mul-s
-    add-s
-    mul-s-2
-    add-s-2
+    (λ c κs. search needs)
+    (λ c. search needs)
+    (λ c. search needs)
+    (λ c. search needs)
+    (λ c. search needs)
+    (λ c. search needs)
+    (λ c. search needs)
+    (λ c. search needs)
     loop-holds
     merge-ray-requires
-    mul-put-sizes
+    (λ c. search needs)
     add-put-sizes
     put-sizes-requires
     mul-q-2
     mul-q-3
     add-q-2
     add-q-3
-    count-requires
+    (λ c κs. search needs)
     add-changed
-    add-ray
+    (λ c. search needs)
     loop-less
     loop-again
     same-length

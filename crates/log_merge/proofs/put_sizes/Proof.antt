@@ -10,21 +10,6 @@ use Rattle.log_numbers.specs.Numbers.{numberCell}
 use Rattle.log_merge.proofs.put_sizes.Statement.{statement}
 use Rattle.log_merge.proofs.put_sizes.Tie as tie
 
-first-size-requires : tie.Need-first-size-requires
-first-size-requires c κs = search needs
-
-put-number-requires : tie.Need-put-number-requires
-put-number-requires c κs = search needs
-
-add-put-number : tie.Need-add-put-number
-add-put-number c = search needs
-
-put-number-requires-2 : tie.Need-put-number-requires-2
-put-number-requires-2 c κs = search needs
-
-same-length : tie.Need-same-length
-same-length c = search needs
-
 returns : tie.Need-returns
 returns c =
     let z = c .before .before in
@@ -38,9 +23,9 @@ pub put-sizes-spec : {M : Type 1} → statement M
 put-sizes-spec =
     tie.close
     (tie.spec
-    first-size-requires
-    put-number-requires
-    add-put-number
-    put-number-requires-2
-    same-length
+    (λ c κs. search needs)
+    (λ c κs. search needs)
+    (λ c. search needs)
+    (λ c κs. search needs)
+    (λ c. search needs)
     returns)

@@ -13,32 +13,11 @@ Inv-loop s₀ l n e₀ s e = SamePairs s₀ s × (e ≤ n)
 abbrev μ-loop : tie.MeasureT-loop
 μ-loop s₀ l n e₀ s e = e
 
-make-heap-requires : tie.Need-make-heap-requires Inv-loop μ-loop
-make-heap-requires c κs = search needs
-
 loop-holds : tie.Need-loop-holds Inv-loop μ-loop
 loop-holds c = (unchanged _, omega arith)
 
-sub-e : tie.Need-sub-e Inv-loop μ-loop
-sub-e c = search needs
-
-add-swap-pairs : tie.Need-add-swap-pairs Inv-loop μ-loop
-add-swap-pairs c = search needs
-
-swap-pairs-requires : tie.Need-swap-pairs-requires Inv-loop μ-loop
-swap-pairs-requires c κs = search needs
-
-sift-requires : tie.Need-sift-requires Inv-loop μ-loop
-sift-requires c κs = search needs
-
-loop-less : tie.Need-loop-less Inv-loop μ-loop
-loop-less c = search needs
-
 loop-again : tie.Need-loop-again Inv-loop μ-loop
 loop-again c = (after (after (c .before .before .before .before .before .before .before .before .before .loop .inv .0) (c .before .before .before .before .before .before .swap-pairs .ensures)) (c .before .before .sift .ensures), omega arith)
-
-same-length : tie.Need-same-length Inv-loop μ-loop
-same-length c = search needs
 
 returns : tie.Need-returns Inv-loop μ-loop
 returns c = after (c .before .before .before .before .make-heap .ensures) (c .before .loop .inv .0)
@@ -49,13 +28,13 @@ heapsort-spec =
     (tie.spec
     Inv-loop
     μ-loop
-    make-heap-requires
+    (λ c κs. search needs)
     loop-holds
-    sub-e
-    add-swap-pairs
-    swap-pairs-requires
-    sift-requires
-    loop-less
+    (λ c. search needs)
+    (λ c. search needs)
+    (λ c κs. search needs)
+    (λ c κs. search needs)
+    (λ c. search needs)
     loop-again
-    same-length
+    (λ c. search needs)
     returns)

@@ -5,18 +5,6 @@ use borrow.Author.Needs.{needs}
 use Rattle.polygons.proofs.clip4.Statement.{statement}
 use Rattle.polygons.proofs.clip4.Tie as tie
 
-push-edge-requires : tie.Need-push-edge-requires
-push-edge-requires c κs = search needs
-
-push-edge-requires-2 : tie.Need-push-edge-requires-2
-push-edge-requires-2 c κs = search needs
-
-push-edge-requires-3 : tie.Need-push-edge-requires-3
-push-edge-requires-3 c κs = search needs
-
-push-edge-requires-4 : tie.Need-push-edge-requires-4
-push-edge-requires-4 c κs = search needs
-
 returns : tie.Need-returns
 unfolding clip edges
 returns c = (simp (append-assoc, append-nil, c .push-edge4 .ensures .0, c .before .push-edge3 .ensures .0, c .before .before .push-edge2 .ensures .0, c .before .before .before .push-edge .ensures .0), omega (arith, c .push-edge4 .ensures .1, c .before .push-edge3 .ensures .1, c .before .before .push-edge2 .ensures .1, c .before .before .before .push-edge .ensures .1))
@@ -25,8 +13,8 @@ pub clip4-spec : {M : Type 1} → statement M
 clip4-spec =
     tie.close
     (tie.spec
-    push-edge-requires
-    push-edge-requires-2
-    push-edge-requires-3
-    push-edge-requires-4
+    (λ c κs. search needs)
+    (λ c κs. search needs)
+    (λ c κs. search needs)
+    (λ c κs. search needs)
     returns)

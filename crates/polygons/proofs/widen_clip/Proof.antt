@@ -19,32 +19,8 @@ Inv-loop above b ps n e₀ i₀ first e i =
 abbrev μ-loop : tie.MeasureT-loop
 μ-loop above b ps n e₀ i₀ first e i = n - i
 
-element-copy-out-first : tie.Need-element-copy-out-first Inv-loop μ-loop
-element-copy-out-first c = search needs
-
 loop-holds : tie.Need-loop-holds Inv-loop μ-loop
 loop-holds c = (search needs, refl)
-
-mul-p : tie.Need-mul-p Inv-loop μ-loop
-mul-p c = search needs
-
-element-copy-out-p : tie.Need-element-copy-out-p Inv-loop μ-loop
-element-copy-out-p c = search needs
-
-add-j : tie.Need-add-j Inv-loop μ-loop
-add-j c = search needs
-
-mul-q : tie.Need-mul-q Inv-loop μ-loop
-mul-q c = search needs
-
-element-copy-out-q : tie.Need-element-copy-out-q Inv-loop μ-loop
-element-copy-out-q c = search needs
-
-widen-edge-requires : tie.Need-widen-edge-requires Inv-loop μ-loop
-widen-edge-requires c κs = search needs
-
-loop-less : tie.Need-loop-less Inv-loop μ-loop
-loop-less c = search needs
 
 loop-again : tie.Need-loop-again Inv-loop μ-loop
 loop-again c =
@@ -72,14 +48,14 @@ widen-clip-spec =
     (tie.spec
     Inv-loop
     μ-loop
-    element-copy-out-first
+    (λ c. search needs)
     loop-holds
-    mul-p
-    element-copy-out-p
-    add-j
-    mul-q
-    element-copy-out-q
-    widen-edge-requires
-    loop-less
+    (λ c. search needs)
+    (λ c. search needs)
+    (λ c. search needs)
+    (λ c. search needs)
+    (λ c. search needs)
+    (λ c κs. search needs)
+    (λ c. search needs)
     loop-again
     returns)

@@ -3,26 +3,14 @@ use Rattle.ray_check.proofs.Tests.{passes, possible-unsound, certain-un
 use Rattle.ray_check.proofs.valid_ray.Statement.{statement}
 use Rattle.ray_check.proofs.valid_ray.Tie as tie
 
-is-sound-requires : tie.Need-is-sound-requires
-is-sound-requires c κs = search needs
-
 returns : tie.Need-returns
 returns c = let a = c .before .before .before .before .args in possible-unsound (a .lo) (a .hi) (a .possible .now) (a .certain .now) (c .before .is-sound .result) (c .before .is-sound .ensures) (c .if1 .taken)
-
-is-sound-requires-2 : tie.Need-is-sound-requires-2
-is-sound-requires-2 c κs = search needs
 
 returns-2 : tie.Need-returns-2
 returns-2 c = let a = c .before .before .before .before .before .before .args in certain-unsound (a .lo) (a .hi) (a .possible .now) (a .certain .now) (c .before .is-sound2 .result) (c .before .is-sound2 .ensures) (c .if2 .taken)
 
-is-bounded-requires : tie.Need-is-bounded-requires
-is-bounded-requires c κs = search needs
-
 returns-3 : tie.Need-returns-3
 returns-3 c = let a = c .before .before .before .before .before .before .before .before .args in possible-out (a .lo) (a .hi) (a .possible .now) (a .certain .now) (c .before .is-bounded .result) (c .before .is-bounded .ensures) (c .if3 .taken)
-
-is-bounded-requires-2 : tie.Need-is-bounded-requires-2
-is-bounded-requires-2 c κs = search needs
 
 returns-4 : tie.Need-returns-4
 returns-4 c = let a = c .before .before .before .before .before .before .before .before .before .before .args in certain-out (a .lo) (a .hi) (a .possible .now) (a .certain .now) (c .before .is-bounded2 .result) (c .before .is-bounded2 .ensures) (c .if4 .taken)
@@ -39,13 +27,13 @@ pub valid-ray-spec : {M : Type 1} → statement M
 valid-ray-spec =
     tie.close
     (tie.spec
-    is-sound-requires
+    (λ c κs. search needs)
     returns
-    is-sound-requires-2
+    (λ c κs. search needs)
     returns-2
-    is-bounded-requires
+    (λ c κs. search needs)
     returns-3
-    is-bounded-requires-2
+    (λ c κs. search needs)
     returns-4
     covers-requires
     returns-5)

@@ -23,9 +23,6 @@ loop-holds c =
     let a = c .before .before .args in
     (omega arith, subst (λ (l : List Float). Appended (a .out .now) 0 l (a .out .now) 0) (pairs-none (a .c) (a .s .now)) (put-none (a .out .now) 0 (omega arith)))
 
-mul-put-line-of : tie.Need-mul-put-line-of Inv-loop μ-loop
-mul-put-line-of c = search needs
-
 put-line-of-requires : tie.Need-put-line-of-requires Inv-loop μ-loop
 put-line-of-requires c κs =
     let l = c .before .before in
@@ -38,12 +35,6 @@ put-line-of-requires c κs =
       omega (arith, size, l .loop .inv .1 .room),
       λ h. omega (arith, size, put, more, s .pre .1, count-hit (a .c) (a .s .now) (l .loop .k) h, count-mono (a .c) (a .s .now) (l .loop .k + 1) (a .n) (omega arith)),
     )
-
-add-k : tie.Need-add-k Inv-loop μ-loop
-add-k c = search needs
-
-loop-less : tie.Need-loop-less Inv-loop μ-loop
-loop-less c = search needs
 
 loop-again : tie.Need-loop-again Inv-loop μ-loop
 loop-again c =
@@ -75,10 +66,10 @@ collect-spec =
     Inv-loop
     μ-loop
     loop-holds
-    mul-put-line-of
+    (λ c. search needs)
     put-line-of-requires
-    add-k
-    loop-less
+    (λ c. search needs)
+    (λ c. search needs)
     loop-again
     same-length
     returns)

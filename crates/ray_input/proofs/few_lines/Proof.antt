@@ -12,33 +12,21 @@ p-few c = rw (← c .before .count-of .ensures) (c .if1 .left)
 c-few : (c : tie.Else2) → let a = c .before .before .before .before .before .args in count letterC (a .s .now) (a .n) ≤ 64
 c-few c = rw (← c .before .count-of2 .ensures) (c .if2 .left)
 
-count-of-requires : tie.Need-count-of-requires
-count-of-requires c κs = search needs
-
 returns : tie.Need-returns
 returns c =
     let a = c .before .before .before .args in
     many-p (a .s .now) (a .n) (rw (← c .before .count-of .ensures) (c .if1 .taken))
-
-count-of-requires-2 : tie.Need-count-of-requires-2
-count-of-requires-2 c κs = search needs
 
 returns-2 : tie.Need-returns-2
 returns-2 c =
     let a = c .before .before .before .before .before .args in
     many-c (a .s .now) (a .n) (p-few (c .before .before)) (rw (← c .before .count-of2 .ensures) (c .if2 .taken))
 
-count-of-requires-3 : tie.Need-count-of-requires-3
-count-of-requires-3 c κs = search needs
-
 returns-3 : tie.Need-returns-3
 returns-3 c =
     let d = c .before .before in
     let a = c .before .before .before .before .before .before .before .args in
     many-o (a .s .now) (a .n) (p-few (d .before .before)) (c-few d) (rw (← c .before .count-of3 .ensures) (c .if3 .taken))
-
-count-of-requires-4 : tie.Need-count-of-requires-4
-count-of-requires-4 c κs = search needs
 
 returns-4 : tie.Need-returns-4
 returns-4 c =
@@ -51,11 +39,11 @@ pub few-lines-spec : {M : Type 1} → statement M
 few-lines-spec =
     tie.close
     (tie.spec
-    count-of-requires
+    (λ c κs. search needs)
     returns
-    count-of-requires-2
+    (λ c κs. search needs)
     returns-2
-    count-of-requires-3
+    (λ c κs. search needs)
     returns-3
-    count-of-requires-4
+    (λ c κs. search needs)
     returns-4)

@@ -20,35 +20,17 @@ lo c = found (c .before .is-number .result) _ (c .before .is-number .ensures) (c
 hi : (c : tie.Else5) → let a = c .before .before .before .before .before .before .before .before .before .before .before .before .args in isNumber (a .s .now) (a .at + 19) ≡ true
 hi c = found (c .before .is-number2 .result) _ (c .before .is-number2 .ensures) (c .if5 .left)
 
-shared-slice-read-is-letter : tie.Need-shared-slice-read-is-letter
-shared-slice-read-is-letter c = search needs
-
-is-letter-requires : tie.Need-is-letter-requires
-is-letter-requires c κs = search needs
-
 returns : tie.Need-returns
 returns c =
     let b = c .before in
     let a = b .before .before .before .args in
     no-letter (a .s .now) (a .at) (found-not (b .is-letter .result) _ (b .is-letter .ensures) (c .if1 .taken))
 
-add-if2 : tie.Need-add-if2
-add-if2 c = search needs
-
-shared-slice-read-if2 : tie.Need-shared-slice-read-if2
-shared-slice-read-if2 c = search needs
-
 returns-2 : tie.Need-returns-2
 returns-2 c =
     let e = c .before .before in
     let a = c .before .before .before .before .before .before .args in
     no-space (a .s .now) (a .at) (letter e) (ne-eqb _ _ (c .if2 .taken))
-
-add-is-number : tie.Need-add-is-number
-add-is-number c = search needs
-
-is-number-requires : tie.Need-is-number-requires
-is-number-requires c κs = search needs
 
 returns-3 : tie.Need-returns-3
 returns-3 c =
@@ -57,24 +39,12 @@ returns-3 c =
     no-lo (a .s .now) (a .at) (letter (d .before .before)) (eq-eqb _ _ (d .if2 .left))
     (found-not (c .before .is-number .result) _ (c .before .is-number .ensures) (c .if3 .taken))
 
-add-if4 : tie.Need-add-if4
-add-if4 c = search needs
-
-shared-slice-read-if4 : tie.Need-shared-slice-read-if4
-shared-slice-read-if4 c = search needs
-
 returns-4 : tie.Need-returns-4
 returns-4 c =
     let e = c .before .before in
     let d = e .before .before in
     let a = c .before .before .before .before .before .before .before .before .before .before .args in
     no-second (a .s .now) (a .at) (letter (d .before .before)) (eq-eqb _ _ (d .if2 .left)) (lo e) (ne-eqb _ _ (c .if4 .taken))
-
-add-is-number-2 : tie.Need-add-is-number-2
-add-is-number-2 c = search needs
-
-is-number-requires-2 : tie.Need-is-number-requires-2
-is-number-requires-2 c κs = search needs
 
 returns-5 : tie.Need-returns-5
 returns-5 c =
@@ -84,12 +54,6 @@ returns-5 c =
     let a = c .before .before .before .before .before .before .before .before .before .before .before .before .args in
     no-hi (a .s .now) (a .at) (letter (d .before .before)) (eq-eqb _ _ (d .if2 .left)) (lo e) (eq-eqb _ _ (f .if4 .left))
     (found-not (c .before .is-number2 .result) _ (c .before .is-number2 .ensures) (c .if5 .taken))
-
-add-result : tie.Need-add-result
-add-result c = search needs
-
-shared-slice-read-result : tie.Need-shared-slice-read-result
-shared-slice-read-result c = search needs
 
 returns-6 : tie.Need-returns-6
 returns-6 c =
@@ -104,21 +68,21 @@ pub is-line-spec : {M : Type 1} → statement M
 is-line-spec =
     tie.close
     (tie.spec
-    shared-slice-read-is-letter
-    is-letter-requires
+    (λ c. search needs)
+    (λ c κs. search needs)
     returns
-    add-if2
-    shared-slice-read-if2
+    (λ c. search needs)
+    (λ c. search needs)
     returns-2
-    add-is-number
-    is-number-requires
+    (λ c. search needs)
+    (λ c κs. search needs)
     returns-3
-    add-if4
-    shared-slice-read-if4
+    (λ c. search needs)
+    (λ c. search needs)
     returns-4
-    add-is-number-2
-    is-number-requires-2
+    (λ c. search needs)
+    (λ c κs. search needs)
     returns-5
-    add-result
-    shared-slice-read-result
+    (λ c. search needs)
+    (λ c. search needs)
     returns-6)

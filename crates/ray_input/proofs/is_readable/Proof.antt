@@ -15,9 +15,6 @@ good c = found (c .before .are-lines .result) _ (c .before .are-lines .ensures) 
 returns : tie.Need-returns
 returns c = no-whole-lines (c .before .before .args .s .now) (c .if1 .taken)
 
-are-lines-requires : tie.Need-are-lines-requires
-are-lines-requires c κs = search needs
-
 returns-2 : tie.Need-returns-2
 returns-2 c =
     let s = c .before .before .before .before .args .s .now in
@@ -28,24 +25,15 @@ returns-3 c =
     let s = c .before .before .before .before .before .args .s .now in
     no-first s (c .before .before .before .if1 .left) (good (c .before)) (λ h. empty-first s (omega (arith, c .if3 .taken, c .before .before .before .if1 .left)) h)
 
-shared-slice-read-if4 : tie.Need-shared-slice-read-if4
-shared-slice-read-if4 c = search needs
-
 returns-4 : tie.Need-returns-4
 returns-4 c =
     let s = c .before .before .before .before .before .before .before .args .s .now in
     no-first s (c .before .before .before .before .before .if1 .left) (good (c .before .before .before)) (c .if4 .taken)
 
-count-of-requires : tie.Need-count-of-requires
-count-of-requires c κs = search needs
-
 returns-5 : tie.Need-returns-5
 returns-5 c =
     let s = c .before .before .before .before .before .before .before .before .before .args .s .now in
     not-once s (c .before .before .before .before .before .before .before .if1 .left) (good (c .before .before .before .before .before)) (c .before .before .if4 .left) (λ h. c .if5 .taken (c .before .count-of .ensures ∙ h))
-
-few-lines-requires : tie.Need-few-lines-requires
-few-lines-requires c κs = search needs
 
 returns-6 : tie.Need-returns-6
 returns-6 c =
@@ -57,12 +45,12 @@ is-readable-spec =
     tie.close
     (tie.spec
     returns
-    are-lines-requires
+    (λ c κs. search needs)
     returns-2
     returns-3
-    shared-slice-read-if4
+    (λ c. search needs)
     returns-4
-    count-of-requires
+    (λ c κs. search needs)
     returns-5
-    few-lines-requires
+    (λ c κs. search needs)
     returns-6)

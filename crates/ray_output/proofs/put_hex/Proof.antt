@@ -23,20 +23,8 @@ size l =
 loop-holds : tie.Need-loop-holds Inv-loop μ-loop
 loop-holds c = let s = c .before in hex-start (s .args .out .now) (s .args .at) (s .args .v) (s .pre)
 
-sub-k : tie.Need-sub-k Inv-loop μ-loop
-sub-k c = search needs
-
-glyph-of-requires : tie.Need-glyph-of-requires Inv-loop μ-loop
-glyph-of-requires c κs = search needs
-
-add-out : tie.Need-add-out Inv-loop μ-loop
-add-out c = search needs
-
 slice-write-out : tie.Need-slice-write-out Inv-loop μ-loop
 slice-write-out c = let l = c .before .before in let s = l .before .before in omega (arith, size l, s .pre, l .loop .inv .most)
-
-loop-less : tie.Need-loop-less Inv-loop μ-loop
-loop-less c = search needs
 
 loop-again : tie.Need-loop-again Inv-loop μ-loop
 loop-again c =
@@ -47,9 +35,6 @@ loop-again c =
     subst (λ (g : ℕ). Hexing (a .out .now) (a .at) (a .v) (l .loop .k - 1) (l .loop .rest / 16) (set (l .loop .out) (a .at + (l .loop .k - 1)) g)) (sym (c .glyph-of .ensures))
     (hex-step (a .out .now) (a .at) (a .v) (s .pre) (l .loop .k - 1) (l .loop .rest) (l .loop .out)
     (subst (λ (n : ℕ). Hexing (a .out .now) (a .at) (a .v) n (l .loop .rest) (l .loop .out)) back (l .loop .inv)))
-
-add-result : tie.Need-add-result Inv-loop μ-loop
-add-result c = search needs
 
 same-length : tie.Need-same-length Inv-loop μ-loop
 same-length c = size (c .before)
@@ -70,12 +55,12 @@ put-hex-spec =
     Inv-loop
     μ-loop
     loop-holds
-    sub-k
-    glyph-of-requires
-    add-out
+    (λ c. search needs)
+    (λ c κs. search needs)
+    (λ c. search needs)
     slice-write-out
-    loop-less
+    (λ c. search needs)
     loop-again
-    add-result
+    (λ c. search needs)
     same-length
     returns)

@@ -9,12 +9,6 @@ use native.Mathlib.Omega.{arith}
 use Rattle.ray_output.proofs.put_line.Statement.{statement}
 use Rattle.ray_output.proofs.put_line.Tie as tie
 
-put-byte-requires : tie.Need-put-byte-requires
-put-byte-requires c κs = search needs
-
-put-field-requires : tie.Need-put-field-requires
-put-field-requires c κs = search needs
-
 put-field-requires-2 : tie.Need-put-field-requires-2
 put-field-requires-2 c κs =
     let f = c .before .before .before in
@@ -41,9 +35,6 @@ put-byte-requires-2 c κs =
       s .pre,
     )
 
-same-length : tie.Need-same-length
-same-length c = search needs
-
 returns : tie.Need-returns
 unfolding lineText
 returns c =
@@ -64,9 +55,9 @@ pub put-line-spec : {M : Type 1} → statement M
 put-line-spec =
     tie.close
     (tie.spec
-    put-byte-requires
-    put-field-requires
+    (λ c κs. search needs)
+    (λ c κs. search needs)
     put-field-requires-2
     put-byte-requires-2
-    same-length
+    (λ c. search needs)
     returns)

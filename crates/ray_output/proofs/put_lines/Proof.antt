@@ -21,29 +21,11 @@ size l = lining-size (l .loop .inv)
 loop-holds : tie.Need-loop-holds Inv-loop μ-loop
 loop-holds c = let s = c .before .before in lining-start (s .args .out .now) (s .args .at) (s .args .c) (s .args .list .now) (omega (arith, s .pre .1))
 
-mul-put-line : tie.Need-mul-put-line Inv-loop μ-loop
-mul-put-line c = search needs
-
-shared-slice-read-put-line : tie.Need-shared-slice-read-put-line Inv-loop μ-loop
-shared-slice-read-put-line c = search needs
-
-add-put-line : tie.Need-add-put-line Inv-loop μ-loop
-add-put-line c = search needs
-
-mul-put-line-2 : tie.Need-mul-put-line-2 Inv-loop μ-loop
-mul-put-line-2 c = search needs
-
 shared-slice-read-put-line-2 : tie.Need-shared-slice-read-put-line-2 Inv-loop μ-loop
 shared-slice-read-put-line-2 c = let l = c .before .before .before .before in omega (arith, l .loop .inv .even, l .before .before .before .pre .0, c .before .before .before .loop-test .taken)
 
 put-line-requires : tie.Need-put-line-requires Inv-loop μ-loop
 put-line-requires c κs = let l = c .before .before .before .before in let s = l .before .before .before in omega (arith, size l, lining-next (l .loop .inv), l .loop .inv .even, s .pre .0, s .pre .1, c .before .before .before .loop-test .taken)
-
-add-k : tie.Need-add-k Inv-loop μ-loop
-add-k c = search needs
-
-loop-less : tie.Need-loop-less Inv-loop μ-loop
-loop-less c = search needs
 
 loop-again : tie.Need-loop-again Inv-loop μ-loop
 loop-again c =
@@ -70,14 +52,14 @@ put-lines-spec =
     Inv-loop
     μ-loop
     loop-holds
-    mul-put-line
-    shared-slice-read-put-line
-    add-put-line
-    mul-put-line-2
+    (λ c. search needs)
+    (λ c. search needs)
+    (λ c. search needs)
+    (λ c. search needs)
     shared-slice-read-put-line-2
     put-line-requires
-    add-k
-    loop-less
+    (λ c. search needs)
+    (λ c. search needs)
     loop-again
     same-length
     returns)

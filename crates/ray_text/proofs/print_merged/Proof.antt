@@ -51,26 +51,8 @@ printed-2 : (d : tie.After-put-lines2) → let k = d .before .before .before .be
     length (linesText letterC (now (d .before .certain-of .result))) ≡ length (linesText letterC (handed (second k) (k .before .before .before .before .before .before .before .before .before .before .before .args .certain .now) (buffer k) (cellsOf (first k))))
 printed-2 d = ap (λ (l : List Float). length (linesText letterC l)) (certain-is (d .before))
 
-slice-aggregate-merge : tie.Need-slice-aggregate-merge
-slice-aggregate-merge c = search needs
-
-merge-requires : tie.Need-merge-requires
-merge-requires c κs = search needs
-
-enum-known-answer : tie.Need-enum-known-answer
-enum-known-answer c = search needs
-
 put-refused-requires : tie.Need-put-refused-requires
 put-refused-requires c κs = let s = c .before .before .before .before .before .before .before .before .before .before .before .before in (omega (arith, s .pre .1), due-ray (s .args .lo) (s .args .hi) (s .args .possible .now) (s .args .certain .now) (s .args .outer .now) (s .args .inner .now) (s .pre .0) (c .before .before .answer .given .0 .0) (due (c .before)) .0)
-
-enum-known-answer-2 : tie.Need-enum-known-answer-2
-enum-known-answer-2 c = search needs
-
-slice-aggregate-possible-of : tie.Need-slice-aggregate-possible-of
-slice-aggregate-possible-of c = search needs
-
-possible-of-requires : tie.Need-possible-of-requires
-possible-of-requires c κs = search needs
 
 put-lines-requires : tie.Need-put-lines-requires
 put-lines-requires c κs =
@@ -80,12 +62,6 @@ put-lines-requires c κs =
     let e = even-lists (a .lo) (a .hi) (a .possible .now) (a .certain .now) (a .outer .now) (a .inner .now) (s .pre .0) (first k) (second k) (buffer k) (size k) (lists k .1) in
     let i = ap length (possible-is c) in
     (rw i (e .0), omega (arith, i, e .2, s .pre .1))
-
-slice-aggregate-certain-of : tie.Need-slice-aggregate-certain-of
-slice-aggregate-certain-of c = search needs
-
-certain-of-requires : tie.Need-certain-of-requires
-certain-of-requires c κs = search needs
 
 put-lines-requires-2 : tie.Need-put-lines-requires-2
 put-lines-requires-2 c κs =
@@ -109,9 +85,6 @@ put-end-requires c κs =
     let l = lines-long (a .lo) (a .hi) (a .possible .now) (a .certain .now) (a .outer .now) (a .inner .now) (s .pre .0) (first k) (second k) (buffer k) (size k) (lists k .1) in
     omega (arith, e .2, s .pre .1, o .kept .0, d .put-lines2 .kept .0, o .ensures .next, printed (c .before .before .before .before .before .before .before .before .before), l .0, d .put-lines2 .ensures .next, printed-2 d, l .1)
 
-same-length : tie.Need-same-length
-same-length c = search needs
-
 returns : tie.Need-returns
 returns c =
     let p = c .before .before in
@@ -119,9 +92,6 @@ returns c =
     let s = k .before .before .before .before .before .before .before .before .before .before .before in
     let a = s .args in
     refuses (a .lo) (a .hi) (a .possible .now) (a .certain .now) (a .outer .now) (a .inner .now) (s .pre .0) (a .out .now) (p .put-refused .last .0) (p .put-refused .result) (k .before .answer .given .0 .0) (due k) (p .put-refused .ensures)
-
-same-length-2 : tie.Need-same-length-2
-same-length-2 c = search needs
 
 returns-2 : tie.Need-returns-2
 returns-2 c =
@@ -141,19 +111,19 @@ pub print-merged-spec : {M : Type 1} → statement M
 print-merged-spec =
     tie.close
     (tie.spec
-    slice-aggregate-merge
-    merge-requires
-    enum-known-answer
+    (λ c. search needs)
+    (λ c κs. search needs)
+    (λ c. search needs)
     put-refused-requires
-    enum-known-answer-2
-    slice-aggregate-possible-of
-    possible-of-requires
+    (λ c. search needs)
+    (λ c. search needs)
+    (λ c κs. search needs)
     put-lines-requires
-    slice-aggregate-certain-of
-    certain-of-requires
+    (λ c. search needs)
+    (λ c κs. search needs)
     put-lines-requires-2
     put-end-requires
-    same-length
+    (λ c. search needs)
     returns
-    same-length-2
+    (λ c. search needs)
     returns-2)

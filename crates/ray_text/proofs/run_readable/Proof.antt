@@ -6,56 +6,26 @@ use native.Mathlib.Omega.{arith}
 use Rattle.ray_text.proofs.run_readable.Statement.{statement}
 use Rattle.ray_text.proofs.run_readable.Tie as tie
 
-slice-aggregate-collect : tie.Need-slice-aggregate-collect
-slice-aggregate-collect c = search needs
-
 collect-requires : tie.Need-collect-requires
 collect-requires c κs = let s = c .before .before .before in let r = reads (s .args .s .now) (s .pre .0) in collects (s .args .s .now) r letterP (r .possibleFew)
-
-slice-aggregate-collect-2 : tie.Need-slice-aggregate-collect-2
-slice-aggregate-collect-2 c = search needs
 
 collect-requires-2 : tie.Need-collect-requires-2
 collect-requires-2 c κs = let s = c .before .before .before .before .before .before in let r = reads (s .args .s .now) (s .pre .0) in collects (s .args .s .now) r letterC (r .certainFew)
 
-slice-aggregate-collect-3 : tie.Need-slice-aggregate-collect-3
-slice-aggregate-collect-3 c = search needs
-
 collect-requires-3 : tie.Need-collect-requires-3
 collect-requires-3 c κs = let s = c .before .before .before .before .before .before .before .before .before in let r = reads (s .args .s .now) (s .pre .0) in collects (s .args .s .now) r letterO (r .outerFew)
-
-slice-aggregate-collect-4 : tie.Need-slice-aggregate-collect-4
-slice-aggregate-collect-4 c = search needs
 
 collect-requires-4 : tie.Need-collect-requires-4
 collect-requires-4 c κs = let s = c .before .before .before .before .before .before .before .before .before .before .before .before in let r = reads (s .args .s .now) (s .pre .0) in collects (s .args .s .now) r letterI (r .innerFew)
 
-array-share-prefix-possible : tie.Need-array-share-prefix-possible
-array-share-prefix-possible c = search needs
-
 slice-aggregate-print-merged : tie.Need-slice-aggregate-print-merged
 slice-aggregate-print-merged c = let k = c .before .before .before .before .before .before .before .before .before .before .before in collected-size _ _ (k .collect .last .1 .1 .1 .0) (k .collect .result) (k .collect .ensures)
-
-array-share-prefix-certain : tie.Need-array-share-prefix-certain
-array-share-prefix-certain c = search needs
 
 slice-aggregate-print-merged-2 : tie.Need-slice-aggregate-print-merged-2
 slice-aggregate-print-merged-2 c = let k = c .before .before .before .before .before .before .before .before .before in collected-size _ _ (k .collect2 .last .1 .1 .1 .0) (k .collect2 .result) (k .collect2 .ensures)
 
-double-at-requires : tie.Need-double-at-requires
-double-at-requires c κs = search needs
-
-double-at-requires-2 : tie.Need-double-at-requires-2
-double-at-requires-2 c κs = search needs
-
-array-share-prefix-outer : tie.Need-array-share-prefix-outer
-array-share-prefix-outer c = search needs
-
 slice-aggregate-print-merged-3 : tie.Need-slice-aggregate-print-merged-3
 slice-aggregate-print-merged-3 c = let k = c .before .before .before .before .before .before .before .before .before in collected-size _ _ (k .collect3 .last .1 .1 .1 .0) (k .collect3 .result) (k .collect3 .ensures)
-
-array-share-prefix-inner : tie.Need-array-share-prefix-inner
-array-share-prefix-inner c = search needs
 
 slice-aggregate-print-merged-4 : tie.Need-slice-aggregate-print-merged-4
 slice-aggregate-print-merged-4 c = let k = c .before .before .before .before .before .before .before in collected-size _ _ (k .collect4 .last .1 .1 .1 .0) (k .collect4 .result) (k .collect4 .ensures)
@@ -73,9 +43,6 @@ print-merged-requires c κs =
     let s = c .before .before .before .before .before .before .before .before .before .before .before .before .before .before .before .before .before .before .before .before .before in
     let r = reads (s .args .s .now) (s .pre .0) in
     (small (s .args .s .now) r _ _ _ _ e1 e2 e3 e4, omega (arith, s .pre .1))
-
-same-length : tie.Need-same-length
-same-length c = search needs
 
 returns : tie.Need-returns
 returns c =
@@ -98,24 +65,24 @@ pub run-readable-spec : {M : Type 1} → statement M
 run-readable-spec =
     tie.close
     (tie.spec
-    slice-aggregate-collect
+    (λ c. search needs)
     collect-requires
-    slice-aggregate-collect-2
+    (λ c. search needs)
     collect-requires-2
-    slice-aggregate-collect-3
+    (λ c. search needs)
     collect-requires-3
-    slice-aggregate-collect-4
+    (λ c. search needs)
     collect-requires-4
-    array-share-prefix-possible
+    (λ c. search needs)
     slice-aggregate-print-merged
-    array-share-prefix-certain
+    (λ c. search needs)
     slice-aggregate-print-merged-2
-    double-at-requires
-    double-at-requires-2
-    array-share-prefix-outer
+    (λ c κs. search needs)
+    (λ c κs. search needs)
+    (λ c. search needs)
     slice-aggregate-print-merged-3
-    array-share-prefix-inner
+    (λ c. search needs)
     slice-aggregate-print-merged-4
     print-merged-requires
-    same-length
+    (λ c. search needs)
     returns)

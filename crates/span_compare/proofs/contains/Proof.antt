@@ -5,16 +5,10 @@ use borrow.Author.Needs.{needs}
 use Rattle.span_compare.proofs.contains.Statement.{statement}
 use Rattle.span_compare.proofs.contains.Tie as tie
 
-is-sound-requires : tie.Need-is-sound-requires
-is-sound-requires c κs = search needs
-
 returns : tie.Need-returns
 returns c =
     let a = c .before .before .before .before .args in
     refuse-first (a .outer .now) (a .inner .now) (Contains (a .outer .now) (a .inner .now)) _ (c .before .is-sound .ensures) (c .if1 .taken)
-
-is-sound-requires-2 : tie.Need-is-sound-requires-2
-is-sound-requires-2 c κs = search needs
 
 returns-2 : tie.Need-returns-2
 returns-2 c =
@@ -42,9 +36,9 @@ pub contains-spec : {M : Type 1} → statement M
 contains-spec =
     tie.close
     (tie.spec
-    is-sound-requires
+    (λ c κs. search needs)
     returns
-    is-sound-requires-2
+    (λ c κs. search needs)
     returns-2
     covers-requires
     returns-3

@@ -5,16 +5,10 @@ use borrow.Author.Needs.{needs}
 use Rattle.span_compare.proofs.overlaps.Statement.{statement}
 use Rattle.span_compare.proofs.overlaps.Tie as tie
 
-is-sound-requires : tie.Need-is-sound-requires
-is-sound-requires c κs = search needs
-
 returns : tie.Need-returns
 returns c =
     let a = c .before .before .before .before .args in
     refuse-first (a .a .now) (a .b .now) (Overlaps (a .a .now) (a .b .now)) _ (c .before .is-sound .ensures) (c .if1 .taken)
-
-is-sound-requires-2 : tie.Need-is-sound-requires-2
-is-sound-requires-2 c κs = search needs
 
 returns-2 : tie.Need-returns-2
 returns-2 c =
@@ -42,9 +36,9 @@ pub overlaps-spec : {M : Type 1} → statement M
 overlaps-spec =
     tie.close
     (tie.spec
-    is-sound-requires
+    (λ c κs. search needs)
     returns
-    is-sound-requires-2
+    (λ c κs. search needs)
     returns-2
     meets-requires
     returns-3

@@ -22,58 +22,25 @@ returns c =
     let l = c .before .before in
     escapes _ _ _ _ (l .before .pre .0) (l .before .pre .1) (l .loop .inv) (c .before .loop-test .taken) (λ g. absurd (omega (arith, c .if1 .taken)))
 
-add-if2 : tie.Need-add-if2 Inv-loop μ-loop
-add-if2 c = search needs
-
-mul-if2 : tie.Need-mul-if2 Inv-loop μ-loop
-mul-if2 c = search needs
-
 shared-slice-read-if2 : tie.Need-shared-slice-read-if2 Inv-loop μ-loop
 shared-slice-read-if2 c =
     let l = c .before .before .before in
     omega (arith, sound-mod (l .before .args .outer .now) (l .before .pre .0), l .loop .inv .jWhole)
-
-add-if2-2 : tie.Need-add-if2-2 Inv-loop μ-loop
-add-if2-2 c = search needs
-
-mul-if2-2 : tie.Need-mul-if2-2 Inv-loop μ-loop
-mul-if2-2 c = search needs
 
 shared-slice-read-if2-2 : tie.Need-shared-slice-read-if2-2 Inv-loop μ-loop
 shared-slice-read-if2-2 c =
     let l = c .before .before .before .before in
     omega (arith, sound-mod (l .before .args .inner .now) (l .before .pre .1), l .loop .inv .kWhole)
 
-add-j : tie.Need-add-j Inv-loop μ-loop
-add-j c = search needs
-
-loop-less : tie.Need-loop-less Inv-loop μ-loop
-loop-less c = search needs
-
 loop-again : tie.Need-loop-again Inv-loop μ-loop
 loop-again c =
     let l = c .before .before .before .before .before in
     cover-on _ _ _ _ (l .before .pre .0) (l .before .pre .1) (l .loop .inv) (c .before .before .before .before .loop-test .taken) (omega (arith, c .before .before .before .if1 .left)) (c .if2 .taken)
 
-mul-if3 : tie.Need-mul-if3 Inv-loop μ-loop
-mul-if3 c = search needs
-
-shared-slice-read-if3 : tie.Need-shared-slice-read-if3 Inv-loop μ-loop
-shared-slice-read-if3 c = search needs
-
-mul-if3-2 : tie.Need-mul-if3-2 Inv-loop μ-loop
-mul-if3-2 c = search needs
-
-shared-slice-read-if3-2 : tie.Need-shared-slice-read-if3-2 Inv-loop μ-loop
-shared-slice-read-if3-2 c = search needs
-
 returns-2 : tie.Need-returns-2 Inv-loop μ-loop
 returns-2 c =
     let l = c .before .before .before .before .before .before .before .before in
     escapes _ _ _ _ (l .before .pre .0) (l .before .pre .1) (l .loop .inv) (c .before .before .before .before .before .before .before .loop-test .taken) (λ g. c .if3 .taken)
-
-add-k : tie.Need-add-k Inv-loop μ-loop
-add-k c = search needs
 
 returns-3 : tie.Need-returns-3 Inv-loop μ-loop
 returns-3 c =
@@ -81,34 +48,16 @@ returns-3 c =
     let l = q .before .before .before .before .before .before .before .before in
     cover-done _ _ _ _ (cover-pair _ _ _ _ (l .before .pre .0) (l .before .pre .1) (l .loop .inv) (q .before .before .before .before .before .before .before .loop-test .taken) (omega (arith, q .before .before .before .before .before .before .if1 .left)) (q .before .before .before .if2 .left) (q .if3 .left)) (c .if4 .taken)
 
-add-if5 : tie.Need-add-if5 Inv-loop μ-loop
-add-if5 c = search needs
-
-mul-if5 : tie.Need-mul-if5 Inv-loop μ-loop
-mul-if5 c = search needs
-
 shared-slice-read-if5 : tie.Need-shared-slice-read-if5 Inv-loop μ-loop
 shared-slice-read-if5 c =
     let l = c .before .before .before .before .before .before .before .before .before .before in
     omega (arith, sound-mod (l .before .args .outer .now) (l .before .pre .0), l .loop .inv .jWhole, c .before .before .before .before .before .before .before .before .if1 .left)
-
-add-if5-2 : tie.Need-add-if5-2 Inv-loop μ-loop
-add-if5-2 c = search needs
-
-mul-if5-2 : tie.Need-mul-if5-2 Inv-loop μ-loop
-mul-if5-2 c = search needs
 
 shared-slice-read-if5-2 : tie.Need-shared-slice-read-if5-2 Inv-loop μ-loop
 shared-slice-read-if5-2 c =
     let p = c .before .before in
     let l = p .before .before .before .before .before .before .before .before .before in
     omega (arith, sound-mod (l .before .args .inner .now) (l .before .pre .1), l .loop .inv .kWhole, p .if4 .left)
-
-add-j-2 : tie.Need-add-j-2 Inv-loop μ-loop
-add-j-2 c = search needs
-
-loop-less-2 : tie.Need-loop-less-2 Inv-loop μ-loop
-loop-less-2 c = search needs
 
 loop-again-2 : tie.Need-loop-again-2 Inv-loop μ-loop
 loop-again-2 c =
@@ -118,9 +67,6 @@ loop-again-2 c =
     cover-on _ _ _ _ (l .before .pre .0) (l .before .pre .1)
     (cover-pair _ _ _ _ (l .before .pre .0) (l .before .pre .1) (l .loop .inv) (q .before .before .before .before .before .before .before .loop-test .taken) (omega (arith, q .before .before .before .before .before .before .if1 .left)) (q .before .before .before .if2 .left) (q .if3 .left))
     (omega (arith, p .if4 .left)) (omega (arith, q .before .before .before .before .before .before .if1 .left)) (c .if5 .taken)
-
-loop-less-3 : tie.Need-loop-less-3 Inv-loop μ-loop
-loop-less-3 c = search needs
 
 loop-again-3 : tie.Need-loop-again-3 Inv-loop μ-loop
 loop-again-3 c =
@@ -139,31 +85,31 @@ covers-spec =
     μ-loop
     loop-holds
     returns
-    add-if2
-    mul-if2
+    (λ c. search needs)
+    (λ c. search needs)
     shared-slice-read-if2
-    add-if2-2
-    mul-if2-2
+    (λ c. search needs)
+    (λ c. search needs)
     shared-slice-read-if2-2
-    add-j
-    loop-less
+    (λ c. search needs)
+    (λ c. search needs)
     loop-again
-    mul-if3
-    shared-slice-read-if3
-    mul-if3-2
-    shared-slice-read-if3-2
+    (λ c. search needs)
+    (λ c. search needs)
+    (λ c. search needs)
+    (λ c. search needs)
     returns-2
-    add-k
+    (λ c. search needs)
     returns-3
-    add-if5
-    mul-if5
+    (λ c. search needs)
+    (λ c. search needs)
     shared-slice-read-if5
-    add-if5-2
-    mul-if5-2
+    (λ c. search needs)
+    (λ c. search needs)
     shared-slice-read-if5-2
-    add-j-2
-    loop-less-2
+    (λ c. search needs)
+    (λ c. search needs)
     loop-again-2
-    loop-less-3
+    (λ c. search needs)
     loop-again-3
     returns-4)

@@ -19,33 +19,9 @@ abbrev μ-loop : tie.MeasureT-loop
 loop-holds : tie.Need-loop-holds Inv-loop μ-loop
 loop-holds c = refl
 
-left-requires : tie.Need-left-requires Inv-loop μ-loop
-left-requires c κs = search needs
-
-mul-lo : tie.Need-mul-lo Inv-loop μ-loop
-mul-lo c = search needs
-
-shared-slice-read-lo : tie.Need-shared-slice-read-lo Inv-loop μ-loop
-shared-slice-read-lo c = search needs
-
-add-hi : tie.Need-add-hi Inv-loop μ-loop
-add-hi c = search needs
-
-mul-hi : tie.Need-mul-hi Inv-loop μ-loop
-mul-hi c = search needs
-
-shared-slice-read-hi : tie.Need-shared-slice-read-hi Inv-loop μ-loop
-shared-slice-read-hi c = search needs
-
-add-at : tie.Need-add-at Inv-loop μ-loop
-add-at c = search needs
-
 returns : tie.Need-returns Inv-loop μ-loop
 returns c = let h : 1 < length (c .before .before .before .before .before .before .before .args .hits .now) - c .before .before .before .before .before .loop .at = omega arith in
     sym (c .before .before .before .before .before .loop .inv ∙ hit-step _ _ h ∙ simp (c .if2 .taken))
-
-loop-less : tie.Need-loop-less Inv-loop μ-loop
-loop-less c = search needs
 
 loop-again : tie.Need-loop-again Inv-loop μ-loop
 loop-again c = let h : 1 < length (c .before .before .before .before .before .before .before .args .hits .now) - c .before .before .before .before .before .loop .at = omega arith in
@@ -61,14 +37,14 @@ hit-from-spec =
     Inv-loop
     μ-loop
     loop-holds
-    left-requires
-    mul-lo
-    shared-slice-read-lo
-    add-hi
-    mul-hi
-    shared-slice-read-hi
-    add-at
+    (λ c κs. search needs)
+    (λ c. search needs)
+    (λ c. search needs)
+    (λ c. search needs)
+    (λ c. search needs)
+    (λ c. search needs)
+    (λ c. search needs)
     returns
-    loop-less
+    (λ c. search needs)
     loop-again
     returns-2)

@@ -14,31 +14,10 @@ use borrow.Author.Needs.{needs}
 use Rattle.span_insert.proofs.insert.Statement.{statement}
 use Rattle.span_insert.proofs.insert.Tie as tie
 
-put-pair-requires : tie.Need-put-pair-requires
-put-pair-requires c κs = search needs
-
-same-length : tie.Need-same-length
-same-length c = search needs
-
 returns : tie.Need-returns
 returns c =
     let s = c .before .before .before .before .before .before in
     insert-last _ _ _ _ _ _ (omega (arith, s .pre .0)) (s .pre .1) (λ h. absurd (omega (arith, c .before .before .before .before .if1 .taken))) (c .before .before .put-pair .ensures)
-
-sub-last : tie.Need-sub-last
-sub-last c = search needs
-
-mul-last : tie.Need-mul-last
-mul-last c = search needs
-
-slice-read-last : tie.Need-slice-read-last
-slice-read-last c = search needs
-
-put-pair-requires-2 : tie.Need-put-pair-requires-2
-put-pair-requires-2 c κs = search needs
-
-same-length-2 : tie.Need-same-length-2
-same-length-2 c = search needs
 
 returns-2 : tie.Need-returns-2
 returns-2 c =
@@ -52,30 +31,12 @@ sub-if3 c =
     let n = s .args .n in
     omega (arith, sound-mod (take n b) (s .pre .1), length-take-le n b (omega (arith, s .pre .0)), c .before .before .if1 .left)
 
-mul-if3 : tie.Need-mul-if3
-mul-if3 c = search needs
-
-slice-read-if3 : tie.Need-slice-read-if3
-slice-read-if3 c = search needs
-
 returns-3 : tie.Need-returns-3
 returns-3 c =
     let s = c .before .before .before .before .before .before .before in
     let b = s .args .b .now in
     let n = s .args .n in
     insert-inside b n (s .args .lo) (s .args .hi) (omega (arith, s .pre .0)) (s .pre .1) (omega (arith, c .before .before .before .before .before .if1 .left)) (c .before .if3 .taken) (c .before .before .before .if2 .left) (not-true (lt (getD b (n - 1) nan) (s .args .hi)) (c .if4 .taken))
-
-sub-b : tie.Need-sub-b
-sub-b c = search needs
-
-mul-b : tie.Need-mul-b
-mul-b c = search needs
-
-slice-write-b : tie.Need-slice-write-b
-slice-write-b c = search needs
-
-same-length-3 : tie.Need-same-length-3
-same-length-3 c = search needs
 
 returns-4 : tie.Need-returns-4
 returns-4 c =
@@ -91,12 +52,6 @@ returns-5 c =
     let n = s .args .n in
     insert-none b n (s .args .lo) (s .args .hi) (s .pre .1) (λ p w. absurd (clash _ w (empty-pair (s .args .lo) (s .args .hi) p (not-true (lt (s .args .lo) (s .args .hi)) (c .if5 .taken)))))
 
-count-below-requires : tie.Need-count-below-requires
-count-below-requires c κs = search needs
-
-count-up-to-requires : tie.Need-count-up-to-requires
-count-up-to-requires c κs = search needs
-
 splice-requires : tie.Need-splice-requires
 splice-requires c κs =
     let s = c .before .before .before .before .before .before .before .before .before .before .before .before in
@@ -105,9 +60,6 @@ splice-requires c κs =
     let up : lt (s .args .lo) (s .args .hi) ≡ true = not-false (lt (s .args .lo) (s .args .hi)) (c .before .before .before .before .before .if5 .left) in
     let rise = places-rise b n (s .args .lo) (s .args .hi) (c .before .before .before .count-below .result) (c .before .count-up-to .result) (omega (arith, s .pre .0)) (s .pre .1) up (c .before .count-up-to .ensures) (c .before .before .before .count-below .ensures) in
     (rise, c .before .count-up-to .ensures .most, s .pre .0)
-
-same-length-4 : tie.Need-same-length-4
-same-length-4 c = search needs
 
 returns-6 : tie.Need-returns-6
 returns-6 c =
@@ -121,27 +73,27 @@ pub insert-spec : {M : Type 1} → statement M
 insert-spec =
     tie.close
     (tie.spec
-    put-pair-requires
-    same-length
+    (λ c κs. search needs)
+    (λ c. search needs)
     returns
-    sub-last
-    mul-last
-    slice-read-last
-    put-pair-requires-2
-    same-length-2
+    (λ c. search needs)
+    (λ c. search needs)
+    (λ c. search needs)
+    (λ c κs. search needs)
+    (λ c. search needs)
     returns-2
     sub-if3
-    mul-if3
-    slice-read-if3
+    (λ c. search needs)
+    (λ c. search needs)
     returns-3
-    sub-b
-    mul-b
-    slice-write-b
-    same-length-3
+    (λ c. search needs)
+    (λ c. search needs)
+    (λ c. search needs)
+    (λ c. search needs)
     returns-4
     returns-5
-    count-below-requires
-    count-up-to-requires
+    (λ c κs. search needs)
+    (λ c κs. search needs)
     splice-requires
-    same-length-4
+    (λ c. search needs)
     returns-6)

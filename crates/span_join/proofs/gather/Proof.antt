@@ -17,12 +17,6 @@ abbrev μ-loop : tie.MeasureT-loop
 loop-holds : tie.Need-loop-holds Inv-loop μ-loop
 loop-holds c = gather-start _ _ _
 
-hit-from-requires : tie.Need-hit-from-requires Inv-loop μ-loop
-hit-from-requires c κs = search needs
-
-enum-known-hit : tie.Need-enum-known-hit Inv-loop μ-loop
-enum-known-hit c = search needs
-
 put-pair-requires : tie.Need-put-pair-requires Inv-loop μ-loop
 put-pair-requires c κs =
     let f = c .before .before .before .before in
@@ -42,9 +36,6 @@ loop-again c =
     let s = found-pair _ _ (f .hit-from .result) (f .hit-from .ensures) _ _ (c .before .before .before .before .before .hit .given .1) in
     gather-step _ _ _ _ _ _ _ _ _ _ _ (f .before .before .loop .inv) s (c .before .before .put-pair .ensures)
 
-enum-told : tie.Need-enum-told Inv-loop μ-loop
-enum-told c = search needs
-
 returns : tie.Need-returns Inv-loop μ-loop
 returns c =
     let f = c .before .before in
@@ -62,12 +53,12 @@ gather-spec =
     Inv-loop
     μ-loop
     loop-holds
-    hit-from-requires
-    enum-known-hit
+    (λ c κs. search needs)
+    (λ c. search needs)
     put-pair-requires
     loop-less
     loop-again
-    enum-told
+    (λ c. search needs)
     (λ c. search needs)
     returns
     (λ c. search needs)

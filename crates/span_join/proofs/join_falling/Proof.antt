@@ -18,21 +18,6 @@ loop-holds c = back-start _ _ (c .before .before .pre .0)
 sub-lo : tie.Need-sub-lo Inv-loop μ-loop
 sub-lo c = omega (arith, c .before .loop .inv .passedEven)
 
-mul-lo : tie.Need-mul-lo Inv-loop μ-loop
-mul-lo c = search needs
-
-shared-slice-read-lo : tie.Need-shared-slice-read-lo Inv-loop μ-loop
-shared-slice-read-lo c = search needs
-
-sub-hi : tie.Need-sub-hi Inv-loop μ-loop
-sub-hi c = search needs
-
-mul-hi : tie.Need-mul-hi Inv-loop μ-loop
-mul-hi c = search needs
-
-shared-slice-read-hi : tie.Need-shared-slice-read-hi Inv-loop μ-loop
-shared-slice-read-hi c = search needs
-
 falls-requires : tie.Need-falls-requires Inv-loop μ-loop
 falls-requires c κs =
     let l = c .before .before .before .before in
@@ -47,28 +32,10 @@ insert-requires c κs =
     let asked = l .before .before .before .pre in
     (omega (arith, i .filled .size, i .filled .most, i .passedMost, i .passedEven, asked .0, asked .1), i .filled .list .list .isSound)
 
-sub-k : tie.Need-sub-k Inv-loop μ-loop
-sub-k c = search needs
-
-loop-less : tie.Need-loop-less Inv-loop μ-loop
-loop-less c = search needs
-
 loop-again : tie.Need-loop-again Inv-loop μ-loop
 loop-again c =
     let l = c .before .before .before .before .before .before .before .before .before .before in
     back-step _ _ _ _ _ _ _ (l .before .before .before .pre .0) (omega arith) (l .loop .inv) (c .before .before .insert .ensures)
-
-same-length : tie.Need-same-length Inv-loop μ-loop
-same-length c = search needs
-
-returns : tie.Need-returns Inv-loop μ-loop
-returns c = search needs
-
-same-length-2 : tie.Need-same-length-2 Inv-loop μ-loop
-same-length-2 c = search needs
-
-returns-2 : tie.Need-returns-2 Inv-loop μ-loop
-returns-2 c = search needs
 
 pub join-falling-spec : {M : Type 1} → statement M
 join-falling-spec =
@@ -78,17 +45,17 @@ join-falling-spec =
     μ-loop
     loop-holds
     sub-lo
-    mul-lo
-    shared-slice-read-lo
-    sub-hi
-    mul-hi
-    shared-slice-read-hi
+    (λ c. search needs)
+    (λ c. search needs)
+    (λ c. search needs)
+    (λ c. search needs)
+    (λ c. search needs)
     falls-requires
     insert-requires
-    sub-k
-    loop-less
+    (λ c. search needs)
+    (λ c. search needs)
     loop-again
-    same-length
-    returns
-    same-length-2
-    returns-2)
+    (λ c. search needs)
+    (λ c. search needs)
+    (λ c. search needs)
+    (λ c. search needs))

@@ -17,21 +17,6 @@ abbrev μ-loop : tie.MeasureT-loop
 loop-holds : tie.Need-loop-holds Inv-loop μ-loop
 loop-holds c = begun-start _ _
 
-mul-lo : tie.Need-mul-lo Inv-loop μ-loop
-mul-lo c = search needs
-
-shared-slice-read-lo : tie.Need-shared-slice-read-lo Inv-loop μ-loop
-shared-slice-read-lo c = search needs
-
-add-hi : tie.Need-add-hi Inv-loop μ-loop
-add-hi c = search needs
-
-mul-hi : tie.Need-mul-hi Inv-loop μ-loop
-mul-hi c = search needs
-
-shared-slice-read-hi : tie.Need-shared-slice-read-hi Inv-loop μ-loop
-shared-slice-read-hi c = search needs
-
 falls-requires : tie.Need-falls-requires Inv-loop μ-loop
 falls-requires c κs =
     let l = c .before .before .before .before in
@@ -46,29 +31,11 @@ insert-requires c κs =
     let asked = l .before .before .before .pre in
     (omega (arith, i .filled .size, i .filled .most, i .passedEven, asked .0, asked .1), i .filled .list .list .isSound)
 
-add-k : tie.Need-add-k Inv-loop μ-loop
-add-k c = search needs
-
-loop-less : tie.Need-loop-less Inv-loop μ-loop
-loop-less c = search needs
-
 loop-again : tie.Need-loop-again Inv-loop μ-loop
 loop-again c =
     let l = c .before .before .before .before .before .before .before .before .before .before in
     begun-step _ _ _ _ _ _ _ (omega (arith, l .loop .inv .passedEven, l .before .before .before .pre .0)) (l .loop .inv)
     (c .before .before .insert .ensures)
-
-same-length : tie.Need-same-length Inv-loop μ-loop
-same-length c = search needs
-
-returns : tie.Need-returns Inv-loop μ-loop
-returns c = search needs
-
-same-length-2 : tie.Need-same-length-2 Inv-loop μ-loop
-same-length-2 c = search needs
-
-returns-2 : tie.Need-returns-2 Inv-loop μ-loop
-returns-2 c = search needs
 
 pub join-rising-spec : {M : Type 1} → statement M
 join-rising-spec =
@@ -77,17 +44,17 @@ join-rising-spec =
     Inv-loop
     μ-loop
     loop-holds
-    mul-lo
-    shared-slice-read-lo
-    add-hi
-    mul-hi
-    shared-slice-read-hi
+    (λ c. search needs)
+    (λ c. search needs)
+    (λ c. search needs)
+    (λ c. search needs)
+    (λ c. search needs)
     falls-requires
     insert-requires
-    add-k
-    loop-less
+    (λ c. search needs)
+    (λ c. search needs)
     loop-again
-    same-length
-    returns
-    same-length-2
-    returns-2)
+    (λ c. search needs)
+    (λ c. search needs)
+    (λ c. search needs)
+    (λ c. search needs))

@@ -25,23 +25,14 @@ front-back s =
     let size : length (s .sort-pairs .last .0) ≡ a .m = s .sort-pairs .ensures .size ∙ length-take-le (a .m) (a .b .now) (b .pre .1) in
     part-back (a .b .now) (s .sort-pairs .last .0) 0 (a .m) (a .m) (omega arith) (omega arith) ∙ take-all (a .m) (s .sort-pairs .last .0) (omega arith)
 
-slice-relend-prefix-sort-pairs : tie.Need-slice-relend-prefix-sort-pairs
-slice-relend-prefix-sort-pairs c = search needs
-
 slice-aggregate-sort-pairs : tie.Need-slice-aggregate-sort-pairs
 slice-aggregate-sort-pairs c = let b = c .before .before in sym (length-take-le (b .args .m) (b .args .b .now) (b .pre .1))
-
-sort-pairs-requires : tie.Need-sort-pairs-requires
-sort-pairs-requires c κs = search needs
 
 join-all-requires : tie.Need-join-all-requires
 join-all-requires c κs =
     let s = c .before .before .before in
     let b = s .before .before .before in
     (omega (arith, b .pre .0), omega (arith, b .pre .1, back-size s))
-
-same-length : tie.Need-same-length
-same-length c = search needs
 
 returns : tie.Need-returns
 returns c =
@@ -54,9 +45,9 @@ pub normalize-front-spec : {M : Type 1} → statement M
 normalize-front-spec =
     tie.close
     (tie.spec
-    slice-relend-prefix-sort-pairs
+    (λ c. search needs)
     slice-aggregate-sort-pairs
-    sort-pairs-requires
+    (λ c κs. search needs)
     join-all-requires
-    same-length
+    (λ c. search needs)
     returns)

@@ -10,26 +10,8 @@ use borrow.Author.Needs.{needs}
 use Rattle.span_normalize.proofs.normalize_into.Statement.{statement}
 use Rattle.span_normalize.proofs.normalize_into.Tie as tie
 
-join-rising-requires : tie.Need-join-rising-requires
-join-rising-requires c κs = search needs
-
-same-length : tie.Need-same-length
-same-length c = search needs
-
 returns : tie.Need-returns
 returns c = begun-all _ _ _ _ _ (c .if1 .taken) (c .before .before .before .join-rising .ensures)
-
-mul-join-more : tie.Need-mul-join-more
-mul-join-more c = search needs
-
-sub-join-more : tie.Need-sub-join-more
-sub-join-more c = search needs
-
-part-join-more-start : tie.Need-part-join-more-start
-part-join-more-start c = search needs
-
-part-join-more-end : tie.Need-part-join-more-end
-part-join-more-end c = search needs
 
 join-more-requires : tie.Need-join-more-requires
 join-more-requires c κs =
@@ -43,21 +25,12 @@ join-more-requires c κs =
       omega (arith, rest, i .filled .size, i .filled .most, i .passedMost, a .pre .1),
     )
 
-same-length-2 : tie.Need-same-length-2
-same-length-2 c = search needs
-
 returns-2 : tie.Need-returns-2
 returns-2 c =
     let a = c .before .before .before .before .before .before .before .before .before .before .before .before .before .before in
     let k = c .before .before .before .before .before .before .before .before .before .before .join-rising .result .passed in
     begun-more _ _ _ _ _ _ _ _ (take-all (length (a .args .spans .now) - k) (drop k (a .args .spans .now)) (omega (arith, length-drop k (a .args .spans .now))))
     (c .before .before .before .before .before .before .before .before .before .before .join-rising .ensures) (c .before .before .join-more .ensures)
-
-join-falling-requires : tie.Need-join-falling-requires
-join-falling-requires c κs = search needs
-
-same-length-3 : tie.Need-same-length-3
-same-length-3 c = search needs
 
 returns-3 : tie.Need-returns-3
 returns-3 c =
@@ -79,9 +52,6 @@ join-more-requires-2 c κs =
       omega (arith, part, u .filled .size, i .filled .size, i .filled .most, i .passedMost, a .pre .1),
     )
 
-same-length-4 : tie.Need-same-length-4
-same-length-4 c = search needs
-
 returns-4 : tie.Need-returns-4
 returns-4 c =
     let down = c .before .before .before .before .before .before .before .before in
@@ -93,20 +63,20 @@ pub normalize-into-spec : {M : Type 1} → statement M
 normalize-into-spec =
     tie.close
     (tie.spec
-    join-rising-requires
-    same-length
+    (λ c κs. search needs)
+    (λ c. search needs)
     returns
-    mul-join-more
-    sub-join-more
-    part-join-more-start
-    part-join-more-end
+    (λ c. search needs)
+    (λ c. search needs)
+    (λ c. search needs)
+    (λ c. search needs)
     join-more-requires
-    same-length-2
+    (λ c. search needs)
     returns-2
-    join-falling-requires
-    same-length-3
+    (λ c κs. search needs)
+    (λ c. search needs)
     returns-3
     slice-aggregate-join-more
     join-more-requires-2
-    same-length-4
+    (λ c. search needs)
     returns-4)

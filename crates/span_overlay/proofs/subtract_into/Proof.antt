@@ -26,30 +26,6 @@ part l =
 loop-holds : tie.Need-loop-holds Inv-loop μ-loop
 loop-holds c = less-start _ _ _
 
-mul-cut-pair : tie.Need-mul-cut-pair Inv-loop μ-loop
-mul-cut-pair c = search needs
-
-sub-cut-pair : tie.Need-sub-cut-pair Inv-loop μ-loop
-sub-cut-pair c = search needs
-
-part-cut-pair-start : tie.Need-part-cut-pair-start Inv-loop μ-loop
-part-cut-pair-start c = search needs
-
-part-cut-pair-end : tie.Need-part-cut-pair-end Inv-loop μ-loop
-part-cut-pair-end c = search needs
-
-mul-cut-pair-2 : tie.Need-mul-cut-pair-2 Inv-loop μ-loop
-mul-cut-pair-2 c = search needs
-
-shared-slice-read-cut-pair : tie.Need-shared-slice-read-cut-pair Inv-loop μ-loop
-shared-slice-read-cut-pair c = search needs
-
-add-cut-pair : tie.Need-add-cut-pair Inv-loop μ-loop
-add-cut-pair c = search needs
-
-mul-cut-pair-3 : tie.Need-mul-cut-pair-3 Inv-loop μ-loop
-mul-cut-pair-3 c = search needs
-
 shared-slice-read-cut-pair-2 : tie.Need-shared-slice-read-cut-pair-2 Inv-loop μ-loop
 shared-slice-read-cut-pair-2 c =
     let l = c .before .before .before .before .before in
@@ -62,23 +38,11 @@ cut-pair-requires c κs =
     let s = l .before .before .before .before in
     rw (part l) (less-ready _ _ _ _ _ _ _ (s .pre .0) (s .pre .1) (s .pre .2) (l .loop .inv) (c .before .before .before .before .loop-test .taken))
 
-add-j : tie.Need-add-j Inv-loop μ-loop
-add-j c = search needs
-
-add-i : tie.Need-add-i Inv-loop μ-loop
-add-i c = search needs
-
-loop-less : tie.Need-loop-less Inv-loop μ-loop
-loop-less c = search needs
-
 loop-again : tie.Need-loop-again Inv-loop μ-loop
 loop-again c =
     let l = c .before .before .before .before .before .before .before .before .before in
     let s = l .before .before .before .before in
     less-step _ _ _ _ _ _ _ (s .pre .0) (s .pre .1) (s .pre .2) (l .loop .inv) (c .before .before .before .before .before .before .before .before .loop-test .taken) _ _ (rw (part l) at (c .before .before .before .cut-pair .ensures))
-
-same-length : tie.Need-same-length Inv-loop μ-loop
-same-length c = search needs
 
 returns : tie.Need-returns Inv-loop μ-loop
 returns c = less-done _ _ _ _ _ _ _ (c .loop-test .left) (c .before .loop .inv)
@@ -90,19 +54,19 @@ subtract-into-spec =
     Inv-loop
     μ-loop
     loop-holds
-    mul-cut-pair
-    sub-cut-pair
-    part-cut-pair-start
-    part-cut-pair-end
-    mul-cut-pair-2
-    shared-slice-read-cut-pair
-    add-cut-pair
-    mul-cut-pair-3
+    (λ c. search needs)
+    (λ c. search needs)
+    (λ c. search needs)
+    (λ c. search needs)
+    (λ c. search needs)
+    (λ c. search needs)
+    (λ c. search needs)
+    (λ c. search needs)
     shared-slice-read-cut-pair-2
     cut-pair-requires
-    add-j
-    add-i
-    loop-less
+    (λ c. search needs)
+    (λ c. search needs)
+    (λ c. search needs)
     loop-again
-    same-length
+    (λ c. search needs)
     returns)

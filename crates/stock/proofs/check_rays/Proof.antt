@@ -26,12 +26,6 @@ check-ray-requires c κs = (c .before .before .before .before .before .before .p
 returns : tie.Need-returns Inv-loop μ-loop
 returns c = let a = c .before .before .before .before .before .before .before .before in let s = cells (a .args .spans .now) (a .args .links .now) (a .args .heads .now) in ray-bad (a .args .spec) (a .args .g) s (c .before .before .before .loop .ray) (rayCount (a .args .g)) (c .before .check-ray .result) (omega (arith, c .before .before .before .before .total-rays .ensures)) (c .before .check-ray .ensures) (c .if1 .taken)
 
-add-ray : tie.Need-add-ray Inv-loop μ-loop
-add-ray c = search needs
-
-loop-less : tie.Need-loop-less Inv-loop μ-loop
-loop-less c = search needs
-
 loop-again : tie.Need-loop-again Inv-loop μ-loop
 loop-again c = let a = c .before .before .before .before .before .before .before .before in let s = cells (a .args .spans .now) (a .args .links .now) (a .args .heads .now) in (omega arith, ray-good (a .args .spec) (a .args .g) s (c .before .before .before .loop .ray) (c .before .check-ray .result) (c .before .check-ray .ensures) (c .if1 .left) (c .before .before .before .loop .inv .1))
 
@@ -48,7 +42,7 @@ check-rays-spec =
     loop-holds
     check-ray-requires
     returns
-    add-ray
-    loop-less
+    (λ c. search needs)
+    (λ c. search needs)
     loop-again
     returns-2)

@@ -4,9 +4,6 @@ use Rattle.stock.proofs.Rays.{store-bad, chained-of, stock-tells}
 use Rattle.stock.proofs.check_stock.Statement.{statement}
 use Rattle.stock.proofs.check_stock.Tie as tie
 
-is-chained-requires : tie.Need-is-chained-requires
-is-chained-requires c κs = search needs
-
 returns : tie.Need-returns
 returns c = let a = c .before .before .before .before .before in let s = cells (a .args .spans .now) (a .args .links .now) (a .args .heads .now) in store-bad (a .args .spec) (a .args .g) s (a .args .intervals) (c .before .is-chained .result) (c .before .is-chained .ensures) (c .if1 .taken)
 
@@ -20,7 +17,7 @@ pub check-stock-spec : {M : Type 1} → statement M
 check-stock-spec =
     tie.close
     (tie.spec
-    is-chained-requires
+    (λ c κs. search needs)
     returns
     check-rays-requires
     returns-2)

@@ -5,12 +5,6 @@ use Rattle.stock.proofs.Rays.{lists-counted}
 use Rattle.stock.proofs.is_chained.Statement.{statement}
 use Rattle.stock.proofs.is_chained.Tie as tie
 
-total-rays-requires : tie.Need-total-rays-requires
-total-rays-requires c κs = search needs
-
-mul-m : tie.Need-mul-m
-mul-m c = search needs
-
 check-store-requires : tie.Need-check-store-requires
 check-store-requires c κs = (c .before .before .before .before .pre .in-spans, c .before .before .before .before .pre .in-links, omega (arith, c .before .before .before .before .pre .in-heads, c .total-rays .ensures))
 
@@ -21,7 +15,7 @@ pub is-chained-spec : {M : Type 1} → statement M
 is-chained-spec =
     tie.close
     (tie.spec
-    total-rays-requires
-    mul-m
+    (λ c κs. search needs)
+    (λ c. search needs)
     check-store-requires
     returns)

@@ -16,20 +16,8 @@ abbrev μ-loop : tie.MeasureT-loop
 loop-holds : tie.Need-loop-holds Inv-loop μ-loop
 loop-holds c = (omega arith, heads-first _)
 
-add-heads : tie.Need-add-heads Inv-loop μ-loop
-add-heads c = search needs
-
-mul-heads : tie.Need-mul-heads Inv-loop μ-loop
-mul-heads c = search needs
-
 slice-write-heads : tie.Need-slice-write-heads Inv-loop μ-loop
 slice-write-heads c = omega (arith, heads-size _ _ _ (c .before .loop .inv .1), c .before .before .pre)
-
-add-j : tie.Need-add-j Inv-loop μ-loop
-add-j c = search needs
-
-loop-less : tie.Need-loop-less Inv-loop μ-loop
-loop-less c = search needs
 
 loop-again : tie.Need-loop-again Inv-loop μ-loop
 loop-again c = (omega arith, heads-next _ _ _ (c .before .loop .inv .1))
@@ -47,11 +35,11 @@ fill-heads-spec =
     Inv-loop
     μ-loop
     loop-holds
-    add-heads
-    mul-heads
+    (λ c. search needs)
+    (λ c. search needs)
     slice-write-heads
-    add-j
-    loop-less
+    (λ c. search needs)
+    (λ c. search needs)
     loop-again
     same-length
     returns)

@@ -22,12 +22,6 @@ uncut-record-requires c κs = c .before .before .before .before .pre .0
 put-record-requires : tie.Need-put-record-requires Inv-loop μ-loop
 put-record-requires c κs = (omega (arith, spans-size _ _ _ _ _ (c .before .before .before .before .loop .inv .1), c .before .before .before .before .before .before .before .pre), omega (arith, links-size _ _ _ _ _ (c .before .before .before .before .loop .inv .2), c .before .before .before .before .before .before .before .pre))
 
-add-i : tie.Need-add-i Inv-loop μ-loop
-add-i c = search needs
-
-loop-less : tie.Need-loop-less Inv-loop μ-loop
-loop-less c = search needs
-
 loop-again : tie.Need-loop-again Inv-loop μ-loop
 loop-again c =
     let inv = c .before .before .before .before .before .before .before .before .before .loop .inv in
@@ -51,8 +45,8 @@ fill-records-spec =
     loop-holds
     uncut-record-requires
     put-record-requires
-    add-i
-    loop-less
+    (λ c. search needs)
+    (λ c. search needs)
     loop-again
     same-length
     same-length-2

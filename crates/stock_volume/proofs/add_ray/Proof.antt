@@ -7,27 +7,6 @@ use Rattle.stock_volume.proofs.Lengths.{ray-added}
 use Rattle.stock_volume.proofs.add_ray.Statement.{statement}
 use Rattle.stock_volume.proofs.add_ray.Tie as tie
 
-mul-j : tie.Need-mul-j
-mul-j c = search needs
-
-ray-bounds-requires : tie.Need-ray-bounds-requires
-ray-bounds-requires c κs = search needs
-
-mul-measure-ray : tie.Need-mul-measure-ray
-mul-measure-ray c = search needs
-
-shared-slice-read-measure-ray : tie.Need-shared-slice-read-measure-ray
-shared-slice-read-measure-ray c = search needs
-
-add-measure-ray : tie.Need-add-measure-ray
-add-measure-ray c = search needs
-
-mul-measure-ray-2 : tie.Need-mul-measure-ray-2
-mul-measure-ray-2 c = search needs
-
-shared-slice-read-measure-ray-2 : tie.Need-shared-slice-read-measure-ray-2
-shared-slice-read-measure-ray-2 c = search needs
-
 measure-ray-requires : tie.Need-measure-ray-requires
 measure-ray-requires c κs = let a = c .before .before .before .before .before .before in let s = cells (a .args .spans .now) (a .args .links .now) (a .args .heads .now) in (list-readable (a .args .spec) (a .args .g) s (a .pre .0) (2 * a .args .ray) (omega (arith, a .pre .1)), list-readable (a .args .spec) (a .args .g) s (a .pre .0) (2 * a .args .ray + 1) (omega (arith, a .pre .1)))
 
@@ -41,12 +20,12 @@ pub add-ray-spec : {M : Type 1} → statement M
 add-ray-spec =
     tie.close
     (tie.spec
-    mul-j
-    ray-bounds-requires
-    mul-measure-ray
-    shared-slice-read-measure-ray
-    add-measure-ray
-    mul-measure-ray-2
-    shared-slice-read-measure-ray-2
+    (λ c. search needs)
+    (λ c κs. search needs)
+    (λ c. search needs)
+    (λ c. search needs)
+    (λ c. search needs)
+    (λ c. search needs)
+    (λ c. search needs)
     measure-ray-requires
     returns)

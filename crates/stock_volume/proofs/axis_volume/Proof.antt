@@ -18,15 +18,6 @@ Inv-loop spec g spans links heads area first count v₀ k₀ v k = (k ≤ count)
 abbrev μ-loop : tie.MeasureT-loop
 μ-loop spec g spans links heads area first count v₀ k₀ v k = count - k
 
-cross-requires : tie.Need-cross-requires Inv-loop μ-loop
-cross-requires c κs = search needs
-
-step-along-requires : tie.Need-step-along-requires Inv-loop μ-loop
-step-along-requires c κs = search needs
-
-step-along-requires-2 : tie.Need-step-along-requires-2 Inv-loop μ-loop
-step-along-requires-2 c κs = search needs
-
 ray-offset-requires : tie.Need-ray-offset-requires Inv-loop μ-loop
 ray-offset-requires c κs = omega (arith, c .before .before .before .before .before .before .pre .0 .room .in-heads)
 
@@ -45,12 +36,6 @@ add-ray-requires c κs = (c .before .before .before .before .before .before .bef
 returns : tie.Need-returns Inv-loop μ-loop
 returns c = let a = c .before .before .before .before .before .before .before .before .before .before .before .before .before in let s = cells (a .args .spans .now) (a .args .links .now) (a .args .heads .now) in along-bad (a .args .spec) (a .args .g) s (a .args .axis) _ _ _ (c .before .before .add-ray .result) _ (omega (arith, c .before .before .before .before .loop .inv .1)) (c .before .before .add-ray .ensures) (c .if1 .taken)
 
-add-k : tie.Need-add-k Inv-loop μ-loop
-add-k c = search needs
-
-loop-less : tie.Need-loop-less Inv-loop μ-loop
-loop-less c = search needs
-
 loop-again : tie.Need-loop-again Inv-loop μ-loop
 loop-again c =
     let inv = c .before .before .before .before .before .loop .inv in
@@ -67,16 +52,16 @@ axis-volume-spec =
     (tie.spec
     Inv-loop
     μ-loop
-    cross-requires
-    step-along-requires
-    step-along-requires-2
+    (λ c κs. search needs)
+    (λ c κs. search needs)
+    (λ c κs. search needs)
     ray-offset-requires
     rays-requires
     loop-holds
     add-add-ray
     add-ray-requires
     returns
-    add-k
-    loop-less
+    (λ c. search needs)
+    (λ c. search needs)
     loop-again
     returns-2)

@@ -7,9 +7,6 @@ use Rattle.stock_volume.proofs.Answers.{measure-short, measure-bad, mea
 use Rattle.stock_volume.proofs.measure.Statement.{statement}
 use Rattle.stock_volume.proofs.measure.Tie as tie
 
-is-short-requires : tie.Need-is-short-requires
-is-short-requires c κs = search needs
-
 returns : tie.Need-returns
 returns c = let a = c .before .before .before .before .before in let s = cells (a .args .spans .now) (a .args .links .now) (a .args .heads .now) in measure-short (a .args .spec) (a .args .g) s (a .args .intervals) (c .before .is-short .result) (c .before .is-short .ensures) (c .if1 .taken)
 
@@ -32,7 +29,7 @@ pub measure-spec : {M : Type 1} → statement M
 measure-spec =
     tie.close
     (tie.spec
-    is-short-requires
+    (λ c κs. search needs)
     returns
     is-chained-requires
     returns-2

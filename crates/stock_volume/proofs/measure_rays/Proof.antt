@@ -25,12 +25,6 @@ axis-volume-requires-3 c κs = let a = c .before .before .before .before .before
 returns-3 : tie.Need-returns-3
 returns-3 c = let a = c .before .before .before .before .before .before .before .before .before .before .before .before in let s = cells (a .args .spans .now) (a .args .links .now) (a .args .heads .now) in axis-bad (a .args .spec) (a .args .g) s _ (c .before .before .axis-volume3 .result) (c .before .before .axis-volume3 .ensures) (c .if3 .taken)
 
-box-volume-requires : tie.Need-box-volume-requires
-box-volume-requires c κs = search needs
-
-bounds-by-requires : tie.Need-bounds-by-requires
-bounds-by-requires c κs = search needs
-
 returns-4 : tie.Need-returns-4
 returns-4 c =
     let a = c .before .before .before .before .before .before .before .before .before .before .before .before .before .before in
@@ -47,6 +41,6 @@ measure-rays-spec =
     returns-2
     axis-volume-requires-3
     returns-3
-    box-volume-requires
-    bounds-by-requires
+    (λ c κs. search needs)
+    (λ c κs. search needs)
     returns-4)

@@ -4,20 +4,8 @@ use borrow.Author.Needs.{needs}
 use Rattle.store.proofs.check_store.Statement.{statement}
 use Rattle.store.proofs.check_store.Tie as tie
 
-count-used-requires : tie.Need-count-used-requires
-count-used-requires c κs = search needs
-
 returns : tie.Need-returns
 returns c = differs _ _ _ _ _ _ _ (c .before .count-used .ensures) (c .if1 .taken)
-
-walk-all-requires : tie.Need-walk-all-requires
-walk-all-requires c κs = search needs
-
-enum-known-c : tie.Need-enum-known-c
-enum-known-c c = search needs
-
-enum-told : tie.Need-enum-told
-enum-told c = search needs
 
 returns-2 : tie.Need-returns-2
 returns-2 c = ended _ _ _ _ _ _ _ _ (c .before .before .before .before .before .count-used .ensures) (c .before .before .before .before .if1 .left) (sym (c .before .before .before .walk-all .ensures) ∙ c .before .c .given .1)
@@ -29,10 +17,10 @@ pub check-store-spec : {M : Type 1} → statement M
 check-store-spec =
     tie.close
     (tie.spec
-    count-used-requires
+    (λ c κs. search needs)
     returns
-    walk-all-requires
-    enum-known-c
-    enum-told
+    (λ c κs. search needs)
+    (λ c. search needs)
+    (λ c. search needs)
     returns-2
     returns-3)

@@ -17,32 +17,8 @@ abbrev μ-loop : tie.MeasureT-loop
 loop-holds : tie.Need-loop-holds Inv-loop μ-loop
 loop-holds c = (omega arith, simp sub-zero)
 
-add-owner : tie.Need-add-owner Inv-loop μ-loop
-add-owner c = search needs
-
-mul-head : tie.Need-mul-head Inv-loop μ-loop
-mul-head c = search needs
-
-shared-slice-read-head : tie.Need-shared-slice-read-head Inv-loop μ-loop
-shared-slice-read-head c = search needs
-
-walk-chain-requires : tie.Need-walk-chain-requires Inv-loop μ-loop
-walk-chain-requires c κs = search needs
-
-enum-known-e : tie.Need-enum-known-e Inv-loop μ-loop
-enum-known-e c = search needs
-
-enum-told : tie.Need-enum-told Inv-loop μ-loop
-enum-told c = search needs
-
 returns : tie.Need-returns Inv-loop μ-loop
 returns c = sym (c .before .before .before .before .before .loop .inv .1 ∙ all-broken _ _ _ _ _ _ _ (omega arith) (sym (c .before .before .walk-chain .ensures) ∙ c .enum-told .given .1))
-
-add-j : tie.Need-add-j Inv-loop μ-loop
-add-j c = search needs
-
-loop-less : tie.Need-loop-less Inv-loop μ-loop
-loop-less c = search needs
 
 loop-again : tie.Need-loop-again Inv-loop μ-loop
 loop-again c = (omega arith, c .before .before .before .before .before .before .loop .inv .1 ∙ all-next _ _ _ _ _ _ _ _ (omega arith) (sym (c .before .before .before .walk-chain .ensures) ∙ c .before .e .given .1))
@@ -57,14 +33,14 @@ walk-all-spec =
     Inv-loop
     μ-loop
     loop-holds
-    add-owner
-    mul-head
-    shared-slice-read-head
-    walk-chain-requires
-    enum-known-e
-    enum-told
+    (λ c. search needs)
+    (λ c. search needs)
+    (λ c. search needs)
+    (λ c κs. search needs)
+    (λ c. search needs)
+    (λ c. search needs)
     returns
-    add-j
-    loop-less
+    (λ c. search needs)
+    (λ c. search needs)
     loop-again
     returns-2)

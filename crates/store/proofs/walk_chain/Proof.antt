@@ -19,41 +19,11 @@ loop-holds c = refl
 returns : tie.Need-returns Inv-loop μ-loop
 returns c = sym (c .before .before .loop .inv ∙ walk-full _ _ _ _ _ _ (c .if1 .taken) (c .before .loop-test .taken))
 
-sub-i : tie.Need-sub-i Inv-loop μ-loop
-sub-i c = search needs
-
 returns-2 : tie.Need-returns-2 Inv-loop μ-loop
 returns-2 c = sym (c .before .before .before .loop .inv ∙ walk-step _ _ _ _ _ _ (c .before .if1 .left) (c .before .before .loop-test .taken) ∙ simp (le-ltb _ _ (c .if2 .taken)))
 
-mul-if3 : tie.Need-mul-if3 Inv-loop μ-loop
-mul-if3 c = search needs
-
-add-if3 : tie.Need-add-if3 Inv-loop μ-loop
-add-if3 c = search needs
-
-mul-if3-2 : tie.Need-mul-if3-2 Inv-loop μ-loop
-mul-if3-2 c = search needs
-
-shared-slice-read-if3 : tie.Need-shared-slice-read-if3 Inv-loop μ-loop
-shared-slice-read-if3 c = search needs
-
 returns-3 : tie.Need-returns-3 Inv-loop μ-loop
 returns-3 c = sym (c .before .before .before .before .before .loop .inv ∙ walk-step _ _ _ _ _ _ (c .before .before .before .if1 .left) (c .before .before .before .before .loop-test .taken) ∙ simp (lt-ltb _ _ (c .before .before .if2 .left), ne-eqb _ _ (c .if3 .taken)))
-
-mul-k : tie.Need-mul-k Inv-loop μ-loop
-mul-k c = search needs
-
-mul-k-2 : tie.Need-mul-k-2 Inv-loop μ-loop
-mul-k-2 c = search needs
-
-shared-slice-read-k : tie.Need-shared-slice-read-k Inv-loop μ-loop
-shared-slice-read-k c = search needs
-
-add-c : tie.Need-add-c Inv-loop μ-loop
-add-c c = search needs
-
-loop-less : tie.Need-loop-less Inv-loop μ-loop
-loop-less c = search needs
 
 loop-again : tie.Need-loop-again Inv-loop μ-loop
 loop-again c = c .before .before .before .before .before .before .loop .inv ∙ walk-step _ _ _ _ _ _ (c .before .before .before .before .if1 .left) (c .before .before .before .before .before .loop-test .taken) ∙ simp (lt-ltb _ _ (c .before .before .before .if2 .left), eq-eqb _ _ (c .before .if3 .left))
@@ -69,17 +39,17 @@ walk-chain-spec =
     μ-loop
     loop-holds
     returns
-    sub-i
+    (λ c. search needs)
     returns-2
-    mul-if3
-    add-if3
-    mul-if3-2
-    shared-slice-read-if3
+    (λ c. search needs)
+    (λ c. search needs)
+    (λ c. search needs)
+    (λ c. search needs)
     returns-3
-    mul-k
-    mul-k-2
-    shared-slice-read-k
-    add-c
-    loop-less
+    (λ c. search needs)
+    (λ c. search needs)
+    (λ c. search needs)
+    (λ c. search needs)
+    (λ c. search needs)
     loop-again
     returns-4)

@@ -90,12 +90,6 @@ loop-again c =
     let t = freeing (c .before) in
     (simp length-set (c .before .before .loop .inv .0), simp length-set (c .before .before .loop .inv .1), t .chain, c .before .before .loop .inv .3 ∙ t .spans-left, c .before .before .loop .inv .4 ∙ t .links-left)
 
-same-length : tie.Need-same-length Inv-loop μ-loop
-same-length c = search needs
-
-same-length-2 : tie.Need-same-length-2 Inv-loop μ-loop
-same-length-2 c = search needs
-
 returns : tie.Need-returns Inv-loop μ-loop
 returns c = let e = freed-end (c .before .loop .spans) (c .before .loop .links) (c .before .before .args .n) (c .before .loop .k) (c .loop-test .left) in
     (sym (c .before .loop .inv .3 ∙ e .0), sym (c .before .loop .inv .4 ∙ e .1))
@@ -127,6 +121,6 @@ free-chain-spec =
     slice-write-links-2
     loop-less
     loop-again
-    same-length
-    same-length-2
+    (λ c. search needs)
+    (λ c. search needs)
     returns)

@@ -5,28 +5,10 @@ use Rattle.store.specs.Updates.{Cells, Freeable, freedList}
 use Rattle.store_free.proofs.free_ray.Statement.{statement}
 use Rattle.store_free.proofs.free_ray.Tie as tie
 
-mul-j : tie.Need-mul-j
-mul-j c = search needs
-
-free-list-requires : tie.Need-free-list-requires
-free-list-requires c κs = search needs
-
-add-free-list : tie.Need-add-free-list
-add-free-list c = search needs
-
 free-list-requires-2 : tie.Need-free-list-requires-2
 free-list-requires-2 c κs =
     let given = c .before .before .before .before .before .before .before .before .before .before .before .before .before .before .before .before .args in
     subst (λ (x : Cells). Freeable (given .n) x (2 * given .ray + 1)) (sym (c .before .before .before .before .before .before .before .before .before .free-list .ensures)) (c .before .before .before .before .before .before .before .before .before .before .before .before .before .before .before .before .pre .certain)
-
-same-length : tie.Need-same-length
-same-length c = search needs
-
-same-length-2 : tie.Need-same-length-2
-same-length-2 c = search needs
-
-same-length-3 : tie.Need-same-length-3
-same-length-3 c = search needs
 
 returns : tie.Need-returns
 returns c =
@@ -37,11 +19,11 @@ pub free-ray-spec : {M : Type 1} → statement M
 free-ray-spec =
     tie.close
     (tie.spec
-    mul-j
-    free-list-requires
-    add-free-list
+    (λ c. search needs)
+    (λ c κs. search needs)
+    (λ c. search needs)
     free-list-requires-2
-    same-length
-    same-length-2
-    same-length-3
+    (λ c. search needs)
+    (λ c. search needs)
+    (λ c. search needs)
     returns)

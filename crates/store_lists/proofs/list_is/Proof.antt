@@ -21,9 +21,6 @@ abbrev μ-loop : tie.MeasureT-loop
 loop-holds : tie.Need-loop-holds Inv-loop μ-loop
 loop-holds c = (c .pre, omega arith, refl)
 
-sub-if1 : tie.Need-sub-if1 Inv-loop μ-loop
-sub-if1 c = search needs
-
 returns : tie.Need-returns Inv-loop μ-loop
 returns c = sym (c .before .before .loop .inv .2 ∙ is-few (c .before .before .before .args .pairs .now) (c .before .before .loop .t) (step (c .before .before .loop .inv .0) (c .before .loop-test .taken)) (c .if1 .taken))
 
@@ -104,7 +101,7 @@ list-is-spec =
     Inv-loop
     μ-loop
     loop-holds
-    sub-if1
+    (λ c. search needs)
     returns
     sub-i
     mul-if2

@@ -19,9 +19,6 @@ Inv-loop spans links n head low high sum₀ last₀ k₀ sum last k =
 abbrev μ-loop : tie.MeasureT-loop
 μ-loop spans links n head low high sum₀ last₀ k₀ sum last k = length (places links n k)
 
-starts-within-requires : tie.Need-starts-within-requires Inv-loop μ-loop
-starts-within-requires c κs = search needs
-
 returns : tie.Need-returns Inv-loop μ-loop
 returns c = sum-bad _ _ _ (starts-bad _ _ _ _ (c .before .starts-within .ensures) (c .if1 .taken))
 
@@ -89,7 +86,7 @@ sound-between-spec =
     (tie.spec
     Inv-loop
     μ-loop
-    starts-within-requires
+    (λ c κs. search needs)
     returns
     loop-holds
     sub-i

@@ -2,9 +2,6 @@ use borrow.Author.Needs.{needs}
 use Rattle.store_rays.proofs.valid_ray_at.Statement.{statement}
 use Rattle.store_rays.proofs.valid_ray_at.Tie as tie
 
-measure-ray-requires : tie.Need-measure-ray-requires
-measure-ray-requires c κs = search needs
-
 returns : tie.Need-returns
 returns c = (c .measure-ray .ensures .is-valid, c .measure-ray .ensures .if-valid)
 
@@ -12,5 +9,5 @@ pub valid-ray-at-spec : {M : Type 1} → statement M
 valid-ray-at-spec =
     tie.close
     (tie.spec
-    measure-ray-requires
+    (λ c κs. search needs)
     returns)

@@ -6,24 +6,6 @@ use borrow.Author.Needs.{needs}
 use Rattle.strips.proofs.ends_strip.Statement.{statement}
 use Rattle.strips.proofs.ends_strip.Tie as tie
 
-band-distance-requires : tie.Need-band-distance-requires
-band-distance-requires c κs = search needs
-
-band-distance-requires-2 : tie.Need-band-distance-requires-2
-band-distance-requires-2 c κs = search needs
-
-half-chord-requires : tie.Need-half-chord-requires
-half-chord-requires c κs = search needs
-
-bits-of-requires : tie.Need-bits-of-requires
-bits-of-requires c κs = search needs
-
-bits-of-requires-2 : tie.Need-bits-of-requires-2
-bits-of-requires-2 c κs = search needs
-
-hull-of-requires : tie.Need-hull-of-requires
-hull-of-requires c κs = search needs
-
 returns : tie.Need-returns
 unfolding diskStrip chordStrip hull
 returns c =
@@ -34,18 +16,9 @@ returns c =
     (sym (c .before .before .before .before .bits-of2 .ensures) ∙ sym (c .before .before .before .if2 .taken) ∙ c .before .before .before .before .before .bits-of .ensures) in
     simp (c .hull-of .ensures, ← at-b .ensures, ← at-a .ensures, same, c .before .before .before .before .before .before .before .before .before .if1 .taken, ← c .before .before .before .before .before .before .before .before .half-chord .ensures)
 
-chord-strip-requires : tie.Need-chord-strip-requires
-chord-strip-requires c κs = search needs
-
-hull-of-requires-2 : tie.Need-hull-of-requires-2
-hull-of-requires-2 c κs = search needs
-
 returns-2 : tie.Need-returns-2
 unfolding diskStrip chordStrip hull
 returns-2 c = simp (← c .hull-of2 .ensures, ← c .before .chord-strip .ensures, ← c .before .before .before .before .before .before .before .half-chord .ensures, c .before .before .before .before .before .before .before .before .if1 .taken, ← c .before .before .before .before .before .before .before .before .before .band-distance2 .ensures, ← c .before .before .before .before .before .before .before .before .before .before .band-distance .ensures)
-
-chord-strip-requires-2 : tie.Need-chord-strip-requires-2
-chord-strip-requires-2 c κs = search needs
 
 returns-3 : tie.Need-returns-3
 unfolding diskStrip chordStrip hull
@@ -55,15 +28,15 @@ pub ends-strip-spec : {M : Type 1} → statement M
 ends-strip-spec =
     tie.close
     (tie.spec
-    band-distance-requires
-    band-distance-requires-2
-    half-chord-requires
-    bits-of-requires
-    bits-of-requires-2
-    hull-of-requires
+    (λ c κs. search needs)
+    (λ c κs. search needs)
+    (λ c κs. search needs)
+    (λ c κs. search needs)
+    (λ c κs. search needs)
+    (λ c κs. search needs)
     returns
-    chord-strip-requires
-    hull-of-requires-2
+    (λ c κs. search needs)
+    (λ c κs. search needs)
     returns-2
-    chord-strip-requires-2
+    (λ c κs. search needs)
     returns-3)

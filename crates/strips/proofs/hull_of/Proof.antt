@@ -3,24 +3,6 @@ use borrow.Author.Needs.{needs}
 use Rattle.strips.proofs.hull_of.Statement.{statement}
 use Rattle.strips.proofs.hull_of.Tie as tie
 
-enum-told : tie.Need-enum-told
-enum-told c = search needs
-
-enum-known-a : tie.Need-enum-known-a
-enum-known-a c = search needs
-
-enum-told-2 : tie.Need-enum-told-2
-enum-told-2 c = search needs
-
-enum-known-b : tie.Need-enum-known-b
-enum-known-b c = search needs
-
-smaller-requires : tie.Need-smaller-requires
-smaller-requires c κs = search needs
-
-larger-requires : tie.Need-larger-requires
-larger-requires c κs = search needs
-
 returns : tie.Need-returns
 unfolding hull
 returns c = simp (c .enum-told .given .1)
@@ -37,12 +19,12 @@ pub hull-of-spec : {M : Type 1} → statement M
 hull-of-spec =
     tie.close
     (tie.spec
-    enum-told
-    enum-known-a
-    enum-told-2
-    enum-known-b
-    smaller-requires
-    larger-requires
+    (λ c. search needs)
+    (λ c. search needs)
+    (λ c. search needs)
+    (λ c. search needs)
+    (λ c κs. search needs)
+    (λ c κs. search needs)
     returns
     returns-2
     returns-3)

@@ -8,9 +8,6 @@ use Rattle.sweep.proofs.Answers.{check-short, check-odd, check-bad, che
 use Rattle.sweep.proofs.check_sweep.Statement.{statement}
 use Rattle.sweep.proofs.check_sweep.Tie as tie
 
-is-short-requires : tie.Need-is-short-requires
-is-short-requires c κs = search needs
-
 returns : tie.Need-returns
 returns c = let a = c .before .before .before .before .before .before in let s = setting (a .args .spec) (a .args .g) (a .args .k) (a .args .p) (cells (a .args .spans .now) (a .args .links .now) (a .args .heads .now)) in check-short s (a .args .intervals) (a .args .chords .now) (c .before .is-short .result) (c .before .is-short .ensures) (c .if1 .taken)
 
@@ -26,23 +23,11 @@ returns-3 c =
     let s = setting (a .args .spec) (a .args .g) (a .args .k) (a .args .p) (cells (a .args .spans .now) (a .args .links .now) (a .args .heads .now)) in
     check-bad s (a .args .intervals) (a .args .chords .now) (c .before .before .before .before .is-short .result) (c .before .before .before .before .is-short .ensures) (c .before .before .before .if1 .left) (c .before .check-stock .result) (c .before .check-stock .ensures) (c .if3 .taken)
 
-check-tool-requires : tie.Need-check-tool-requires
-check-tool-requires c κs = search needs
-
-enum-known-tool : tie.Need-enum-known-tool
-enum-known-tool c = search needs
-
 returns-4 : tie.Need-returns-4
 returns-4 c =
     let a = c .before .before .before .before .before .before .before .before .before .before .before .before .before in
     let s = setting (a .args .spec) (a .args .g) (a .args .k) (a .args .p) (cells (a .args .spans .now) (a .args .links .now) (a .args .heads .now)) in
     check-tool-bad s (a .args .intervals) (a .args .chords .now) (c .before .before .before .before .before .before .before .before .is-short .result) (c .before .before .before .before .before .before .before .before .is-short .ensures) (c .before .before .before .before .before .before .before .if1 .left) (c .before .before .before .before .before .check-stock .result) (c .before .before .before .before .before .check-stock .ensures) (c .before .before .before .before .before .before .if2 .left) (not-false _ (c .before .before .before .before .if3 .left)) (c .before .before .before .check-tool .result) _ (c .before .before .before .check-tool .ensures) (c .before .tool .given .1)
-
-enum-told : tie.Need-enum-told
-enum-told c = search needs
-
-check-chords-requires : tie.Need-check-chords-requires
-check-chords-requires c κs = search needs
 
 returns-5 : tie.Need-returns-5
 returns-5 c =
@@ -60,15 +45,15 @@ pub check-sweep-spec : {M : Type 1} → statement M
 check-sweep-spec =
     tie.close
     (tie.spec
-    is-short-requires
+    (λ c κs. search needs)
     returns
     returns-2
     check-stock-requires
     returns-3
-    check-tool-requires
-    enum-known-tool
+    (λ c κs. search needs)
+    (λ c. search needs)
     returns-4
-    enum-told
-    check-chords-requires
+    (λ c. search needs)
+    (λ c κs. search needs)
     returns-5
     returns-6)

@@ -4,26 +4,11 @@ use Rattle.sweep.proofs.Answers.{end-is, logged-at}
 use Rattle.sweep.proofs.end_log.Statement.{statement}
 use Rattle.sweep.proofs.end_log.Tie as tie
 
-enum-known-x : tie.Need-enum-known-x
-enum-known-x c = search needs
-
-clear-from-requires : tie.Need-clear-from-requires
-clear-from-requires c κs = search needs
-
-same-length : tie.Need-same-length
-same-length c = search needs
-
 returns : tie.Need-returns
 returns c = end-is _ _ _ _ _ (c .before .before .before .before .before .x .given .1) refl (c .before .before .clear-from .ensures)
 
-enum-known-x-2 : tie.Need-enum-known-x-2
-enum-known-x-2 c = search needs
-
 clear-from-requires-2 : tie.Need-clear-from-requires-2
 clear-from-requires-2 c κs = logged-at _ _ _ (c .before .before .x2 .given .1) (c .before .before .before .before .before .pre)
-
-same-length-2 : tie.Need-same-length-2
-same-length-2 c = search needs
 
 returns-2 : tie.Need-returns-2
 returns-2 c = end-is _ _ _ _ _ (c .before .before .before .before .before .before .x2 .given .1) refl (c .before .before .before .clear-from2 .ensures)
@@ -32,11 +17,11 @@ pub end-log-spec : {M : Type 1} → statement M
 end-log-spec =
     tie.close
     (tie.spec
-    enum-known-x
-    clear-from-requires
-    same-length
+    (λ c. search needs)
+    (λ c κs. search needs)
+    (λ c. search needs)
     returns
-    enum-known-x-2
+    (λ c. search needs)
     clear-from-requires-2
-    same-length-2
+    (λ c. search needs)
     returns-2)

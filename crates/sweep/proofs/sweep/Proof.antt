@@ -9,12 +9,6 @@ use Rattle.sweep.proofs.Answers.{sweep-refused, sweep-accepted, same-to
 use Rattle.sweep.proofs.sweep.Statement.{statement}
 use Rattle.sweep.proofs.sweep.Tie as tie
 
-grid-requires : tie.Need-grid-requires
-grid-requires c κs = search needs
-
-enum-known-n : tie.Need-enum-known-n
-enum-known-n c = search needs
-
 returns : tie.Need-returns
 returns c =
     let a = c .before .before .before .before .before .before .before .before .before .before in
@@ -23,22 +17,10 @@ returns c =
     let p = profileOf (a .args .shape) (a .args .cutter) in
     sweep-refused (a .args .spec) (a .args .units .now) k p s (a .args .intervals) (a .args .chords .now) (a .args .budget) (a .args .log .now) _ (sym (c .before .before .before .grid .ensures .is) ∙ c .before .n .given .1)
 
-enum-known-g : tie.Need-enum-known-g
-enum-known-g c = search needs
-
-frame-requires : tie.Need-frame-requires
-frame-requires c κs = search needs
-
-profile-of-requires : tie.Need-profile-of-requires
-profile-of-requires c κs = search needs
-
 sweep-grid-requires : tie.Need-sweep-grid-requires
 sweep-grid-requires c κs =
     let asked = c .before .before .before .before .before .before in
     grid-facts _ _ _ (sym (asked .grid .ensures .is) ∙ c .before .before .before .before .g .given .1)
-
-same-length : tie.Need-same-length
-same-length c = search needs
 
 returns-2 : tie.Need-returns-2
 returns-2 c =
@@ -55,12 +37,12 @@ pub sweep-spec : {M : Type 1} → statement M
 sweep-spec =
     tie.close
     (tie.spec
-    grid-requires
-    enum-known-n
+    (λ c κs. search needs)
+    (λ c. search needs)
     returns
-    enum-known-g
-    frame-requires
-    profile-of-requires
+    (λ c. search needs)
+    (λ c κs. search needs)
+    (λ c κs. search needs)
     sweep-grid-requires
-    same-length
+    (λ c. search needs)
     returns-2)

@@ -5,26 +5,14 @@ use Rattle.sweep.proofs.Answers.{logged-room, grid-declined, admitted, 
 use Rattle.sweep.proofs.sweep_grid.Statement.{statement}
 use Rattle.sweep.proofs.sweep_grid.Tie as tie
 
-check-sweep-requires : tie.Need-check-sweep-requires
-check-sweep-requires c κs = search needs
-
-enum-known-ready : tie.Need-enum-known-ready
-enum-known-ready c = search needs
-
 returns : tie.Need-returns
 returns c = let a = c .before .before .before .before .before .before .before .before .before in let s = setting (a .args .spec) (a .args .g) (a .args .k) (a .args .p) (cells (a .args .spans .now) (a .args .links .now) (a .args .heads .now)) in grid-declined s (a .args .intervals) (a .args .chords .now) (a .args .budget) (a .args .log .now) (c .before .before .before .check-sweep .result) _ (c .before .before .before .check-sweep .ensures) (c .before .ready .given .1)
-
-enum-told : tie.Need-enum-told
-enum-told c = search needs
 
 sweep-chords-requires : tie.Need-sweep-chords-requires
 sweep-chords-requires c κs = let a = c .before .before .before .before .before .before .before .before .before in let s = setting (a .args .spec) (a .args .g) (a .args .k) (a .args .p) (cells (a .args .spans .now) (a .args .links .now) (a .args .heads .now)) in admitted s (a .args .intervals) (a .args .chords .now) (a .args .budget) (a .args .log .now) (c .before .before .before .check-sweep .result) (c .before .before .before .check-sweep .ensures) (c .before .enum-told .given .1) .1
 
 end-log-requires : tie.Need-end-log-requires
 end-log-requires c κs = logged-room _ _ _ _ _ (c .before .before .before .sweep-chords .result) (c .before .before .before .sweep-chords .ensures)
-
-same-length : tie.Need-same-length
-same-length c = search needs
 
 returns-2 : tie.Need-returns-2
 returns-2 c =
@@ -36,11 +24,11 @@ pub sweep-grid-spec : {M : Type 1} → statement M
 sweep-grid-spec =
     tie.close
     (tie.spec
-    check-sweep-requires
-    enum-known-ready
+    (λ c κs. search needs)
+    (λ c. search needs)
     returns
-    enum-told
+    (λ c. search needs)
     sweep-chords-requires
     end-log-requires
-    same-length
+    (λ c. search needs)
     returns-2)

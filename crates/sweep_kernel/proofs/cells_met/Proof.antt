@@ -4,15 +4,9 @@ use Rattle.grid_from_spec.proofs.Facts.{cells-positive}
 use Rattle.sweep_kernel.proofs.cells_met.Statement.{statement}
 use Rattle.sweep_kernel.proofs.cells_met.Tie as tie
 
-along-requires : tie.Need-along-requires
-along-requires c κs = search needs
-
 returns : tie.Need-returns
 unfolding cellsMet
 returns c = simp (c .if1 .taken, ← c .before .before .along .ensures)
-
-along-requires-2 : tie.Need-along-requires-2
-along-requires-2 c κs = search needs
 
 returns-2 : tie.Need-returns-2
 unfolding cellsMet
@@ -36,9 +30,9 @@ pub cells-met-spec : {M : Type 1} → statement M
 cells-met-spec =
     tie.close
     (tie.spec
-    along-requires
+    (λ c κs. search needs)
     returns
-    along-requires-2
+    (λ c κs. search needs)
     returns-2
     returns-3
     cell-at-requires

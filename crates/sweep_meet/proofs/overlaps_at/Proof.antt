@@ -43,12 +43,6 @@ mul-hi-2 c = let h = step (c .before .before .loop .inv .0) (c .before .loop-tes
 shared-slice-read-hi : tie.Need-shared-slice-read-hi Inv-loop μ-loop
 shared-slice-read-hi c = let h = step (c .before .before .before .loop .inv .0) (c .before .before .loop-test .taken) .counted in search needs
 
-larger-requires : tie.Need-larger-requires Inv-loop μ-loop
-larger-requires c κs = search needs
-
-smaller-requires : tie.Need-smaller-requires Inv-loop μ-loop
-smaller-requires c κs = search needs
-
 returns : tie.Need-returns Inv-loop μ-loop
 returns c = sym (c .before .before .before .before .before .before .loop .inv .1 ∙ overlaps-here _ (step (c .before .before .before .before .before .before .loop .inv .0) (c .before .before .before .before .before .loop-test .taken)) (rw (← c .before .before .larger .ensures, ← c .before .smaller .ensures) (c .if1 .taken)))
 
@@ -90,8 +84,8 @@ overlaps-at-spec =
     add-hi
     mul-hi-2
     shared-slice-read-hi
-    larger-requires
-    smaller-requires
+    (λ c κs. search needs)
+    (λ c κs. search needs)
     returns
     returns-2
     mul-k

@@ -20,9 +20,6 @@ mul-if2-2 c = let h = step (c .before .before .before .pre .0) (c .if1 .left) .c
 shared-slice-read-if2 : tie.Need-shared-slice-read-if2
 shared-slice-read-if2 c = let h = step (c .before .before .before .before .pre .0) (c .before .if1 .left) .counted in search needs
 
-some-above-requires : tie.Need-some-above-requires
-some-above-requires c κs = search needs
-
 returns-2 : tie.Need-returns-2
 returns-2 c = c .some-above .ensures ∙ sym (meet-some _ (c .before .before .before .before .before .before .before .pre .0) (c .before .before .before .before .if1 .left) (c .before .before .before .before .before .before .before .pre .1) (c .before .if2 .taken))
 
@@ -38,6 +35,6 @@ spans-meet-spec =
     mul-if2
     mul-if2-2
     shared-slice-read-if2
-    some-above-requires
+    (λ c κs. search needs)
     returns-2
     returns-3)

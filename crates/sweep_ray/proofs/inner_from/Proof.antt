@@ -3,27 +3,6 @@ use borrow.Author.Needs.{needs}
 use Rattle.sweep_ray.proofs.inner_from.Statement.{statement}
 use Rattle.sweep_ray.proofs.inner_from.Tie as tie
 
-enum-told : tie.Need-enum-told
-enum-told c = search needs
-
-enum-known-s : tie.Need-enum-known-s
-enum-known-s c = search needs
-
-enum-told-2 : tie.Need-enum-told-2
-enum-told-2 c = search needs
-
-enum-known-t : tie.Need-enum-known-t
-enum-known-t c = search needs
-
-larger-requires : tie.Need-larger-requires
-larger-requires c κs = search needs
-
-smaller-requires : tie.Need-smaller-requires
-smaller-requires c κs = search needs
-
-world-requires : tie.Need-world-requires
-world-requires c κs = search needs
-
 returns : tie.Need-returns
 unfolding innerFrom
 returns c = simp (← c .world .ensures, c .before .if1 .taken, ← c .before .before .before .before .smaller .ensures, ← c .before .before .before .before .before .before .larger .ensures, c .before .before .before .before .before .before .before .before .t .given .1, c .before .before .before .before .before .before .before .before .before .before .before .s .given .1)
@@ -44,13 +23,13 @@ pub inner-from-spec : {M : Type 1} → statement M
 inner-from-spec =
     tie.close
     (tie.spec
-    enum-told
-    enum-known-s
-    enum-told-2
-    enum-known-t
-    larger-requires
-    smaller-requires
-    world-requires
+    (λ c. search needs)
+    (λ c. search needs)
+    (λ c. search needs)
+    (λ c. search needs)
+    (λ c κs. search needs)
+    (λ c κs. search needs)
+    (λ c κs. search needs)
     returns
     returns-2
     returns-3

@@ -11,23 +11,8 @@ spans-meet-requires c κs = c .before .before .pre
 returns : tie.Need-returns
 returns c = hit-off _ _ _ _ (sym (c .before .spans-meet .ensures) ∙ not-true (c .before .spans-meet .result) (c .if1 .taken))
 
-section-of-requires : tie.Need-section-of-requires
-section-of-requires c κs = search needs
-
-outer-of-requires : tie.Need-outer-of-requires
-outer-of-requires c κs = search needs
-
-enum-told : tie.Need-enum-told
-enum-told c = search needs
-
-enum-known-o : tie.Need-enum-known-o
-enum-known-o c = search needs
-
 overlaps-at-requires : tie.Need-overlaps-at-requires
 overlaps-at-requires c κs = c .before .before .before .before .before .before .before .before .before .pre .0
-
-inner-of-requires : tie.Need-inner-of-requires
-inner-of-requires c κs = search needs
 
 returns-2 : tie.Need-returns-2
 returns-2 c = rw (← c .before .before .before .before .before .before .before .section-of .ensures, c .inner-of .ensures) (hit-on _ _ _ _ _ _ (sym (c .before .before .before .before .before .before .before .before .before .spans-meet .ensures) ∙ not-false (c .before .before .before .before .before .before .before .before .before .spans-meet .result) (c .before .before .before .before .before .before .before .before .if1 .left)) (sym (c .before .before .before .before .before .before .outer-of .ensures) ∙ c .before .before .before .before .o .given .1) (sym (c .before .before .overlaps-at .ensures) ∙ c .before .if2 .taken))
@@ -44,12 +29,12 @@ ray-hit-spec =
     (tie.spec
     spans-meet-requires
     returns
-    section-of-requires
-    outer-of-requires
-    enum-told
-    enum-known-o
+    (λ c κs. search needs)
+    (λ c κs. search needs)
+    (λ c. search needs)
+    (λ c. search needs)
     overlaps-at-requires
-    inner-of-requires
+    (λ c κs. search needs)
     returns-2
     returns-3
     returns-4)

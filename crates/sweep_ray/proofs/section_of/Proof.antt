@@ -3,21 +3,9 @@ use borrow.Author.Needs.{needs}
 use Rattle.sweep_ray.proofs.section_of.Statement.{statement}
 use Rattle.sweep_ray.proofs.section_of.Tie as tie
 
-center-of-requires : tie.Need-center-of-requires
-center-of-requires c κs = search needs
-
-center-of-requires-2 : tie.Need-center-of-requires-2
-center-of-requires-2 c κs = search needs
-
-section-with-requires : tie.Need-section-with-requires
-section-with-requires c κs = search needs
-
 returns : tie.Need-returns
 unfolding sectionOf
 returns c = simp (← c .section-with .ensures, c .before .if1 .taken, ← c .before .before .before .before .center-of2 .ensures, ← c .before .before .before .before .before .center-of .ensures)
-
-section-with-requires-2 : tie.Need-section-with-requires-2
-section-with-requires-2 c κs = search needs
 
 returns-2 : tie.Need-returns-2
 unfolding sectionOf
@@ -27,9 +15,9 @@ pub section-of-spec : {M : Type 1} → statement M
 section-of-spec =
     tie.close
     (tie.spec
-    center-of-requires
-    center-of-requires-2
-    section-with-requires
+    (λ c κs. search needs)
+    (λ c κs. search needs)
+    (λ c κs. search needs)
     returns
-    section-with-requires-2
+    (λ c κs. search needs)
     returns-2)

@@ -19,18 +19,12 @@ loop-holds c = sweeping-start _ _ _ (c .before .before .before .before .pre .3)
 sweep-row-requires : tie.Need-sweep-row-requires Inv-loop μ-loop
 sweep-row-requires c κs = (c .before .before .before .before .before .before .before .before .pre .0, c .before .before .before .before .before .before .before .before .pre .1, omega (arith, c .before .if1 .taken, c .before .before .before .before .before .before .before .before .pre .2), c .before .before .before .loop .inv .went .room)
 
-enum-known-x : tie.Need-enum-known-x Inv-loop μ-loop
-enum-known-x c = search needs
-
 same-length : tie.Need-same-length Inv-loop μ-loop
 same-length c = halted-of _ _ (c .before .x .given .1) (c .before .before .before .before .before .sweep-row .ensures) .same ∙ c .before .before .before .before .before .before .before .before .before .loop .inv .went .same
 
 returns : tie.Need-returns Inv-loop μ-loop
 unfolding rectEntries
 returns c = sweeping-halt _ _ _ _ (c .before .before .before .before .before .before .before .before .before .loop .inv) (omega (arith, c .before .before .before .before .before .before .before .if1 .taken)) (halted-of _ _ (c .before .x .given .1) (c .before .before .before .before .before .sweep-row .ensures))
-
-enum-known-x-2 : tie.Need-enum-known-x-2 Inv-loop μ-loop
-enum-known-x-2 c = search needs
 
 add-v : tie.Need-add-v Inv-loop μ-loop
 add-v c = let h = c .before .before .before .before .before .before .before .if1 .taken in let k = c .before .before .before .before .before .before .before .before .before .before .before .before .before .before .pre .2 in let w = c .before .before .before .before .before .before .before .before .before .before .before .before .before .before .pre .0 .tall in search needs
@@ -56,10 +50,10 @@ sweep-rect-spec =
     μ-loop
     loop-holds
     sweep-row-requires
-    enum-known-x
+    (λ c. search needs)
     same-length
     returns
-    enum-known-x-2
+    (λ c. search needs)
     add-v
     loop-less
     loop-again

@@ -20,18 +20,12 @@ loop-holds c = sweeping-start _ _ _ (c .before .before .before .before .pre .3)
 visit-ray-requires : tie.Need-visit-ray-requires Inv-loop μ-loop
 visit-ray-requires c κs = (ray-ready (c .before .before .before .before .before .before .before .before .pre .0) _ _ (omega (arith, c .before .if1 .taken, c .before .before .before .before .before .before .before .before .pre .1)) (c .before .before .before .before .before .before .before .before .pre .2), c .before .before .before .loop .inv .went .room)
 
-enum-known-x : tie.Need-enum-known-x Inv-loop μ-loop
-enum-known-x c = search needs
-
 same-length : tie.Need-same-length Inv-loop μ-loop
 same-length c = halted-of _ _ (c .before .x .given .1) (c .before .before .before .before .before .visit-ray .ensures) .same ∙ c .before .before .before .before .before .before .before .before .before .loop .inv .went .same
 
 returns : tie.Need-returns Inv-loop μ-loop
 unfolding rowEntries
 returns c = sweeping-halt _ _ _ _ (c .before .before .before .before .before .before .before .before .before .loop .inv) (omega (arith, c .before .before .before .before .before .before .before .if1 .taken)) (halted-of _ _ (c .before .x .given .1) (c .before .before .before .before .before .visit-ray .ensures))
-
-enum-known-x-2 : tie.Need-enum-known-x-2 Inv-loop μ-loop
-enum-known-x-2 c = search needs
 
 add-u : tie.Need-add-u Inv-loop μ-loop
 add-u c = let h = c .before .before .before .before .before .before .before .if1 .taken in let k = c .before .before .before .before .before .before .before .before .before .before .before .before .before .before .pre .1 in let w = c .before .before .before .before .before .before .before .before .before .before .before .before .before .before .pre .0 .wide in search needs
@@ -57,10 +51,10 @@ sweep-row-spec =
     μ-loop
     loop-holds
     visit-ray-requires
-    enum-known-x
+    (λ c. search needs)
     same-length
     returns
-    enum-known-x-2
+    (λ c. search needs)
     add-u
     loop-less
     loop-again

@@ -33,29 +33,14 @@ shared-slice-read-head c = c .before .before .before .before .before .before .be
 ray-hit-requires : tie.Need-ray-hit-requires
 ray-hit-requires c κs = (c .before .before .before .before .before .before .before .before .before .before .pre .0 .ray .readable, c .before .before .before .before .before .before .before .before .before .before .pre .0 .ray .isSound)
 
-enum-told : tie.Need-enum-told
-enum-told c = search needs
-
 returns-2 : tie.Need-returns-2
 returns-2 c = went-off (c .before .before .before .before .before .before .before .before .before .before .before .before .before .pre .1) (entry-off _ _ _ _ _ _ _ _ _ (sym (c .before .before .ray-hit .ensures) ∙ c .enum-told .given .1)) (c .before .before .before .before .before .before .before .if1 .left)
-
-enum-known-h : tie.Need-enum-known-h
-enum-known-h c = search needs
-
-sub-if2 : tie.Need-sub-if2
-sub-if2 c = search needs
 
 returns-3 : tie.Need-returns-3
 returns-3 c = halt-full (c .before .before .before .before .before .before .before .before .before .before .before .before .before .before .before .before .pre .1) _ (entry-on _ _ _ _ _ _ _ _ _ _ (sym (c .before .before .before .before .before .ray-hit .ensures) ∙ c .before .before .before .h .given .1)) (entry-length _ _ _) (c .before .before .before .before .before .before .before .before .before .before .if1 .left) (c .if2 .taken)
 
 add-end : tie.Need-add-end
 add-end c = let g = c .before .before .before .before .before .before .before .before .before .before .before .before .before .before .before .before .before .good .1 .1 .1 .1 .1 .1 .1 .1 .1 .1 .1 .0 .1 in let h = c .before .if2 .left in let a = c .before .before .before .before .before .before .before .before .before .before .before .before .before .before .before .before .before .pre .1 in search needs
-
-put-requires : tie.Need-put-requires
-put-requires c κs = search needs
-
-same-length : tie.Need-same-length
-same-length c = search needs
 
 returns-4 : tie.Need-returns-4
 returns-4 c =
@@ -75,12 +60,12 @@ visit-ray-spec =
     mul-head-2
     shared-slice-read-head
     ray-hit-requires
-    enum-told
+    (λ c. search needs)
     returns-2
-    enum-known-h
-    sub-if2
+    (λ c. search needs)
+    (λ c. search needs)
     returns-3
     add-end
-    put-requires
-    same-length
+    (λ c κs. search needs)
+    (λ c. search needs)
     returns-4)

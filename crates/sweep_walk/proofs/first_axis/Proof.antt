@@ -3,9 +3,6 @@ use Rattle.sweep_walk.proofs.Tracks.{first-0, first-more}
 use Rattle.sweep_walk.proofs.first_axis.Statement.{statement}
 use Rattle.sweep_walk.proofs.first_axis.Tie as tie
 
-world-axis-requires : tie.Need-world-axis-requires
-world-axis-requires c κs = search needs
-
 returns : tie.Need-returns
 returns c = first-0 _ (c .before .before .world-axis .result) (c .before .before .world-axis .ensures) (c .if1 .taken)
 
@@ -16,6 +13,6 @@ pub first-axis-spec : {M : Type 1} → statement M
 first-axis-spec =
     tie.close
     (tie.spec
-    world-axis-requires
+    (λ c κs. search needs)
     returns
     returns-2)

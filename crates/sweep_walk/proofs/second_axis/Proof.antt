@@ -3,9 +3,6 @@ use Rattle.sweep_walk.proofs.Tracks.{second-0, second-1, second-more}
 use Rattle.sweep_walk.proofs.second_axis.Statement.{statement}
 use Rattle.sweep_walk.proofs.second_axis.Tie as tie
 
-world-axis-requires : tie.Need-world-axis-requires
-world-axis-requires c κs = search needs
-
 returns : tie.Need-returns
 returns c = second-0 _ (c .before .before .world-axis .result) (c .before .before .world-axis .ensures) (c .if1 .taken)
 
@@ -19,7 +16,7 @@ pub second-axis-spec : {M : Type 1} → statement M
 second-axis-spec =
     tie.close
     (tie.spec
-    world-axis-requires
+    (λ c κs. search needs)
     returns
     returns-2
     returns-3)

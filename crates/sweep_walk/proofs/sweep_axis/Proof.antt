@@ -6,26 +6,17 @@ use Rattle.sweep_walk.proofs.Chords.{logged-same}
 use Rattle.sweep_walk.proofs.sweep_axis.Statement.{statement}
 use Rattle.sweep_walk.proofs.sweep_axis.Tie as tie
 
-lane-of-requires : tie.Need-lane-of-requires
-lane-of-requires c κs = search needs
-
 track-of-requires : tie.Need-track-of-requires
 track-of-requires c κs = let a = c .before .before .before .before .before in few-rays (a .args .spec) (a .args .g) (cells (a .args .spans .now) (a .args .links .now) (a .args .heads .now)) (a .pre .0)
 
 rectangle-of-requires : tie.Need-rectangle-of-requires
 rectangle-of-requires c κs = c .before .before .before .before .before .before .pre .0 .facts
 
-enum-told : tie.Need-enum-told
-enum-told c = search needs
-
 returns : tie.Need-returns
 returns c =
     let a = c .before .before .before .before .before .before .before .before .before in
     let s = setting (a .args .spec) (a .args .g) (a .args .k) (a .args .p) (cells (a .args .spans .now) (a .args .links .now) (a .args .heads .now)) in
     axis-none s (a .args .chord) (a .args .axis) (c .before .before .before .before .lane-of .result) (c .before .before .rectangle-of .result) (c .before .before .before .before .lane-of .ensures) (c .before .before .rectangle-of .ensures) (c .enum-told .given .1) (a .pre .1)
-
-enum-known-rect : tie.Need-enum-known-rect
-enum-known-rect c = search needs
 
 sweep-rect-requires : tie.Need-sweep-rect-requires
 sweep-rect-requires c κs =
@@ -46,12 +37,12 @@ pub sweep-axis-spec : {M : Type 1} → statement M
 sweep-axis-spec =
     tie.close
     (tie.spec
-    lane-of-requires
+    (λ c κs. search needs)
     track-of-requires
     rectangle-of-requires
-    enum-told
+    (λ c. search needs)
     returns
-    enum-known-rect
+    (λ c. search needs)
     sweep-rect-requires
     same-length
     returns-2)

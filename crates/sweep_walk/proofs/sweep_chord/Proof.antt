@@ -7,17 +7,8 @@ use Rattle.sweep_walk.proofs.Chords.{first-halts, both-walked, logged-s
 use Rattle.sweep_walk.proofs.sweep_chord.Statement.{statement}
 use Rattle.sweep_walk.proofs.sweep_chord.Tie as tie
 
-first-axis-requires : tie.Need-first-axis-requires
-first-axis-requires c κs = search needs
-
-second-axis-requires : tie.Need-second-axis-requires
-second-axis-requires c κs = search needs
-
 sweep-axis-requires : tie.Need-sweep-axis-requires
 sweep-axis-requires c κs = c .before .before .before .before .before .before .before .pre
-
-enum-known-x : tie.Need-enum-known-x
-enum-known-x c = search needs
 
 same-length : tie.Need-same-length
 same-length c = halted-of _ _ (c .before .x .given .1) (c .before .before .before .before .before .sweep-axis .ensures) .same
@@ -27,9 +18,6 @@ returns c =
     let a = c .before .before .before .before .before .before .before .before .before .before .before .before .before in
     let s = setting (a .args .spec) (a .args .g) (a .args .k) (a .args .p) (cells (a .args .spans .now) (a .args .links .now) (a .args .heads .now)) in
     first-halts s (a .args .chord) (c .before .before .before .before .before .before .before .before .first-axis .result) (c .before .before .before .before .before .before .before .before .first-axis .ensures) (halted-of _ _ (c .before .x .given .1) (c .before .before .before .before .before .sweep-axis .ensures))
-
-enum-known-x-2 : tie.Need-enum-known-x-2
-enum-known-x-2 c = search needs
 
 sweep-axis-requires-2 : tie.Need-sweep-axis-requires-2
 sweep-axis-requires-2 c κs = (c .before .before .before .before .before .before .before .before .before .before .before .before .before .before .pre .0, went-of _ _ (c .before .before .x2 .given .1) (c .before .before .before .before .before .before .sweep-axis .ensures) .room)
@@ -47,13 +35,13 @@ pub sweep-chord-spec : {M : Type 1} → statement M
 sweep-chord-spec =
     tie.close
     (tie.spec
-    first-axis-requires
-    second-axis-requires
+    (λ c κs. search needs)
+    (λ c κs. search needs)
     sweep-axis-requires
-    enum-known-x
+    (λ c. search needs)
     same-length
     returns
-    enum-known-x-2
+    (λ c. search needs)
     sweep-axis-requires-2
     same-length-2
     returns-2)

@@ -25,9 +25,6 @@ chord-at-requires c κs = omega (arith, c .loop-test .taken)
 sweep-chord-requires : tie.Need-sweep-chord-requires Inv-loop μ-loop
 sweep-chord-requires c κs = (c .before .before .before .before .before .before .before .before .before .pre, c .before .before .before .loop .inv .went .room)
 
-enum-known-x : tie.Need-enum-known-x Inv-loop μ-loop
-enum-known-x c = search needs
-
 same-length : tie.Need-same-length Inv-loop μ-loop
 same-length c = halted-of _ _ (c .before .x .given .1) (c .before .before .before .before .before .sweep-chord .ensures) .same ∙ c .before .before .before .before .before .before .before .before .before .loop .inv .went .same
 
@@ -36,9 +33,6 @@ returns c =
     let a = c .before .before .before .before .before .before .before .before .before .before .before .before .before .before .before in
     let s = setting (a .args .spec) (a .args .g) (a .args .k) (a .args .p) (cells (a .args .spans .now) (a .args .links .now) (a .args .heads .now)) in
     chord-halts s (a .args .chords .now) (c .before .before .before .before .before .before .before .before .before .loop .i) (c .before .before .before .before .before .before .before .before .before .loop .inv) (c .before .before .before .before .before .before .before .chord-at .result) (c .before .before .before .before .before .before .before .before .loop-test .taken) (c .before .before .before .before .before .before .before .chord-at .ensures) (halted-of _ _ (c .before .x .given .1) (c .before .before .before .before .before .sweep-chord .ensures))
-
-enum-known-x-2 : tie.Need-enum-known-x-2 Inv-loop μ-loop
-enum-known-x-2 c = search needs
 
 add-i : tie.Need-add-i Inv-loop μ-loop
 add-i c = let h = c .before .before .before .before .before .before .before .before .loop-test .taken in let g = c .before .before .before .before .before .before .before .before .before .before .before .before .before .before .before .good .1 .1 .1 .1 .0 in let q = c .before .before .before .before .before .before .before .before .before .before .before .before .before .before .shared-slice-known .given in search needs
@@ -67,10 +61,10 @@ sweep-chords-spec =
     loop-holds
     chord-at-requires
     sweep-chord-requires
-    enum-known-x
+    (λ c. search needs)
     same-length
     returns
-    enum-known-x-2
+    (λ c. search needs)
     add-i
     loop-less
     loop-again

@@ -5,37 +5,13 @@ use borrow.Author.Needs.{needs}
 use Rattle.vector_replay.proofs.count.Statement.{statement}
 use Rattle.vector_replay.proofs.count.Tie as tie
 
-enum-known-o : tie.Need-enum-known-o
-enum-known-o c = search needs
-
-with-agreed-requires : tie.Need-with-agreed-requires
-with-agreed-requires c κs = search needs
-
 returns : tie.Need-returns
 unfolding counted
 returns c = simp (← c .with-agreed .ensures, lt-ltb _ _ (c .before .if1 .taken), c .before .before .before .o .given .1)
 
-with-missed-requires : tie.Need-with-missed-requires
-with-missed-requires c κs = search needs
-
-enum-known-o-2 : tie.Need-enum-known-o-2
-enum-known-o-2 c = search needs
-
-with-differed-requires : tie.Need-with-differed-requires
-with-differed-requires c κs = search needs
-
 returns-2 : tie.Need-returns-2
 unfolding counted
 returns-2 c = simp (← c .with-differed .ensures, lt-ltb _ _ (c .before .if2 .taken), c .before .before .before .o2 .given .1)
-
-with-missed-requires-2 : tie.Need-with-missed-requires-2
-with-missed-requires-2 c κs = search needs
-
-enum-told : tie.Need-enum-told
-enum-told c = search needs
-
-with-missed-requires-3 : tie.Need-with-missed-requires-3
-with-missed-requires-3 c κs = search needs
 
 returns-3 : tie.Need-returns-3
 unfolding counted
@@ -53,16 +29,16 @@ pub count-spec : {M : Type 1} → statement M
 count-spec =
     tie.close
     (tie.spec
-    enum-known-o
-    with-agreed-requires
+    (λ c. search needs)
+    (λ c κs. search needs)
     returns
-    with-missed-requires
-    enum-known-o-2
-    with-differed-requires
+    (λ c κs. search needs)
+    (λ c. search needs)
+    (λ c κs. search needs)
     returns-2
-    with-missed-requires-2
-    enum-told
-    with-missed-requires-3
+    (λ c κs. search needs)
+    (λ c. search needs)
+    (λ c κs. search needs)
     returns-3
     returns-4
     returns-5)

@@ -6,29 +6,11 @@ use Rattle.frame.proofs.Axis.frame.Reads as reads
 use Rattle.frame.proofs.Axis.frame.Lts as lts
 
 -- src/lib.rt:44:24
-enum-told : tie.Need-enum-told
-enum-told c = search needs
-
 -- src/lib.rt:48:24
-enum-told-2 : tie.Need-enum-told-2
-enum-told-2 c = search needs
-
 -- src/lib.rt:52:24
-enum-told-3 : tie.Need-enum-told-3
-enum-told-3 c = search needs
-
 -- src/lib.rt:56:24
-enum-told-4 : tie.Need-enum-told-4
-enum-told-4 c = search needs
-
 -- src/lib.rt:60:24
-enum-told-5 : tie.Need-enum-told-5
-enum-told-5 c = search needs
-
 -- src/lib.rt:64:24
-enum-told-6 : tie.Need-enum-told-6
-enum-told-6 c = search needs
-
 -- src/lib.rt:39:5
 returns : tie.Need-returns
 unfolding frameOf
@@ -63,12 +45,12 @@ pub frame-spec : {M : Type 1} → statement M
 frame-spec =
     tie.close
     (tie.spec
-    enum-told
-    enum-told-2
-    enum-told-3
-    enum-told-4
-    enum-told-5
-    enum-told-6
+    (λ c. search needs)
+    (λ c. search needs)
+    (λ c. search needs)
+    (λ c. search needs)
+    (λ c. search needs)
+    (λ c. search needs)
     returns
     returns-2
     returns-3
