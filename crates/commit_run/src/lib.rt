@@ -28,7 +28,7 @@ fn put_answer(answers: &mut [u64], i: usize, answer: Committed)
     }
 }
 
-// CommitsTo the log in the cells from `at` to `end`, and tells its answer as number i.
+// Commits the log in the cells from `at` to `end`, and tells its answer as number i.
 fn run_one(
     spec: DexelStockSpec,
     units: &[u8],
@@ -68,7 +68,7 @@ fn run_one(
     }
 }
 
-// CommitsTo all logs in order, and answers the small record that they leave.
+// Commits all logs in order, and answers the small record that they leave.
 pub fn run_logs(
     spec: DexelStockSpec,
     units: &[u8],
