@@ -7,23 +7,23 @@ use Prim.Native.Nat.{ℕ, zero, suc, _<_}
 use lib.Ieee.{Float}
 use Rattle.span_compare.specs.Verdicts.{compareCauses}
 use Rattle.grid_from_spec.specs.Causes.{gridCauses, ByCauses}
-use Rattle.grid.specs.declared.Gridded.{Gridded}
-use Rattle.grid.specs.declared.Gridded.the-variants.{Accepted, Refused}
+use Rattle.grid.specs.declared.GridAnswer.{GridAnswer}
+use Rattle.grid.specs.declared.GridAnswer.the-variants.{Accepted, Refused}
 use Rattle.grid.specs.declared.DexelStockSpec.{DexelStockSpec}
 use Rattle.refusal.specs.Refusal.{Cause, Due}
 use Rattle.spans.specs.Results.{listCauses}
 use Rattle.stock_fill.specs.Uncut.{fillCauses}
 use Rattle.stock_volume.specs.Volume.{volumeCauses}
 use Rattle.stock.specs.Stock.{Stock, SoundStock}
-use Rattle.stock.specs.declared.Committed.{Committed}
+use Rattle.stock.specs.declared.CommitAnswer.{CommitAnswer}
 use Rattle.store.specs.Updates.{Cells}
-use Rattle.commit_changes.specs.Commit.{commitCauses}
+use Rattle.commit_changes.specs.Commit.{changeCommitCauses}
 use Rattle.commit_check.specs.Tests.{commitOf}
-use Rattle.commit_log.specs.Commit.{LogCommits}
+use Rattle.commit_log.specs.Commit.{LogCommitPost}
 use Rattle.log_model.specs.Logs.{Commit}
-use Rattle.log_model.specs.Model.{Answer, changed, refused, causes, Judged}
-use Rattle.log_model.specs.Lent.{LogCommit, lentStore}
-use Rattle.log_model.specs.Runs.{points}
+use Rattle.log_model.specs.Model.{LogAnswer, changed, refused, logCommitCauses, AnswerDue}
+use Rattle.log_model.specs.Lent.{CommitOnAnyGrid, lentStore}
+use Rattle.log_model.specs.Runs.{pointSets}
 use Rattle.c_results.specs.Numbers.{AnsweredBy, HandedAs}
 
 -- each cause's number is above 0
@@ -48,7 +48,7 @@ module _ {A S : Type 0} (numbers : A → S → Type 0) (refused : ℕ → A) (pr
   answered a zero before after above p (inr h) = absurd (not-below (above 0 (subst promise (h .0) p)))
   answered a (suc k) before after above p (inr h) = (subst promise (h .0) p, h .1)
 
--- ---- the causes of each entry are numbered from 1 up
+-- ---- the logCommitCauses of each entry are numbered from 1 up
 
 -- those of the list functions and of merge, 12 and 11
 pub list-above : (short bad : Type 0) (k : ℕ) → Due (listCauses short bad) k → 0 < k
@@ -70,26 +70,26 @@ unfolding gridCauses
 volume-above s units c intervals k =
     due-above (volumeCauses s units c intervals) k (omega arith, (omega arith, (omega arith, (omega arith, (omega arith, (omega arith, tt))))))
 
-pub changes-above : (spec : DexelStockSpec) (units : List ℕ) (base : ℕ) (s : Stock) (changes : List ℕ) (pairs : List Float) (k : ℕ) → Due (commitCauses spec units base s changes pairs) k → 0 < k
+pub changes-above : (spec : DexelStockSpec) (units : List ℕ) (base : ℕ) (s : Stock) (changes : List ℕ) (pairs : List Float) (k : ℕ) → Due (changeCommitCauses spec units base s changes pairs) k → 0 < k
 unfolding gridCauses
 changes-above spec units base s changes pairs k =
-    due-above (commitCauses spec units base s changes pairs) k
+    due-above (changeCommitCauses spec units base s changes pairs) k
     (omega arith, (omega arith, (omega arith, (omega arith, (omega arith, (omega arith, (omega arith, (omega arith, (omega arith, (omega arith, tt))))))))))
 
 -- the number of an answer
-number : Answer → ℕ
+number : LogAnswer → ℕ
 number (changed n) = n
 number (refused k) = k
 
-log-above : (spec : DexelStockSpec) (units : List ℕ) (s t : Stock) (c : Commit) (k : ℕ) (r : Gridded) → ByCauses spec units r → LogCommit r spec s c (refused k) t → 0 < k
-unfolding LogCommit Judged causes number
+log-above : (spec : DexelStockSpec) (units : List ℕ) (s t : Stock) (c : Commit) (k : ℕ) (r : GridAnswer) → ByCauses spec units r → CommitOnAnyGrid r spec s c (refused k) t → 0 < k
+unfolding CommitOnAnyGrid AnswerDue logCommitCauses number
 log-above spec units s t c k (Accepted g) b p =
-    due-above (causes spec g (lentStore spec g .lent s) (¬ SoundStock spec g s) (points g (lentStore spec g) s) (s .generation) c) k
+    due-above (logCommitCauses spec g (lentStore spec g .lent s) (¬ SoundStock spec g s) (pointSets g (lentStore spec g) s) (s .generation) c) k
     (omega arith, (omega arith, (omega arith, (omega arith, (omega arith, (omega arith, tt)))))) (p .answers)
 log-above spec units s t c k (Refused j) b p = subst (λ (x : ℕ). 0 < x) (same k j (p .0)) (grid-above spec units j b)
   where
     same : (k j : ℕ) → refused k ≡ refused j → j ≡ k
     same k j e = ap number (sym e)
 
-pub commit-above : (spec : DexelStockSpec) (units : List ℕ) (s t : Stock) (log : List Float) (allowance : ℕ) (work work′ : List Float) (k : ℕ) → LogCommits spec units s log allowance work (Committed.Refused k) t work′ → 0 < k
+pub commit-above : (spec : DexelStockSpec) (units : List ℕ) (s t : Stock) (log : List Float) (allowance : ℕ) (work work′ : List Float) (k : ℕ) → LogCommitPost spec units s log allowance work (CommitAnswer.Refused k) t work′ → 0 < k
 commit-above spec units s t log allowance work work′ k p = log-above spec units s t (commitOf log allowance work) k (p .described) (p .by) (p .promise)

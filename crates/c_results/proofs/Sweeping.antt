@@ -12,10 +12,10 @@ use Rattle.cutter.specs.declared.CutterShape.{CutterShape}
 use Rattle.cutter.specs.declared.PreparedCutter.{PreparedCutter}
 use Rattle.refusal.specs.Refusal.{Due}
 use Rattle.store.specs.Updates.{Cells}
-use Rattle.sweep.specs.Answer.{settingOf, sweepCauses, Sweeps}
+use Rattle.sweep.specs.Answer.{settingOf, sweepCauses, SweepPost}
 use Rattle.sweep_walk.specs.Entries.{Setting}
 use Rattle.sweep.specs.declared.Totals.{Totals}
-use Rattle.sweep.specs.declared.Swept.{Swept}
+use Rattle.sweep.specs.declared.SweepAnswer.{SweepAnswer}
 use Rattle.c_results.specs.Numbers.{AnsweredBy, HandedAs, sweptNumbers}
 use Rattle.c_results.proofs.Handing.{answered, due-above}
 
@@ -26,13 +26,13 @@ sweep-above units s intervals chords budget len k =
     (omega arith, (omega arith, (omega arith, (omega arith, (omega arith, (omega arith, (omega arith, (omega arith, (omega arith, (omega arith, (omega arith, tt)))))))))))
 
 module _ (spec : DexelStockSpec) (units : List ℕ) (c : Cells) (intervals : ℕ) (cutter : PreparedCutter) (guard : Float) (chords : List Float) (budget : ℕ) (log after : List Float) where
-  abbrev Promise : Axis → CutterShape → Swept → Type 0
-  Promise a h = Sweeps (sweepCauses units (settingOf spec a h cutter guard c) intervals chords budget (length log)) (settingOf spec a h cutter guard c) intervals chords log after
+  abbrev Promise : Axis → CutterShape → SweepAnswer → Type 0
+  Promise a h = SweepPost (sweepCauses units (settingOf spec a h cutter guard c) intervals chords budget (length log)) (settingOf spec a h cutter guard c) intervals chords log after
 
-  pub swept-by : (a b : Axis) (h k : CutterShape) (s : Swept) (r : ℕ) (x y : Totals) → a ≡ b → h ≡ k → Promise a h s → HandedAs sweptNumbers Swept.Refused s r x y
-      → AnsweredBy sweptNumbers Swept.Refused (Promise b k) r x y
+  pub swept-by : (a b : Axis) (h k : CutterShape) (s : SweepAnswer) (r : ℕ) (x y : Totals) → a ≡ b → h ≡ k → Promise a h s → HandedAs sweptNumbers SweepAnswer.Refused s r x y
+      → AnsweredBy sweptNumbers SweepAnswer.Refused (Promise b k) r x y
   swept-by a b h k s r x y e f p n =
-      answered sweptNumbers Swept.Refused (Promise b k) s r x y
+      answered sweptNumbers SweepAnswer.Refused (Promise b k) s r x y
       (λ j q. sweep-above units (settingOf spec b k cutter guard c) intervals chords budget (length log) j (q .0))
       (subst (λ (z : Axis). Promise z k s) e (subst (λ (z : CutterShape). Promise a z s) f p))
       n

@@ -5,18 +5,18 @@ use mathlib.Core.List.{List, [], _∷_}
 use mathlib.Core.Logic.{_⊎_}
 use Prim.Native.Nat.{ℕ, zero, suc}
 use lib.Ieee.{Float}
-use Rattle.span_compare.specs.declared.Told.{Told}
-use Rattle.span_compare.specs.declared.Told.the-variants.{Yes, No, Refused as Invalid}
-use Rattle.grid.specs.declared.Gridded.{Gridded}
-use Rattle.ray_merge.specs.declared.Merged.{Merged}
-use Rattle.ray_merge.specs.declared.Merged.the-variants.{Lists}
-use Rattle.spans.specs.declared.Listed.{Listed}
-use Rattle.spans.specs.declared.Listed.the-variants.{Pairs}
+use Rattle.span_compare.specs.declared.BoolAnswer.{BoolAnswer}
+use Rattle.span_compare.specs.declared.BoolAnswer.the-variants.{Yes, No, Refused as Invalid}
+use Rattle.grid.specs.declared.GridAnswer.{GridAnswer}
+use Rattle.ray_merge.specs.declared.MergeAnswer.{MergeAnswer}
+use Rattle.ray_merge.specs.declared.MergeAnswer.the-variants.{Lists}
+use Rattle.spans.specs.declared.ListAnswer.{ListAnswer}
+use Rattle.spans.specs.declared.ListAnswer.the-variants.{Pairs}
 use Rattle.stock.specs.declared.Tally.{Tally}
-use Rattle.stock_fill.specs.declared.Filled.{Filled}
-use Rattle.stock_volume.specs.declared.Measured.{Measured}
-use Rattle.stock.specs.declared.Committed.{Committed}
-use Rattle.sweep.specs.declared.Swept.{Swept}
+use Rattle.stock_fill.specs.declared.FillAnswer.{FillAnswer}
+use Rattle.stock_volume.specs.declared.VolumeAnswer.{VolumeAnswer}
+use Rattle.stock.specs.declared.CommitAnswer.{CommitAnswer}
+use Rattle.sweep.specs.declared.SweepAnswer.{SweepAnswer}
 use Rattle.sweep.specs.declared.Totals.{Totals}
 
 -- What a C function leaves, where `numbers` says which numbers an accepted answer is handed back as. Accepted: the caller's numbers are those of an
@@ -30,12 +30,12 @@ abbrev pub HandedAs : {A S : Type 0} → (A → S → Type 0) → (ℕ → A) �
 HandedAs numbers refused a refusal before after = (numbers a after × (refusal ≡ 0)) ⊎ ((a ≡ refused refusal) × (after ≡ before))
 
 -- how many pairs
-abbrev pub listedNumbers : Listed → ℕ → Type 0
+abbrev pub listedNumbers : ListAnswer → ℕ → Type 0
 listedNumbers (Pairs n) pairs = pairs ≡ n
-listedNumbers (Listed.Refused k) pairs = ⊥
+listedNumbers (ListAnswer.Refused k) pairs = ⊥
 
 -- 1 for yes, 0 for no
-abbrev pub toldNumbers : Told → ℕ → Type 0
+abbrev pub toldNumbers : BoolAnswer → ℕ → Type 0
 toldNumbers Yes n = n ≡ 1
 toldNumbers No n = n ≡ 0
 toldNumbers (Invalid k) n = ⊥
@@ -48,9 +48,9 @@ pub record GridCells : Type 0 where
 abbrev pub gridCells : List ℕ → List Float → GridCells
 gridCells cells steps = record { cells = cells; steps = steps }
 
-abbrev pub gridNumbers : Gridded → GridCells → Type 0
-gridNumbers (Gridded.Accepted g) n = n ≡ gridCells (g .c0 ∷ g .c1 ∷ g .c2 ∷ []) (g .s0 ∷ g .s1 ∷ g .s2 ∷ [])
-gridNumbers (Gridded.Refused k) n = ⊥
+abbrev pub gridNumbers : GridAnswer → GridCells → Type 0
+gridNumbers (GridAnswer.Accepted g) n = n ≡ gridCells (g .c0 ∷ g .c1 ∷ g .c2 ∷ []) (g .s0 ∷ g .s1 ∷ g .s2 ∷ [])
+gridNumbers (GridAnswer.Refused k) n = ⊥
 
 -- for possible and certain: 1 where the list moved, else 0, and how many pairs it has
 pub record PartCells : Type 0 where
@@ -63,21 +63,21 @@ partCells moved pairs = record { moved = moved; pairs = pairs }
 abbrev pub digit : Bool → ℕ
 digit b = cond b 1 0
 
-abbrev pub mergedNumbers : Merged → PartCells → Type 0
+abbrev pub mergedNumbers : MergeAnswer → PartCells → Type 0
 mergedNumbers (Lists p c) n = n ≡ partCells (digit (p .moved) ∷ digit (c .moved) ∷ []) (p .pairs ∷ c .pairs ∷ [])
-mergedNumbers (Merged.Refused k) n = ⊥
+mergedNumbers (MergeAnswer.Refused k) n = ⊥
 
 -- the small record of the stock that is laid
 abbrev pub tally : (generation intervals : ℕ) → Tally
 tally generation intervals = record { generation = generation; intervals = intervals }
 
-abbrev pub filledNumbers : Filled → Tally → Type 0
-filledNumbers (Filled.Accepted t) n = n ≡ t
-filledNumbers (Filled.Refused k) n = ⊥
+abbrev pub filledNumbers : FillAnswer → Tally → Type 0
+filledNumbers (FillAnswer.Accepted t) n = n ≡ t
+filledNumbers (FillAnswer.Refused k) n = ⊥
 
 -- the ten numbers of a volume, in the order of the Rust's `DexelVolume`
-abbrev pub volumeNumbers : Measured → List Float → Type 0
-volumeNumbers (Measured.Accepted v) n =
+abbrev pub volumeNumbers : VolumeAnswer → List Float → Type 0
+volumeNumbers (VolumeAnswer.Accepted v) n =
     n
     ≡ (v .«x_certain_mm3»
     ∷ v .«x_possible_mm3»
@@ -90,17 +90,17 @@ volumeNumbers (Measured.Accepted v) n =
     ∷ v .«removed_lower_mm3»
     ∷ v .«removed_upper_mm3»
     ∷ [])
-volumeNumbers (Measured.Refused k) n = ⊥
+volumeNumbers (VolumeAnswer.Refused k) n = ⊥
 
 -- how many rays a commit changed
-abbrev pub committedNumbers : Committed → ℕ → Type 0
-committedNumbers (Committed.Changed n) changed = changed ≡ n
-committedNumbers (Committed.Refused k) changed = ⊥
+abbrev pub committedNumbers : CommitAnswer → ℕ → Type 0
+committedNumbers (CommitAnswer.Changed n) changed = changed ≡ n
+committedNumbers (CommitAnswer.Refused k) changed = ⊥
 
 -- the number of entries and the visit total of a sweep
 abbrev pub totals : (entries visits : ℕ) → Totals
 totals entries visits = record { entries = entries; visits = visits }
 
-abbrev pub sweptNumbers : Swept → Totals → Type 0
-sweptNumbers (Swept.Accepted t) n = n ≡ t
-sweptNumbers (Swept.Refused k) n = ⊥
+abbrev pub sweptNumbers : SweepAnswer → Totals → Type 0
+sweptNumbers (SweepAnswer.Accepted t) n = n ≡ t
+sweptNumbers (SweepAnswer.Refused k) n = ⊥

@@ -8,25 +8,25 @@ use lib.ListN.{length}
 use Rattle.grid.specs.Rays.{rayCount}
 use Rattle.grid.specs.declared.DexelStockSpec.{DexelStockSpec}
 use Rattle.grid.specs.declared.DexelGrid.{DexelGrid}
-use Rattle.store.specs.Fills.{Cursor}
-use Rattle.store.specs.Updates.{Cells, Update, update, part, SoundStore, Room, Ascending, Freeable, Layable, freedList, freedAll, laidList, laidAll, applied, pairsFreed, pairsLaid}
+use Rattle.store.specs.Fills.{FreeCursor}
+use Rattle.store.specs.Updates.{Cells, Update, update, pairsFrom, CellsChainsSound, Room, Ascending, FreeListPre, LayListPre, freedList, freedAll, laidList, laidAll, applied, pairsFreed, pairsLaid}
 use Rattle.store.proofs.Updating.{FreedAll, freed-all, freed-append, LaidAll, laid-all, laid-append, all-empty, half-freed, half-laid, kept-room}
-use Rattle.change_list.specs.Changes.{headAt, end2, end3, end4, Change, changeBy, changesFrom, changesOf, rayOf, Names, Good, AllGood, updatesOf}
+use Rattle.change_list.specs.Changes.{headAt, end2, end3, end4, Change, changeBy, changesFrom, changesOf, changeRay, Names, Good, AllGood, updatesOf}
 use Rattle.change_list.specs.declared.ChangeHead.{ChangeHead}
 use Rattle.change_list.proofs.Sums.{rest-is}
 use Rattle.change_list.proofs.Applying.{good-ascend}
-use Rattle.store_free.specs.Rays.{FreeableRay}
-use Rattle.store_lay.specs.Rays.{LayableRay, LaidRay}
-use Rattle.change_apply.specs.Passes.{updatesIn, Fitting}
+use Rattle.store_free.specs.Rays.{FreeRayPre}
+use Rattle.store_lay.specs.Rays.{LayRayPre, LayRayPost}
+use Rattle.change_apply.specs.Passes.{updatesIn, ChangesFit}
 
 -- ---- one update of a list of updates that is split before it
-module _ {n m total : ℕ} {c : Cells} (s : SoundStore n m total c) (room : Room n m c) (us vs : List Update) (u : Update) (ws : List Update) (split : us ≡ vs ++ u ∷ ws) (asc : Ascending m 0 us) where
-  freeable-at : Freeable n (freedAll n c vs) (u .list)
+module _ {n m total : ℕ} {c : Cells} (s : CellsChainsSound n m total c) (room : Room n m c) (us vs : List Update) (u : Update) (ws : List Update) (split : us ≡ vs ++ u ∷ ws) (asc : Ascending m 0 us) where
+  freeable-at : FreeListPre n (freedAll n c vs) (u .list)
   freeable-at = half-freed s room vs u ws (subst (Ascending m 0) split asc)
 
-  layable-at : total - pairsFreed n c us + pairsLaid us ≤ n → Layable n (laidAll n (freedAll n c us) vs) u
+  layable-at : total - pairsFreed n c us + pairsLaid us ≤ n → LayListPre n (laidAll n (freedAll n c us) vs) u
   layable-at fits =
-      subst (λ (x : List Update). Layable n (laidAll n (freedAll n c x) vs) u) (sym split)
+      subst (λ (x : List Update). LayListPre n (laidAll n (freedAll n c x) vs) u) (sym split)
       (half-laid s room vs u ws (subst (Ascending m 0) split asc) (subst (λ (x : List Update). total - pairsFreed n c x + pairsLaid x ≤ n) split fits))
 
 freed-one : (n : ℕ) (c : Cells) (vs : List Update) (u : Update) → freedAll n c (vs ++ u ∷ []) ≡ freedList n (freedAll n c vs) (u .list)
@@ -51,10 +51,10 @@ module _ (spec : DexelStockSpec) (g : DexelGrid) (c : Cells) (changes : List ℕ
 
   -- the two updates of change k, whose lists begin at cell `at`
   abbrev possibleOf : ℕ → ℕ → Update
-  possibleOf k at = update (2 * rayOf g (headAt changes k .axis) (headAt changes k .index)) (part pairs (end2 (headAt changes k) at) (headAt changes k .«after_possible»))
+  possibleOf k at = update (2 * changeRay g (headAt changes k .axis) (headAt changes k .index)) (pairsFrom pairs (end2 (headAt changes k) at) (headAt changes k .«after_possible»))
 
   abbrev certainOf : ℕ → ℕ → Update
-  certainOf k at = update (2 * rayOf g (headAt changes k .axis) (headAt changes k .index) + 1) (part pairs (end3 (headAt changes k) at) (headAt changes k .«after_certain»))
+  certainOf k at = update (2 * changeRay g (headAt changes k .axis) (headAt changes k .index) + 1) (pairsFrom pairs (end3 (headAt changes k) at) (headAt changes k .«after_certain»))
 
   -- past the first k changes, whose updates are `done`; the lists of the others begin at cell `at`
   pub record Through (k at : ℕ) (done : List Update) : Type 0 where
@@ -85,7 +85,7 @@ module _ (spec : DexelStockSpec) (g : DexelGrid) (c : Cells) (changes : List ℕ
     unfolding AllGood
     through-next = record {
       most = omega arith;
-      from = suc (rayOf g (headAt changes k .axis) (headAt changes k .index));
+      from = suc (changeRay g (headAt changes k .axis) (headAt changes k .index));
       good = subst (AllGood spec g c pairs (t .from)) (rest-is spec g c changes pairs k at l) (t .good) .1;
       split = through-split ∙ sym (append-assoc done (possibleOf k at ∷ certainOf k at ∷ []) (updatesOf g (rest (k + 1) (end4 (headAt changes k) at))));
     }
@@ -107,7 +107,7 @@ module _ (spec : DexelStockSpec) (g : DexelGrid) (c : Cells) (changes : List ℕ
     pub through : Through k at done
     pub is : d ≡ freedAll (spec .«max_intervals») c done
 
-  module _ (total : ℕ) (f : Fitting spec g c total changes pairs) where
+  module _ (total : ℕ) (f : ChangesFit spec g c total changes pairs) where
     ascends : Ascending (2 * rayCount g) 0 (updatesIn g changes pairs)
     ascends = good-ascend spec g c pairs (changesOf changes pairs) 0 0 (omega arith) (f .good)
 
@@ -118,21 +118,21 @@ module _ (spec : DexelStockSpec) (g : DexelGrid) (c : Cells) (changes : List ℕ
     pub freed-names : (k : ℕ) (d : Cells) (p : FreedTo k d) → k < length changes / 6 → (h : ChangeHead) → h ≡ headAt changes k → Names g (h .axis) (h .index) (p .through .from)
     freed-names k d p l h eh = subst (λ (x : ChangeHead). Names g (x .axis) (x .index) (p .through .from)) (sym eh) (through-good k (p .at) (p .done) (p .through) l .names)
 
-    module _ (k : ℕ) (d : Cells) (p : FreedTo k d) (l : k < length changes / 6) (h : ChangeHead) (eh : h ≡ headAt changes k) (ray : ℕ) (er : ray ≡ rayOf g (h .axis) (h .index)) where
-      e : ray ≡ rayOf g (headAt changes k .axis) (headAt changes k .index)
-      e = er ∙ ap (λ (x : ChangeHead). rayOf g (x .axis) (x .index)) eh
+    module _ (k : ℕ) (d : Cells) (p : FreedTo k d) (l : k < length changes / 6) (h : ChangeHead) (eh : h ≡ headAt changes k) (ray : ℕ) (er : ray ≡ changeRay g (h .axis) (h .index)) where
+      e : ray ≡ changeRay g (headAt changes k .axis) (headAt changes k .index)
+      e = er ∙ ap (λ (x : ChangeHead). changeRay g (x .axis) (x .index)) eh
 
-      pub ray-freeable : FreeableRay (spec .«max_intervals») d ray
+      pub ray-freeable : FreeRayPre (spec .«max_intervals») d ray
       ray-freeable =
           let n : ℕ = spec .«max_intervals» in
           let t = p .through in
-          let a : Freeable n (freedAll n c (p .done)) (possibleOf k (p .at) .list)
+          let a : FreeListPre n (freedAll n c (p .done)) (possibleOf k (p .at) .list)
           = freeable-at (f .isSound .store) (f .room) (updatesIn g changes pairs) (p .done) (possibleOf k (p .at)) (certainOf k (p .at) ∷ updatesOf g (rest (k + 1) (end4 (headAt changes k) (p .at)))) (through-split k (p .at) (p .done) t l) ascends in
-          let b : Freeable n (freedAll n c (p .done ++ possibleOf k (p .at) ∷ [])) (certainOf k (p .at) .list)
+          let b : FreeListPre n (freedAll n c (p .done ++ possibleOf k (p .at) ∷ [])) (certainOf k (p .at) .list)
           = freeable-at (f .isSound .store) (f .room) (updatesIn g changes pairs) (p .done ++ possibleOf k (p .at) ∷ []) (certainOf k (p .at)) (updatesOf g (rest (k + 1) (end4 (headAt changes k) (p .at)))) (through-second k (p .at) (p .done) t l) ascends in
-          subst (λ (r : ℕ). FreeableRay n d r) (sym e)
-          (subst (λ (x : Cells). FreeableRay n x (rayOf g (headAt changes k .axis) (headAt changes k .index))) (sym (p .is))
-          (record { possible = a; certain = subst (λ (x : Cells). Freeable n x (certainOf k (p .at) .list)) (freed-one n c (p .done) (possibleOf k (p .at))) b }))
+          subst (λ (r : ℕ). FreeRayPre n d r) (sym e)
+          (subst (λ (x : Cells). FreeRayPre n x (changeRay g (headAt changes k .axis) (headAt changes k .index))) (sym (p .is))
+          (record { possible = a; certain = subst (λ (x : Cells). FreeListPre n x (certainOf k (p .at) .list)) (freed-one n c (p .done) (possibleOf k (p .at))) b }))
 
       pub freed-next : (d′ : Cells) → d′ ≡ freedList (spec .«max_intervals») (freedList (spec .«max_intervals») d (2 * ray)) (2 * ray + 1) → FreedTo (k + 1) d′
       freed-next d′ w = record {
@@ -158,7 +158,7 @@ module _ (spec : DexelStockSpec) (g : DexelGrid) (c : Cells) (changes : List ℕ
       pub done : List Update
       pub through : Through k at done
       pub is : d ≡ laidAll (spec .«max_intervals») freed done
-      pub cursor : Cursor (spec .«max_intervals») (d .spans) (d .links) r
+      pub cursor : FreeCursor (spec .«max_intervals») (d .spans) (d .links) r
 
     pub laid-none : (d : Cells) → d ≡ freed → LaidTo 0 0 0 d
     unfolding laidAll
@@ -168,22 +168,22 @@ module _ (spec : DexelStockSpec) (g : DexelGrid) (c : Cells) (changes : List ℕ
       pub laid-good : Good spec g c pairs (p .through .from) (changeBy h pairs at)
       laid-good = subst (λ (x : ChangeHead). Good spec g c pairs (p .through .from) (changeBy x pairs at)) (sym eh) (through-good k at (p .done) (p .through) l)
 
-    module _ (k at r : ℕ) (d : Cells) (p : LaidTo k at r d) (l : k < length changes / 6) (h : ChangeHead) (eh : h ≡ headAt changes k) (ray : ℕ) (e : ray ≡ rayOf g (h .axis) (h .index)) (after : ℕ) (ea : after ≡ end2 h at) where
-      pub ray-layable : LayableRay (spec .«max_intervals») d ray (part pairs after (h .«after_possible»)) (part pairs (after + 2 * h .«after_possible») (h .«after_certain»))
+    module _ (k at r : ℕ) (d : Cells) (p : LaidTo k at r d) (l : k < length changes / 6) (h : ChangeHead) (eh : h ≡ headAt changes k) (ray : ℕ) (e : ray ≡ changeRay g (h .axis) (h .index)) (after : ℕ) (ea : after ≡ end2 h at) where
+      pub ray-layable : LayRayPre (spec .«max_intervals») d ray (pairsFrom pairs after (h .«after_possible»)) (pairsFrom pairs (after + 2 * h .«after_possible») (h .«after_certain»))
       ray-layable =
           let n : ℕ = spec .«max_intervals» in
           let t = p .through in
-          let a : Layable n (laidAll n freed (p .done)) (possibleOf k at)
+          let a : LayListPre n (laidAll n freed (p .done)) (possibleOf k at)
           = layable-at (f .isSound .store) (f .room) (updatesIn g changes pairs) (p .done) (possibleOf k at) (certainOf k at ∷ updatesOf g (rest (k + 1) (end4 (headAt changes k) at))) (through-split k at (p .done) t l) ascends (f .budget) in
-          let b : Layable n (laidAll n freed (p .done ++ possibleOf k at ∷ [])) (certainOf k at)
+          let b : LayListPre n (laidAll n freed (p .done ++ possibleOf k at ∷ [])) (certainOf k at)
           = layable-at (f .isSound .store) (f .room) (updatesIn g changes pairs) (p .done ++ possibleOf k at ∷ []) (certainOf k at) (updatesOf g (rest (k + 1) (end4 (headAt changes k) at))) (through-second k at (p .done) t l) ascends (f .budget) in
-          subst (λ (y : ℕ). LayableRay n d ray (part pairs y (h .«after_possible»)) (part pairs (y + 2 * h .«after_possible») (h .«after_certain»))) (sym ea)
-          (subst (λ (y : ℕ). LayableRay n d y (part pairs (end2 h at) (h .«after_possible»)) (part pairs (end3 h at) (h .«after_certain»))) (sym e)
-          (subst (λ (x : ChangeHead). LayableRay n d (rayOf g (x .axis) (x .index)) (part pairs (end2 x at) (x .«after_possible»)) (part pairs (end3 x at) (x .«after_certain»))) (sym eh)
-          (subst (λ (x : Cells). LayableRay n x (rayOf g (headAt changes k .axis) (headAt changes k .index)) (part pairs (end2 (headAt changes k) at) (headAt changes k .«after_possible»)) (part pairs (end3 (headAt changes k) at) (headAt changes k .«after_certain»))) (sym (p .is))
-          (record { possible = a; certain = subst (λ (x : Cells). Layable n x (certainOf k at)) (laid-one n freed (p .done) (possibleOf k at)) b }))))
+          subst (λ (y : ℕ). LayRayPre n d ray (pairsFrom pairs y (h .«after_possible»)) (pairsFrom pairs (y + 2 * h .«after_possible») (h .«after_certain»))) (sym ea)
+          (subst (λ (y : ℕ). LayRayPre n d y (pairsFrom pairs (end2 h at) (h .«after_possible»)) (pairsFrom pairs (end3 h at) (h .«after_certain»))) (sym e)
+          (subst (λ (x : ChangeHead). LayRayPre n d (changeRay g (x .axis) (x .index)) (pairsFrom pairs (end2 x at) (x .«after_possible»)) (pairsFrom pairs (end3 x at) (x .«after_certain»))) (sym eh)
+          (subst (λ (x : Cells). LayRayPre n x (changeRay g (headAt changes k .axis) (headAt changes k .index)) (pairsFrom pairs (end2 (headAt changes k) at) (headAt changes k .«after_possible»)) (pairsFrom pairs (end3 (headAt changes k) at) (headAt changes k .«after_certain»))) (sym (p .is))
+          (record { possible = a; certain = subst (λ (x : Cells). LayListPre n x (certainOf k at)) (laid-one n freed (p .done) (possibleOf k at)) b }))))
 
-      pub laid-next : (r′ : ℕ) (d′ : Cells) → LaidRay (spec .«max_intervals») d ray (part pairs after (h .«after_possible»)) (part pairs (after + 2 * h .«after_possible») (h .«after_certain»)) r′ d′
+      pub laid-next : (r′ : ℕ) (d′ : Cells) → LayRayPost (spec .«max_intervals») d ray (pairsFrom pairs after (h .«after_possible»)) (pairsFrom pairs (after + 2 * h .«after_possible») (h .«after_certain»)) r′ d′
           → (at′ : ℕ) → at′ ≡ after + 2 * h .«after_possible» + 2 * h .«after_certain» → LaidTo (k + 1) at′ r′ d′
       laid-next r′ d′ w at′ ew =
           let n : ℕ = spec .«max_intervals» in
@@ -192,9 +192,9 @@ module _ (spec : DexelStockSpec) (g : DexelGrid) (c : Cells) (changes : List ℕ
             done = p .done ++ possibleOf k at ∷ certainOf k at ∷ [];
             through = through-next k at (p .done) (p .through) l;
             is = w .left
-                ∙ ap (λ (y : ℕ). laidList n (laidList n d (update (2 * ray) (part pairs y (h .«after_possible»)))) (update (2 * ray + 1) (part pairs (y + 2 * h .«after_possible») (h .«after_certain»)))) ea
-                ∙ ap (λ (y : ℕ). laidList n (laidList n d (update (2 * y) (part pairs (end2 h at) (h .«after_possible»)))) (update (2 * y + 1) (part pairs (end3 h at) (h .«after_certain»)))) e
-                ∙ ap (λ (x : ChangeHead). laidList n (laidList n d (update (2 * rayOf g (x .axis) (x .index)) (part pairs (end2 x at) (x .«after_possible»)))) (update (2 * rayOf g (x .axis) (x .index) + 1) (part pairs (end3 x at) (x .«after_certain»)))) eh
+                ∙ ap (λ (y : ℕ). laidList n (laidList n d (update (2 * ray) (pairsFrom pairs y (h .«after_possible»)))) (update (2 * ray + 1) (pairsFrom pairs (y + 2 * h .«after_possible») (h .«after_certain»)))) ea
+                ∙ ap (λ (y : ℕ). laidList n (laidList n d (update (2 * y) (pairsFrom pairs (end2 h at) (h .«after_possible»)))) (update (2 * y + 1) (pairsFrom pairs (end3 h at) (h .«after_certain»)))) e
+                ∙ ap (λ (x : ChangeHead). laidList n (laidList n d (update (2 * changeRay g (x .axis) (x .index)) (pairsFrom pairs (end2 x at) (x .«after_possible»)))) (update (2 * changeRay g (x .axis) (x .index) + 1) (pairsFrom pairs (end3 x at) (x .«after_certain»)))) eh
                 ∙ ap (λ (x : Cells). laidList n (laidList n x (possibleOf k at)) (certainOf k at)) (p .is)
                 ∙ sym (laid-two n freed (p .done) (possibleOf k at) (certainOf k at));
             cursor = w .onward;

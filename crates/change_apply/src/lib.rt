@@ -4,7 +4,7 @@ ghost use mathlib.Core.List.{List};
 ghost use Prim.Native.Nat.{ℕ, _+_, _*_, _^_, _<_};
 ghost use lib.Ieee.{Float};
 ghost use Rattle.store.specs.Updates.{cells, laidAll, applied};
-ghost use Rattle.change_apply.specs.Passes.{updatesIn, Fitting, Frees, Emptied};
+ghost use Rattle.change_apply.specs.Passes.{updatesIn, ChangesFit, FreeAllPost, ChangesFreed};
 use grid::DexelGrid;
 use grid::DexelStockSpec;
 
@@ -17,8 +17,8 @@ fn free_changes(
     heads: &mut [u64],
     changes: &[u64],
 )
-    requires { ⌜ ((total : ℕ) × (pairs : List Float) × Fitting spec g (cells (now spans) (now links) (now heads)) total (now changes) pairs) ⌝ }
-    ensures { λ _. ⌜ Frees spec g (now (changes .entry)) (cells (now (spans .entry)) (now (links .entry)) (now (heads .entry))) (cells (now (spans .exit)) (now (links .exit)) (now (heads .exit))) ⌝ }
+    requires { ⌜ ((total : ℕ) × (pairs : List Float) × ChangesFit spec g (cells (now spans) (now links) (now heads)) total (now changes) pairs) ⌝ }
+    ensures { λ _. ⌜ FreeAllPost spec g (now (changes .entry)) (cells (now (spans .entry)) (now (links .entry)) (now (heads .entry))) (cells (now (spans .exit)) (now (links .exit)) (now (heads .exit))) ⌝ }
 {
     let count = changes.len() / 6;
     let mut k: usize = 0;
@@ -54,7 +54,7 @@ fn lay_changes(
     changes: &[u64],
     pairs: &[f64],
 )
-    requires { ⌜ Emptied spec g (now changes) (now pairs) (cells (now spans) (now links) (now heads)) ⌝ }
+    requires { ⌜ ChangesFreed spec g (now changes) (now pairs) (cells (now spans) (now links) (now heads)) ⌝ }
     ensures { λ _. ⌜ cells (now (spans .exit)) (now (links .exit)) (now (heads .exit))
         ≡ laidAll (spec .«max_intervals») (cells (now (spans .entry)) (now (links .entry)) (now (heads .entry))) (updatesIn g (now (changes .entry)) (now (pairs .entry))) ⌝ }
 {
@@ -93,7 +93,7 @@ pub fn apply_changes(
     changes: &[u64],
     pairs: &[f64],
 )
-    requires { ⌜ ((total : ℕ) × Fitting spec g (cells (now spans) (now links) (now heads)) total (now changes) (now pairs)) ⌝ }
+    requires { ⌜ ((total : ℕ) × ChangesFit spec g (cells (now spans) (now links) (now heads)) total (now changes) (now pairs)) ⌝ }
     ensures { λ _. ⌜ cells (now (spans .exit)) (now (links .exit)) (now (heads .exit))
         ≡ applied (spec .«max_intervals») (cells (now (spans .entry)) (now (links .entry)) (now (heads .entry))) (updatesIn g (now (changes .entry)) (now (pairs .entry))) ⌝ }
 {

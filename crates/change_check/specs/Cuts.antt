@@ -13,19 +13,19 @@ use Rattle.ray_validity.specs.Ray.{ValidRay}
 use Rattle.stock.specs.Stock.{possibleIn, certainIn, SoundCells}
 
 -- the new lists make a valid ray, gain no point of the old ones and differ from them
-pub record Loses (lo hi : Float) (p q p′ q′ : List Float) : Type 0 where
+pub record IsRemoval (lo hi : Float) (p q p′ q′ : List Float) : Type 0 where
   pub valid : ValidRay lo hi p′ q′
   pub possible-loses : (x : Float) → holds p′ x ≡ true → holds p x ≡ true
   pub certain-loses : (x : Float) → holds q′ x ≡ true → holds q x ≡ true
   pub differs : (equal p′ p && equal q′ q) ≡ false
 
 -- and the old ones are the ray's
-pub record Cuts (spec : DexelStockSpec) (g : DexelGrid) (c : Cells) (ray : ℕ) (p q p′ q′ : List Float) : Type 0 where
+pub record ChangeAllowed (spec : DexelStockSpec) (g : DexelGrid) (c : Cells) (ray : ℕ) (p q p′ q′ : List Float) : Type 0 where
   pub was : (equal (possibleIn spec c ray) p && equal (certainIn spec c ray) q) ≡ true
-  pub loses : Loses (boundsOf spec g ray .lo) (boundsOf spec g ray .hi) p q p′ q′
+  pub loses : IsRemoval (boundsOf spec g ray .lo) (boundsOf spec g ray .hi) p q p′ q′
 
 -- the store has room and is sound
-pub record Lent (spec : DexelStockSpec) (g : DexelGrid) (c : Cells) : Type 0 where
+pub record SoundWithRoom (spec : DexelStockSpec) (g : DexelGrid) (c : Cells) : Type 0 where
   pub room : Room (spec .«max_intervals») (2 * rayCount g) c
   pub total : ℕ
   pub isSound : SoundCells spec g c total

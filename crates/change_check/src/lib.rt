@@ -5,9 +5,9 @@ ghost use Prim.Native.Nat.{_+_, _*_, _≤_, _<_};
 ghost use lib.ListN.{length};
 ghost use Rattle.spans.specs.Spans.{sound, equal};
 ghost use Rattle.grid.specs.Rays.{rayCount};
-ghost use Rattle.store.specs.Updates.{cells, part};
-ghost use Rattle.stock.specs.Stock.{Tells, Chained, possibleIn, certainIn};
-ghost use Rattle.change_check.specs.Cuts.{Lent, Loses, Cuts};
+ghost use Rattle.store.specs.Updates.{cells, pairsFrom};
+ghost use Rattle.stock.specs.Stock.{Decides, ChainsInRoom, possibleIn, certainIn};
+ghost use Rattle.change_check.specs.Cuts.{SoundWithRoom, IsRemoval, ChangeAllowed};
 use grid::DexelGrid;
 use grid::DexelStockSpec;
 
@@ -39,7 +39,7 @@ fn had(
     p: &[f64],
     q: &[f64],
 ) -> bool
-    requires { ⌜ Chained spec g (cells (now spans) (now links) (now heads)) × (ray < rayCount g) ⌝ }
+    requires { ⌜ ChainsInRoom spec g (cells (now spans) (now links) (now heads)) × (ray < rayCount g) ⌝ }
     ensures { λ r. ⌜ r ≡ (equal (possibleIn spec (cells (now (spans .entry)) (now (links .entry)) (now (heads .entry))) ray) (now (p .entry))
         && equal (certainIn spec (cells (now (spans .entry)) (now (links .entry)) (now (heads .entry))) ray) (now (q .entry))) ⌝ }
 {
@@ -54,7 +54,7 @@ fn had(
 // Whether the new lists of a ray are valid, gain no point of the old ones and differ from them.
 fn only_loses(p: &[f64], q: &[f64], np: &[f64], nq: &[f64], lo: f64, hi: f64) -> bool
     requires { ⌜ (sound (now p) ≡ true) × (sound (now q) ≡ true) ⌝ }
-    ensures { λ r. ⌜ Tells (Loses lo hi (now (p .entry)) (now (q .entry)) (now (np .entry)) (now (nq .entry))) r ⌝ }
+    ensures { λ r. ⌜ Decides (IsRemoval lo hi (now (p .entry)) (now (q .entry)) (now (np .entry)) (now (nq .entry))) r ⌝ }
 {
     if !ray_check::valid_ray(np, nq, lo, hi) {
         return false;
@@ -84,8 +84,8 @@ fn cuts(
     np: &[f64],
     nq: &[f64],
 ) -> bool
-    requires { ⌜ Lent spec g (cells (now spans) (now links) (now heads)) × (ray < rayCount g) ⌝ }
-    ensures { λ r. ⌜ Tells (Cuts spec g (cells (now (spans .entry)) (now (links .entry)) (now (heads .entry))) ray (now (p .entry)) (now (q .entry)) (now (np .entry)) (now (nq .entry))) r ⌝ }
+    requires { ⌜ SoundWithRoom spec g (cells (now spans) (now links) (now heads)) × (ray < rayCount g) ⌝ }
+    ensures { λ r. ⌜ Decides (ChangeAllowed spec g (cells (now (spans .entry)) (now (links .entry)) (now (heads .entry))) ray (now (p .entry)) (now (q .entry)) (now (np .entry)) (now (nq .entry))) r ⌝ }
 {
     if !had(spec, g, spans, links, heads, ray, p, q) {
         return false;
@@ -109,9 +109,9 @@ pub fn cuts_at(
     ap: usize,
     ac: usize,
 ) -> bool
-    requires { ⌜ Lent spec g (cells (now spans) (now links) (now heads)) × (ray < rayCount g) × (at + 2 * bp + 2 * bc + 2 * ap + 2 * ac ≤ length (now pairs)) ⌝ }
-    ensures { λ r. ⌜ Tells (Cuts spec g (cells (now (spans .entry)) (now (links .entry)) (now (heads .entry))) ray (part (now (pairs .entry)) at bp) (part (now (pairs .entry)) (at + 2 * bp) bc)
-        (part (now (pairs .entry)) (at + 2 * bp + 2 * bc) ap) (part (now (pairs .entry)) (at + 2 * bp + 2 * bc + 2 * ap) ac)) r ⌝ }
+    requires { ⌜ SoundWithRoom spec g (cells (now spans) (now links) (now heads)) × (ray < rayCount g) × (at + 2 * bp + 2 * bc + 2 * ap + 2 * ac ≤ length (now pairs)) ⌝ }
+    ensures { λ r. ⌜ Decides (ChangeAllowed spec g (cells (now (spans .entry)) (now (links .entry)) (now (heads .entry))) ray (pairsFrom (now (pairs .entry)) at bp) (pairsFrom (now (pairs .entry)) (at + 2 * bp) bc)
+        (pairsFrom (now (pairs .entry)) (at + 2 * bp + 2 * bc) ap) (pairsFrom (now (pairs .entry)) (at + 2 * bp + 2 * bc + 2 * ap) ac)) r ⌝ }
 {
     let e = at + 2 * bp;
     let f = e + 2 * bc;

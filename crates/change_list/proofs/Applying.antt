@@ -12,14 +12,14 @@ use Rattle.grid.specs.Rays.{rayCount, boundsOf}
 use Rattle.grid.specs.declared.DexelStockSpec.{DexelStockSpec}
 use Rattle.grid.specs.declared.DexelGrid.{DexelGrid}
 use Rattle.grid.proofs.Numbering.{number-lt}
-use Rattle.store.specs.Updates.{Cells, Update, update, Room, Ascending, none, next, pairsFreed, pairsLaid, listAfter, applied, Updated}
+use Rattle.store.specs.Updates.{Cells, Update, update, Room, Ascending, none, next, pairsFreed, pairsLaid, listAfter, applied, UpdatedStore}
 use Rattle.store.proofs.Updating.{after-here, after-other, updated}
 use Rattle.ray_validity.specs.Ray.{ValidRay}
 use Rattle.stock.specs.Stock.{possibleIn, certainIn, SoundCells}
-use Rattle.change_list.specs.Changes.{Change, rayOf, Good, AllGood, updatesOf}
+use Rattle.change_list.specs.Changes.{Change, changeRay, Good, AllGood, updatesOf}
 
 module _ (spec : DexelStockSpec) (g : DexelGrid) (c : Cells) (pairs : List Float) where
-  ray-below : (from : ℕ) (d : Change) → Good spec g c pairs from d → rayOf g (d .axis) (d .index) < rayCount g
+  ray-below : (from : ℕ) (d : Change) → Good spec g c pairs from d → changeRay g (d .axis) (d .index) < rayCount g
   ray-below from d good = number-lt g (worldAxis (d .axis)) (d .index) (good .names .below)
 
   -- the updates of good changes ascend
@@ -27,7 +27,7 @@ module _ (spec : DexelStockSpec) (g : DexelGrid) (c : Cells) (pairs : List Float
   unfolding AllGood updatesOf
   good-ascend [] from k h all = none
   good-ascend (d ∷ ds) from k h all =
-      let ray : ℕ = rayOf g (d .axis) (d .index) in
+      let ray : ℕ = changeRay g (d .axis) (d .index) in
       let good = all .0 in
       let v = good .cuts .loses .valid in
       let below : ray < rayCount g = ray-below from d good in
@@ -46,39 +46,39 @@ module _ (spec : DexelStockSpec) (g : DexelGrid) (c : Cells) (pairs : List Float
       → ValidRay (boundsOf spec g ray .lo) (boundsOf spec g ray .hi) (listAfter (updatesOf g ds) (2 * ray) p) (listAfter (updatesOf g ds) (2 * ray + 1) q)
   unfolding AllGood updatesOf listAfter
   good-valid [] from ray p q all v = v
-  good-valid (d ∷ ds) from ray p q all v = at (ℕ-discrete ray (rayOf g (d .axis) (d .index))) (good-valid ds (suc (rayOf g (d .axis) (d .index))) ray p q (all .1) v)
+  good-valid (d ∷ ds) from ray p q all v = at (ℕ-discrete ray (changeRay g (d .axis) (d .index))) (good-valid ds (suc (changeRay g (d .axis) (d .index))) ray p q (all .1) v)
     where
       first : Update
-      first = update (2 * rayOf g (d .axis) (d .index)) (d .possible-after)
+      first = update (2 * changeRay g (d .axis) (d .index)) (d .possible-after)
 
       second : Update
-      second = update (2 * rayOf g (d .axis) (d .index) + 1) (d .certain-after)
+      second = update (2 * changeRay g (d .axis) (d .index) + 1) (d .certain-after)
 
-      at : Dec (ray ≡ rayOf g (d .axis) (d .index)) → ValidRay (boundsOf spec g ray .lo) (boundsOf spec g ray .hi) (listAfter (updatesOf g ds) (2 * ray) p) (listAfter (updatesOf g ds) (2 * ray + 1) q)
+      at : Dec (ray ≡ changeRay g (d .axis) (d .index)) → ValidRay (boundsOf spec g ray .lo) (boundsOf spec g ray .hi) (listAfter (updatesOf g ds) (2 * ray) p) (listAfter (updatesOf g ds) (2 * ray + 1) q)
           → ValidRay (boundsOf spec g ray .lo) (boundsOf spec g ray .hi) (listAfter (updatesOf g (d ∷ ds)) (2 * ray) p) (listAfter (updatesOf g (d ∷ ds)) (2 * ray + 1) q)
       at (yes e) rest =
           let pe : listAfter (updatesOf g (d ∷ ds)) (2 * ray) p ≡ d .possible-after = after-here first (second ∷ updatesOf g ds) (2 * ray) p (ap (λ (r : ℕ). 2 * r) e) in
           let qe : listAfter (updatesOf g (d ∷ ds)) (2 * ray + 1) q ≡ d .certain-after
-          = after-other first (second ∷ updatesOf g ds) (2 * ray + 1) q (λ (z : 2 * ray + 1 ≡ 2 * rayOf g (d .axis) (d .index)). omega arith) ∙ after-here second (updatesOf g ds) (2 * ray + 1) q (ap (λ (r : ℕ). 2 * r + 1) e) in
+          = after-other first (second ∷ updatesOf g ds) (2 * ray + 1) q (λ (z : 2 * ray + 1 ≡ 2 * changeRay g (d .axis) (d .index)). omega arith) ∙ after-here second (updatesOf g ds) (2 * ray + 1) q (ap (λ (r : ℕ). 2 * r + 1) e) in
           subst (λ (x : List Float). ValidRay (boundsOf spec g ray .lo) (boundsOf spec g ray .hi) (listAfter (updatesOf g (d ∷ ds)) (2 * ray) p) x) (sym qe)
           (subst (λ (x : List Float). ValidRay (boundsOf spec g ray .lo) (boundsOf spec g ray .hi) x (d .certain-after)) (sym pe)
           (subst (λ (r : ℕ). ValidRay (boundsOf spec g r .lo) (boundsOf spec g r .hi) (d .possible-after) (d .certain-after)) (sym e) (all .0 .cuts .loses .valid)))
       at (no ne) rest =
           let pe : listAfter (updatesOf g (d ∷ ds)) (2 * ray) p ≡ listAfter (updatesOf g ds) (2 * ray) p
-          = after-other first (second ∷ updatesOf g ds) (2 * ray) p (λ (z : 2 * ray ≡ 2 * rayOf g (d .axis) (d .index)). ne (omega arith))
-          ∙ after-other second (updatesOf g ds) (2 * ray) p (λ (z : 2 * ray ≡ 2 * rayOf g (d .axis) (d .index) + 1). omega arith) in
+          = after-other first (second ∷ updatesOf g ds) (2 * ray) p (λ (z : 2 * ray ≡ 2 * changeRay g (d .axis) (d .index)). ne (omega arith))
+          ∙ after-other second (updatesOf g ds) (2 * ray) p (λ (z : 2 * ray ≡ 2 * changeRay g (d .axis) (d .index) + 1). omega arith) in
           let qe : listAfter (updatesOf g (d ∷ ds)) (2 * ray + 1) q ≡ listAfter (updatesOf g ds) (2 * ray + 1) q
-          = after-other first (second ∷ updatesOf g ds) (2 * ray + 1) q (λ (z : 2 * ray + 1 ≡ 2 * rayOf g (d .axis) (d .index)). omega arith)
-          ∙ after-other second (updatesOf g ds) (2 * ray + 1) q (λ (z : 2 * ray + 1 ≡ 2 * rayOf g (d .axis) (d .index) + 1). ne (omega arith)) in
+          = after-other first (second ∷ updatesOf g ds) (2 * ray + 1) q (λ (z : 2 * ray + 1 ≡ 2 * changeRay g (d .axis) (d .index)). omega arith)
+          ∙ after-other second (updatesOf g ds) (2 * ray + 1) q (λ (z : 2 * ray + 1 ≡ 2 * changeRay g (d .axis) (d .index) + 1). ne (omega arith)) in
           subst (λ (x : List Float). ValidRay (boundsOf spec g ray .lo) (boundsOf spec g ray .hi) (listAfter (updatesOf g (d ∷ ds)) (2 * ray) p) x) (sym qe)
           (subst (λ (x : List Float). ValidRay (boundsOf spec g ray .lo) (boundsOf spec g ray .hi) x (listAfter (updatesOf g ds) (2 * ray + 1) q)) (sym pe) rest)
 
   -- what a good change does to its ray's lists, which were p and q before
   pub record Has (ds : List Change) (from : ℕ) (d : Change) (p q : List Float) : Type 0 where
-    pub below : rayOf g (d .axis) (d .index) < rayCount g
-    pub after : from ≤ rayOf g (d .axis) (d .index)
-    pub possible : listAfter (updatesOf g ds) (2 * rayOf g (d .axis) (d .index)) p ≡ d .possible-after
-    pub certain : listAfter (updatesOf g ds) (2 * rayOf g (d .axis) (d .index) + 1) q ≡ d .certain-after
+    pub below : changeRay g (d .axis) (d .index) < rayCount g
+    pub after : from ≤ changeRay g (d .axis) (d .index)
+    pub possible : listAfter (updatesOf g ds) (2 * changeRay g (d .axis) (d .index)) p ≡ d .possible-after
+    pub certain : listAfter (updatesOf g ds) (2 * changeRay g (d .axis) (d .index) + 1) q ≡ d .certain-after
 
   -- a changed ray has the change's new lists
   pub changed-has : (ds : List Change) (from : ℕ) → AllGood spec g c pairs from ds → (d : Change) → List·Memᴰ d ds → (p q : List Float) → Has ds from d p q
@@ -86,57 +86,57 @@ module _ (spec : DexelStockSpec) (g : DexelGrid) (c : Cells) (pairs : List Float
   changed-has [] from all d m p q = absurd (List·Memᴰ·not-nil m)
   changed-has (e ∷ ds) from all d m p q = ⊎-elim
       (λ (s : d ≡ e). subst (λ (x : Change). Has (e ∷ ds) from x p q) (sym s) here)
-      (λ (t : List·Memᴰ d ds). there (changed-has ds (suc (rayOf g (e .axis) (e .index))) (all .1) d t p q))
+      (λ (t : List·Memᴰ d ds). there (changed-has ds (suc (changeRay g (e .axis) (e .index))) (all .1) d t p q))
       (List·Memᴰ·cases-cons m)
     where
       first : Update
-      first = update (2 * rayOf g (e .axis) (e .index)) (e .possible-after)
+      first = update (2 * changeRay g (e .axis) (e .index)) (e .possible-after)
 
       second : Update
-      second = update (2 * rayOf g (e .axis) (e .index) + 1) (e .certain-after)
+      second = update (2 * changeRay g (e .axis) (e .index) + 1) (e .certain-after)
 
       here : Has (e ∷ ds) from e p q
       here = record {
         below = ray-below from e (all .0);
         after = all .0 .names .ascends;
-        possible = after-here first (second ∷ updatesOf g ds) (2 * rayOf g (e .axis) (e .index)) p refl;
-        certain = after-other first (second ∷ updatesOf g ds) (2 * rayOf g (e .axis) (e .index) + 1) q (λ (z : 2 * rayOf g (e .axis) (e .index) + 1 ≡ 2 * rayOf g (e .axis) (e .index)). omega arith)
-            ∙ after-here second (updatesOf g ds) (2 * rayOf g (e .axis) (e .index) + 1) q refl;
+        possible = after-here first (second ∷ updatesOf g ds) (2 * changeRay g (e .axis) (e .index)) p refl;
+        certain = after-other first (second ∷ updatesOf g ds) (2 * changeRay g (e .axis) (e .index) + 1) q (λ (z : 2 * changeRay g (e .axis) (e .index) + 1 ≡ 2 * changeRay g (e .axis) (e .index)). omega arith)
+            ∙ after-here second (updatesOf g ds) (2 * changeRay g (e .axis) (e .index) + 1) q refl;
       }
 
-      there : Has ds (suc (rayOf g (e .axis) (e .index))) d p q → Has (e ∷ ds) from d p q
+      there : Has ds (suc (changeRay g (e .axis) (e .index))) d p q → Has (e ∷ ds) from d p q
       there h =
-          let up : suc (rayOf g (e .axis) (e .index)) ≤ rayOf g (d .axis) (d .index) = h .after in
-          let lo : from ≤ rayOf g (e .axis) (e .index) = all .0 .names .ascends in
+          let up : suc (changeRay g (e .axis) (e .index)) ≤ changeRay g (d .axis) (d .index) = h .after in
+          let lo : from ≤ changeRay g (e .axis) (e .index) = all .0 .names .ascends in
           record {
             below = h .below;
             after = omega arith;
-            possible = after-other first (second ∷ updatesOf g ds) (2 * rayOf g (d .axis) (d .index)) p (λ (z : 2 * rayOf g (d .axis) (d .index) ≡ 2 * rayOf g (e .axis) (e .index)). omega arith)
-                ∙ after-other second (updatesOf g ds) (2 * rayOf g (d .axis) (d .index)) p (λ (z : 2 * rayOf g (d .axis) (d .index) ≡ 2 * rayOf g (e .axis) (e .index) + 1). omega arith) ∙ h .possible;
-            certain = after-other first (second ∷ updatesOf g ds) (2 * rayOf g (d .axis) (d .index) + 1) q (λ (z : 2 * rayOf g (d .axis) (d .index) + 1 ≡ 2 * rayOf g (e .axis) (e .index)). omega arith)
-                ∙ after-other second (updatesOf g ds) (2 * rayOf g (d .axis) (d .index) + 1) q (λ (z : 2 * rayOf g (d .axis) (d .index) + 1 ≡ 2 * rayOf g (e .axis) (e .index) + 1). omega arith) ∙ h .certain;
+            possible = after-other first (second ∷ updatesOf g ds) (2 * changeRay g (d .axis) (d .index)) p (λ (z : 2 * changeRay g (d .axis) (d .index) ≡ 2 * changeRay g (e .axis) (e .index)). omega arith)
+                ∙ after-other second (updatesOf g ds) (2 * changeRay g (d .axis) (d .index)) p (λ (z : 2 * changeRay g (d .axis) (d .index) ≡ 2 * changeRay g (e .axis) (e .index) + 1). omega arith) ∙ h .possible;
+            certain = after-other first (second ∷ updatesOf g ds) (2 * changeRay g (d .axis) (d .index) + 1) q (λ (z : 2 * changeRay g (d .axis) (d .index) + 1 ≡ 2 * changeRay g (e .axis) (e .index)). omega arith)
+                ∙ after-other second (updatesOf g ds) (2 * changeRay g (d .axis) (d .index) + 1) q (λ (z : 2 * changeRay g (d .axis) (d .index) + 1 ≡ 2 * changeRay g (e .axis) (e .index) + 1). omega arith) ∙ h .certain;
           }
 
   -- a ray that no change names keeps its lists
-  pub other-keeps : (ds : List Change) (ray : ℕ) → ((d : Change) → List·Memᴰ d ds → ray ≡ rayOf g (d .axis) (d .index) → ⊥) → (p q : List Float)
+  pub other-keeps : (ds : List Change) (ray : ℕ) → ((d : Change) → List·Memᴰ d ds → ray ≡ changeRay g (d .axis) (d .index) → ⊥) → (p q : List Float)
       → (listAfter (updatesOf g ds) (2 * ray) p ≡ p) × (listAfter (updatesOf g ds) (2 * ray + 1) q ≡ q)
   unfolding updatesOf listAfter
   other-keeps [] ray apart p q = (refl, refl)
   other-keeps (e ∷ ds) ray apart p q =
-      let ne : ray ≡ rayOf g (e .axis) (e .index) → ⊥ = apart e (List·Memᴰ·head refl) in
+      let ne : ray ≡ changeRay g (e .axis) (e .index) → ⊥ = apart e (List·Memᴰ·head refl) in
       let rest = other-keeps ds ray (λ d m. apart d (List·Memᴰ·tail m)) p q in
-      let first : Update = update (2 * rayOf g (e .axis) (e .index)) (e .possible-after) in
-      let second : Update = update (2 * rayOf g (e .axis) (e .index) + 1) (e .certain-after) in (
-        after-other first (second ∷ updatesOf g ds) (2 * ray) p (λ (z : 2 * ray ≡ 2 * rayOf g (e .axis) (e .index)). ne (omega arith))
-            ∙ after-other second (updatesOf g ds) (2 * ray) p (λ (z : 2 * ray ≡ 2 * rayOf g (e .axis) (e .index) + 1). omega arith) ∙ rest .0,
-        after-other first (second ∷ updatesOf g ds) (2 * ray + 1) q (λ (z : 2 * ray + 1 ≡ 2 * rayOf g (e .axis) (e .index)). omega arith)
-            ∙ after-other second (updatesOf g ds) (2 * ray + 1) q (λ (z : 2 * ray + 1 ≡ 2 * rayOf g (e .axis) (e .index) + 1). ne (omega arith)) ∙ rest .1,
+      let first : Update = update (2 * changeRay g (e .axis) (e .index)) (e .possible-after) in
+      let second : Update = update (2 * changeRay g (e .axis) (e .index) + 1) (e .certain-after) in (
+        after-other first (second ∷ updatesOf g ds) (2 * ray) p (λ (z : 2 * ray ≡ 2 * changeRay g (e .axis) (e .index)). ne (omega arith))
+            ∙ after-other second (updatesOf g ds) (2 * ray) p (λ (z : 2 * ray ≡ 2 * changeRay g (e .axis) (e .index) + 1). omega arith) ∙ rest .0,
+        after-other first (second ∷ updatesOf g ds) (2 * ray + 1) q (λ (z : 2 * ray + 1 ≡ 2 * changeRay g (e .axis) (e .index)). omega arith)
+            ∙ after-other second (updatesOf g ds) (2 * ray + 1) q (λ (z : 2 * ray + 1 ≡ 2 * changeRay g (e .axis) (e .index) + 1). ne (omega arith)) ∙ rest .1,
       )
 
   -- the stock stays sound, with the intervals that are left and laid, and each list is the one that the changes say
   module _ (total : ℕ) (sound : SoundCells spec g c total) (room : Room (spec .«max_intervals») (2 * rayCount g) c) (ds : List Change) (all : AllGood spec g c pairs 0 ds)
       (budget : total - pairsFreed (spec .«max_intervals») c (updatesOf g ds) + pairsLaid (updatesOf g ds) ≤ spec .«max_intervals») where
-    pub changes-update : Updated (spec .«max_intervals») (2 * rayCount g) total c (updatesOf g ds) (applied (spec .«max_intervals») c (updatesOf g ds))
+    pub changes-update : UpdatedStore (spec .«max_intervals») (2 * rayCount g) total c (updatesOf g ds) (applied (spec .«max_intervals») c (updatesOf g ds))
     changes-update = updated (sound .store) room (good-ascend ds 0 0 (omega arith) all) budget
 
     pub changes-sound : SoundCells spec g (applied (spec .«max_intervals») c (updatesOf g ds)) (total - pairsFreed (spec .«max_intervals») c (updatesOf g ds) + pairsLaid (updatesOf g ds))

@@ -12,18 +12,18 @@ use Rattle.spans.specs.Spans.{equal}
 use Rattle.grid.specs.declared.DexelStockSpec.{DexelStockSpec}
 use Rattle.grid.specs.declared.DexelGrid.{DexelGrid}
 use Rattle.store.specs.Store.{placesOf}
-use Rattle.store.specs.Updates.{Cells, part, pairsFreed, pairsLaid}
+use Rattle.store.specs.Updates.{Cells, pairsFrom, pairsFreed, pairsLaid}
 use Rattle.store_lists.proofs.Steps.{ends-length}
 use Rattle.stock.specs.Stock.{possibleIn, certainIn}
-use Rattle.change_list.specs.Changes.{headAt, end1, end2, end3, end4, Change, changeBy, changesFrom, changesOf, rayOf, Good, AllGood, updatesOf}
-use Rattle.change_list.specs.Steps.{onward, cursorOf, Stands, Checks, ChecksAll}
+use Rattle.change_list.specs.Changes.{headAt, end1, end2, end3, end4, Change, changeBy, changesFrom, changesOf, changeRay, Good, AllGood, updatesOf}
+use Rattle.change_list.specs.Steps.{onward, cursorOf, Stands, CheckChangePost, CheckChangesPost}
 use Rattle.change_list.specs.declared.ChangeHead.{ChangeHead}
-use Rattle.change_list.specs.declared.Cursor.{Cursor}
-use Rattle.change_list.specs.declared.Checked.the-variants.{Next, Bad}
+use Rattle.change_list.specs.declared.ChangeCursor.{ChangeCursor}
+use Rattle.change_list.specs.declared.ChangeCheck.the-variants.{Next, Bad}
 use Rattle.spans.proofs.Sets.{equal-length}
 use Rattle.change_list.proofs.Tests.{bad-due, due-bad}
 
-pub part-length : (pairs : List Float) (at n : ℕ) → at + 2 * n ≤ length pairs → length (part pairs at n) ≡ 2 * n
+pub part-length : (pairs : List Float) (at n : ℕ) → at + 2 * n ≤ length pairs → length (pairsFrom pairs at n) ≡ 2 * n
 part-length pairs at n h = length-take-le (2 * n) (drop at pairs) (omega (arith, length-drop at pairs))
 
 module _ (spec : DexelStockSpec) (g : DexelGrid) (c : Cells) (changes : List ℕ) (pairs : List Float) where
@@ -32,10 +32,10 @@ module _ (spec : DexelStockSpec) (g : DexelGrid) (c : Cells) (changes : List ℕ
       → pairsFreed (spec .«max_intervals») c (updatesOf g (changeBy h pairs at ∷ ds)) ≡ h .«before_possible» + h .«before_certain» + pairsFreed (spec .«max_intervals») c (updatesOf g ds)
   unfolding pairsFreed updatesOf
   freed-by from at h ds good =
-      let ray : ℕ = rayOf g (h .axis) (h .index) in
+      let ray : ℕ = changeRay g (h .axis) (h .index) in
       let w = good .within in
-      let p : length (possibleIn spec c ray) ≡ length (part pairs at (h .«before_possible»)) = equal-length (possibleIn spec c ray) (part pairs at (h .«before_possible»)) (and-left _ _ (good .cuts .was)) in
-      let q : length (certainIn spec c ray) ≡ length (part pairs (end1 h at) (h .«before_certain»)) = equal-length (certainIn spec c ray) (part pairs (end1 h at) (h .«before_certain»)) (and-right (equal (possibleIn spec c ray) (part pairs at (h .«before_possible»))) _ (good .cuts .was)) in
+      let p : length (possibleIn spec c ray) ≡ length (pairsFrom pairs at (h .«before_possible»)) = equal-length (possibleIn spec c ray) (pairsFrom pairs at (h .«before_possible»)) (and-left _ _ (good .cuts .was)) in
+      let q : length (certainIn spec c ray) ≡ length (pairsFrom pairs (end1 h at) (h .«before_certain»)) = equal-length (certainIn spec c ray) (pairsFrom pairs (end1 h at) (h .«before_certain»)) (and-right (equal (possibleIn spec c ray) (pairsFrom pairs at (h .«before_possible»))) _ (good .cuts .was)) in
       let pe : length (possibleIn spec c ray) ≡ 2 * length (placesOf (spec .«max_intervals») (c .links) (c .heads) (2 * ray)) = ends-length (c .spans) (placesOf (spec .«max_intervals») (c .links) (c .heads) (2 * ray)) in
       let qe : length (certainIn spec c ray) ≡ 2 * length (placesOf (spec .«max_intervals») (c .links) (c .heads) (2 * ray + 1)) = ends-length (c .spans) (placesOf (spec .«max_intervals») (c .links) (c .heads) (2 * ray + 1)) in
       omega (arith, part-length pairs at (h .«before_possible») (omega arith), part-length pairs (end1 h at) (h .«before_certain») (omega arith))
@@ -46,7 +46,7 @@ module _ (spec : DexelStockSpec) (g : DexelGrid) (c : Cells) (changes : List ℕ
   laid-by from at h ds good = let w = good .within in omega (arith, part-length pairs (end2 h at) (h .«after_possible») (omega arith), part-length pairs (end3 h at) (h .«after_certain») (omega arith))
 
   -- past the first k of all changes
-  pub record Passed (k : ℕ) (cur : Cursor) : Type 0 where
+  pub record Passed (k : ℕ) (cur : ChangeCursor) : Type 0 where
     pub most : k ≤ length changes / 6
     pub stands : Stands pairs cur
     pub back : AllGood spec g c pairs 0 (changesOf changes pairs) → AllGood spec g c pairs (cur .from) (changesFrom changes pairs (length changes / 6 - k) k (cur .at))
@@ -75,13 +75,13 @@ module _ (spec : DexelStockSpec) (g : DexelGrid) (c : Cells) (changes : List ℕ
       ap (λ (r : ℕ). changesFrom changes pairs r k at) e
       ∙ ap (λ (i : ℕ). changeBy (headAt changes k) pairs at ∷ changesFrom changes pairs (length changes / 6 - (k + 1)) i (end4 (headAt changes k) at)) (sym (add-one k))
 
-  pub bad-change : (k : ℕ) (cur : Cursor) (h : ChangeHead) → Passed k cur → k < length changes / 6 → h ≡ headAt changes k → Checks spec g c pairs h cur Bad → ChecksAll spec g c pairs (changesOf changes pairs) Bad
+  pub bad-change : (k : ℕ) (cur : ChangeCursor) (h : ChangeHead) → Passed k cur → k < length changes / 6 → h ≡ headAt changes k → CheckChangePost spec g c pairs h cur Bad → CheckChangesPost spec g c pairs (changesOf changes pairs) Bad
   unfolding AllGood
   bad-change k cur h p l e n = bad-due _ λ all.
       due-bad _ n (subst (λ (x : ChangeHead). Good spec g c pairs (cur .from) (changeBy x pairs (cur .at))) (sym e)
       (subst (AllGood spec g c pairs (cur .from)) (rest-is k (cur .at) l) (p .back all) .0))
 
-  pub next-change : (k : ℕ) (cur next : Cursor) (h : ChangeHead) → Passed k cur → k < length changes / 6 → h ≡ headAt changes k → Checks spec g c pairs h cur (Next next) → Passed (k + 1) next
+  pub next-change : (k : ℕ) (cur next : ChangeCursor) (h : ChangeHead) → Passed k cur → k < length changes / 6 → h ≡ headAt changes k → CheckChangePost spec g c pairs h cur (Next next) → Passed (k + 1) next
   unfolding AllGood
   next-change k cur next h p l e n =
       subst (Passed (k + 1)) (sym (n .1 ∙ ap (λ (x : ChangeHead). onward g x cur) e)) (made (subst (λ (x : ChangeHead). Good spec g c pairs (cur .from) (changeBy x pairs (cur .at))) e (n .0)))
@@ -97,13 +97,13 @@ module _ (spec : DexelStockSpec) (g : DexelGrid) (c : Cells) (changes : List ℕ
           record {
             most = omega arith;
             stands = record { whole = s .whole; even = omega (arith, s .even); within = w; sums = omega (arith, s .sums) };
-            back = λ all. subst (λ (i : ℕ). AllGood spec g c pairs i r) (sym (add-one (rayOf g (headAt changes k .axis) (headAt changes k .index)))) (subst (AllGood spec g c pairs (cur .from)) is (p .back all) .1);
-            forth = λ rest. p .forth (subst (AllGood spec g c pairs (cur .from)) (sym is) (good, subst (λ (i : ℕ). AllGood spec g c pairs i r) (add-one (rayOf g (headAt changes k .axis) (headAt changes k .index))) rest));
+            back = λ all. subst (λ (i : ℕ). AllGood spec g c pairs i r) (sym (add-one (changeRay g (headAt changes k .axis) (headAt changes k .index)))) (subst (AllGood spec g c pairs (cur .from)) is (p .back all) .1);
+            forth = λ rest. p .forth (subst (AllGood spec g c pairs (cur .from)) (sym is) (good, subst (λ (i : ℕ). AllGood spec g c pairs i r) (add-one (changeRay g (headAt changes k .axis) (headAt changes k .index))) rest));
             freed = omega (arith, f, p .freed);
             laid = omega (arith, d, p .laid);
           }
 
-  pub all-passed : (k : ℕ) (cur : Cursor) → Passed k cur → length changes / 6 ≤ k → ChecksAll spec g c pairs (changesOf changes pairs) (Next cur)
+  pub all-passed : (k : ℕ) (cur : ChangeCursor) → Passed k cur → length changes / 6 ≤ k → CheckChangesPost spec g c pairs (changesOf changes pairs) (Next cur)
   unfolding AllGood changesFrom pairsFreed pairsLaid updatesOf
   all-passed k cur p l =
       let none : length changes / 6 - k ≡ 0 = omega arith in

@@ -8,8 +8,8 @@ use Rattle.grid.specs.Axes.{worldAxis}
 use Rattle.grid.specs.Rays.{raysAlong, rayNumber}
 use Rattle.grid.specs.declared.DexelStockSpec.{DexelStockSpec}
 use Rattle.grid.specs.declared.DexelGrid.{DexelGrid}
-use Rattle.store.specs.Updates.{Cells, Update, update, part}
-use Rattle.change_check.specs.Cuts.{Cuts}
+use Rattle.store.specs.Updates.{Cells, Update, update, pairsFrom}
+use Rattle.change_check.specs.Cuts.{ChangeAllowed}
 use Rattle.change_list.specs.declared.ChangeHead.{ChangeHead}
 
 -- the six numbers of change k
@@ -53,10 +53,10 @@ changeBy h pairs at =
     record {
       axis = h .axis;
       index = h .index;
-      possible-before = part pairs at (h .«before_possible»);
-      certain-before = part pairs (end1 h at) (h .«before_certain»);
-      possible-after = part pairs (end2 h at) (h .«after_possible»);
-      certain-after = part pairs (end3 h at) (h .«after_certain»);
+      possible-before = pairsFrom pairs at (h .«before_possible»);
+      certain-before = pairsFrom pairs (end1 h at) (h .«before_certain»);
+      possible-after = pairsFrom pairs (end2 h at) (h .«after_possible»);
+      certain-after = pairsFrom pairs (end3 h at) (h .«after_certain»);
       past = end4 h at;
     }
 
@@ -71,29 +71,29 @@ abbrev pub changesOf : List ℕ → List Float → List Change
 changesOf changes pairs = changesFrom changes pairs (length changes / 6) 0 0
 
 -- the ray that a change names
-abbrev pub rayOf : DexelGrid → (axis index : ℕ) → ℕ
-rayOf g axis index = rayNumber g (worldAxis axis) index
+abbrev pub changeRay : DexelGrid → (axis index : ℕ) → ℕ
+changeRay g axis index = rayNumber g (worldAxis axis) index
 
 -- there is such a ray, and it comes after those before: rays ascend by axis, then index
 pub record Names (g : DexelGrid) (axis index from : ℕ) : Type 0 where
   pub digit : axis ≤ 2
   pub below : index < raysAlong g (worldAxis axis)
-  pub ascends : from ≤ rayOf g axis index
+  pub ascends : from ≤ changeRay g axis index
 
 -- a change that `validate` lets pass, and whose lists lie within the lent pairs; `from` is one more than the ray of the change before
 pub record Good (spec : DexelStockSpec) (g : DexelGrid) (c : Cells) (pairs : List Float) (from : ℕ) (d : Change) : Type 0 where
   pub within : d .past ≤ length pairs
   pub names : Names g (d .axis) (d .index) from
-  pub cuts : Cuts spec g c (rayOf g (d .axis) (d .index)) (d .possible-before) (d .certain-before) (d .possible-after) (d .certain-after)
+  pub cuts : ChangeAllowed spec g c (changeRay g (d .axis) (d .index)) (d .possible-before) (d .certain-before) (d .possible-after) (d .certain-after)
 
 unfoldable pub AllGood : DexelStockSpec → DexelGrid → Cells → List Float → ℕ → List Change → Type 0
 AllGood spec g c pairs from [] = Unit {0}
-AllGood spec g c pairs from (d ∷ ds) = Good spec g c pairs from d × AllGood spec g c pairs (suc (rayOf g (d .axis) (d .index))) ds
+AllGood spec g c pairs from (d ∷ ds) = Good spec g c pairs from d × AllGood spec g c pairs (suc (changeRay g (d .axis) (d .index))) ds
 
 -- what the changes do to the store: possible's list before certain's, in ray order
 unfoldable pub updatesOf : DexelGrid → List Change → List Update
 updatesOf g [] = []
 updatesOf g (d ∷ ds) =
-    update (2 * rayOf g (d .axis) (d .index)) (d .possible-after)
-    ∷ update (2 * rayOf g (d .axis) (d .index) + 1) (d .certain-after)
+    update (2 * changeRay g (d .axis) (d .index)) (d .possible-after)
+    ∷ update (2 * changeRay g (d .axis) (d .index) + 1) (d .certain-after)
     ∷ updatesOf g ds

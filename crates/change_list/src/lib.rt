@@ -5,10 +5,10 @@ ghost use lib.ListN.{length};
 ghost use Rattle.grid.specs.Axes.{worldAxis};
 ghost use Rattle.grid.specs.Rays.{rayCount, raysAlong};
 ghost use Rattle.store.specs.Updates.{cells};
-ghost use Rattle.stock.specs.Stock.{Tells};
-ghost use Rattle.change_check.specs.Cuts.{Lent};
-ghost use Rattle.change_list.specs.Changes.{headAt, changesOf, rayOf, Names};
-ghost use Rattle.change_list.specs.Steps.{pairsIn, cursorOf, Stands, Checks, ChecksAll};
+ghost use Rattle.stock.specs.Stock.{Decides};
+ghost use Rattle.change_check.specs.Cuts.{SoundWithRoom};
+ghost use Rattle.change_list.specs.Changes.{headAt, changesOf, changeRay, Names};
+ghost use Rattle.change_list.specs.Steps.{pairsIn, cursorOf, Stands, CheckChangePost, CheckChangesPost};
 use grid::DexelGrid;
 use grid::DexelStockSpec;
 use grid::WorldAxis;
@@ -24,15 +24,15 @@ pub struct ChangeHead {
 }
 
 // How far a check of changes has come: the cell of the pairs, one more than the last ray, and the sums of pairs before and after.
-pub struct Cursor {
+pub struct ChangeCursor {
     pub at: usize,
     pub from: u64,
     pub before: usize,
     pub after: usize,
 }
 
-pub enum Checked {
-    Next(Cursor),
+pub enum ChangeCheck {
+    Next(ChangeCursor),
     Bad,
 }
 
@@ -60,7 +60,7 @@ pub fn head(changes: &[u64], k: usize) -> ChangeHead
 
 // Whether the lists have no more pairs than are left.
 fn fits(h: ChangeHead, left: usize) -> bool
-    ensures { λ r. ⌜ Tells (pairsIn h ≤ left) r ⌝ }
+    ensures { λ r. ⌜ Decides (pairsIn h ≤ left) r ⌝ }
 {
     if left < h.before_possible {
         return false;
@@ -79,7 +79,7 @@ fn fits(h: ChangeHead, left: usize) -> bool
 // The number of the ray that a change names.
 pub fn ray_named(g: DexelGrid, h: ChangeHead) -> u64
     requires { ⌜ (rayCount g < 2 ^ 64) × (h .axis ≤ 2) × (h .index < raysAlong g (worldAxis (h .axis))) ⌝ }
-    ensures { λ r. ⌜ r ≡ rayOf g (h .axis) (h .index) ⌝ }
+    ensures { λ r. ⌜ r ≡ changeRay g (h .axis) (h .index) ⌝ }
 {
     let axis = h.axis as u8;
     grid_rays::ray_number(g, WorldAxis(axis), h.index)
@@ -88,7 +88,7 @@ pub fn ray_named(g: DexelGrid, h: ChangeHead) -> u64
 // Whether a change names a ray, from the given one on.
 fn names(g: DexelGrid, h: ChangeHead, from: u64) -> bool
     requires { ⌜ rayCount g < 2 ^ 64 ⌝ }
-    ensures { λ r. ⌜ Tells (Names g (h .axis) (h .index) from) r ⌝ }
+    ensures { λ r. ⌜ Decides (Names g (h .axis) (h .index) from) r ⌝ }
 {
     if 2 < h.axis {
         return false;
@@ -110,11 +110,11 @@ fn past(
     bc: usize,
     ap: usize,
     ac: usize,
-) -> Cursor
+) -> ChangeCursor
     requires { ⌜ (at + 2 * bp + 2 * bc + 2 * ap + 2 * ac < 2 ^ 64) × (2 * (before + after) ≤ at) × (ray + 1 < 2 ^ 64) ⌝ }
     ensures { λ r. ⌜ r ≡ cursorOf (at + 2 * bp + 2 * bc + 2 * ap + 2 * ac) (ray + 1) (before + bp + bc) (after + ap + ac) ⌝ }
 {
-    Cursor {
+    ChangeCursor {
         at: at + 2 * bp + 2 * bc + 2 * ap + 2 * ac,
         from: ray + 1,
         before: before + bp + bc,
@@ -131,16 +131,16 @@ fn check_change(
     heads: &[u64],
     pairs: &[f64],
     h: ChangeHead,
-    cur: Cursor,
-) -> Checked
-    requires { ⌜ Lent spec g (cells (now spans) (now links) (now heads)) × Stands (now pairs) cur ⌝ }
-    ensures { λ r. ⌜ Checks spec g (cells (now (spans .entry)) (now (links .entry)) (now (heads .entry))) (now (pairs .entry)) h cur r ⌝ }
+    cur: ChangeCursor,
+) -> ChangeCheck
+    requires { ⌜ SoundWithRoom spec g (cells (now spans) (now links) (now heads)) × Stands (now pairs) cur ⌝ }
+    ensures { λ r. ⌜ CheckChangePost spec g (cells (now (spans .entry)) (now (links .entry)) (now (heads .entry))) (now (pairs .entry)) h cur r ⌝ }
 {
     if !fits(h, (pairs.len() - cur.at) / 2) {
-        return Checked::Bad;
+        return ChangeCheck::Bad;
     }
     if !names(g, h, cur.from) {
-        return Checked::Bad;
+        return ChangeCheck::Bad;
     }
     let ray = ray_named(g, h);
     let good = change_check::cuts_at(
@@ -158,9 +158,9 @@ fn check_change(
         h.after_certain,
     );
     if !good {
-        return Checked::Bad;
+        return ChangeCheck::Bad;
     }
-    Checked::Next(past(
+    ChangeCheck::Next(past(
         cur.at,
         cur.before,
         cur.after,
@@ -181,12 +181,12 @@ pub fn check_changes(
     heads: &[u64],
     changes: &[u64],
     pairs: &[f64],
-) -> Checked
-    requires { ⌜ Lent spec g (cells (now spans) (now links) (now heads)) × (length (now pairs) % 2 ≡ 0) ⌝ }
-    ensures { λ r. ⌜ ChecksAll spec g (cells (now (spans .entry)) (now (links .entry)) (now (heads .entry))) (now (pairs .entry)) (changesOf (now (changes .entry)) (now (pairs .entry))) r ⌝ }
+) -> ChangeCheck
+    requires { ⌜ SoundWithRoom spec g (cells (now spans) (now links) (now heads)) × (length (now pairs) % 2 ≡ 0) ⌝ }
+    ensures { λ r. ⌜ CheckChangesPost spec g (cells (now (spans .entry)) (now (links .entry)) (now (heads .entry))) (now (pairs .entry)) (changesOf (now (changes .entry)) (now (pairs .entry))) r ⌝ }
 {
     let count = changes.len() / 6;
-    let mut cur = Cursor {
+    let mut cur = ChangeCursor {
         at: 0,
         from: 0,
         before: 0,
@@ -195,11 +195,12 @@ pub fn check_changes(
     let mut k: usize = 0;
     while k < count {
         let h = head(changes, k);
-        let Checked::Next(next) = check_change(spec, g, spans, links, heads, pairs, h, cur) else {
-            return Checked::Bad;
+        let ChangeCheck::Next(next) = check_change(spec, g, spans, links, heads, pairs, h, cur)
+        else {
+            return ChangeCheck::Bad;
         };
         cur = next;
         k += 1;
     }
-    Checked::Next(cur)
+    ChangeCheck::Next(cur)
 }

@@ -6,7 +6,7 @@ use lib.Ieee.{Float, binary64, ofBits, neg, sub, mul, lt, le}
 use lib.ListN.{length}
 use Rattle.doubles.specs.Constants.{one, plusZero, two}
 use Rattle.doubles.specs.Doubles.{largerOf, absOf}
-use Rattle.grid.specs.Grid.{within, allWithin}
+use Rattle.grid.specs.Grid.{isBetween, allBetween}
 use Rattle.frame.specs.declared.Frame.{Frame}
 use Rattle.sweep_kernel.specs.declared.Chord.{Chord}
 use Rattle.chords.specs.Chords.{fromAt, toAt, chordOf}
@@ -24,7 +24,7 @@ guardFits guard = lt plusZero guard && le guard one
 
 -- each coordinate is finite and not beyond ±2e6
 unfoldable pub endsFit : List Float → ℕ → Bool
-endsFit chords i = allWithin (fromAt chords i) (neg twoMillion) twoMillion && allWithin (toAt chords i) (neg twoMillion) twoMillion
+endsFit chords i = allBetween (fromAt chords i) (neg twoMillion) twoMillion && allBetween (toAt chords i) (neg twoMillion) twoMillion
 
 -- the larger of the sizes of the two local plan differences
 unfoldable pub planSize : Chord → Float
@@ -33,12 +33,12 @@ planSize c = largerOf (absOf (sub binary64 (c .b .x) (c .a .x))) (absOf (sub bin
 -- the plan length is at least that and at most twice that
 unfoldable pub lengthFits : Chord → Bool
 unfolding planSize
-lengthFits c = within (c .length) (planSize c) (mul binary64 two (planSize c))
+lengthFits c = isBetween (c .length) (planSize c) (mul binary64 two (planSize c))
 
 -- e is in [0, 1000], and the plan length fits
 unfoldable pub numbersFit : Chord → Bool
 unfolding lengthFits
-numbersFit c = within (c .e) plusZero thousand && lengthFits c
+numbersFit c = isBetween (c .e) plusZero thousand && lengthFits c
 
 unfoldable pub chordFits : Frame → List Float → ℕ → Bool
 unfolding endsFit numbersFit chordOf

@@ -9,23 +9,23 @@ use Rattle.doubles.specs.Constants.{plusZero}
 use Rattle.grid.specs.Rays.{rayCount}
 use Rattle.grid.specs.declared.DexelStockSpec.{DexelStockSpec}
 use Rattle.grid.specs.declared.DexelGrid.{DexelGrid}
-use Rattle.store.specs.Updates.{Cells, Update, Room, SoundStore, Ascending, pairsFreed, pairsLaid, freedAll, laidAll, applied}
+use Rattle.store.specs.Updates.{Cells, Update, Room, CellsChainsSound, Ascending, pairsFreed, pairsLaid, freedAll, laidAll, applied}
 use Rattle.store.proofs.Updating.{FreedAll, freed-all, all-empty, kept-room}
 use Rattle.stock.specs.Stock.{Stock}
 use Rattle.log_model.specs.Logs.{entries, entryCount}
-use Rattle.log_model.specs.Counts.{pairsLeft}
+use Rattle.log_model.specs.Counts.{pairsAfter}
 use Rattle.log_model.specs.Lent.{listIn, listsIn}
 use Rattle.log_model.proofs.Doubles.{DoubleCells, Doubles, all-doubles}
-use Rattle.log_group.specs.Groups.{Groups}
+use Rattle.log_group.specs.Groups.{GroupPost}
 use Rattle.log_lay.specs.Updates.{updatesFrom, listsEnd}
 use Rattle.log_lay.specs.Steps.{AllFreeable, EachLayable, RaysLayable}
 use Rattle.log_lay.proofs.Room.{each-layable, no-cursor}
-use Rattle.log_updates.specs.Merges.{Merges, listsOf}
+use Rattle.log_updates.specs.Merges.{MergeUpdates, stockLists}
 use Rattle.log_updates.proofs.Leaves.{ascend, intervals-left}
-use Rattle.log_merge.specs.All.{AllMergeable, AllMerged}
-use Rattle.commit_apply.specs.Cutting.{Ready, Done}
+use Rattle.log_merge.specs.All.{MergeAllPre, MergeAllPost}
+use Rattle.commit_apply.specs.Cutting.{ApplyPre, ApplyPost}
 
-module _ (spec : DexelStockSpec) (g : DexelGrid) (c : Cells) (log w : List Float) (ready : Ready spec g c log w) where
+module _ (spec : DexelStockSpec) (g : DexelGrid) (c : Cells) (log w : List Float) (ready : ApplyPre spec g c log w) where
   -- a stock with these cells: the laws of a cut speak of no generation
   abbrev some : Stock
   some = record { cells = c; generation = 0; intervals = ready .total }
@@ -33,11 +33,11 @@ module _ (spec : DexelStockSpec) (g : DexelGrid) (c : Cells) (log w : List Float
   pub group-room : rayCount g + entryCount log ≤ length w
   group-room = omega (arith, ready .work-room, ready .facts .budget)
 
-  few : pairsLeft g (listsOf spec g some) (entries log) ≤ spec .«max_intervals»
+  few : pairsAfter g (stockLists spec g some) (entries log) ≤ spec .«max_intervals»
   unfolding listIn
   few = ready .few-pairs
 
-  pub mergeable : (w₁ : List Float) → Groups g log w w₁ → AllMergeable spec g c log w₁
+  pub mergeable : (w₁ : List Float) → GroupPost g log w w₁ → MergeAllPre spec g c log w₁
   mergeable w₁ k = record {
     grid = ready .facts;
     room = ready .room;
@@ -49,7 +49,7 @@ module _ (spec : DexelStockSpec) (g : DexelGrid) (c : Cells) (log w : List Float
     pairs = omega (arith, ready .work-room, k .size);
   }
 
-  module _ (w₁ w₂ : List Float) (m : ℕ) (k : Groups g log w w₁) (merged : AllMerged spec g c log w₁ w₂ m) where
+  module _ (w₁ w₂ : List Float) (m : ℕ) (k : GroupPost g log w w₁) (merged : MergeAllPost spec g c log w₁ w₂ m) where
     -- the updates that stand in the work buffer
     abbrev us : List Update
     us = updatesFrom w₂ (rayCount g + entryCount log) (rayCount g + entryCount log + 2 * rayCount g) 0 (rayCount g)
@@ -57,11 +57,11 @@ module _ (spec : DexelStockSpec) (g : DexelGrid) (c : Cells) (log w : List Float
     same-size : length w₂ ≡ length w
     same-size = merged .size ∙ k .size
 
-    asked : Merges g (listsOf spec g some) (entries log) 0 us m
+    asked : MergeUpdates g (stockLists spec g some) (entries log) 0 us m
     asked = merged .merges some refl
 
     module _ (ds : DoubleCells (c .spans)) (dl : DoubleCells log) where
-      doubles : Doubles g (listsOf spec g some) (entries log)
+      doubles : Doubles g (stockLists spec g some) (entries log)
       doubles = all-doubles spec g some log ds dl
 
       in-order : Ascending (2 * rayCount g) 0 us
@@ -95,7 +95,7 @@ module _ (spec : DexelStockSpec) (g : DexelGrid) (c : Cells) (log w : List Float
         in-sizes = sizes-room;
         room = subst (λ (x : ℕ). Room (spec .«max_intervals») (2 * x) c) (sym e) (ready .room);
         total = ready .total;
-        store = subst (λ (x : ℕ). SoundStore (spec .«max_intervals») (2 * x) (ready .total) c) (sym e) (ready .sound .store);
+        store = subst (λ (x : ℕ). CellsChainsSound (spec .«max_intervals») (2 * x) (ready .total) c) (sym e) (ready .sound .store);
       }
 
       module _ (d : Cells) (freed : (q : ℕ) → d ≡ freedAll (spec .«max_intervals») c (updatesFrom w₂ (rays + length log / 6) q 0 rays)) where
@@ -113,7 +113,7 @@ module _ (spec : DexelStockSpec) (g : DexelGrid) (c : Cells) (log w : List Float
         }
 
         pub done : (b : Cells) (w₃ : List Float) → b ≡ laidAll (spec .«max_intervals») d (updatesFrom w₂ (rays + length log / 6) (rays + length log / 6 + 2 * rays) 0 rays)
-            → w₃ ≡ take 0 w₂ ++ replicate (length w₂ - 0) plusZero → Done spec g c log w m b w₃
+            → w₃ ≡ take 0 w₂ ++ replicate (length w₂ - 0) plusZero → ApplyPost spec g c log w m b w₃
         unfolding applied listIn
         done b w₃ laid clear = record {
           updates = us;
@@ -122,12 +122,12 @@ module _ (spec : DexelStockSpec) (g : DexelGrid) (c : Cells) (log w : List Float
           cleared = clear ∙ ap (λ (n : ℕ). replicate n plusZero) (all (length w₂) ∙ same-size);
         }
           where
-            found : Merges g (listsIn spec g c) (entries log) 0 us m
+            found : MergeUpdates g (listsIn spec g c) (entries log) 0 us m
             found = asked
 
             all : (n : ℕ) → n - 0 ≡ n
             all n = omega arith
 
 -- the work buffer keeps its size
-pub cleared-size : (spec : DexelStockSpec) (g : DexelGrid) (c : Cells) (log w : List Float) (m : ℕ) (d : Cells) (w₃ : List Float) → Done spec g c log w m d w₃ → length w₃ ≡ length w
+pub cleared-size : (spec : DexelStockSpec) (g : DexelGrid) (c : Cells) (log w : List Float) (m : ℕ) (d : Cells) (w₃ : List Float) → ApplyPost spec g c log w m d w₃ → length w₃ ≡ length w
 cleared-size spec g c log w m d w₃ r = ap length (r .cleared) ∙ length-replicate (length w) plusZero

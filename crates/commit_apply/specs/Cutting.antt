@@ -12,24 +12,24 @@ use Rattle.grid.specs.declared.DexelGrid.{DexelGrid}
 use Rattle.store.specs.Updates.{Cells, Update, Room, applied}
 use Rattle.stock.specs.Stock.{SoundCells}
 use Rattle.log_model.specs.Logs.{entries, workNeeded}
-use Rattle.log_model.specs.Counts.{pairsLeft}
+use Rattle.log_model.specs.Counts.{pairsAfter}
 use Rattle.log_model.specs.Lent.{listsIn}
 use Rattle.log_entries.specs.Named.{EachNamed}
-use Rattle.log_updates.specs.Merges.{Merges}
+use Rattle.log_updates.specs.Merges.{MergeUpdates}
 
 -- the grid, the cells and the log have passed the tests
-pub record Ready (spec : DexelStockSpec) (g : DexelGrid) (c : Cells) (log work : List Float) : Type 0 where
+pub record ApplyPre (spec : DexelStockSpec) (g : DexelGrid) (c : Cells) (log work : List Float) : Type 0 where
   pub facts : GridFacts spec g
   pub room : Room (spec .«max_intervals») (2 * rayCount g) c
   pub total : ℕ
   pub sound : SoundCells spec g c total
   pub work-room : workNeeded (spec .«max_intervals») log ≤ length work / 2
   pub named : EachNamed g log
-  pub few-pairs : pairsLeft g (listsIn spec g c) (entries log) ≤ spec .«max_intervals»
+  pub few-pairs : pairsAfter g (listsIn spec g c) (entries log) ≤ spec .«max_intervals»
 
 -- the log's updates are done, and the work buffer is all plus zero
-pub record Done (spec : DexelStockSpec) (g : DexelGrid) (c : Cells) (log work : List Float) (m : ℕ) (d : Cells) (work′ : List Float) : Type 0 where
+pub record ApplyPost (spec : DexelStockSpec) (g : DexelGrid) (c : Cells) (log work : List Float) (m : ℕ) (d : Cells) (work′ : List Float) : Type 0 where
   pub updates : List Update
-  pub merges : Merges g (listsIn spec g c) (entries log) 0 updates m
+  pub merges : MergeUpdates g (listsIn spec g c) (entries log) 0 updates m
   pub left : d ≡ applied (spec .«max_intervals») c updates
   pub cleared : work′ ≡ replicate (length work) plusZero

@@ -1,6 +1,6 @@
 // The cut of an accepted log: the lists of all changed rays are replaced in the store.
 ghost use Rattle.store.specs.Updates.{cells};
-ghost use Rattle.commit_apply.specs.Cutting.{Ready, Done};
+ghost use Rattle.commit_apply.specs.Cutting.{ApplyPre, ApplyPost};
 use grid::DexelGrid;
 use grid::DexelStockSpec;
 
@@ -15,8 +15,8 @@ pub fn cut_lists(
     log: &[f64],
     work: &mut [f64],
 ) -> u64
-    requires { ⌜ Ready spec g (cells (now spans) (now links) (now heads)) (now log) (now work) ⌝ }
-    ensures { λ r. ⌜ Done spec g (cells (now (spans .entry)) (now (links .entry)) (now (heads .entry))) (now (log .entry)) (now (work .entry)) r
+    requires { ⌜ ApplyPre spec g (cells (now spans) (now links) (now heads)) (now log) (now work) ⌝ }
+    ensures { λ r. ⌜ ApplyPost spec g (cells (now (spans .entry)) (now (links .entry)) (now (heads .entry))) (now (log .entry)) (now (work .entry)) r
         (cells (now (spans .exit)) (now (links .exit)) (now (heads .exit))) (now (work .exit)) ⌝ }
 {
     log_group::group(g, log, work);

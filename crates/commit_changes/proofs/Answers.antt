@@ -10,31 +10,31 @@ use Rattle.grid_from_spec.specs.Grid.{gridOf}
 use Rattle.grid_from_spec.specs.Causes.{gridCauses, gridIn}
 use Rattle.grid.specs.declared.DexelStockSpec.{DexelStockSpec}
 use Rattle.grid.specs.declared.DexelGrid.{DexelGrid}
-use Rattle.grid.specs.declared.Gridded.the-variants.{Accepted as Griddable, Refused as NoGrid}
+use Rattle.grid.specs.declared.GridAnswer.the-variants.{Accepted as Griddable, Refused as NoGrid}
 use Rattle.store.specs.Updates.{Cells, applied}
 use Rattle.stock.specs.Stock.{Stock, possibleIn, certainIn}
-use Rattle.stock.specs.declared.Committed.{Committed}
-use Rattle.stock.specs.declared.Committed.the-variants.{Changed, Refused}
+use Rattle.stock.specs.declared.CommitAnswer.{CommitAnswer}
+use Rattle.stock.specs.declared.CommitAnswer.the-variants.{Changed, Refused}
 use Rattle.stock.proofs.Causes.{due-first, due-second, none-in-both}
 use Rattle.stock.proofs.Answers.{accepted, refused}
-use Rattle.change_list.specs.Changes.{changesOf, rayOf}
+use Rattle.change_list.specs.Changes.{changesOf, changeRay}
 use Rattle.change_list.proofs.Applying.{changed-has, other-keeps, changes-update, changes-sound}
-use Rattle.change_apply.specs.Passes.{updatesIn, Fitting}
-use Rattle.commit_changes.specs.Commit.{changed, changeCauses, commitCauses, Leaves, Commits}
-use Rattle.commit_changes.specs.Verdicts.{Judges}
-use Rattle.commit_changes.specs.declared.Judged.{Judged}
-use Rattle.commit_changes.specs.declared.Judged.the-variants.{Fits, Refused as No}
+use Rattle.change_apply.specs.Passes.{updatesIn, ChangesFit}
+use Rattle.commit_changes.specs.Commit.{changedStock, changeCauses, changeCommitCauses, ChangesEffect, ChangesPostBy}
+use Rattle.commit_changes.specs.Verdicts.{VerdictBy}
+use Rattle.commit_changes.specs.declared.ChangeVerdict.{ChangeVerdict}
+use Rattle.commit_changes.specs.declared.ChangeVerdict.the-variants.{Fits, Refused as No}
 
 -- ---- over a grid that is accepted
-module _ (spec : DexelStockSpec) (g : DexelGrid) (s : Stock) (changes : List ℕ) (pairs : List Float) (base : ℕ) (r : Judged) (ens : Judges (changeCauses spec g base s changes pairs) spec g s changes pairs r) where
-  pub judged-no : (k : ℕ) → r ≡ No k → Commits (changeCauses spec g base s changes pairs) spec g changes pairs s s (Refused k)
-  judged-no k e = (subst (Judges (changeCauses spec g base s changes pairs) spec g s changes pairs) e ens, refl)
+module _ (spec : DexelStockSpec) (g : DexelGrid) (s : Stock) (changes : List ℕ) (pairs : List Float) (base : ℕ) (r : ChangeVerdict) (ens : VerdictBy (changeCauses spec g base s changes pairs) spec g s changes pairs r) where
+  pub judged-no : (k : ℕ) → r ≡ No k → ChangesPostBy (changeCauses spec g base s changes pairs) spec g changes pairs s s (Refused k)
+  judged-no k e = (subst (VerdictBy (changeCauses spec g base s changes pairs) spec g s changes pairs) e ens, refl)
 
   module _ (t : ℕ) (e : r ≡ Fits t) where
-    told : Judges (changeCauses spec g base s changes pairs) spec g s changes pairs (Fits t)
-    told = subst (Judges (changeCauses spec g base s changes pairs) spec g s changes pairs) e ens
+    told : VerdictBy (changeCauses spec g base s changes pairs) spec g s changes pairs (Fits t)
+    told = subst (VerdictBy (changeCauses spec g base s changes pairs) spec g s changes pairs) e ens
 
-    pub judged-fitting : Fitting spec g (s .cells) (s .intervals) changes pairs
+    pub judged-fitting : ChangesFit spec g (s .cells) (s .intervals) changes pairs
     judged-fitting = told .2
 
     pub generation-steps : s .generation < 2 ^ 64 → s .generation + 1 < 2 ^ 64
@@ -44,7 +44,7 @@ module _ (spec : DexelStockSpec) (g : DexelGrid) (s : Stock) (changes : List ℕ
         step : (n : ℕ) → n < 2 ^ 64 → (n ≡ 2 ^ 64 - 1 → ⊥) → n + 1 < 2 ^ 64
         step n l ne = omega arith
 
-    leaves : Leaves spec g changes pairs s (changed spec g s changes pairs)
+    leaves : ChangesEffect spec g changes pairs s (changedStock spec g s changes pairs)
     leaves =
         let f = judged-fitting in
         let u = changes-update spec g (s .cells) pairs (s .intervals) (f .isSound) (f .room) (changesOf changes pairs) (f .good) (f .budget) in
@@ -52,9 +52,9 @@ module _ (spec : DexelStockSpec) (g : DexelGrid) (s : Stock) (changes : List ℕ
           is = refl;
           isSound = changes-sound spec g (s .cells) pairs (s .intervals) (f .isSound) (f .room) (changesOf changes pairs) (f .good) (f .budget);
           changed-rays = λ d m.
-              let h = changed-has spec g (s .cells) pairs (changesOf changes pairs) 0 (f .good) d m (possibleIn spec (s .cells) (rayOf g (d .axis) (d .index))) (certainIn spec (s .cells) (rayOf g (d .axis) (d .index))) in
+              let h = changed-has spec g (s .cells) pairs (changesOf changes pairs) 0 (f .good) d m (possibleIn spec (s .cells) (changeRay g (d .axis) (d .index))) (certainIn spec (s .cells) (changeRay g (d .axis) (d .index))) in
               let b = h .below in
-              (u .lists (2 * rayOf g (d .axis) (d .index)) (omega arith) ∙ h .possible, u .lists (2 * rayOf g (d .axis) (d .index) + 1) (omega arith) ∙ h .certain);
+              (u .lists (2 * changeRay g (d .axis) (d .index)) (omega arith) ∙ h .possible, u .lists (2 * changeRay g (d .axis) (d .index) + 1) (omega arith) ∙ h .certain);
           other-rays = λ ray l apart.
               let h = other-keeps spec g (s .cells) pairs (changesOf changes pairs) ray apart (possibleIn spec (s .cells) ray) (certainIn spec (s .cells) ray) in
               (u .lists (2 * ray) (omega arith) ∙ h .0, u .lists (2 * ray + 1) (omega arith) ∙ h .1);
@@ -62,25 +62,25 @@ module _ (spec : DexelStockSpec) (g : DexelGrid) (s : Stock) (changes : List ℕ
         }
 
     pub judged-fits : (d : Cells) → d ≡ applied (spec .«max_intervals») (s .cells) (updatesIn g changes pairs)
-        → Commits (changeCauses spec g base s changes pairs) spec g changes pairs s (record { cells = d; generation = s .generation + 1; intervals = t }) (Changed (length changes / 6))
+        → ChangesPostBy (changeCauses spec g base s changes pairs) spec g changes pairs s (record { cells = d; generation = s .generation + 1; intervals = t }) (Changed (length changes / 6))
     judged-fits d h =
-        let is : record { cells = d; generation = s .generation + 1; intervals = t } ≡ changed spec g s changes pairs
+        let is : record { cells = d; generation = s .generation + 1; intervals = t } ≡ changedStock spec g s changes pairs
         = ap (λ (x : Cells). record { cells = x; generation = s .generation + 1; intervals = t }) h
         ∙ ap (λ (x : ℕ). record { cells = applied (spec .«max_intervals») (s .cells) (updatesIn g changes pairs); generation = s .generation + 1; intervals = x }) (told .1) in
-        (told .0, refl, subst (Leaves spec g changes pairs s) (sym is) leaves)
+        (told .0, refl, subst (ChangesEffect spec g changes pairs s) (sym is) leaves)
 
 -- ---- over any description
 module _ (spec : DexelStockSpec) (units : List ℕ) (s : Stock) (changes : List ℕ) (pairs : List Float) (base : ℕ) where
-  pub grid-accepted : (g : DexelGrid) (after : Stock) (r : Committed) → gridOf spec units ≡ Griddable g → Commits (changeCauses spec g base s changes pairs) spec g changes pairs s after r
-      → Commits (commitCauses spec units base s changes pairs) spec (gridIn spec) changes pairs s after r
+  pub grid-accepted : (g : DexelGrid) (after : Stock) (r : CommitAnswer) → gridOf spec units ≡ Griddable g → ChangesPostBy (changeCauses spec g base s changes pairs) spec g changes pairs s after r
+      → ChangesPostBy (changeCommitCauses spec units base s changes pairs) spec (gridIn spec) changes pairs s after r
   grid-accepted g after r h f =
       let a = accepted spec units g h in
-      at r (a .0) (subst (λ (x : DexelGrid). Commits (changeCauses spec x base s changes pairs) spec x changes pairs s after r) (a .1) f)
+      at r (a .0) (subst (λ (x : DexelGrid). ChangesPostBy (changeCauses spec x base s changes pairs) spec x changes pairs s after r) (a .1) f)
     where
-      at : (r : Committed) → NoneDue (gridCauses spec units) → Commits (changeCauses spec (gridIn spec) base s changes pairs) spec (gridIn spec) changes pairs s after r
-          → Commits (commitCauses spec units base s changes pairs) spec (gridIn spec) changes pairs s after r
+      at : (r : CommitAnswer) → NoneDue (gridCauses spec units) → ChangesPostBy (changeCauses spec (gridIn spec) base s changes pairs) spec (gridIn spec) changes pairs s after r
+          → ChangesPostBy (changeCommitCauses spec units base s changes pairs) spec (gridIn spec) changes pairs s after r
       at (Refused k) n f = (due-second (gridCauses spec units) (changeCauses spec (gridIn spec) base s changes pairs) k n (f .0), f .1)
       at (Changed m) n f = (none-in-both (gridCauses spec units) (changeCauses spec (gridIn spec) base s changes pairs) n (f .0), f .1, f .2)
 
-  pub grid-refused : (k : ℕ) → gridOf spec units ≡ NoGrid k → Commits (commitCauses spec units base s changes pairs) spec (gridIn spec) changes pairs s s (Refused k)
+  pub grid-refused : (k : ℕ) → gridOf spec units ≡ NoGrid k → ChangesPostBy (changeCommitCauses spec units base s changes pairs) spec (gridIn spec) changes pairs s s (Refused k)
   grid-refused k h = (due-first (gridCauses spec units) (changeCauses spec (gridIn spec) base s changes pairs) k (refused spec units k h), refl)

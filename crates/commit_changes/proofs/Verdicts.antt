@@ -15,31 +15,31 @@ use Rattle.grid.specs.declared.DexelGrid.{DexelGrid}
 use Rattle.store.specs.Updates.{Room, pairsFreed}
 use Rattle.store.proofs.FreePlaces.{free-records}
 use Rattle.store.proofs.Updating.{freed-all}
-use Rattle.stock.specs.Stock.{Stock, SoundStock, Tells, short}
+use Rattle.stock.specs.Stock.{Stock, SoundStock, Decides, isShort}
 use Rattle.stock.proofs.Causes.{due-first}
 use Rattle.change_list.specs.Changes.{changesOf, AllGood}
-use Rattle.change_list.specs.Steps.{badCauses, ChecksAll}
-use Rattle.change_list.specs.declared.Cursor.{Cursor}
-use Rattle.change_list.specs.declared.Checked.{Checked}
-use Rattle.change_list.specs.declared.Checked.the-variants.{Next, Bad}
+use Rattle.change_list.specs.Steps.{badCauses, CheckChangesPost}
+use Rattle.change_list.specs.declared.ChangeCursor.{ChangeCursor}
+use Rattle.change_list.specs.declared.ChangeCheck.{ChangeCheck}
+use Rattle.change_list.specs.declared.ChangeCheck.the-variants.{Next, Bad}
 use Rattle.change_list.proofs.Applying.{good-ascend}
 use Rattle.change_apply.specs.Passes.{updatesIn}
-use Rattle.commit_changes.specs.Commit.{intervalsAfter, Unsound, listCauses, changeCauses}
-use Rattle.commit_changes.specs.Verdicts.{Judges}
-use Rattle.commit_changes.specs.declared.Judged.{Judged}
-use Rattle.commit_changes.specs.declared.Judged.the-variants.{Fits, Refused}
+use Rattle.commit_changes.specs.Commit.{intervalsAfter, ChangeInputBad, changeListCauses, changeCauses}
+use Rattle.commit_changes.specs.Verdicts.{VerdictBy}
+use Rattle.commit_changes.specs.declared.ChangeVerdict.{ChangeVerdict}
+use Rattle.commit_changes.specs.declared.ChangeVerdict.the-variants.{Fits, Refused}
 
 module _ (spec : DexelStockSpec) (g : DexelGrid) (s : Stock) (changes : List ℕ) (pairs : List Float) where
   -- ---- 13, 10, 15
-  module _ (r : Checked) (ens : ChecksAll spec g (s .cells) pairs (changesOf changes pairs) r) where
-    pub bad-list : r ≡ Bad → Judges (listCauses spec g s changes pairs) spec g s changes pairs (Refused 13)
+  module _ (r : ChangeCheck) (ens : CheckChangesPost spec g (s .cells) pairs (changesOf changes pairs) r) where
+    pub bad-list : r ≡ Bad → VerdictBy (changeListCauses spec g s changes pairs) spec g s changes pairs (Refused 13)
     bad-list e =
         due-first (badCauses (AllGood spec g (s .cells) pairs 0 (changesOf changes pairs))) _ 13
-        (subst (ChecksAll spec g (s .cells) pairs (changesOf changes pairs)) e ens)
+        (subst (CheckChangesPost spec g (s .cells) pairs (changesOf changes pairs)) e ens)
 
-    module _ (cur : Cursor) (e : r ≡ Next cur) (room : Room (spec .«max_intervals») (2 * rayCount g) (s .cells)) (sound : SoundStock spec g s) where
-      told : ChecksAll spec g (s .cells) pairs (changesOf changes pairs) (Next cur)
-      told = subst (ChecksAll spec g (s .cells) pairs (changesOf changes pairs)) e ens
+    module _ (cur : ChangeCursor) (e : r ≡ Next cur) (room : Room (spec .«max_intervals») (2 * rayCount g) (s .cells)) (sound : SoundStock spec g s) where
+      told : CheckChangesPost spec g (s .cells) pairs (changesOf changes pairs) (Next cur)
+      told = subst (CheckChangesPost spec g (s .cells) pairs (changesOf changes pairs)) e ens
 
       -- no more pairs are freed than the store has
       pub freed-fewer : cur .before ≤ s .intervals
@@ -56,7 +56,7 @@ module _ (spec : DexelStockSpec) (g : DexelGrid) (s : Stock) (changes : List ℕ
       total-is : s .intervals - cur .before + cur .after ≡ intervalsAfter spec g s changes pairs
       total-is = ap (λ (x : ℕ). s .intervals - x + cur .after) (told .1) ∙ ap (λ (x : ℕ). s .intervals - pairsFreed (spec .«max_intervals») (s .cells) (updatesIn g changes pairs) + x) (told .2)
 
-      pub over-budget : spec .«max_intervals» < s .intervals - cur .before + cur .after → Judges (listCauses spec g s changes pairs) spec g s changes pairs (Refused 10)
+      pub over-budget : spec .«max_intervals» < s .intervals - cur .before + cur .after → VerdictBy (changeListCauses spec g s changes pairs) spec g s changes pairs (Refused 10)
       unfolding Due
       over-budget l = inr ((λ (bad : AllGood spec g (s .cells) pairs 0 (changesOf changes pairs) → ⊥). bad (told .0)), inl (subst (λ (x : ℕ). spec .«max_intervals» < x) total-is l, refl))
 
@@ -64,11 +64,11 @@ module _ (spec : DexelStockSpec) (g : DexelGrid) (s : Stock) (changes : List ℕ
         within : spec .«max_intervals» < intervalsAfter spec g s changes pairs → ⊥
         within h = omega (arith, total-is)
 
-        pub last-generation : s .generation ≡ 18446744073709551615 → Judges (listCauses spec g s changes pairs) spec g s changes pairs (Refused 15)
+        pub last-generation : s .generation ≡ 18446744073709551615 → VerdictBy (changeListCauses spec g s changes pairs) spec g s changes pairs (Refused 15)
         unfolding Due
         last-generation h = inr ((λ (bad : AllGood spec g (s .cells) pairs 0 (changesOf changes pairs) → ⊥). bad (told .0)), inr (within, inl (h, refl)))
 
-        pub list-fits : (s .generation ≡ 18446744073709551615 → ⊥) → Judges (listCauses spec g s changes pairs) spec g s changes pairs (Fits (s .intervals - cur .before + cur .after))
+        pub list-fits : (s .generation ≡ 18446744073709551615 → ⊥) → VerdictBy (changeListCauses spec g s changes pairs) spec g s changes pairs (Fits (s .intervals - cur .before + cur .after))
         unfolding NoneDue
         list-fits h = (
           ((λ (bad : AllGood spec g (s .cells) pairs 0 (changesOf changes pairs) → ⊥). bad (told .0)), (within, (h, tt))),
@@ -78,32 +78,32 @@ module _ (spec : DexelStockSpec) (g : DexelGrid) (s : Stock) (changes : List ℕ
 
   -- ---- 12, 11, 14
   module _ (base : ℕ) where
-    pub too-short : short spec g (s .cells) ≡ true → Judges (changeCauses spec g base s changes pairs) spec g s changes pairs (Refused 12)
+    pub too-short : isShort spec g (s .cells) ≡ true → VerdictBy (changeCauses spec g base s changes pairs) spec g s changes pairs (Refused 12)
     unfolding Due
     too-short h = inl (h, refl)
 
-    module _ (long : short spec g (s .cells) ≡ false) where
-      not-short : short spec g (s .cells) ≡ true → ⊥
-      not-short h = clash (short spec g (s .cells)) h long
+    module _ (long : isShort spec g (s .cells) ≡ false) where
+      not-short : isShort spec g (s .cells) ≡ true → ⊥
+      not-short h = clash (isShort spec g (s .cells)) h long
 
-      pub unsound : Unsound spec g s changes pairs → Judges (changeCauses spec g base s changes pairs) spec g s changes pairs (Refused 11)
+      pub unsound : ChangeInputBad spec g s changes pairs → VerdictBy (changeCauses spec g base s changes pairs) spec g s changes pairs (Refused 11)
       unfolding Due
       unsound h = inr (not-short, inl (h, refl))
 
-      pub store-unsound : (r : Bool) → Tells (SoundStock spec g s) r → not r ≡ true → Judges (changeCauses spec g base s changes pairs) spec g s changes pairs (Refused 11)
+      pub store-unsound : (r : Bool) → Decides (SoundStock spec g s) r → not r ≡ true → VerdictBy (changeCauses spec g base s changes pairs) spec g s changes pairs (Refused 11)
       store-unsound r t h = unsound (inl (λ p. clash r (t .1 p) (not-true r h)))
 
       module _ (sound : SoundStock spec g s) (six : length changes % 6 ≡ 0) (two : length pairs % 2 ≡ 0) where
-        not-unsound : Unsound spec g s changes pairs → ⊥
+        not-unsound : ChangeInputBad spec g s changes pairs → ⊥
         not-unsound (inl h) = h sound
         not-unsound (inr (inl h)) = h six
         not-unsound (inr (inr h)) = h two
 
-        pub other-base : (base ≡ s .generation → ⊥) → Judges (changeCauses spec g base s changes pairs) spec g s changes pairs (Refused 14)
+        pub other-base : (base ≡ s .generation → ⊥) → VerdictBy (changeCauses spec g base s changes pairs) spec g s changes pairs (Refused 14)
         unfolding Due
         other-base h = inr (not-short, inr (not-unsound, inl (h, refl)))
 
-        pub list-judged : base ≡ s .generation → (r : Judged) → Judges (listCauses spec g s changes pairs) spec g s changes pairs r → Judges (changeCauses spec g base s changes pairs) spec g s changes pairs r
+        pub list-judged : base ≡ s .generation → (r : ChangeVerdict) → VerdictBy (changeListCauses spec g s changes pairs) spec g s changes pairs r → VerdictBy (changeCauses spec g base s changes pairs) spec g s changes pairs r
         unfolding Due NoneDue
         list-judged e (Refused k) d = inr (not-short, inr (not-unsound, inr ((λ (ne : base ≡ s .generation → ⊥). ne e), d)))
         list-judged e (Fits t) d = ((not-short, (not-unsound, ((λ (ne : base ≡ s .generation → ⊥). ne e), d .0))), d .1, d .2)

@@ -7,18 +7,18 @@ ghost use Rattle.grid_from_spec.specs.Causes.{GridFacts};
 ghost use Rattle.store.specs.Updates.{cells, Room};
 ghost use Rattle.stock.specs.Stock.{SoundCells};
 ghost use Rattle.stock.specs.Outcomes.{stock};
-ghost use Rattle.commit_changes.specs.Commit.{GridCommits, ChangeCommits};
-ghost use Rattle.commit_changes.specs.Verdicts.{ListJudges, GridJudges};
-use change_list::Checked;
+ghost use Rattle.commit_changes.specs.Commit.{ChangesPostOnGrid, ChangesPost};
+ghost use Rattle.commit_changes.specs.Verdicts.{ListVerdict, GridVerdict};
+use change_list::ChangeCheck;
 use grid::DexelGrid;
 use grid::DexelStockSpec;
-use grid::Gridded;
-use stock::Committed;
+use grid::GridAnswer;
+use stock::CommitAnswer;
 use stock::Outcome;
 use stock::Tally;
 
 // The interval total that a change list leaves, or why it is refused.
-pub enum Judged {
+pub enum ChangeVerdict {
     Fits(u64),
     Refused(u32),
 }
@@ -34,11 +34,11 @@ fn judge_list(
     heads: &[u64],
     changes: &[u64],
     pairs: &[f64],
-) -> Judged
+) -> ChangeVerdict
     requires { ⌜ Room (spec .«max_intervals») (2 * rayCount g) (cells (now spans) (now links) (now heads)) × SoundCells spec g (cells (now spans) (now links) (now heads)) intervals × (length (now pairs) % 2 ≡ 0) ⌝ }
-    ensures { λ r. ⌜ ListJudges spec g (stock (now (spans .entry)) (now (links .entry)) (now (heads .entry)) generation intervals) (now (changes .entry)) (now (pairs .entry)) r ⌝ }
+    ensures { λ r. ⌜ ListVerdict spec g (stock (now (spans .entry)) (now (links .entry)) (now (heads .entry)) generation intervals) (now (changes .entry)) (now (pairs .entry)) r ⌝ }
 {
-    let Checked::Next(cur) = change_list::check_changes(
+    let ChangeCheck::Next(cur) = change_list::check_changes(
         spec,
         g,
         spans,
@@ -47,16 +47,16 @@ fn judge_list(
         changes,
         pairs,
     ) else {
-        return Judged::Refused(13);
+        return ChangeVerdict::Refused(13);
     };
     let total = intervals - (cur.before as u64) + (cur.after as u64);
     if spec.max_intervals < total {
-        return Judged::Refused(10);
+        return ChangeVerdict::Refused(10);
     }
     if generation == 0xffff_ffff_ffff_ffff {
-        return Judged::Refused(15);
+        return ChangeVerdict::Refused(15);
     }
-    Judged::Fits(total)
+    ChangeVerdict::Fits(total)
 }
 
 // Finds whether a change list is refused, once the grid is accepted: 12, 11, 14, 13, 10, 15.
@@ -71,24 +71,24 @@ fn judge(
     base: u64,
     changes: &[u64],
     pairs: &[f64],
-) -> Judged
+) -> ChangeVerdict
     requires { ⌜ GridFacts spec g ⌝ }
-    ensures { λ r. ⌜ GridJudges spec g base (stock (now (spans .entry)) (now (links .entry)) (now (heads .entry)) generation intervals) (now (changes .entry)) (now (pairs .entry)) r ⌝ }
+    ensures { λ r. ⌜ GridVerdict spec g base (stock (now (spans .entry)) (now (links .entry)) (now (heads .entry)) generation intervals) (now (changes .entry)) (now (pairs .entry)) r ⌝ }
 {
     if stock::is_short(spec, g, spans, links, heads) {
-        return Judged::Refused(12);
+        return ChangeVerdict::Refused(12);
     }
     if !stock::check_stock(spec, g, spans, links, heads, intervals) {
-        return Judged::Refused(11);
+        return ChangeVerdict::Refused(11);
     }
     if changes.len() % 6 != 0 {
-        return Judged::Refused(11);
+        return ChangeVerdict::Refused(11);
     }
     if pairs.len() % 2 != 0 {
-        return Judged::Refused(11);
+        return ChangeVerdict::Refused(11);
     }
     if base != generation {
-        return Judged::Refused(14);
+        return ChangeVerdict::Refused(14);
     }
     judge_list(
         generation,
@@ -117,7 +117,7 @@ fn commit_grid(
     pairs: &[f64],
 ) -> Outcome
     requires { ⌜ GridFacts spec g ⌝ }
-    ensures { λ r. ⌜ GridCommits spec g base (now (changes .entry)) (now (pairs .entry))
+    ensures { λ r. ⌜ ChangesPostOnGrid spec g base (now (changes .entry)) (now (pairs .entry))
         (stock (now (spans .entry)) (now (links .entry)) (now (heads .entry)) generation intervals)
         (stock (now (spans .exit)) (now (links .exit)) (now (heads .exit)) (r .generation) (r .intervals)) (r .answer) ⌝ }
 {
@@ -133,16 +133,16 @@ fn commit_grid(
         changes,
         pairs,
     ) {
-        Judged::Fits(total) => {
+        ChangeVerdict::Fits(total) => {
             change_apply::apply_changes(spec, g, spans, links, heads, changes, pairs);
             Outcome {
-                answer: Committed::Changed((changes.len() / 6) as u64),
+                answer: CommitAnswer::Changed((changes.len() / 6) as u64),
                 generation: generation + 1,
                 intervals: total,
             }
         }
-        Judged::Refused(k) => Outcome {
-            answer: Committed::Refused(k),
+        ChangeVerdict::Refused(k) => Outcome {
+            answer: CommitAnswer::Refused(k),
             generation,
             intervals,
         },
@@ -162,12 +162,12 @@ pub fn commit_changes_on(
     changes: &[u64],
     pairs: &[f64],
 ) -> Outcome
-    ensures { λ r. ⌜ ChangeCommits spec (now (units .entry)) base (now (changes .entry)) (now (pairs .entry))
+    ensures { λ r. ⌜ ChangesPost spec (now (units .entry)) base (now (changes .entry)) (now (pairs .entry))
         (stock (now (spans .entry)) (now (links .entry)) (now (heads .entry)) generation intervals)
         (stock (now (spans .exit)) (now (links .exit)) (now (heads .exit)) (r .generation) (r .intervals)) (r .answer) ⌝ }
 {
     match grid_from_spec::grid(spec, units) {
-        Gridded::Accepted(g) => commit_grid(
+        GridAnswer::Accepted(g) => commit_grid(
             generation,
             intervals,
             spec,
@@ -179,8 +179,8 @@ pub fn commit_changes_on(
             changes,
             pairs,
         ),
-        Gridded::Refused(k) => Outcome {
-            answer: Committed::Refused(k),
+        GridAnswer::Refused(k) => Outcome {
+            answer: CommitAnswer::Refused(k),
             generation,
             intervals,
         },
@@ -198,8 +198,8 @@ pub fn commit_changes(
     base: u64,
     changes: &[u64],
     pairs: &[f64],
-) -> Committed
-    ensures { λ r. ⌜ ChangeCommits spec (now (units .entry)) base (now (changes .entry)) (now (pairs .entry))
+) -> CommitAnswer
+    ensures { λ r. ⌜ ChangesPost spec (now (units .entry)) base (now (changes .entry)) (now (pairs .entry))
         (stock (now (spans .entry)) (now (links .entry)) (now (heads .entry)) (now (tally .entry) .generation) (now (tally .entry) .intervals))
         (stock (now (spans .exit)) (now (links .exit)) (now (heads .exit)) (now (tally .exit) .generation) (now (tally .exit) .intervals)) r ⌝ }
 {

@@ -16,23 +16,23 @@ use Rattle.grid.specs.Rays.{rayCount}
 use Rattle.grid.specs.declared.DexelStockSpec.{DexelStockSpec}
 use Rattle.grid.specs.declared.DexelGrid.{DexelGrid}
 use Rattle.store.specs.Updates.{Room}
-use Rattle.stock.specs.Stock.{Stock, SoundStock, Tells, short}
+use Rattle.stock.specs.Stock.{Stock, SoundStock, Decides, isShort}
 use Rattle.stock.proofs.Causes.{room-of}
 use Rattle.log_model.specs.Logs.{Ray, Kind, entries, workNeeded}
-use Rattle.log_model.specs.Model.{Short, Bad, causes}
-use Rattle.log_model.specs.Counts.{raysChanged, pairsLeft}
-use Rattle.log_model.specs.Runs.{points}
+use Rattle.log_model.specs.Model.{LogBuffersShort, LogInputBad, logCommitCauses}
+use Rattle.log_model.specs.Counts.{changedRayCount, pairsAfter}
+use Rattle.log_model.specs.Runs.{pointSets}
 use Rattle.log_model.specs.Lent.{listIn, listsIn, lentStore}
 use Rattle.log_model.proofs.Decided.{rays-by, intervals-by}
 use Rattle.log_model.proofs.Doubles.{Doubles}
 use Rattle.log_model.proofs.Lent.{lent-laws}
 use Rattle.log_entries.specs.Named.{EachNamed, NamesAll}
 use Rattle.log_entries.proofs.Places.{each-no}
-use Rattle.log_updates.specs.Merges.{listsOf}
-use Rattle.log_budget.specs.Answer.{numberOf, budgetOf}
-use Rattle.log_budget.specs.declared.Budgets.{Budgets}
-use Rattle.log_budget.specs.declared.Budgets.the-variants.{Kept, Rays, Intervals}
-use Rattle.commit_check.specs.Tests.{commitOf, Passes, logCauses, Tested}
+use Rattle.log_updates.specs.Merges.{stockLists}
+use Rattle.log_budget.specs.Answer.{budgetNumber, budgetOf}
+use Rattle.log_budget.specs.declared.BudgetAnswer.{BudgetAnswer}
+use Rattle.log_budget.specs.declared.BudgetAnswer.the-variants.{Kept, Rays, Intervals}
+use Rattle.commit_check.specs.Tests.{commitOf, LogChecked, stockLogCauses, LogCheckPost}
 
 -- ---- what `budget` says
 module _ (a n c l : ℕ) where
@@ -73,7 +73,7 @@ module _ (a n c l : ℕ) where
       go false p true q = absurd (ten-none (sym (e ∙ by-rays false p true q)))
       go false p false q = (p, q)
 
--- ---- the causes one after the other
+-- ---- the logCommitCauses one after the other
 module _ (spec : DexelStockSpec) (g : DexelGrid) (s : Stock) (log : List Float) (allowance : ℕ) (work : List Float) where
   min-left : (a b n : ℕ) → a < n → min a b < n
   min-left a b n h = omega arith
@@ -84,8 +84,8 @@ module _ (spec : DexelStockSpec) (g : DexelGrid) (s : Stock) (log : List Float) 
   min-both : (a b n : ℕ) → n ≤ a → n ≤ b → min a b < n → ⊥
   min-both a b n h k l = omega arith
 
-  few-cells : short spec g (s .cells) ≡ true → Short spec g (lentStore spec g .lent s) (commitOf log allowance work)
-  unfolding short Short
+  few-cells : isShort spec g (s .cells) ≡ true → LogBuffersShort spec g (lentStore spec g .lent s) (commitOf log allowance work)
+  unfolding isShort LogBuffersShort
   few-cells h = elim (or-cases (ltb (length (s .cells .spans) / 2) (spec .«max_intervals»)) (ltb (length (s .cells .links) / 2) (spec .«max_intervals») || ltb (length (s .cells .heads)) (2 * rayCount g)) h) [
     | inl a ↦ inl (min-left (length (s .cells .spans) / 2) (length (s .cells .links) / 2) (spec .«max_intervals») (ltb-true _ _ a))
     | inr b ↦ elim (or-cases (ltb (length (s .cells .links) / 2) (spec .«max_intervals»)) (ltb (length (s .cells .heads)) (2 * rayCount g)) b) [
@@ -94,35 +94,35 @@ module _ (spec : DexelStockSpec) (g : DexelGrid) (s : Stock) (log : List Float) 
     ]
   ]
 
-  enough : Room (spec .«max_intervals») (2 * rayCount g) (s .cells) → workNeeded (spec .«max_intervals») log ≤ length work / 2 → ¬ Short spec g (lentStore spec g .lent s) (commitOf log allowance work)
-  unfolding Short
+  enough : Room (spec .«max_intervals») (2 * rayCount g) (s .cells) → workNeeded (spec .«max_intervals») log ≤ length work / 2 → ¬ LogBuffersShort spec g (lentStore spec g .lent s) (commitOf log allowance work)
+  unfolding LogBuffersShort
   enough room w (inl h) = min-both (length (s .cells .spans) / 2) (length (s .cells .links) / 2) (spec .«max_intervals») (omega (arith, room .in-spans)) (omega (arith, room .in-links)) h
   enough room w (inr (inl h)) = omega (arith, room .in-heads)
   enough room w (inr (inr h)) = omega arith
 
-  good : length log % 6 ≡ 0 → SoundStock spec g s → ¬ Bad (¬ SoundStock spec g s) (commitOf log allowance work)
-  unfolding Bad
+  good : length log % 6 ≡ 0 → SoundStock spec g s → ¬ LogInputBad (¬ SoundStock spec g s) (commitOf log allowance work)
+  unfolding LogInputBad
   good w sound (inl h) = h w
   good w sound (inr h) = h sound
 
-  -- each list is the sound list of its points
-  lists : SoundStock spec g s → (r : Ray g) (k : Kind) → ListOf (points g (lentStore spec g) s r k) (listsOf spec g s r k)
-  unfolding points
+  -- each list is the sound list of its pointSets
+  lists : SoundStock spec g s → (r : Ray g) (k : Kind) → ListOf (pointSets g (lentStore spec g) s r k) (stockLists spec g s r k)
+  unfolding pointSets
   lists sound r k = record { isSound = lent-laws spec g .sound-list s sound r k; points = λ p. refl }
 
-  refused-by : (k : ℕ) → Due (logCauses spec g s (commitOf log allowance work)) (suc k) → Tested spec g s log allowance work (suc k)
+  refused-by : (k : ℕ) → Due (stockLogCauses spec g s (commitOf log allowance work)) (suc k) → LogCheckPost spec g s log allowance work (suc k)
   refused-by k d = record { passed = λ e. absurd (omega arith); due = λ ne. d }
 
   -- 12
-  pub short-due : (r : Bool) → r ≡ short spec g (s .cells) → r ≡ true → Tested spec g s log allowance work 12
-  unfolding causes Due
+  pub short-due : (r : Bool) → r ≡ isShort spec g (s .cells) → r ≡ true → LogCheckPost spec g s log allowance work 12
+  unfolding logCommitCauses Due
   short-due r e h = refused-by 11 (inl (few-cells (sym e ∙ h), refl))
 
-  pub work-due : (r : Bool) → r ≡ ltb (length work / 2) (workNeeded (spec .«max_intervals») log) → r ≡ true → Tested spec g s log allowance work 12
-  unfolding causes Due Short
+  pub work-due : (r : Bool) → r ≡ ltb (length work / 2) (workNeeded (spec .«max_intervals») log) → r ≡ true → LogCheckPost spec g s log allowance work 12
+  unfolding logCommitCauses Due LogBuffersShort
   work-due r e h = refused-by 11 (inl (inr (inr (ltb-true _ _ (sym e ∙ h))), refl))
 
-  pub room-of-test : (r : Bool) → r ≡ short spec g (s .cells) → r ≡ false → Room (spec .«max_intervals») (2 * rayCount g) (s .cells)
+  pub room-of-test : (r : Bool) → r ≡ isShort spec g (s .cells) → r ≡ false → Room (spec .«max_intervals») (2 * rayCount g) (s .cells)
   room-of-test r e h = room-of spec g (s .cells) (sym e ∙ h)
 
   pub work-of-test : (r : Bool) → r ≡ ltb (length work / 2) (workNeeded (spec .«max_intervals») log) → r ≡ false → workNeeded (spec .«max_intervals») log ≤ length work / 2
@@ -130,70 +130,70 @@ module _ (spec : DexelStockSpec) (g : DexelGrid) (s : Stock) (log : List Float) 
 
   module _ (room : Room (spec .«max_intervals») (2 * rayCount g) (s .cells)) (w : workNeeded (spec .«max_intervals») log ≤ length work / 2) where
     -- 11
-    pub part-due : (length log % 6 ≡ 0 → ⊥) → Tested spec g s log allowance work 11
-    unfolding causes Due Bad
+    pub part-due : (length log % 6 ≡ 0 → ⊥) → LogCheckPost spec g s log allowance work 11
+    unfolding logCommitCauses Due LogInputBad
     part-due h = refused-by 10 (inr (enough room w, inl (inl h, refl)))
 
-    pub unsound-due : (r : Bool) → Tells (SoundStock spec g s) r → not r ≡ true → Tested spec g s log allowance work 11
-    unfolding causes Due Bad
+    pub unsound-due : (r : Bool) → Decides (SoundStock spec g s) r → not r ≡ true → LogCheckPost spec g s log allowance work 11
+    unfolding logCommitCauses Due LogInputBad
     unsound-due r t h = refused-by 10 (inr (enough room w, inl (inr (λ p. clash r (t .1 p) (not-true r h)), refl)))
 
-    pub sound-of-test : (r : Bool) → Tells (SoundStock spec g s) r → not r ≡ false → SoundStock spec g s
+    pub sound-of-test : (r : Bool) → Decides (SoundStock spec g s) r → not r ≡ false → SoundStock spec g s
     sound-of-test r t h = t .0 (not-false r h)
 
     module _ (whole : length log % 6 ≡ 0) (sound : SoundStock spec g s) where
       -- 15
-      pub last-due : s .generation ≡ 0xffff_ffff_ffff_ffff → Tested spec g s log allowance work 15
-      unfolding causes Due
+      pub last-due : s .generation ≡ 0xffff_ffff_ffff_ffff → LogCheckPost spec g s log allowance work 15
+      unfolding logCommitCauses Due
       last-due h = refused-by 14 (inr (enough room w, inr (good whole sound, inl (h, refl))))
 
       module _ (below : s .generation ≡ 0xffff_ffff_ffff_ffff → ⊥) where
         -- 17
-        pub unnamed-due : (r : Bool) → NamesAll g log r → not r ≡ true → Tested spec g s log allowance work 17
-        unfolding causes Due
+        pub unnamed-due : (r : Bool) → NamesAll g log r → not r ≡ true → LogCheckPost spec g s log allowance work 17
+        unfolding logCommitCauses Due
         unnamed-due r t h = refused-by 16 (inr (enough room w, inr (good whole sound, inr (below, inl (t .no (not-true r h), refl)))))
 
         pub named-of-test : (r : Bool) → NamesAll g log r → not r ≡ false → EachNamed g log
         named-of-test r t h = t .yes (not-false r h)
 
         module _ (named : EachNamed g log) where
-          same-rays : raysChanged g (listsIn spec g (s .cells)) (entries log) ≡ raysChanged g (listsOf spec g s) (entries log)
+          same-rays : changedRayCount g (listsIn spec g (s .cells)) (entries log) ≡ changedRayCount g (stockLists spec g s) (entries log)
           unfolding listIn
           same-rays = refl
 
-          same-pairs : pairsLeft g (listsIn spec g (s .cells)) (entries log) ≡ pairsLeft g (listsOf spec g s) (entries log)
+          same-pairs : pairsAfter g (listsIn spec g (s .cells)) (entries log) ≡ pairsAfter g (stockLists spec g s) (entries log)
           unfolding listIn
           same-pairs = refl
 
-          module _ (b : Budgets) (e : numberOf b ≡ budgetOf allowance (spec .«max_intervals»)
-              (raysChanged g (listsIn spec g (s .cells)) (entries log)) (pairsLeft g (listsIn spec g (s .cells)) (entries log))) where
+          module _ (b : BudgetAnswer) (e : budgetNumber b ≡ budgetOf allowance (spec .«max_intervals»)
+              (changedRayCount g (listsIn spec g (s .cells)) (entries log)) (pairsAfter g (listsIn spec g (s .cells)) (entries log))) where
             -- 9
-            pub rays-due : Doubles g (listsOf spec g s) (entries log) → b ≡ Rays → Tested spec g s log allowance work 9
-            unfolding causes Due
+            pub rays-due : Doubles g (stockLists spec g s) (entries log) → b ≡ Rays → LogCheckPost spec g s log allowance work 9
+            unfolding logCommitCauses Due
             rays-due o h =
-                let t = rays-passed allowance (spec .«max_intervals») (raysChanged g (listsIn spec g (s .cells)) (entries log))
-                (pairsLeft g (listsIn spec g (s .cells)) (entries log)) (sym (ap numberOf h) ∙ e) in
-                let d = rays-by spec g (lentStore spec g .lent s) (points g (lentStore spec g) s) (listsOf spec g s) (lists sound)
+                let t = rays-passed allowance (spec .«max_intervals») (changedRayCount g (listsIn spec g (s .cells)) (entries log))
+                (pairsAfter g (listsIn spec g (s .cells)) (entries log)) (sym (ap budgetNumber h) ∙ e) in
+                let d = rays-by spec g (lentStore spec g .lent s) (pointSets g (lentStore spec g) s) (stockLists spec g s) (lists sound)
                 (s .generation) (commitOf log allowance work) o in
                 refused-by 8 (inr (enough room w, inr (good whole sound, inr (below, inr (each-no g log named, inl (d .0 (ap (ltb allowance) (sym same-rays) ∙ t), refl))))))
 
             -- 10
-            pub intervals-due : Doubles g (listsOf spec g s) (entries log) → b ≡ Intervals → Tested spec g s log allowance work 10
-            unfolding causes Due
+            pub intervals-due : Doubles g (stockLists spec g s) (entries log) → b ≡ Intervals → LogCheckPost spec g s log allowance work 10
+            unfolding logCommitCauses Due
             intervals-due o h =
-                let t = intervals-passed allowance (spec .«max_intervals») (raysChanged g (listsIn spec g (s .cells)) (entries log))
-                (pairsLeft g (listsIn spec g (s .cells)) (entries log)) (sym (ap numberOf h) ∙ e) in
-                let d = rays-by spec g (lentStore spec g .lent s) (points g (lentStore spec g) s) (listsOf spec g s) (lists sound)
+                let t = intervals-passed allowance (spec .«max_intervals») (changedRayCount g (listsIn spec g (s .cells)) (entries log))
+                (pairsAfter g (listsIn spec g (s .cells)) (entries log)) (sym (ap budgetNumber h) ∙ e) in
+                let d = rays-by spec g (lentStore spec g .lent s) (pointSets g (lentStore spec g) s) (stockLists spec g s) (lists sound)
                 (s .generation) (commitOf log allowance work) o in
-                let i = intervals-by spec g (lentStore spec g .lent s) (points g (lentStore spec g) s) (listsOf spec g s) (lists sound)
+                let i = intervals-by spec g (lentStore spec g .lent s) (pointSets g (lentStore spec g) s) (stockLists spec g s) (lists sound)
                 (s .generation) (commitOf log allowance work) o in
                 refused-by 9 (inr (enough room w, inr (good whole sound, inr (below, inr (each-no g log named, inr (d .1 (ap (ltb allowance) (sym same-rays) ∙ t .0), inl (i .0 (ap (ltb (spec .«max_intervals»)) (sym same-pairs) ∙ t .1), refl)))))))
 
             -- none
-            pub all-passed : s .generation < 2 ^ 64 → b ≡ Kept → Tested spec g s log allowance work 0
+            pub all-passed : s .generation < 2 ^ 64 → b ≡ Kept → LogCheckPost spec g s log allowance work 0
             all-passed fits h =
-                let t = both-kept allowance (spec .«max_intervals») (raysChanged g (listsIn spec g (s .cells)) (entries log))
-                (pairsLeft g (listsIn spec g (s .cells)) (entries log)) (sym (ap numberOf h) ∙ e) in
+                let t = both-kept allowance (spec .«max_intervals») (changedRayCount g (listsIn spec g (s .cells)) (entries log))
+                (pairsAfter g (listsIn spec g (s .cells)) (entries log)) (sym (ap budgetNumber h) ∙ e) in
                 record {
                   passed = λ z. record {
                     room = room;
@@ -202,8 +202,8 @@ module _ (spec : DexelStockSpec) (g : DexelGrid) (s : Stock) (log : List Float) 
                     sound = sound;
                     below = under (s .generation) fits below;
                     named = named;
-                    few-rays = ltb-false allowance (raysChanged g (listsOf spec g s) (entries log)) (ap (ltb allowance) (sym same-rays) ∙ t .0);
-                    few-pairs = ltb-false (spec .«max_intervals») (pairsLeft g (listsOf spec g s) (entries log)) (ap (ltb (spec .«max_intervals»)) (sym same-pairs) ∙ t .1);
+                    few-rays = ltb-false allowance (changedRayCount g (stockLists spec g s) (entries log)) (ap (ltb allowance) (sym same-rays) ∙ t .0);
+                    few-pairs = ltb-false (spec .«max_intervals») (pairsAfter g (stockLists spec g s) (entries log)) (ap (ltb (spec .«max_intervals»)) (sym same-pairs) ∙ t .1);
                   };
                   due = λ ne. absurd (ne refl);
                 }
@@ -212,13 +212,13 @@ module _ (spec : DexelStockSpec) (g : DexelGrid) (s : Stock) (log : List Float) 
                 under n h ne = omega arith
 
   -- no cause is present where every test is passed
-  pub passes-none : Doubles g (listsOf spec g s) (entries log) → Passes spec g s log allowance work
-      → NoneDue (logCauses spec g s (commitOf log allowance work))
-  unfolding causes NoneDue
+  pub passes-none : Doubles g (stockLists spec g s) (entries log) → LogChecked spec g s log allowance work
+      → NoneDue (stockLogCauses spec g s (commitOf log allowance work))
+  unfolding logCommitCauses NoneDue
   passes-none o p =
-      let d = rays-by spec g (lentStore spec g .lent s) (points g (lentStore spec g) s) (listsOf spec g s) (lists (p .sound))
+      let d = rays-by spec g (lentStore spec g .lent s) (pointSets g (lentStore spec g) s) (stockLists spec g s) (lists (p .sound))
       (s .generation) (commitOf log allowance work) o in
-      let i = intervals-by spec g (lentStore spec g .lent s) (points g (lentStore spec g) s) (listsOf spec g s) (lists (p .sound))
+      let i = intervals-by spec g (lentStore spec g .lent s) (pointSets g (lentStore spec g) s) (stockLists spec g s) (lists (p .sound))
       (s .generation) (commitOf log allowance work) o in (
         enough (p .room) (p .work-room),
         (
@@ -227,7 +227,7 @@ module _ (spec : DexelStockSpec) (g : DexelGrid) (s : Stock) (log : List Float) 
             (λ z. under (s .generation) (p .below) z),
             (
               each-no g log (p .named),
-              (d .1 (le-ltb allowance (raysChanged g (listsOf spec g s) (entries log)) (p .few-rays)), (i .1 (le-ltb (spec .«max_intervals») (pairsLeft g (listsOf spec g s) (entries log)) (p .few-pairs)), tt)),
+              (d .1 (le-ltb allowance (changedRayCount g (stockLists spec g s) (entries log)) (p .few-rays)), (i .1 (le-ltb (spec .«max_intervals») (pairsAfter g (stockLists spec g s) (entries log)) (p .few-pairs)), tt)),
             ),
           ),
         ),

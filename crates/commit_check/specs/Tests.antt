@@ -11,33 +11,33 @@ use Rattle.store.specs.Updates.{Room}
 use Rattle.stock.specs.Stock.{Stock, SoundStock}
 use Rattle.refusal.specs.Refusal.{Cause, Due}
 use Rattle.log_model.specs.Logs.{entries, workNeeded, Commit}
-use Rattle.log_model.specs.Model.{causes}
-use Rattle.log_model.specs.Counts.{raysChanged, pairsLeft}
-use Rattle.log_model.specs.Runs.{points}
+use Rattle.log_model.specs.Model.{logCommitCauses}
+use Rattle.log_model.specs.Counts.{changedRayCount, pairsAfter}
+use Rattle.log_model.specs.Runs.{pointSets}
 use Rattle.log_model.specs.Lent.{lentStore}
 use Rattle.log_entries.specs.Named.{EachNamed}
-use Rattle.log_updates.specs.Merges.{listsOf}
+use Rattle.log_updates.specs.Merges.{stockLists}
 
 -- what the commit brings: only the pairs of its work buffer count
 abbrev pub commitOf : (log : List Float) (allowance : ℕ) (work : List Float) → Commit
 commitOf log allowance work = record { log = log; allowance = allowance; work = length work / 2 }
 
 -- every test of the commit is passed
-pub record Passes (spec : DexelStockSpec) (g : DexelGrid) (s : Stock) (log : List Float) (allowance : ℕ) (work : List Float) : Type 0 where
+pub record LogChecked (spec : DexelStockSpec) (g : DexelGrid) (s : Stock) (log : List Float) (allowance : ℕ) (work : List Float) : Type 0 where
   pub room : Room (spec .«max_intervals») (2 * rayCount g) (s .cells)
   pub work-room : workNeeded (spec .«max_intervals») log ≤ length work / 2
   pub whole : length log % 6 ≡ 0
   pub sound : SoundStock spec g s
   pub below : s .generation < 2 ^ 64 - 1
   pub named : EachNamed g log
-  pub few-rays : raysChanged g (listsOf spec g s) (entries log) ≤ allowance
-  pub few-pairs : pairsLeft g (listsOf spec g s) (entries log) ≤ spec .«max_intervals»
+  pub few-rays : changedRayCount g (stockLists spec g s) (entries log) ≤ allowance
+  pub few-pairs : pairsAfter g (stockLists spec g s) (entries log) ≤ spec .«max_intervals»
 
--- the causes of a log commit on a stock
-abbrev pub logCauses : (spec : DexelStockSpec) (g : DexelGrid) → Stock → Commit → List Cause
-logCauses spec g s c = causes spec g (lentStore spec g .lent s) (¬ SoundStock spec g s) (points g (lentStore spec g) s) (s .generation) c
+-- the logCommitCauses of a log commit on a stock
+abbrev pub stockLogCauses : (spec : DexelStockSpec) (g : DexelGrid) → Stock → Commit → List Cause
+stockLogCauses spec g s c = logCommitCauses spec g (lentStore spec g .lent s) (¬ SoundStock spec g s) (pointSets g (lentStore spec g) s) (s .generation) c
 
 -- the answer of all tests: 0 where each is passed, else the number that is due
-pub record Tested (spec : DexelStockSpec) (g : DexelGrid) (s : Stock) (log : List Float) (allowance : ℕ) (work : List Float) (r : ℕ) : Type 0 where
-  pub passed : r ≡ 0 → Passes spec g s log allowance work
-  pub due : (r ≡ 0 → ⊥) → Due (logCauses spec g s (commitOf log allowance work)) r
+pub record LogCheckPost (spec : DexelStockSpec) (g : DexelGrid) (s : Stock) (log : List Float) (allowance : ℕ) (work : List Float) (r : ℕ) : Type 0 where
+  pub passed : r ≡ 0 → LogChecked spec g s log allowance work
+  pub due : (r ≡ 0 → ⊥) → Due (stockLogCauses spec g s (commitOf log allowance work)) r

@@ -6,10 +6,10 @@ ghost use lib.ListN.{length};
 ghost use Rattle.grid_from_spec.specs.Causes.{GridFacts};
 ghost use Rattle.stock.specs.Outcomes.{stock};
 ghost use Rattle.log_model.specs.Logs.{workNeeded};
-ghost use Rattle.commit_check.specs.Tests.{Tested};
+ghost use Rattle.commit_check.specs.Tests.{LogCheckPost};
 use grid::DexelGrid;
 use grid::DexelStockSpec;
-use log_budget::Budgets;
+use log_budget::BudgetAnswer;
 
 // Refusal 12 for the work buffer.
 fn is_work_short(n: usize, log: &[f64], work: &[f64]) -> bool
@@ -33,7 +33,7 @@ pub fn refusal(
     work: &[f64],
 ) -> u32
     requires { ⌜ GridFacts spec g ⌝ }
-    ensures { λ r. ⌜ Tested spec g (stock (now (spans .entry)) (now (links .entry)) (now (heads .entry)) generation intervals) (now (log .entry)) allowance (now (work .entry)) r ⌝ }
+    ensures { λ r. ⌜ LogCheckPost spec g (stock (now (spans .entry)) (now (links .entry)) (now (heads .entry)) generation intervals) (now (log .entry)) allowance (now (work .entry)) r ⌝ }
 {
     if stock::is_short(spec, g, spans, links, heads) {
         return 12;
@@ -54,8 +54,8 @@ pub fn refusal(
         return 17;
     }
     match log_budget::budget(spec, g, spans, links, heads, intervals, log, allowance) {
-        Budgets::Rays => 9,
-        Budgets::Intervals => 10,
-        Budgets::Kept => 0,
+        BudgetAnswer::Rays => 9,
+        BudgetAnswer::Intervals => 10,
+        BudgetAnswer::Kept => 0,
     }
 }

@@ -8,37 +8,37 @@ use Rattle.grid.specs.Rays.{rayCount}
 use Rattle.grid_from_spec.specs.Causes.{GridFacts, ByCauses}
 use Rattle.grid_from_spec.proofs.Causes.{grid-by-causes}
 use Rattle.grid_from_spec.specs.Grid.{gridOf}
-use Rattle.grid.specs.declared.Gridded.{Gridded}
-use Rattle.grid.specs.declared.Gridded.the-variants.{Accepted as Griddable, Refused as NoGrid}
+use Rattle.grid.specs.declared.GridAnswer.{GridAnswer}
+use Rattle.grid.specs.declared.GridAnswer.the-variants.{Accepted as Griddable, Refused as NoGrid}
 use Rattle.grid.specs.declared.DexelStockSpec.{DexelStockSpec}
 use Rattle.grid.specs.declared.DexelGrid.{DexelGrid}
 use Rattle.store.specs.Store.{usedAt}
 use Rattle.store.specs.Walks.{countTo}
-use Rattle.store.specs.Updates.{Cells, Kept, pairsFreed, pairsLaid, applied}
+use Rattle.store.specs.Updates.{Cells, CellsPastKept, pairsFreed, pairsLaid, applied}
 use Rattle.store.proofs.Checked.{count-of}
 use Rattle.stock.specs.Stock.{Stock}
-use Rattle.stock.specs.declared.Committed.{Committed}
-use Rattle.stock.specs.declared.Committed.the-variants.{Changed, Refused}
+use Rattle.stock.specs.declared.CommitAnswer.{CommitAnswer}
+use Rattle.stock.specs.declared.CommitAnswer.the-variants.{Changed, Refused}
 use Rattle.log_model.specs.Logs.{entries}
-use Rattle.log_model.specs.Model.{Judged, refused}
-use Rattle.log_model.specs.Runs.{points, Left, Cut}
-use Rattle.log_model.specs.Lent.{listIn, lentStore, LogCommit}
+use Rattle.log_model.specs.Model.{AnswerDue, refused}
+use Rattle.log_model.specs.Runs.{pointSets, CommitEffect, AcceptedEffect}
+use Rattle.log_model.specs.Lent.{listIn, lentStore, CommitOnAnyGrid}
 use Rattle.log_model.proofs.Doubles.{DoubleCells, Doubles, all-doubles}
-use Rattle.log_updates.specs.Merges.{Merges, cutStock, listsOf}
+use Rattle.log_updates.specs.Merges.{MergeUpdates, committedStock, stockLists}
 use Rattle.log_updates.proofs.Leaves.{changed-rays, all-updated, cut-sound, cut}
-use Rattle.commit_check.specs.Tests.{commitOf, Passes, Tested}
+use Rattle.commit_check.specs.Tests.{commitOf, LogChecked, LogCheckPost}
 use Rattle.commit_check.proofs.Tests.{passes-none}
-use Rattle.commit_apply.specs.Cutting.{Ready, Done}
-use Rattle.commit_log.specs.Commit.{answerOf, OnGrid, AllCellsLeft, LogCommits}
+use Rattle.commit_apply.specs.Cutting.{ApplyPre, ApplyPost}
+use Rattle.commit_log.specs.Commit.{answerOf, LogCommitOnGrid, LogCellsOnAnyGrid, LogCommitPost}
 
 module _ (spec : DexelStockSpec) (g : DexelGrid) (s : Stock) (log : List Float) (allowance : ℕ) (work : List Float) where
   -- a refused commit
-  pub refuse : (k : ℕ) → Tested spec g s log allowance work k → (k ≡ 0 → ⊥) → OnGrid spec g s log allowance work (Refused k) s work
-  unfolding Judged Left
+  pub refuse : (k : ℕ) → LogCheckPost spec g s log allowance work k → (k ≡ 0 → ⊥) → LogCommitOnGrid spec g s log allowance work (Refused k) s work
+  unfolding AnswerDue CommitEffect
   refuse k t ne = record { promise = record { answers = t .due ne; leaves = refl }; left = refl }
 
   -- what the tests make sure of
-  pub ready : GridFacts spec g → (k : ℕ) → Tested spec g s log allowance work k → k ≡ 0 → Ready spec g (s .cells) log work
+  pub ready : GridFacts spec g → (k : ℕ) → LogCheckPost spec g s log allowance work k → k ≡ 0 → ApplyPre spec g (s .cells) log work
   unfolding listIn
   ready f k t z = let p = t .passed z in record {
     facts = f;
@@ -51,21 +51,21 @@ module _ (spec : DexelStockSpec) (g : DexelGrid) (s : Stock) (log : List Float) 
   }
 
   -- an accepted commit
-  module _ (k : ℕ) (tested : Tested spec g s log allowance work k) (z : k ≡ 0)
+  module _ (k : ℕ) (tested : LogCheckPost spec g s log allowance work k) (z : k ≡ 0)
       (ds : DoubleCells (s .cells .spans)) (dl : DoubleCells log) (m : ℕ) (d : Cells) (work′ : List Float)
-      (done : Done spec g (s .cells) log work m d work′) where
-    passes : Passes spec g s log allowance work
+      (done : ApplyPost spec g (s .cells) log work m d work′) where
+    passes : LogChecked spec g s log allowance work
     passes = tested .passed z
 
-    doubles : Doubles g (listsOf spec g s) (entries log)
+    doubles : Doubles g (stockLists spec g s) (entries log)
     doubles = all-doubles spec g s log ds dl
 
-    asked : Merges g (listsOf spec g s) (entries log) 0 (done .updates) m
+    asked : MergeUpdates g (stockLists spec g s) (entries log) 0 (done .updates) m
     unfolding listIn
     asked = done .merges
 
     module _ (total : ℕ) (counted : total ≡ countTo (usedAt (d .spans) (d .links)) (spec .«max_intervals»)) where
-      left-is : record { cells = d; generation = s .generation + 1; intervals = total } ≡ cutStock spec s (done .updates)
+      left-is : record { cells = d; generation = s .generation + 1; intervals = total } ≡ committedStock spec s (done .updates)
       left-is =
           ap₂ (λ (x : Cells) (y : ℕ). record { cells = x; generation = y; intervals = total }) (done .left) (add-one (s .generation))
           ∙ ap (λ (x : ℕ). record { cells = applied (spec .«max_intervals») (s .cells) (done .updates); generation = suc (s .generation); intervals = x }) number
@@ -77,15 +77,15 @@ module _ (spec : DexelStockSpec) (g : DexelGrid) (s : Stock) (log : List Float) 
               (cut-sound spec g s (passes .sound) (passes .room) (entries log) doubles (done .updates) m asked
               (passes .few-pairs) .store)
 
-      pub accept : OnGrid spec g s log allowance work (Changed m) (record { cells = d; generation = s .generation + 1; intervals = total }) work′
-      unfolding Judged Left points
+      pub accept : LogCommitOnGrid spec g s log allowance work (Changed m) (record { cells = d; generation = s .generation + 1; intervals = total }) work′
+      unfolding AnswerDue CommitEffect pointSets
       accept = record {
         promise = record {
           answers = (
             passes-none spec g s log allowance work doubles passes,
             changed-rays spec g s (passes .sound) (passes .room) (entries log) doubles (done .updates) m asked,
           );
-          leaves = subst (Cut g (lentStore spec g) s (commitOf log allowance work)) (sym left-is)
+          leaves = subst (AcceptedEffect g (lentStore spec g) s (commitOf log allowance work)) (sym left-is)
               (cut spec g s (passes .sound) (passes .room) (entries log) doubles (done .updates) m asked (passes .few-pairs)
               (commitOf log allowance work) refl);
         };
@@ -93,7 +93,7 @@ module _ (spec : DexelStockSpec) (g : DexelGrid) (s : Stock) (log : List Float) 
           updates = done .updates;
           merges = asked;
           left = left-is;
-          past = subst (Kept (spec .«max_intervals») (2 * rayCount g) (s .cells)) (sym (done .left))
+          past = subst (CellsPastKept (spec .«max_intervals») (2 * rayCount g) (s .cells)) (sym (done .left))
               (all-updated spec g s (passes .sound) (passes .room) (entries log) doubles (done .updates) m asked
               (passes .few-pairs) .kept);
           cleared = done .cleared;
@@ -102,8 +102,8 @@ module _ (spec : DexelStockSpec) (g : DexelGrid) (s : Stock) (log : List Float) 
 
 -- a description that `grid` accepts, and one that it refuses
 module _ (spec : DexelStockSpec) (units : List ℕ) (s : Stock) (log : List Float) (allowance : ℕ) (work : List Float) where
-  pub on-grid : (g : DexelGrid) (a : Committed) (t : Stock) (work′ : List Float) → gridOf spec units ≡ Griddable g → OnGrid spec g s log allowance work a t work′ → LogCommits spec units s log allowance work a t work′
-  unfolding LogCommit
+  pub on-grid : (g : DexelGrid) (a : CommitAnswer) (t : Stock) (work′ : List Float) → gridOf spec units ≡ Griddable g → LogCommitOnGrid spec g s log allowance work a t work′ → LogCommitPost spec units s log allowance work a t work′
+  unfolding CommitOnAnyGrid
   on-grid g a t work′ e o = record {
     described = Griddable g;
     by = subst (ByCauses spec units) e (grid-by-causes spec units);
@@ -111,8 +111,8 @@ module _ (spec : DexelStockSpec) (units : List ℕ) (s : Stock) (log : List Floa
     left = o .left;
   }
 
-  pub no-grid : (k : ℕ) → gridOf spec units ≡ NoGrid k → LogCommits spec units s log allowance work (Refused k) s work
-  unfolding LogCommit
+  pub no-grid : (k : ℕ) → gridOf spec units ≡ NoGrid k → LogCommitPost spec units s log allowance work (Refused k) s work
+  unfolding CommitOnAnyGrid
   no-grid k e = record {
     described = NoGrid k;
     by = subst (ByCauses spec units) e (grid-by-causes spec units);

@@ -2,11 +2,11 @@
 ghost use Prim.Native.Nat.{_+_};
 ghost use Rattle.grid_from_spec.specs.Causes.{GridFacts};
 ghost use Rattle.stock.specs.Outcomes.{stock};
-ghost use Rattle.commit_log.specs.Commit.{OnGrid, LogCommits};
+ghost use Rattle.commit_log.specs.Commit.{LogCommitOnGrid, LogCommitPost};
 use grid::DexelGrid;
 use grid::DexelStockSpec;
-use grid::Gridded;
-use stock::Committed;
+use grid::GridAnswer;
+use stock::CommitAnswer;
 use stock::Outcome;
 use stock::Tally;
 
@@ -24,7 +24,7 @@ fn commit_grid(
     work: &mut [f64],
 ) -> Outcome
     requires { ⌜ GridFacts spec g ⌝ }
-    ensures { λ r. ⌜ OnGrid spec g (stock (now (spans .entry)) (now (links .entry)) (now (heads .entry)) generation intervals) (now (log .entry)) allowance (now (work .entry)) (r .answer)
+    ensures { λ r. ⌜ LogCommitOnGrid spec g (stock (now (spans .entry)) (now (links .entry)) (now (heads .entry)) generation intervals) (now (log .entry)) allowance (now (work .entry)) (r .answer)
         (stock (now (spans .exit)) (now (links .exit)) (now (heads .exit)) (r .generation) (r .intervals)) (now (work .exit)) ⌝ }
 {
     let k = commit_check::refusal(
@@ -41,7 +41,7 @@ fn commit_grid(
     );
     if k != 0 {
         return Outcome {
-            answer: Committed::Refused(k),
+            answer: CommitAnswer::Refused(k),
             generation,
             intervals,
         };
@@ -49,7 +49,7 @@ fn commit_grid(
     let changed = commit_apply::cut_lists(spec, g, spans, links, heads, log, work);
     let total = store::count_used(spans, links, spec.max_intervals as usize) as u64;
     Outcome {
-        answer: Committed::Changed(changed),
+        answer: CommitAnswer::Changed(changed),
         generation: generation + 1,
         intervals: total,
     }
@@ -68,11 +68,11 @@ pub fn commit_log_on(
     allowance: u64,
     work: &mut [f64],
 ) -> Outcome
-    ensures { λ r. ⌜ LogCommits spec (now (units .entry)) (stock (now (spans .entry)) (now (links .entry)) (now (heads .entry)) generation intervals) (now (log .entry)) allowance
+    ensures { λ r. ⌜ LogCommitPost spec (now (units .entry)) (stock (now (spans .entry)) (now (links .entry)) (now (heads .entry)) generation intervals) (now (log .entry)) allowance
         (now (work .entry)) (r .answer) (stock (now (spans .exit)) (now (links .exit)) (now (heads .exit)) (r .generation) (r .intervals)) (now (work .exit)) ⌝ }
 {
     match grid_from_spec::grid(spec, units) {
-        Gridded::Accepted(g) => commit_grid(
+        GridAnswer::Accepted(g) => commit_grid(
             spec,
             g,
             spans,
@@ -84,8 +84,8 @@ pub fn commit_log_on(
             allowance,
             work,
         ),
-        Gridded::Refused(k) => Outcome {
-            answer: Committed::Refused(k),
+        GridAnswer::Refused(k) => Outcome {
+            answer: CommitAnswer::Refused(k),
             generation,
             intervals,
         },
@@ -103,8 +103,8 @@ pub fn commit_log(
     log: &[f64],
     allowance: u64,
     work: &mut [f64],
-) -> Committed
-    ensures { λ r. ⌜ LogCommits spec (now (units .entry)) (stock (now (spans .entry)) (now (links .entry)) (now (heads .entry)) (now (tally .entry) .generation) (now (tally .entry) .intervals))
+) -> CommitAnswer
+    ensures { λ r. ⌜ LogCommitPost spec (now (units .entry)) (stock (now (spans .entry)) (now (links .entry)) (now (heads .entry)) (now (tally .entry) .generation) (now (tally .entry) .intervals))
         (now (log .entry)) allowance (now (work .entry)) r (stock (now (spans .exit)) (now (links .exit)) (now (heads .exit)) (now (tally .exit) .generation) (now (tally .exit) .intervals)) (now (work .exit)) ⌝ }
 {
     let done = commit_log_on(

@@ -13,27 +13,27 @@ use Rattle.refusal.proofs.Laws.{due-unique, none-due}
 use Rattle.spans.specs.Spans.{All, Double, Point, holds, sound, equal}
 use Rattle.grid_from_spec.specs.Causes.{gridCauses, gridIn, ByCauses}
 use Rattle.grid.specs.declared.DexelStockSpec.{DexelStockSpec}
-use Rattle.grid.specs.declared.Gridded.{Gridded}
-use Rattle.grid.specs.declared.Gridded.the-variants.{Accepted, Refused}
+use Rattle.grid.specs.declared.GridAnswer.{GridAnswer}
+use Rattle.grid.specs.declared.GridAnswer.the-variants.{Accepted, Refused}
 use Rattle.stock.specs.Stock.{Stock, SoundStock}
-use Rattle.stock.specs.declared.Committed.{Committed}
-use Rattle.stock.specs.declared.Committed.the-variants.{Changed, Refused as NotCommitted}
+use Rattle.stock.specs.declared.CommitAnswer.{CommitAnswer}
+use Rattle.stock.specs.declared.CommitAnswer.the-variants.{Changed, Refused as NotCommitted}
 use Rattle.log_model.specs.Logs.{Ray, Kind, Commit}
-use Rattle.log_model.specs.Model.{Answer, changed, refused, ended}
-use Rattle.log_model.specs.Runs.{start}
-use Rattle.log_model.specs.Lent.{listIn, lentStore, LogCommit}
-use Rattle.commit_log.specs.Commit.{answerOf, AllCellsLeft}
-use Rattle.commit_run.specs.Running.{commitsTo, answerBy, answersTo, kindOf, secondOf, answered, CommitsTo, none, more, RanOn, AllRefused, RanAll}
+use Rattle.log_model.specs.Model.{LogAnswer, changed, refused, modelAfter}
+use Rattle.log_model.specs.Runs.{modelStart}
+use Rattle.log_model.specs.Lent.{listIn, lentStore, CommitOnAnyGrid}
+use Rattle.commit_log.specs.Commit.{answerOf, LogCellsOnAnyGrid}
+use Rattle.commit_run.specs.Running.{commitsTo, answerBy, answersTo, answerCode, answerNumber, answered, CommitsTo, none, more, RunOnGridPost, AllRefused, RunLogsPost}
 use Rattle.commit_run.proofs.Turns.{told-at}
 
 -- ---- a refused description
 
 module _ (spec : DexelStockSpec) (units : List ℕ) (k : ℕ) (due : Due (gridCauses spec units) k) where
   -- one commit on it
-  refuses : (d : Gridded) (s t : Stock) (c : Commit) (a : Answer) (log work work′ : List Float) (x : Committed) → ByCauses spec units d
-      → LogCommit d spec s c a t
-      → AllCellsLeft d spec s log work x t work′ → (a ≡ refused k) × (t ≡ s) × (work′ ≡ work)
-  unfolding LogCommit
+  refuses : (d : GridAnswer) (s t : Stock) (c : Commit) (a : LogAnswer) (log work work′ : List Float) (x : CommitAnswer) → ByCauses spec units d
+      → CommitOnAnyGrid d spec s c a t
+      → LogCellsOnAnyGrid d spec s log work x t work′ → (a ≡ refused k) × (t ≡ s) × (work′ ≡ work)
+  unfolding CommitOnAnyGrid
   refuses (Accepted g) s t c a log work work′ x b p l = absurd (none-due (gridCauses spec units) k (b .0) due)
   refuses (Refused j) s t c a log work work′ x b p l = (p .0 ∙ ap refused (due-unique (gridCauses spec units) j k b due), p .1, l)
 
@@ -56,8 +56,8 @@ module _ (spec : DexelStockSpec) (units : List ℕ) (k : ℕ) (due : Due (gridCa
         (x .commits .left) in
         let keeps : (q : ℕ) → (q ≡ 2 * i → ⊥) → (q ≡ 2 * i + 1 → ⊥) → getD ls q 0 ≡ getD ks q 0 = λ q a b.
         ap (λ (l : List ℕ). getD l q 0) (x .told)
-        ∙ getD-set-other (set ks (2 * i) (kindOf (x .answer))) (2 * i + 1) q (secondOf (x .answer)) 0 b
-        ∙ getD-set-other ks (2 * i) q (kindOf (x .answer)) 0 a in (
+        ∙ getD-set-other (set ks (2 * i) (answerCode (x .answer))) (2 * i + 1) q (answerNumber (x .answer)) 0 b
+        ∙ getD-set-other ks (2 * i) q (answerCode (x .answer)) 0 a in (
           record {
             stock-stays = y .1 ∙ r .stock-stays;
             work-stays = y .2 ∙ r .work-stays;
@@ -72,8 +72,8 @@ module _ (spec : DexelStockSpec) (units : List ℕ) (k : ℕ) (due : Due (gridCa
             ];
             past = λ q h. keeps q (λ (e : q ≡ 2 * i). omega arith) (λ (e : q ≡ 2 * i + 1). omega arith) ∙ r .past q (omega arith);
           },
-          ap length (x .told) ∙ length-set (set ks (2 * i) (kindOf (x .answer))) (2 * i + 1) (secondOf (x .answer))
-              ∙ length-set ks (2 * i) (kindOf (x .answer)) ∙ n,
+          ap length (x .told) ∙ length-set (set ks (2 * i) (answerCode (x .answer))) (2 * i + 1) (answerNumber (x .answer))
+              ∙ length-set ks (2 * i) (answerCode (x .answer)) ∙ n,
         )
       where
         last : (i j : ℕ) → j < suc i → (j < i → ⊥) → i ≡ j
@@ -81,7 +81,7 @@ module _ (spec : DexelStockSpec) (units : List ℕ) (k : ℕ) (due : Due (gridCa
 
     -- THE LAW: a run on a description that is refused with k leaves the stock and the work buffer, and gives k for each log
     pub refused-all : (t : Stock) (w : List Float) (ks : List ℕ) → 2 * length ends ≤ length answers
-        → RanAll spec units logs ends allowances s work answers t w ks
+        → RunLogsPost spec units logs ends allowances s work answers t w ks
         → AllRefused k (length ends) s work answers t w ks
     refused-all t w ks fits r = refused-commits (r .commits) fits .0
 
@@ -89,13 +89,13 @@ module _ (spec : DexelStockSpec) (units : List ℕ) (k : ℕ) (due : Due (gridCa
 
 -- after a run from a sound stock, each list is the only sound one of doubles with the points of the model's set
 pub only-one : (spec : DexelStockSpec) (units : List ℕ) (logs : List Float) (ends allowances : List ℕ) (s : Stock) (work : List Float)
-    (answers : List ℕ) (t : Stock) (w : List Float) (ks : List ℕ) → RanAll spec units logs ends allowances s work answers t w ks
+    (answers : List ℕ) (t : Stock) (w : List Float) (ks : List ℕ) → RunLogsPost spec units logs ends allowances s work answers t w ks
     → NoneDue (gridCauses spec units) → SoundStock spec (gridIn spec) s
     → (r : Ray (gridIn spec)) (k : Kind) (l : List Float) → All Double l → sound l ≡ true
     → ((p : Float) → Point p → holds l p
-    ≡ ended (gridIn spec) (start (gridIn spec) (lentStore spec (gridIn spec)) s)
+    ≡ modelAfter (gridIn spec) (modelStart (gridIn spec) (lentStore spec (gridIn spec)) s)
     (commitsTo logs ends allowances (length work / 2) (length ends)) (answersTo ks (length ends)) .sets r k p)
     → equal l (listIn spec t (r .0) k) ≡ true
-unfolding RanOn
+unfolding RunOnGridPost
 only-one spec units logs ends allowances s work answers t w ks x n snd r k l d h f =
     x .ran n .settled snd .only-list r k l d (x .doubles (r .0) k) h f

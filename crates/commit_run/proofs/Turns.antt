@@ -11,46 +11,45 @@ use Rattle.refusal.proofs.Laws.{none-due}
 use Rattle.grid_from_spec.specs.Causes.{gridCauses, gridIn, ByCauses}
 use Rattle.grid.specs.declared.DexelStockSpec.{DexelStockSpec}
 use Rattle.grid.specs.declared.DexelGrid.{DexelGrid}
-use Rattle.grid.specs.declared.Gridded.{Gridded}
-use Rattle.grid.specs.declared.Gridded.the-variants.{Accepted, Refused}
+use Rattle.grid.specs.declared.GridAnswer.{GridAnswer}
+use Rattle.grid.specs.declared.GridAnswer.the-variants.{Accepted, Refused}
 use Rattle.stock.specs.Stock.{Stock}
-use Rattle.stock.specs.declared.Committed.{Committed}
-use Rattle.stock.specs.declared.Committed.the-variants.{Changed, Refused as NotCommitted}
+use Rattle.stock.specs.declared.CommitAnswer.{CommitAnswer}
+use Rattle.stock.specs.declared.CommitAnswer.the-variants.{Changed, Refused as NotCommitted}
 use Rattle.log_model.specs.Logs.{Commit}
-use Rattle.log_model.specs.Model.{Answer}
-use Rattle.log_model.specs.Runs.{Run, done}
-use Rattle.log_model.specs.Runs.{Committed as CommitPromise}
-use Rattle.log_model.specs.Lent.{lentStore, LogCommit}
+use Rattle.log_model.specs.Model.{LogAnswer}
+use Rattle.log_model.specs.Runs.{Run, done, CommitStep as CommitPromise}
+use Rattle.log_model.specs.Lent.{lentStore, CommitOnAnyGrid}
 use Rattle.log_model.proofs.Demand3.{extend}
 use Rattle.log_model.proofs.Doubles.{DoubleCells, list-doubles}
 use Rattle.log_model.proofs.Lent.{demand3-lent}
 use Rattle.commit_check.specs.Tests.{commitOf}
 use Rattle.commit_log.specs.Commit.{answerOf}
-use Rattle.commit_run.specs.Running.{beginOf, logFrom, commitAt, commitsTo, answerBy, answersTo, kindOf, secondOf, answered, Turned, CommitsTo, none, more, RanOn, RanAll}
+use Rattle.commit_run.specs.Running.{beginOf, logFrom, commitAt, commitsTo, answerBy, answersTo, answerCode, answerNumber, answered, RunStepPost, CommitsTo, none, more, RunOnGridPost, RunLogsPost}
 
 -- the two numbers of an answer tell it
-by-numbers : (a : Committed) → answerBy (kindOf a) (secondOf a) ≡ answerOf a
+by-numbers : (a : CommitAnswer) → answerBy (answerCode a) (answerNumber a) ≡ answerOf a
 by-numbers (Changed n) = refl
 by-numbers (NotCommitted k) = refl
 
 -- answer i stands in its own two cells
-pub told-at : (answers : List ℕ) (i : ℕ) (a : Committed) → 2 * i + 1 < length answers
+pub told-at : (answers : List ℕ) (i : ℕ) (a : CommitAnswer) → 2 * i + 1 < length answers
     → answerBy (getD (answered answers i a) (2 * i) 0) (getD (answered answers i a) (2 * i + 1) 0) ≡ answerOf a
 told-at answers i a fits =
-    let first : getD (answered answers i a) (2 * i) 0 ≡ kindOf a =
-    getD-set-other (set answers (2 * i) (kindOf a)) (2 * i + 1) (2 * i) (secondOf a) 0 (λ (e : 2 * i ≡ 2 * i + 1). omega arith) ∙ getD-set-same answers (2 * i) (kindOf a) 0 (omega arith) in
-    let second : getD (answered answers i a) (2 * i + 1) 0 ≡ secondOf a =
-    getD-set-same (set answers (2 * i) (kindOf a)) (2 * i + 1) (secondOf a) 0 (omega (arith, length-set answers (2 * i) (kindOf a))) in
+    let first : getD (answered answers i a) (2 * i) 0 ≡ answerCode a =
+    getD-set-other (set answers (2 * i) (answerCode a)) (2 * i + 1) (2 * i) (answerNumber a) 0 (λ (e : 2 * i ≡ 2 * i + 1). omega arith) ∙ getD-set-same answers (2 * i) (answerCode a) 0 (omega arith) in
+    let second : getD (answered answers i a) (2 * i + 1) 0 ≡ answerNumber a =
+    getD-set-same (set answers (2 * i) (answerCode a)) (2 * i + 1) (answerNumber a) 0 (omega (arith, length-set answers (2 * i) (answerCode a))) in
     ap₂ answerBy first second ∙ by-numbers a
 
 -- and the answers before it stay
-told-before : (answers : List ℕ) (i : ℕ) (a : Committed) (k : ℕ) → k ≤ i → answersTo (answered answers i a) k ≡ answersTo answers k
+told-before : (answers : List ℕ) (i : ℕ) (a : CommitAnswer) (k : ℕ) → k ≤ i → answersTo (answered answers i a) k ≡ answersTo answers k
 unfolding answersTo
 told-before answers i a zero h = refl
 told-before answers i a (suc k) h =
     let same : (q : ℕ) → q < 2 * i → getD (answered answers i a) q 0 ≡ getD answers q 0 = λ q l.
-    getD-set-other (set answers (2 * i) (kindOf a)) (2 * i + 1) q (secondOf a) 0 (λ (e : q ≡ 2 * i + 1). omega arith) ∙ getD-set-other answers (2 * i) q (kindOf a) 0 (λ (e : q ≡ 2 * i). omega arith) in
-    ap₂ (λ (l : List Answer) (x : Answer). l ++ (x ∷ [])) (told-before answers i a k (omega arith)) (ap₂ answerBy (same (2 * k) (omega arith)) (same (2 * k + 1) (omega arith)))
+    getD-set-other (set answers (2 * i) (answerCode a)) (2 * i + 1) q (answerNumber a) 0 (λ (e : q ≡ 2 * i + 1). omega arith) ∙ getD-set-other answers (2 * i) q (answerCode a) 0 (λ (e : q ≡ 2 * i). omega arith) in
+    ap₂ (λ (l : List LogAnswer) (x : LogAnswer). l ++ (x ∷ [])) (told-before answers i a k (omega arith)) (ap₂ answerBy (same (2 * k) (omega arith)) (same (2 * k + 1) (omega arith)))
 
 -- the first i commits are run, the next log begins at cell `at`, and each buffer has its size
 pub record RunTo (spec : DexelStockSpec) (units : List ℕ) (s : Stock) (logs : List Float) (ends allowances : List ℕ) (work₀ : List Float) (answers₀ : List ℕ) (i : ℕ) (t : Stock) (at : ℕ) (work : List Float) (answers : List ℕ) : Type 0 where
@@ -83,15 +82,15 @@ run-start spec units s logs ends allowances work answers d = record {
 }
 
 -- a commit on a description without a cause is a step of a run
-on-grid : (spec : DexelStockSpec) (units : List ℕ) (d : Gridded) (s t : Stock) (c : Commit) (a : Answer) → NoneDue (gridCauses spec units) → ByCauses spec units d → LogCommit d spec s c a t → CommitPromise spec (gridIn spec) (lentStore spec (gridIn spec)) s c a t
-unfolding LogCommit
+on-grid : (spec : DexelStockSpec) (units : List ℕ) (d : GridAnswer) (s t : Stock) (c : Commit) (a : LogAnswer) → NoneDue (gridCauses spec units) → ByCauses spec units d → CommitOnAnyGrid d spec s c a t → CommitPromise spec (gridIn spec) (lentStore spec (gridIn spec)) s c a t
+unfolding CommitOnAnyGrid
 on-grid spec units (Accepted g) s t c a e b x = subst (λ (h : DexelGrid). CommitPromise spec h (lentStore spec h) s c a t) (b .1) x
 on-grid spec units (Refused k) s t c a e b x = absurd (none-due (gridCauses spec units) k e b)
 
 pub run-next : (spec : DexelStockSpec) (units : List ℕ) (s : Stock) (logs : List Float) (ends allowances : List ℕ) (work₀ : List Float) (answers₀ : List ℕ) (i : ℕ) (t : Stock) (at : ℕ) (work : List Float) (answers : List ℕ)
     (u : Stock) (work′ : List Float) (answers′ : List ℕ)
     → RunTo spec units s logs ends allowances work₀ answers₀ i t at work answers → i < length ends → 2 * length ends ≤ length answers₀
-    → Turned spec units t (logFrom logs at (getD ends i 0)) (getD allowances i 0) work answers i u work′ answers′
+    → RunStepPost spec units t (logFrom logs at (getD ends i 0)) (getD allowances i 0) work answers i u work′ answers′
     → DoubleCells (u .cells .spans) → length (u .cells .spans) ≡ length (t .cells .spans)
     → length (u .cells .links) ≡ length (t .cells .links) → length (u .cells .heads) ≡ length (t .cells .heads)
     → length work′ ≡ length work → length answers′ ≡ length answers
@@ -101,12 +100,12 @@ run-next spec units s logs ends allowances work₀ answers₀ i t at work answer
   most = omega arith;
   begins = begins;
   run = λ e.
-      subst (λ (vs : List Answer). Run spec (gridIn spec) (lentStore spec (gridIn spec)) s (commitsTo logs ends allowances (length work₀ / 2) (i + 1)) vs u) (sym answers-are)
+      subst (λ (vs : List LogAnswer). Run spec (gridIn spec) (lentStore spec (gridIn spec)) s (commitsTo logs ends allowances (length work₀ / 2) (i + 1)) vs u) (sym answers-are)
       (subst (λ (k : ℕ). Run spec (gridIn spec) (lentStore spec (gridIn spec)) s (commitsTo logs ends allowances (length work₀ / 2) k) (answersTo answers i ++ (answerOf (x .answer) ∷ [])) u) one-more
       (extend spec (gridIn spec) (lentStore spec (gridIn spec)) (r .run e) (on-grid spec units (x .commits .described) t u (commitAt logs ends allowances (length work₀ / 2) i) (answerOf (x .answer)) e (x .commits .by)
-      (subst (λ (c : Commit). LogCommit (x .commits .described) spec t c (answerOf (x .answer)) u) same-commit (x .commits .promise)))));
+      (subst (λ (c : Commit). CommitOnAnyGrid (x .commits .described) spec t c (answerOf (x .answer)) u) same-commit (x .commits .promise)))));
   commits = subst (λ (k : ℕ). CommitsTo spec units logs ends allowances s work₀ answers₀ k u work′ answers′) one-more
-      (more (r .commits) (subst (λ (b : ℕ). Turned spec units t (logFrom logs b (getD ends i 0)) (getD allowances i 0) work answers i u work′ answers′) (r .begins) x));
+      (more (r .commits) (subst (λ (b : ℕ). RunStepPost spec units t (logFrom logs b (getD ends i 0)) (getD allowances i 0) work answers i u work′ answers′) (r .begins) x));
   doubles = d;
   spans-size = za ∙ r .spans-size;
   links-size = zb ∙ r .links-size;
@@ -130,12 +129,12 @@ run-next spec units s logs ends allowances work₀ answers₀ i t at work answer
     answers-are : answersTo answers′ (i + 1) ≡ answersTo answers i ++ (answerOf (x .answer) ∷ [])
     answers-are =
         ap (answersTo answers′) (sym one-more) ∙ ap (λ (l : List ℕ). answersTo l (suc i)) (x .told)
-        ∙ ap₂ (λ (l : List Answer) (v : Answer). l ++ (v ∷ [])) (told-before answers i (x .answer) i (omega arith)) (told-at answers i (x .answer) fits)
+        ∙ ap₂ (λ (l : List LogAnswer) (v : LogAnswer). l ++ (v ∷ [])) (told-before answers i (x .answer) i (omega arith)) (told-at answers i (x .answer) fits)
 
 pub run-end : (spec : DexelStockSpec) (units : List ℕ) (s : Stock) (logs : List Float) (ends allowances : List ℕ) (work₀ : List Float) (answers₀ : List ℕ) (i : ℕ) (t : Stock) (at : ℕ) (work : List Float) (answers : List ℕ)
     → RunTo spec units s logs ends allowances work₀ answers₀ i t at work answers → length ends ≤ i
-    → RanAll spec units logs ends allowances s work₀ answers₀ t work answers
-unfolding RanOn
+    → RunLogsPost spec units logs ends allowances s work₀ answers₀ t work answers
+unfolding RunOnGridPost
 run-end spec units s logs ends allowances work₀ answers₀ i t at work answers r past =
     let all : i ≡ length ends = omega (arith, r .most) in
     record {

@@ -10,14 +10,14 @@ use Rattle.grid_from_spec.specs.Causes.{gridCauses, gridIn}
 use Rattle.grid.specs.declared.DexelStockSpec.{DexelStockSpec}
 use Rattle.grid.specs.declared.DexelGrid.{DexelGrid}
 use Rattle.stock.specs.Stock.{Stock, SoundStock}
-use Rattle.stock.specs.declared.Committed.{Committed}
-use Rattle.stock.specs.declared.Committed.the-variants.{Changed, Refused}
+use Rattle.stock.specs.declared.CommitAnswer.{CommitAnswer}
+use Rattle.stock.specs.declared.CommitAnswer.the-variants.{Changed, Refused}
 use Rattle.spans.specs.Spans.{All, Double}
 use Rattle.log_model.specs.Logs.{Kind, Commit}
-use Rattle.log_model.specs.Model.{Answer, changed, refused}
-use Rattle.log_model.specs.Runs.{Run, Settled}
+use Rattle.log_model.specs.Model.{LogAnswer, changed, refused}
+use Rattle.log_model.specs.Runs.{Run, RunMeetsModel}
 use Rattle.log_model.specs.Lent.{listIn, lentStore}
-use Rattle.commit_log.specs.Commit.{LogCommits}
+use Rattle.commit_log.specs.Commit.{LogCommitPost}
 
 -- the cell where log i begins: where the one before it ends
 abbrev pub beginOf : List ℕ → ℕ → ℕ
@@ -44,46 +44,46 @@ commitsTo logs ends allowances work zero = []
 commitsTo logs ends allowances work (suc k) = commitsTo logs ends allowances work k ++ (commitAt logs ends allowances work k ∷ [])
 
 -- an answer by its two numbers, and the first k answers
-abbrev pub answerBy : ℕ → ℕ → Answer
+abbrev pub answerBy : ℕ → ℕ → LogAnswer
 answerBy zero n = changed n
 answerBy (suc k) n = refused n
 
-unfoldable pub answersTo : List ℕ → ℕ → List Answer
+unfoldable pub answersTo : List ℕ → ℕ → List LogAnswer
 answersTo answers zero = []
 answersTo answers (suc k) = answersTo answers k ++ (answerBy (getD answers (2 * k) 0) (getD answers (2 * k + 1) 0) ∷ [])
 
 -- the two numbers of an answer
-abbrev pub kindOf : Committed → ℕ
-kindOf (Changed n) = 0
-kindOf (Refused k) = 1
+abbrev pub answerCode : CommitAnswer → ℕ
+answerCode (Changed n) = 0
+answerCode (Refused k) = 1
 
-abbrev pub secondOf : Committed → ℕ
-secondOf (Changed n) = n
-secondOf (Refused k) = k
+abbrev pub answerNumber : CommitAnswer → ℕ
+answerNumber (Changed n) = n
+answerNumber (Refused k) = k
 
-abbrev pub answered : List ℕ → ℕ → Committed → List ℕ
-answered answers i a = set (set answers (2 * i) (kindOf a)) (2 * i + 1) (secondOf a)
+abbrev pub answered : List ℕ → ℕ → CommitAnswer → List ℕ
+answered answers i a = set (set answers (2 * i) (answerCode a)) (2 * i + 1) (answerNumber a)
 
 -- one commit of the list, and its answer in its two cells
-pub record Turned (spec : DexelStockSpec) (units : List ℕ) (s : Stock) (log : List Float) (allowance : ℕ) (work : List Float) (answers : List ℕ) (i : ℕ) (t : Stock) (work′ : List Float) (answers′ : List ℕ) : Type 0 where
-  pub answer : Committed
-  pub commits : LogCommits spec units s log allowance work answer t work′
+pub record RunStepPost (spec : DexelStockSpec) (units : List ℕ) (s : Stock) (log : List Float) (allowance : ℕ) (work : List Float) (answers : List ℕ) (i : ℕ) (t : Stock) (work′ : List Float) (answers′ : List ℕ) : Type 0 where
+  pub answer : CommitAnswer
+  pub commits : LogCommitPost spec units s log allowance work answer t work′
   pub told : answers′ ≡ answered answers i answer
 
 -- The first i commits one after the other, whatever the description is: each on the stock, the work buffer and the answers that the one before left
 pub data CommitsTo (spec : DexelStockSpec) (units : List ℕ) (logs : List Float) (ends allowances : List ℕ) (s : Stock) (work : List Float) (answers : List ℕ) : ℕ → Stock → List Float → List ℕ → Type 0 where
   none : CommitsTo spec units logs ends allowances s work answers 0 s work answers
   more : {i : ℕ} {t u : Stock} {w v : List Float} {ks ls : List ℕ} → CommitsTo spec units logs ends allowances s work answers i t w ks
-      → Turned spec units t (logFrom logs (beginOf ends i) (getD ends i 0)) (getD allowances i 0) w ks i u v ls → CommitsTo spec units logs ends allowances s work answers (suc i) u v ls
+      → RunStepPost spec units t (logFrom logs (beginOf ends i) (getD ends i 0)) (getD allowances i 0) w ks i u v ls → CommitsTo spec units logs ends allowances s work answers (suc i) u v ls
 
 -- A list of log commits was run from the stock s to the stock t: it is a run of logs, and from a sound stock all that demand 3 says holds of it
-pub record Ran (spec : DexelStockSpec) (g : DexelGrid) (s : Stock) (cs : List Commit) (vs : List Answer) (t : Stock) : Type 0 where
+pub record RunPost (spec : DexelStockSpec) (g : DexelGrid) (s : Stock) (cs : List Commit) (vs : List LogAnswer) (t : Stock) : Type 0 where
   pub run : Run spec g (lentStore spec g) s cs vs t
-  pub settled : SoundStock spec g s → Settled spec g (lentStore spec g) s cs vs t
+  pub settled : SoundStock spec g s → RunMeetsModel spec g (lentStore spec g) s cs vs t
 
 -- the same, for a description that `grid` accepts
-unfoldable pub RanOn : (spec : DexelStockSpec) (units : List ℕ) → Stock → List Commit → List Answer → Stock → Type 0
-RanOn spec units s cs vs t = NoneDue (gridCauses spec units) → Ran spec (gridIn spec) s cs vs t
+unfoldable pub RunOnGridPost : (spec : DexelStockSpec) (units : List ℕ) → Stock → List Commit → List LogAnswer → Stock → Type 0
+RunOnGridPost spec units s cs vs t = NoneDue (gridCauses spec units) → RunPost spec (gridIn spec) s cs vs t
 
 -- a description that `grid` refuses with the number k: nothing is written but k, as the answer to each of i commits
 pub record AllRefused (k i : ℕ) (s : Stock) (work : List Float) (answers : List ℕ) (t : Stock) (work′ : List Float)
@@ -95,8 +95,8 @@ pub record AllRefused (k i : ℕ) (s : Stock) (work : List Float) (answers : Lis
 
 -- ALL OF A RUN: every cell of every buffer, commit by commit, and what demand 3 says of the whole. So a refused description leaves all but
 -- the answers (`refused-all` in proofs/Laws), and each list that is left is the only one of doubles with its points (`only-one` there).
-pub record RanAll (spec : DexelStockSpec) (units : List ℕ) (logs : List Float) (ends allowances : List ℕ) (s : Stock) (work : List Float) (answers : List ℕ) (t : Stock) (work′ : List Float) (answers′ : List ℕ) : Type 0 where
+pub record RunLogsPost (spec : DexelStockSpec) (units : List ℕ) (logs : List Float) (ends allowances : List ℕ) (s : Stock) (work : List Float) (answers : List ℕ) (t : Stock) (work′ : List Float) (answers′ : List ℕ) : Type 0 where
   pub commits : CommitsTo spec units logs ends allowances s work answers (length ends) t work′ answers′
-  pub ran : RanOn spec units s (commitsTo logs ends allowances (length work / 2) (length ends)) (answersTo answers′ (length ends)) t
+  pub ran : RunOnGridPost spec units s (commitsTo logs ends allowances (length work / 2) (length ends)) (answersTo answers′ (length ends)) t
   -- each end of every list that is left is a double
   pub doubles : (r : ℕ) (k : Kind) → All Double (listIn spec t r k)

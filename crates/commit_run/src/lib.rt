@@ -3,9 +3,9 @@ ghost use mathlib.Core.Path.{_≡_};
 ghost use Prim.Native.Nat.{_+_, _*_, _<_, _≤_};
 ghost use lib.ListN.{length, set};
 ghost use Rattle.stock.specs.Outcomes.{stock};
-ghost use Rattle.commit_run.specs.Running.{Lends, logFrom, answered, Turned, RanAll};
+ghost use Rattle.commit_run.specs.Running.{Lends, logFrom, answered, RunStepPost, RunLogsPost};
 use grid::DexelStockSpec;
-use stock::Committed;
+use stock::CommitAnswer;
 use stock::Tally;
 
 // Writes two numbers to the cells of answer i.
@@ -18,13 +18,13 @@ fn put_numbers(answers: &mut [u64], i: usize, kind: u64, number: u64)
 }
 
 // Tells answer i.
-fn put_answer(answers: &mut [u64], i: usize, answer: Committed)
+fn put_answer(answers: &mut [u64], i: usize, answer: CommitAnswer)
     requires { ⌜ 2 * i + 1 < length (now answers) ⌝ }
     ensures { λ _. ⌜ now (answers .exit) ≡ answered (now (answers .entry)) i answer ⌝ }
 {
     match answer {
-        Committed::Changed(n) => put_numbers(answers, i, 0, n),
-        Committed::Refused(k) => put_numbers(answers, i, 1, k as u64),
+        CommitAnswer::Changed(n) => put_numbers(answers, i, 0, n),
+        CommitAnswer::Refused(k) => put_numbers(answers, i, 1, k as u64),
     }
 }
 
@@ -45,7 +45,7 @@ fn run_one(
     i: usize,
 ) -> Tally
     requires { ⌜ (at ≤ end) × (end ≤ length (now logs)) × (2 * i + 1 < length (now answers)) ⌝ }
-    ensures { λ r. ⌜ Turned spec (now (units .entry)) (stock (now (spans .entry)) (now (links .entry)) (now (heads .entry)) (tally .generation) (tally .intervals)) (logFrom (now (logs .entry)) at end) allowance
+    ensures { λ r. ⌜ RunStepPost spec (now (units .entry)) (stock (now (spans .entry)) (now (links .entry)) (now (heads .entry)) (tally .generation) (tally .intervals)) (logFrom (now (logs .entry)) at end) allowance
         (now (work .entry)) (now (answers .entry)) i (stock (now (spans .exit)) (now (links .exit)) (now (heads .exit)) (r .generation) (r .intervals)) (now (work .exit)) (now (answers .exit)) ⌝ }
 {
     let done = commit_log::commit_log_on(
@@ -83,7 +83,7 @@ pub fn run_logs(
     answers: &mut [u64],
 ) -> Tally
     requires { ⌜ Lends (now logs) (now ends) (now allowances) (now answers) ⌝ }
-    ensures { λ r. ⌜ RanAll spec (now (units .entry)) (now (logs .entry)) (now (ends .entry)) (now (allowances .entry))
+    ensures { λ r. ⌜ RunLogsPost spec (now (units .entry)) (now (logs .entry)) (now (ends .entry)) (now (allowances .entry))
         (stock (now (spans .entry)) (now (links .entry)) (now (heads .entry)) (tally .generation) (tally .intervals)) (now (work .entry)) (now (answers .entry))
         (stock (now (spans .exit)) (now (links .exit)) (now (heads .exit)) (r .generation) (r .intervals)) (now (work .exit)) (now (answers .exit)) ⌝ }
 {

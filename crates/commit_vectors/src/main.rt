@@ -6,9 +6,9 @@
 // with the small record by value, as the C interface calls them.
 // For each entry it writes how many rows agree and how many differ, and how many runs were started, then how many rows can't be read, and the number
 // of the first row that differs.
-use stock::Committed;
-use vector_replay::Outcome;
-use vector_replay::Tally;
+use stock::CommitAnswer;
+use vector_replay::RowCounts;
+use vector_replay::RowOutcome;
 
 // The store of a run and its small record.
 struct Store {
@@ -21,7 +21,7 @@ struct Store {
 
 // What a row showed, and the store that it leaves.
 struct Shown {
-    outcome: Outcome,
+    outcome: RowOutcome,
     store: Store,
 }
 
@@ -34,7 +34,7 @@ fn changes_in(
     spans: &mut [f64],
     links: &mut [u64],
     heads: &mut [u64],
-) -> stock::Outcome {
+) -> stock::RowOutcome {
     let mut changes = [0; 36];
     vector_words::numbers_at(w, 94, &mut changes);
     let mut pairs = [0.0; 40];
@@ -63,7 +63,7 @@ fn log_in(
     links: &mut [u64],
     heads: &mut [u64],
     work: &mut [f64],
-) -> stock::Outcome {
+) -> stock::RowOutcome {
     let mut log = [0.0; 36];
     vector_words::doubles_at(w, 94, &mut log);
     commit_log::commit_log_on(
@@ -89,7 +89,7 @@ fn commit_on(
     links: &mut [u64],
     heads: &mut [u64],
     work: &mut [f64],
-) -> stock::Outcome {
+) -> stock::RowOutcome {
     let units = vector_words::units_of(w[2]);
     if w[0] == 0 {
         return changes_in(w, generation, intervals, &units, spans, links, heads);
@@ -114,7 +114,7 @@ fn store_agrees(w: &[u64; 170], spans: &[f64], links: &[u64], heads: &[u64]) -> 
 }
 
 // Words 18 to 21: the refusal, 0 for none, the changed rays, the generation and the interval total. An accepted log commit clears the work buffer.
-fn answer_agrees(w: &[u64; 170], o: stock::Outcome, work: &[f64]) -> bool {
+fn answer_agrees(w: &[u64; 170], o: stock::RowOutcome, work: &[f64]) -> bool {
     if o.generation != w[20] {
         return false;
     }
@@ -123,7 +123,7 @@ fn answer_agrees(w: &[u64; 170], o: stock::Outcome, work: &[f64]) -> bool {
     }
     let answer = o.answer;
     match answer {
-        Committed::Changed(n) => {
+        CommitAnswer::Changed(n) => {
             if w[18] != 0 {
                 return false;
             }
@@ -135,7 +135,7 @@ fn answer_agrees(w: &[u64; 170], o: stock::Outcome, work: &[f64]) -> bool {
             }
             work_agrees(w, work, w[17] as usize)
         }
-        Committed::Refused(k) => {
+        CommitAnswer::Refused(k) => {
             if k as u64 != w[18] {
                 return false;
             }
@@ -191,7 +191,7 @@ fn start_step(w: &[u64; 170]) -> Shown {
     let mut heads = [0; 12];
     vector_words::numbers_at(w, 82, &mut heads);
     Shown {
-        outcome: Outcome::Agrees(2),
+        outcome: RowOutcome::Agrees(2),
         store: Store {
             spans,
             links,
@@ -206,7 +206,7 @@ fn shown_by(text: &[u8], s: Store) -> Shown {
     let mut w = [0; 170];
     if !vector_replay::read_words(text, 0, &mut w) {
         return Shown {
-            outcome: Outcome::Unread,
+            outcome: RowOutcome::Unread,
             store: s,
         };
     }
@@ -217,7 +217,7 @@ fn shown_by(text: &[u8], s: Store) -> Shown {
         return start_step(&w);
     }
     Shown {
-        outcome: Outcome::Unread,
+        outcome: RowOutcome::Unread,
         store: s,
     }
 }
@@ -233,7 +233,7 @@ fn no_store() -> Store {
 }
 
 // The turns are counted down, since a proved loop has to end and nothing says that the input does.
-fn counted() -> Tally {
+fn counted() -> RowCounts {
     let mut t = vector_replay::start();
     let mut store = no_store();
     let mut turns = u64::MAX;

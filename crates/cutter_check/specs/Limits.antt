@@ -20,8 +20,8 @@ unfoldable pub fromZero : Float → Bool
 fromZero x = le plusZero x && le x million
 
 -- any double but a NaN
-unfoldable pub number : Float → Bool
-number x = not (isNan x)
+unfoldable pub isNotNan : Float → Bool
+isNotNan x = not (isNan x)
 
 unfoldable pub sizesFit : PreparedCutter → Bool
 sizesFit c = aboveZero (c .«diameter_mm») && (aboveZero (c .«cutting_length_mm») && aboveZero (c .radius))
@@ -33,7 +33,7 @@ unfoldable pub lengthsFit : PreparedCutter → Bool
 lengthsFit c = le (c .«cutting_length_mm») (c .«overall_length_mm») && le (c .«overall_length_mm») million
 
 unfoldable pub diametersFit : PreparedCutter → Bool
-diametersFit c = number (c .«neck_diameter_mm») && number (c .«shank_diameter_mm»)
+diametersFit c = isNotNan (c .«neck_diameter_mm») && isNotNan (c .«shank_diameter_mm»)
 
 -- the shape's own numbers, and for a dovetail the slope, by which its radius is divided
 unfoldable pub shapeFits : CutterShape → Float → Bool
@@ -66,6 +66,6 @@ abbrev pub toolCauses : CutterShape → PreparedCutter → List Cause
 toolCauses shape c = cause 5 (isBeam shape ≡ true) ∷ cause 6 (withinLimits shape c ≡ false) ∷ []
 
 -- what each answer says of the tool
-abbrev pub Checked : CutterShape → PreparedCutter → ToolCheck → Type 0
-Checked shape c Accepted = NoneDue (toolCauses shape c)
-Checked shape c (Refused k) = Due (toolCauses shape c) k
+abbrev pub ToolCheckPost : CutterShape → PreparedCutter → ToolCheck → Type 0
+ToolCheckPost shape c Accepted = NoneDue (toolCauses shape c)
+ToolCheckPost shape c (Refused k) = Due (toolCauses shape c) k

@@ -1,7 +1,7 @@
 // Refusals 5 and 6: whether a tool is within document 01's limits.
 ghost use mathlib.Core.Path.{_≡_};
 ghost use mathlib.Core.Bool.{_&&_};
-ghost use Rattle.cutter_check.specs.Limits.{aboveZero, fromZero, number, sizesFit, heightsFit, lengthsFit, diametersFit, shapeFits, withinLimits, isBeam, Checked};
+ghost use Rattle.cutter_check.specs.Limits.{aboveZero, fromZero, isNotNan, sizesFit, heightsFit, lengthsFit, diametersFit, shapeFits, withinLimits, isBeam, ToolCheckPost};
 use cutter::CutterShape;
 use cutter::PreparedCutter;
 
@@ -69,7 +69,7 @@ fn lengths_fit(c: PreparedCutter) -> bool
 }
 
 fn is_number(x: f64) -> bool
-    ensures { λ r. ⌜ r ≡ number x ⌝ }
+    ensures { λ r. ⌜ r ≡ isNotNan x ⌝ }
 {
     if x != x {
         return false;
@@ -137,7 +137,7 @@ fn is_beam(shape: CutterShape) -> bool
 
 // Refusals 5 and 6 of document 01.
 pub fn check_tool(shape: CutterShape, c: PreparedCutter) -> ToolCheck
-    ensures { λ r. ⌜ Checked shape c r ⌝ }
+    ensures { λ r. ⌜ ToolCheckPost shape c r ⌝ }
 {
     if is_beam(shape) {
         return ToolCheck::Refused(5);

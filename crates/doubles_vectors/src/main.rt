@@ -4,8 +4,8 @@
 // before each of these four, and a newline. An argument that the function does not take is 0. The one NaN is 7ff8000000000000.
 // For each function it writes how many rows agree and how many differ, then how many can't be read, and the number
 // of the first row that differs.
-use vector_replay::Outcome;
-use vector_replay::Tally;
+use vector_replay::RowCounts;
+use vector_replay::RowOutcome;
 
 fn order_number(o: doubles::Ordering) -> u64 {
     match o {
@@ -91,17 +91,17 @@ fn answer(op: u64, a: u64, b: u64, c: u64) -> u64 {
     ))
 }
 
-fn compared(text: &[u8]) -> Outcome {
+fn compared(text: &[u8]) -> RowOutcome {
     let k = vector_replay::value_or(hex_text::hex_at(text, 0, 2), 256);
     let mut w = [0; 4];
     if !vector_replay::read_words(text, 3, &mut w) {
-        return Outcome::Unread;
+        return RowOutcome::Unread;
     }
     vector_replay::told(k, 16, answer(k, w[0], w[1], w[2]) == w[3])
 }
 
 // The turns are counted down, since a proved loop has to end and nothing says that the input does.
-fn counted() -> Tally {
+fn counted() -> RowCounts {
     let mut t = vector_replay::start();
     let mut turns = u64::MAX;
     while turns > 0 {

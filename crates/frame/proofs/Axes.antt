@@ -9,27 +9,27 @@ use lib.Dec.{ltb}
 use Rattle.grid.specs.declared.WorldAxis.{WorldAxis}
 use Rattle.frame.specs.declared.LocalAxis.{LocalAxis}
 use Rattle.frame.specs.declared.Frame.{Frame}
-use Rattle.frame.specs.Frame.{digitOf, worldAxisOf, localAxisOf}
+use Rattle.frame.specs.Frame.{axisDigit, worldAxisOf, localAxisOf}
 
-digit-cases : (n : ℕ) → ((n < 2) × (digitOf n ≡ n)) ⊎ ((2 ≤ n) × (digitOf n ≡ 2))
-unfolding digitOf
+digit-cases : (n : ℕ) → ((n < 2) × (axisDigit n ≡ n)) ⊎ ((2 ≤ n) × (axisDigit n ≡ 2))
+unfolding axisDigit
 digit-cases n = go (ltb n 2) (ltb-true n 2) (ltb-false n 2)
   where
     go : (b : Bool) → (b ≡ true → n < 2) → (b ≡ false → 2 ≤ n) → ((n < 2) × (cond b n 2 ≡ n)) ⊎ ((2 ≤ n) × (cond b n 2 ≡ 2))
     go true p q = inl (p refl, refl)
     go false p q = inr (q refl, refl)
 
-pub digit-most : (n : ℕ) → digitOf n ≤ 2
+pub digit-most : (n : ℕ) → axisDigit n ≤ 2
 digit-most n = elim (digit-cases n) [ inl h ↦ omega arith | inr h ↦ omega arith ]
 
-digit-same : (n : ℕ) → n ≤ 2 → digitOf n ≡ n
+digit-same : (n : ℕ) → n ≤ 2 → axisDigit n ≡ n
 digit-same n l = elim (digit-cases n) [ inl h ↦ h .1 | inr h ↦ omega arith ]
 
-world-digit : (f : Frame) (i : LocalAxis) → (worldAxisOf f i) .0 ≡ (digitOf (f .first .0) + digitOf (i .0)) % 3
+world-digit : (f : Frame) (i : LocalAxis) → (worldAxisOf f i) .0 ≡ (axisDigit (f .first .0) + axisDigit (i .0)) % 3
 unfolding worldAxisOf
 world-digit f i = refl
 
-local-digit : (f : Frame) (a : WorldAxis) → (localAxisOf f a) .0 ≡ (digitOf (a .0) + 3 - digitOf (f .first .0)) % 3
+local-digit : (f : Frame) (a : WorldAxis) → (localAxisOf f a) .0 ≡ (axisDigit (a .0) + 3 - axisDigit (f .first .0)) % 3
 unfolding localAxisOf
 local-digit f a = refl
 

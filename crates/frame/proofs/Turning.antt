@@ -6,7 +6,7 @@ use Rattle.doubles.specs.Constants.{plusZero}
 use Rattle.doubles.proofs.Order.{lt-neg, le-neg, neg-neg}
 use Rattle.frame.specs.declared.Pair.{Pair}
 use Rattle.frame.specs.Frame.{turned}
-use Rattle.frame.specs.Turns.{turnedPoint, Turned}
+use Rattle.frame.specs.Turns.{turnedPoint, FrameTurned}
 
 both : (a b : Bool) → (a && b) ≡ (b && a)
 both true true = refl
@@ -27,11 +27,11 @@ module _ (x p : Float) where
   le-under : le p (neg x) ≡ le x (neg p)
   le-under = ap (λ (q : Float). le q (neg x)) (sym (neg-neg p)) ∙ le-neg (neg p) x
 
-pub turned-holds : (s : Float) (i : Pair) (p : Float) → Turned s i p
+pub turned-holds : (s : Float) (i : Pair) (p : Float) → FrameTurned s i p
 unfolding turned turnedPoint
 turned-holds s i p = go (lt plusZero s) refl
   where
-    go : (b : Bool) → lt plusZero s ≡ b → Turned s i p
+    go : (b : Bool) → lt plusZero s ≡ b → FrameTurned s i p
     go true e = record { closed-is = rw e; between-is = rw e; span-is = rw e }
     go false e = record {
       closed-is = rw (e, le-over (i .hi) p, le-under (i .lo) p) (both (le (neg p) (i .hi)) (le (i .lo) (neg p)));

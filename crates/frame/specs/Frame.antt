@@ -27,17 +27,17 @@ frameOf PosZ = frame 0 one
 frameOf NegZ = frame 0 (neg one)
 
 -- 2 stands for every larger digit
-unfoldable pub digitOf : ℕ → ℕ
-digitOf n = cond (ltb n 2) n 2
+unfoldable pub axisDigit : ℕ → ℕ
+axisDigit n = cond (ltb n 2) n 2
 
 -- perm, and its inverse
 unfoldable pub worldAxisOf : Frame → LocalAxis → WorldAxis
-unfolding digitOf
-worldAxisOf f i = record { 0 = (digitOf (f .first .0) + digitOf (i .0)) % 3 }
+unfolding axisDigit
+worldAxisOf f i = record { 0 = (axisDigit (f .first .0) + axisDigit (i .0)) % 3 }
 
 unfoldable pub localAxisOf : Frame → WorldAxis → LocalAxis
-unfolding digitOf
-localAxisOf f a = record { 0 = (digitOf (a .0) + 3 - digitOf (f .first .0)) % 3 }
+unfolding axisDigit
+localAxisOf f a = record { 0 = (axisDigit (a .0) + 3 - axisDigit (f .first .0)) % 3 }
 
 unfoldable pub signAlong : Frame → LocalAxis → Float
 signAlong f i = cond (eqb (i .0) 0) one (f .sign)

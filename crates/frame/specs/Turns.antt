@@ -24,7 +24,7 @@ abbrev pub toHi : Pair → Float → Bool
 toHi i p = lt (i .lo) p && le p (i .hi)
 
 -- what turning by the sign s does to the points of an interval
-pub record Turned (s : Float) (i : Pair) (p : Float) : Type 0 where
+pub record FrameTurned (s : Float) (i : Pair) (p : Float) : Type 0 where
   pub closed-is : closed (turned s i) p ≡ closed i (turnedPoint s p)
   pub between-is : between (turned s i) p ≡ between i (turnedPoint s p)
   -- a span holds lo and not hi; turned by a positive sign it still does, by a negative one it holds the points whose turn lies above lo and up to hi

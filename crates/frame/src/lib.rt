@@ -1,6 +1,6 @@
 // The tool's frame: a signed permutation of the world axes whose last local axis is the tool's.
 ghost use mathlib.Core.Path.{_≡_};
-ghost use Rattle.frame.specs.Frame.{digitOf, frameOf, worldAxisOf, localAxisOf, signAlong, localAt, localOf, worldOf};
+ghost use Rattle.frame.specs.Frame.{axisDigit, frameOf, worldAxisOf, localAxisOf, signAlong, localAt, localOf, worldOf};
 use grid::Vec3;
 use grid::WorldAxis;
 
@@ -30,7 +30,7 @@ pub struct Pair {
 }
 
 fn digit(n: u8) -> u8
-    ensures { λ r. ⌜ r ≡ digitOf n ⌝ }
+    ensures { λ r. ⌜ r ≡ axisDigit n ⌝ }
 {
     if n < 2 { n } else { 2 }
 }

@@ -9,8 +9,8 @@ use cutter::Radius;
 use cutter_check::ToolCheck;
 use polygons::Point;
 use polygons::Strip;
-use vector_replay::Outcome;
-use vector_replay::Tally;
+use vector_replay::RowCounts;
+use vector_replay::RowOutcome;
 
 struct Answer {
     kind: u64,
@@ -170,17 +170,17 @@ fn answer_of(op: u64, w: &[u64; 17]) -> Answer {
     answer_cutter(op, w)
 }
 
-fn compared(text: &[u8]) -> Outcome {
+fn compared(text: &[u8]) -> RowOutcome {
     let k = vector_replay::value_or(hex_text::hex_at(text, 0, 2), 256);
     let mut w = [0; 17];
     if !vector_replay::read_words(text, 3, &mut w) {
-        return Outcome::Unread;
+        return RowOutcome::Unread;
     }
     vector_replay::told(k, 8, agrees(answer_of(k, &w), &w))
 }
 
 // The turns are counted down, since a proved loop has to end and nothing says that the input does.
-fn counted() -> Tally {
+fn counted() -> RowCounts {
     let mut t = vector_replay::start();
     let mut turns = u64::MAX;
     while turns > 0 {

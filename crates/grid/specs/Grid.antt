@@ -10,8 +10,8 @@ abbrev pub whole : ℕ → Float
 whole n = ofInt binary64 (pos n)
 
 -- from lo to hi; a NaN never is
-unfoldable pub within : Float → Float → Float → Bool
-within x lo hi = le lo x && le x hi
+unfoldable pub isBetween : Float → Float → Float → Bool
+isBetween x lo hi = le lo x && le x hi
 
-unfoldable pub allWithin : Vec3 → Float → Float → Bool
-allWithin p lo hi = within (p .x) lo hi && (within (p .y) lo hi && within (p .z) lo hi)
+unfoldable pub allBetween : Vec3 → Float → Float → Bool
+allBetween p lo hi = isBetween (p .x) lo hi && (isBetween (p .y) lo hi && isBetween (p .z) lo hi)

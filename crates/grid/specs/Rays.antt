@@ -52,9 +52,9 @@ unfoldable pub cellCenter : DexelStockSpec → DexelGrid → WorldAxis → (i : 
 cellCenter s g a i = add binary64 (alongOf (s .«min_mm») a) (mul binary64 (add binary64 (whole i) half) (stepAlong g a))
 
 -- the centre of a ray's cross-section: its index is iv · cells[u] + iu
-unfoldable pub centerOf : DexelStockSpec → DexelGrid → WorldAxis → (index : ℕ) → RayCenter
+unfoldable pub rayCenterOf : DexelStockSpec → DexelGrid → WorldAxis → (index : ℕ) → RayCenter
 unfolding cellCenter
-centerOf s g a index =
+rayCenterOf s g a index =
     let n = cellsAlong g (crossOf a .u) in
     record { u = cellCenter s g (crossOf a .u) (index % n); v = cellCenter s g (crossOf a .v) (index / n) }
 

@@ -1,7 +1,7 @@
 // The description of a blank, its grid, and what each has along a world axis.
 ghost use mathlib.Core.Path.{_≡_};
 ghost use Rattle.grid.specs.Axes.{alongOf, cellsAlong, stepAlong, crossOf};
-ghost use Rattle.grid.specs.Grid.{within, allWithin};
+ghost use Rattle.grid.specs.Grid.{isBetween, allBetween};
 
 #[repr(C)]
 pub struct Vec3 {
@@ -41,7 +41,7 @@ pub struct DexelGrid {
     pub s2: f64,
 }
 
-pub enum Gridded {
+pub enum GridAnswer {
     Accepted(DexelGrid),
     Refused(u32),
 }
@@ -60,7 +60,7 @@ pub struct RayBounds {
 }
 
 pub fn is_within(x: f64, lo: f64, hi: f64) -> bool
-    ensures { λ r. ⌜ r ≡ within x lo hi ⌝ }
+    ensures { λ r. ⌜ r ≡ isBetween x lo hi ⌝ }
 {
     if lo <= x {
         return x <= hi;
@@ -69,7 +69,7 @@ pub fn is_within(x: f64, lo: f64, hi: f64) -> bool
 }
 
 pub fn all_within(p: Vec3, lo: f64, hi: f64) -> bool
-    ensures { λ r. ⌜ r ≡ allWithin p lo hi ⌝ }
+    ensures { λ r. ⌜ r ≡ allBetween p lo hi ⌝ }
 {
     if is_within(p.x, lo, hi) {
         if is_within(p.y, lo, hi) {

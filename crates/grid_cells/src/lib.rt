@@ -2,7 +2,7 @@
 ghost use mathlib.Core.Path.{_≡_};
 ghost use Prim.Native.Nat.{_<_};
 ghost use Rattle.grid.specs.Axes.{cellsAlong, crossOf};
-ghost use Rattle.grid.specs.Rays.{centerOf, cellBoundOf, cellAt};
+ghost use Rattle.grid.specs.Rays.{rayCenterOf, cellBoundOf, cellAt};
 use grid::DexelGrid;
 use grid::DexelStockSpec;
 use grid::RayCenter;
@@ -15,7 +15,7 @@ use grid::step_along;
 // The centre of a ray's cross-section. A ray's index is iv * cells[u] + iu.
 pub fn ray_center(spec: DexelStockSpec, g: DexelGrid, axis: WorldAxis, index: u64) -> RayCenter
     requires { ⌜ 0 < cellsAlong g (crossOf axis .u) ⌝ }
-    ensures { λ r. ⌜ r ≡ centerOf spec g axis index ⌝ }
+    ensures { λ r. ⌜ r ≡ rayCenterOf spec g axis index ⌝ }
 {
     let w = cross(axis);
     let n = cells_along(g, w.u);

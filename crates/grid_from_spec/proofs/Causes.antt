@@ -18,8 +18,8 @@ use Rattle.grid_from_spec.specs.Causes.{Misdescribed, Crowded, OverBudge
 use Rattle.grid.specs.declared.Vec3.{Vec3}
 use Rattle.grid.specs.declared.WorldAxis.{WorldAxis}
 use Rattle.grid.specs.declared.DexelStockSpec.{DexelStockSpec}
-use Rattle.grid.specs.declared.Gridded.{Gridded}
-use Rattle.grid.specs.declared.Gridded.the-variants.{Accepted, Refused}
+use Rattle.grid.specs.declared.GridAnswer.{GridAnswer}
+use Rattle.grid.specs.declared.GridAnswer.the-variants.{Accepted, Refused}
 use Rattle.grid_from_spec.proofs.Counts.{Cells, cells-whole, above-is, some-cell, cast-exact}
 use Rattle.grid_from_spec.proofs.Sums.{wholes, total-test, total-exact, twice-test}
 use Rattle.grid_from_spec.proofs.Described.{each, below-axis, not-below, above-axis, not-above, not-mm, passes, clause, no-clause}
@@ -111,13 +111,13 @@ module _ (s : DexelStockSpec) (ceiling : s .«max_rays» < 2 ^ 32) where
 -- ---- the answer
 
 -- `gridOver` from refusal 4 on, from 3 on, and from the second test of 2 on
-abbrev from4 : DexelStockSpec → Gridded
+abbrev from4 : DexelStockSpec → GridAnswer
 from4 s = cond (tooFine (s .«min_mm») (s .«max_mm») (gridIn s)) (Refused 4) (Accepted (gridIn s))
 
-abbrev from3 : DexelStockSpec → Gridded
+abbrev from3 : DexelStockSpec → GridAnswer
 from3 s = cond (lt (whole (s .«max_intervals»)) (mul binary64 two (raysOf (dimsIn s)))) (Refused 3) (from4 s)
 
-abbrev from2 : DexelStockSpec → Gridded
+abbrev from2 : DexelStockSpec → GridAnswer
 from2 s = cond (lt (whole (s .«max_rays»)) (raysOf (dimsIn s))) (Refused 2) (from3 s)
 
 module _ (s : DexelStockSpec) (units : List ℕ) where
@@ -174,5 +174,5 @@ module _ (s : DexelStockSpec) (units : List ℕ) where
           let l = p .few-rays in
           over (no-clause s (sizesOf s) units m p) (omega arith)
 
-  pub grid-post : (r : Gridded) → r ≡ gridOf s units → GridPost s units r
+  pub grid-post : (r : GridAnswer) → r ≡ gridOf s units → GridPost s units r
   grid-post r e = record { is = e; by = subst (ByCauses s units) (sym e) grid-by-causes }

@@ -17,7 +17,7 @@ use Rattle.doubles.specs.Doubles.{largerOf, ceilOf}
 use Rattle.doubles.proofs.Order.{lt-le-trans, le→not-lt}
 use Rattle.doubles.proofs.Whole.{ceil-exact}
 use Rattle.grid.specs.Grid.{whole}
-use Rattle.grid_from_spec.specs.Grid.{cellsOf}
+use Rattle.grid_from_spec.specs.Grid.{cellCount}
 
 -- ---- the order of whole numbers
 
@@ -96,8 +96,8 @@ cells-up (inf false) t = unfold largerOf isNan lt ofBits in endless
 cells-up (fin false m e) t = at-least-1 _ _ _ (ceil-exact false m e t) refl
 cells-up (fin true m e) t = at-least-1 _ _ _ (ceil-exact true m e t) refl
 
-pub cells-whole : (extent size : Float) → Cells (cellsOf extent size)
-unfolding cellsOf
+pub cells-whole : (extent size : Float) → Cells (cellCount extent size)
+unfolding cellCount
 cells-whole extent size = cells-up (div binary64 extent size) (div-fits binary64 extent size)
 
 -- as a count: the whole number, or the largest that the cast gives

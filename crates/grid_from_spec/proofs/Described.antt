@@ -15,7 +15,7 @@ use Rattle.doubles.specs.Doubles.{Number, absOf}
 use Rattle.doubles.proofs.Bools.{or-cases, or-neither, not-true, not-false, and-true}
 use Rattle.doubles.proofs.Order.{not-le→lt, lt→not-le, fin-number, nan-none, le-number, le-neg, side→le}
 use Rattle.grid.specs.Axes.{byDigit, byAxis, worldAxis, alongOf}
-use Rattle.grid.specs.Grid.{within, allWithin}
+use Rattle.grid.specs.Grid.{isBetween, allBetween}
 use Rattle.grid_from_spec.specs.Grid.{leastSize, anyBelow, anyAbove, isMm, extentsOf, misdescribed}
 use Rattle.grid_from_spec.specs.Causes.{mm, OutOf, Misdescribed, version-not-1, units-not-mm, min-out, max-out, size-out, no-rays, too-many-rays, no-intervals, thin}
 use Rattle.grid.specs.declared.Vec3.{Vec3}
@@ -75,7 +75,7 @@ pub not-above : (p : Vec3) (limit : Float) → anyAbove p limit ≡ false → (a
 unfolding anyAbove
 not-above p limit = no-axis (λ x. lt limit x) p
 
--- ---- within bounds
+-- ---- isBetween bounds
 
 pub finite-number : (x : Float) → finite x ≡ true → Number x
 unfolding isNan
@@ -95,8 +95,8 @@ between-finite lo (fin s m e) (inf false) f g p q = absurd (true≢false (sym q)
 between-finite lo hi (fin s m e) f g p q = refl
 
 module _ (lo hi : Float) where
-  out-of : Number lo → Number hi → (x : Float) → within x lo hi ≡ false → OutOf lo hi x
-  unfolding OutOf within
+  out-of : Number lo → Number hi → (x : Float) → isBetween x lo hi ≡ false → OutOf lo hi x
+  unfolding OutOf isBetween
   out-of p q nan h = inl refl
   out-of p q (inf s) h = inl refl
   out-of p q (fin s m e) h =
@@ -105,15 +105,15 @@ module _ (lo hi : Float) where
         | inr l ↦ inr (inr (not-le→lt (fin s m e) hi (fin-number s m e) q l))
       ]
 
-  not-out : finite lo ≡ true → finite hi ≡ true → (x : Float) → within x lo hi ≡ true → OutOf lo hi x → ⊥
-  unfolding OutOf within
+  not-out : finite lo ≡ true → finite hi ≡ true → (x : Float) → isBetween x lo hi ≡ true → OutOf lo hi x → ⊥
+  unfolding OutOf isBetween
   not-out f g x h (inl i) = let b = and-both (le lo x) (le x hi) h in true≢false (sym (between-finite lo hi x f g (b .0) (b .1)) ∙ i)
   not-out f g x h (inr (inl l)) = true≢false (sym (and-both (le lo x) (le x hi) h .0) ∙ lt→not-le x lo l)
   not-out f g x h (inr (inr l)) = true≢false (sym (and-both (le lo x) (le x hi) h .1) ∙ lt→not-le hi x l)
 
 -- the Rust's own test of a bound: finite, and at most 1e6 in size
-pub bound-test : (x : Float) → (finite x && le (absOf x) million) ≡ within x (neg million) million
-unfolding within absOf ofBits neg
+pub bound-test : (x : Float) → (finite x && le (absOf x) million) ≡ isBetween x (neg million) million
+unfolding isBetween absOf ofBits neg
 bound-test nan = unfold le lt eq in refl
 bound-test (inf true) = unfold le lt eq in refl
 bound-test (inf false) = unfold le lt eq in refl
@@ -156,31 +156,31 @@ size-finite : finite leastSize ≡ true
 unfolding ofBits
 size-finite = refl
 
-out-axis : (p : Vec3) (lo hi : Float) → finite lo ≡ true → finite hi ≡ true → allWithin p lo hi ≡ false → (a : WorldAxis) × OutOf lo hi (alongOf p a)
-unfolding allWithin byDigit
-out-axis p lo hi f g h = go (within (p .x) lo hi) (within (p .y) lo hi) refl refl h
+out-axis : (p : Vec3) (lo hi : Float) → finite lo ≡ true → finite hi ≡ true → allBetween p lo hi ≡ false → (a : WorldAxis) × OutOf lo hi (alongOf p a)
+unfolding allBetween byDigit
+out-axis p lo hi f g h = go (isBetween (p .x) lo hi) (isBetween (p .y) lo hi) refl refl h
   where
-    out : (x : Float) → within x lo hi ≡ false → OutOf lo hi x
+    out : (x : Float) → isBetween x lo hi ≡ false → OutOf lo hi x
     out = out-of lo hi (finite-number lo f) (finite-number hi g)
 
-    go : (u v : Bool) → within (p .x) lo hi ≡ u → within (p .y) lo hi ≡ v → (u && (v && within (p .z) lo hi)) ≡ false → (a : WorldAxis) × OutOf lo hi (alongOf p a)
+    go : (u v : Bool) → isBetween (p .x) lo hi ≡ u → isBetween (p .y) lo hi ≡ v → (u && (v && isBetween (p .z) lo hi)) ≡ false → (a : WorldAxis) × OutOf lo hi (alongOf p a)
     go false v x y k = (worldAxis 0, out (p .x) x)
     go true false x y k = (worldAxis 1, out (p .y) y)
     go true true x y k = (worldAxis 2, out (p .z) k)
 
-pub within-axis : (p : Vec3) (lo hi : Float) → allWithin p lo hi ≡ true → (a : WorldAxis) → within (alongOf p a) lo hi ≡ true
-unfolding allWithin
+pub within-axis : (p : Vec3) (lo hi : Float) → allBetween p lo hi ≡ true → (a : WorldAxis) → isBetween (alongOf p a) lo hi ≡ true
+unfolding allBetween
 within-axis p lo hi h =
     let x = and-both _ _ h in
     let y = and-both _ _ (x .1) in
-    each (λ v. within v lo hi ≡ true) (p .x) (p .y) (p .z) (x .0) (y .0) (y .1)
+    each (λ v. isBetween v lo hi ≡ true) (p .x) (p .y) (p .z) (x .0) (y .0) (y .1)
 
 -- the eight tests of a description that passes them
 pub record Passes (s : DexelStockSpec) (sizes : Vec3) : Type 0 where
   pub version : s .version ≡ 1
-  pub min : (a : WorldAxis) → within (alongOf (s .«min_mm») a) (neg million) million ≡ true
-  pub max : (a : WorldAxis) → within (alongOf (s .«max_mm») a) (neg million) million ≡ true
-  pub size : (a : WorldAxis) → within (alongOf sizes a) leastSize million ≡ true
+  pub min : (a : WorldAxis) → isBetween (alongOf (s .«min_mm») a) (neg million) million ≡ true
+  pub max : (a : WorldAxis) → isBetween (alongOf (s .«max_mm») a) (neg million) million ≡ true
+  pub size : (a : WorldAxis) → isBetween (alongOf sizes a) leastSize million ≡ true
   pub some-rays : s .«max_rays» ≡ 0 → ⊥
   pub few-rays : s .«max_rays» ≤ 4294967295
   pub some-intervals : s .«max_intervals» ≡ 0 → ⊥

@@ -14,14 +14,14 @@ use Rattle.doubles.specs.Doubles.{Number, largerOf}
 use Rattle.doubles.proofs.Order.{le-refl, lt-le-trans, not-lt→le, le-trans, le-number}
 use Rattle.doubles.proofs.Pick.{larger-left, larger-nan-right}
 use Rattle.grid.specs.Axes.{byDigit, worldAxis, alongOf, cellsAlong, stepAlong}
-use Rattle.grid.specs.Grid.{whole, within}
+use Rattle.grid.specs.Grid.{whole, isBetween}
 use Rattle.grid_from_spec.specs.Grid.{sizesOf, extentsOf, misdescribed, leastStep, gridOf}
 use Rattle.grid.specs.Rays.{rayCount}
 use Rattle.grid_from_spec.specs.Causes.{Misdescribed, Crowded, OverBudget, TooFine, dimsIn, gridIn, gridCauses, ByCauses, GridFacts}
 use Rattle.grid.specs.declared.WorldAxis.{WorldAxis}
 use Rattle.grid.specs.declared.DexelStockSpec.{DexelStockSpec}
 use Rattle.grid.specs.declared.DexelGrid.{DexelGrid}
-use Rattle.grid.specs.declared.Gridded.the-variants.{Accepted}
+use Rattle.grid.specs.declared.GridAnswer.the-variants.{Accepted}
 use Rattle.grid_from_spec.proofs.Counts.{value}
 use Rattle.grid_from_spec.proofs.Described.{each, and-both, finite-number, Passes, passes, clause}
 use Rattle.grid_from_spec.proofs.Extents.{Sized, sized-finite, million-sized, sub-sized, step-sized, box, micro-number}
@@ -81,8 +81,8 @@ module _ (s : DexelStockSpec) (p : Passes s (sizesOf s)) (n2 : Crowded s (gridIn
   few-here : Few s ceiling
   few-here = few-cells s ceiling n2
 
-  sized : (x : Float) → within x (neg million) million ≡ true → Sized 1000000 x
-  unfolding within
+  sized : (x : Float) → isBetween x (neg million) million ≡ true → Sized 1000000 x
+  unfolding isBetween
   sized x h = let b = and-both (le (neg million) x) (le x million) h in million-sized x (b .0) (b .1)
 
   min-sized : (a : WorldAxis) → Sized 1000000 (alongOf (s .«min_mm») a)

@@ -16,8 +16,8 @@ use Rattle.grid.specs.declared.Vec3.{Vec3}
 use Rattle.grid.specs.declared.WorldAxis.{WorldAxis}
 use Rattle.grid.specs.declared.DexelStockSpec.{DexelStockSpec}
 use Rattle.grid.specs.declared.DexelGrid.{DexelGrid}
-use Rattle.grid.specs.declared.Gridded.{Gridded}
-use Rattle.grid.specs.declared.Gridded.the-variants.{Accepted, Refused}
+use Rattle.grid.specs.declared.GridAnswer.{GridAnswer}
+use Rattle.grid.specs.declared.GridAnswer.the-variants.{Accepted, Refused}
 
 -- the bytes of "mm"
 abbrev pub mm : List ℕ
@@ -68,12 +68,12 @@ gridCauses s units =
     ∷ []
 
 -- an answer of `grid` by these causes
-abbrev pub ByCauses : DexelStockSpec → (units : List ℕ) → Gridded → Type 0
+abbrev pub ByCauses : DexelStockSpec → (units : List ℕ) → GridAnswer → Type 0
 ByCauses s units (Refused k) = Due (gridCauses s units) k
 ByCauses s units (Accepted g) = NoneDue (gridCauses s units) × (g ≡ gridIn s)
 
 -- what `grid` promises: the Rust's answer, number for number, and that it is document 01's, by its causes
-pub record GridPost (s : DexelStockSpec) (units : List ℕ) (r : Gridded) : Type 0 where
+pub record GridPost (s : DexelStockSpec) (units : List ℕ) (r : GridAnswer) : Type 0 where
   pub is : r ≡ gridOf s units
   pub by : ByCauses s units r
 

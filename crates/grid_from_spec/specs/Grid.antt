@@ -11,13 +11,13 @@ use Rattle.doubles.specs.Doubles.{largerOf, ceilOf, absOf}
 use Rattle.grid.specs.declared.Vec3.{Vec3}
 use Rattle.grid.specs.declared.DexelStockSpec.{DexelStockSpec}
 use Rattle.grid.specs.declared.DexelGrid.{DexelGrid}
-use Rattle.grid.specs.declared.Gridded.{Gridded}
-use Rattle.grid.specs.declared.Gridded.the-variants.{Accepted, Refused}
-use Rattle.grid.specs.Grid.{whole, allWithin}
+use Rattle.grid.specs.declared.GridAnswer.{GridAnswer}
+use Rattle.grid.specs.declared.GridAnswer.the-variants.{Accepted, Refused}
+use Rattle.grid.specs.Grid.{whole, allBetween}
 
 -- 128, 1e-6, 1e-5 and 2 ^ -52 (Rust's `f64::EPSILON`)
-abbrev pub hundred28 : Float
-hundred28 = ofBits binary64 0x4060_0000_0000_0000
+abbrev pub c128 : Float
+c128 = ofBits binary64 0x4060_0000_0000_0000
 
 abbrev pub leastSize : Float
 leastSize = ofBits binary64 0x3ee4_f8b5_88e3_68f1
@@ -55,9 +55,9 @@ extentsOf s =
 unfoldable pub misdescribed : DexelStockSpec → (sizes extents : Vec3) → Bool
 misdescribed s sizes extents =
     not (eqb (s .version) 1)
-    || (not (allWithin (s .«min_mm») (neg million) million)
-    || (not (allWithin (s .«max_mm») (neg million) million)
-    || (not (allWithin sizes leastSize million)
+    || (not (allBetween (s .«min_mm») (neg million) million)
+    || (not (allBetween (s .«max_mm») (neg million) million)
+    || (not (allBetween sizes leastSize million)
     || (eqb (s .«max_rays») 0
     || (ltb 4294967295 (s .«max_rays»)
     || (eqb (s .«max_intervals») 0
@@ -66,11 +66,11 @@ misdescribed s sizes extents =
 -- ---- cells, rays and steps
 
 -- cells = ceil (extent / cell size), at least 1, as a double
-unfoldable pub cellsOf : (extent size : Float) → Float
-cellsOf extent size = largerOf (ceilOf (div binary64 extent size)) one
+unfoldable pub cellCount : (extent size : Float) → Float
+cellCount extent size = largerOf (ceilOf (div binary64 extent size)) one
 
 abbrev pub dimsOf : (extents sizes : Vec3) → Vec3
-dimsOf e c = record { x = cellsOf (e .x) (c .x); y = cellsOf (e .y) (c .y); z = cellsOf (e .z) (c .z) }
+dimsOf e c = record { x = cellCount (e .x) (c .x); y = cellCount (e .y) (c .y); z = cellCount (e .z) (c .z) }
 
 -- the grid with these cells: step = extent / cells
 abbrev pub gridWith : (extents dims : Vec3) → DexelGrid
@@ -97,7 +97,7 @@ magnitudeOf p q =
 
 -- max (1e-6, 128 epsilon × magnitude)
 unfoldable pub leastStep : (min max : Vec3) → Float
-leastStep p q = largerOf millionth (mul binary64 (mul binary64 hundred28 epsilon) (magnitudeOf p q))
+leastStep p q = largerOf millionth (mul binary64 (mul binary64 c128 epsilon) (magnitudeOf p q))
 
 unfoldable pub tooFine : (min max : Vec3) → DexelGrid → Bool
 tooFine p q g = anyBelow (record { x = g .s0; y = g .s1; z = g .s2 }) (leastStep p q)
@@ -105,7 +105,7 @@ tooFine p q g = anyBelow (record { x = g .s0; y = g .s1; z = g .s2 }) (leastStep
 -- ---- the answer
 
 -- refusals 2, 3 and 4, over the cells along each axis
-unfoldable pub gridOver : DexelStockSpec → (extents dims : Vec3) → Gridded
+unfoldable pub gridOver : DexelStockSpec → (extents dims : Vec3) → GridAnswer
 gridOver s extents dims =
     let g = gridWith extents dims in
     cond (anyAbove dims (whole (s .«max_rays»))) (Refused 2)
@@ -114,7 +114,7 @@ gridOver s extents dims =
     (cond (tooFine (s .«min_mm») (s .«max_mm») g) (Refused 4)
     (Accepted g))))
 
-unfoldable pub gridOf : DexelStockSpec → (units : List ℕ) → Gridded
+unfoldable pub gridOf : DexelStockSpec → (units : List ℕ) → GridAnswer
 gridOf s units =
     cond (not (isMm units)) (Refused 1)
     (cond (misdescribed s (sizesOf s) (extentsOf s)) (Refused 1)

@@ -1,10 +1,10 @@
 // The grid of a blank: its description tested, its cells and steps worked out.
 ghost use mathlib.Core.Path.{_≡_};
-ghost use Rattle.grid_from_spec.specs.Grid.{anyBelow, anyAbove, isMm, misdescribed, cellsOf, dimsOf, gridWith, magnitudeOf, tooFine, gridOver};
+ghost use Rattle.grid_from_spec.specs.Grid.{anyBelow, anyAbove, isMm, misdescribed, cellCount, dimsOf, gridWith, magnitudeOf, tooFine, gridOver};
 ghost use Rattle.grid_from_spec.specs.Causes.{GridPost};
 use grid::DexelGrid;
 use grid::DexelStockSpec;
-use grid::Gridded;
+use grid::GridAnswer;
 use grid::Vec3;
 
 fn is_mm(units: &[u8]) -> bool
@@ -73,7 +73,7 @@ fn is_misdescribed(spec: DexelStockSpec, sizes: Vec3, extents: Vec3) -> bool
 
 // How many cells an extent has, as a double.
 fn cells(extent: f64, size: f64) -> f64
-    ensures { λ r. ⌜ r ≡ cellsOf extent size ⌝ }
+    ensures { λ r. ⌜ r ≡ cellCount extent size ⌝ }
 {
     doubles_minmax::larger(doubles::ceil(extent / size), 1.0)
 }
@@ -128,33 +128,33 @@ fn is_too_fine(min: Vec3, max: Vec3, g: DexelGrid) -> bool
 }
 
 // Refusals 2, 3 and 4 and the grid, over the cells along each axis.
-fn grid_over(spec: DexelStockSpec, extents: Vec3, dims: Vec3) -> Gridded
+fn grid_over(spec: DexelStockSpec, extents: Vec3, dims: Vec3) -> GridAnswer
     ensures { λ r. ⌜ r ≡ gridOver spec extents dims ⌝ }
 {
     let rays = dims.x * dims.y + dims.y * dims.z + dims.z * dims.x;
     let max_rays = std::num::nearest_u64_to_f64(spec.max_rays);
     if any_above(dims, max_rays) {
-        return Gridded::Refused(2);
+        return GridAnswer::Refused(2);
     }
     if rays > max_rays {
-        return Gridded::Refused(2);
+        return GridAnswer::Refused(2);
     }
     if 2.0 * rays > std::num::nearest_u64_to_f64(spec.max_intervals) {
-        return Gridded::Refused(3);
+        return GridAnswer::Refused(3);
     }
     let g = grid_with(extents, dims);
     if is_too_fine(spec.min_mm, spec.max_mm, g) {
-        return Gridded::Refused(4);
+        return GridAnswer::Refused(4);
     }
-    Gridded::Accepted(g)
+    GridAnswer::Accepted(g)
 }
 
 // The grids that a description asks for, or why it is refused: 1, 2, 3 or 4.
-pub fn grid(spec: DexelStockSpec, units: &[u8]) -> Gridded
+pub fn grid(spec: DexelStockSpec, units: &[u8]) -> GridAnswer
     ensures { λ r. ⌜ GridPost spec (now (units .entry)) r ⌝ }
 {
     if !is_mm(units) {
-        return Gridded::Refused(1);
+        return GridAnswer::Refused(1);
     }
     let min = spec.min_mm;
     let max = spec.max_mm;
@@ -170,7 +170,7 @@ pub fn grid(spec: DexelStockSpec, units: &[u8]) -> Gridded
         z: max.z - min.z,
     };
     if is_misdescribed(spec, sizes, extents) {
-        return Gridded::Refused(1);
+        return GridAnswer::Refused(1);
     }
     grid_over(spec, extents, dims(extents, sizes))
 }

@@ -4,11 +4,11 @@ use mathlib.Core.List.{List}
 use Prim.Native.Nat.{ℕ}
 use Rattle.grid_from_spec.specs.Grid.{gridOf}
 use Rattle.grid.specs.declared.DexelStockSpec.{DexelStockSpec}
-use Rattle.grid.specs.declared.Gridded.{Gridded}
-use Rattle.grid.specs.declared.Gridded.the-variants.{Accepted, Refused}
+use Rattle.grid.specs.declared.GridAnswer.{GridAnswer}
+use Rattle.grid.specs.declared.GridAnswer.the-variants.{Accepted, Refused}
 use Rattle.grid_from_spec.proofs.Facts.{grid-facts}
 use Rattle.grid_vectors.specs.Facts.{FactsOf}
 
-pub facts-of : (s : DexelStockSpec) (units : List ℕ) (r : Gridded) → r ≡ gridOf s units → FactsOf s r
+pub facts-of : (s : DexelStockSpec) (units : List ℕ) (r : GridAnswer) → r ≡ gridOf s units → FactsOf s r
 facts-of s units (Accepted g) e = grid-facts s units g (sym e)
 facts-of s units (Refused k) e = tt

@@ -1,9 +1,9 @@
 -- An answer of `grid` as far as the functions over an accepted grid ask: its facts.
 use Rattle.grid_from_spec.specs.Causes.{GridFacts}
 use Rattle.grid.specs.declared.DexelStockSpec.{DexelStockSpec}
-use Rattle.grid.specs.declared.Gridded.{Gridded}
-use Rattle.grid.specs.declared.Gridded.the-variants.{Accepted, Refused}
+use Rattle.grid.specs.declared.GridAnswer.{GridAnswer}
+use Rattle.grid.specs.declared.GridAnswer.the-variants.{Accepted, Refused}
 
-abbrev pub FactsOf : DexelStockSpec → Gridded → Type 0
+abbrev pub FactsOf : DexelStockSpec → GridAnswer → Type 0
 FactsOf s (Accepted g) = GridFacts s g
 FactsOf s (Refused k) = Unit {0}

@@ -8,13 +8,13 @@ ghost use Rattle.grid_from_spec.specs.Causes.{GridFacts};
 ghost use Rattle.grid_vectors.specs.Facts.{FactsOf};
 use grid::DexelGrid;
 use grid::DexelStockSpec;
-use grid::Gridded;
+use grid::GridAnswer;
 use grid::WorldAxis;
-use vector_replay::Outcome;
-use vector_replay::Tally;
+use vector_replay::RowCounts;
+use vector_replay::RowOutcome;
 
 // The answer of `grid` for the units of this number.
-fn gridded(spec: DexelStockSpec, units: u64) -> Gridded
+fn gridded(spec: DexelStockSpec, units: u64) -> GridAnswer
     ensures { λ r. ⌜ FactsOf spec r ⌝ }
 {
     if units == 0 {
@@ -76,8 +76,8 @@ fn answer(
 ) -> [u64; 14] {
     let r = gridded(spec, units);
     match r {
-        Gridded::Accepted(g) => asked(spec, g, axis, index, i, x),
-        Gridded::Refused(k) => {
+        GridAnswer::Accepted(g) => asked(spec, g, axis, index, i, x),
+        GridAnswer::Refused(k) => {
             let mut refused = [0; 14];
             refused[0] = k as u64;
             refused
@@ -103,16 +103,16 @@ fn agrees(w: &[u64; 29]) -> bool {
 }
 
 // Rows are counted by the number of the refusal that they ask for, or 0.
-fn compared(text: &[u8]) -> Outcome {
+fn compared(text: &[u8]) -> RowOutcome {
     let mut w = [0; 29];
     if !vector_replay::read_words(text, 0, &mut w) {
-        return Outcome::Unread;
+        return RowOutcome::Unread;
     }
     vector_replay::told(w[15], 5, agrees(&w))
 }
 
 // The turns are counted down, since a proved loop has to end and nothing says that the input does.
-fn counted() -> Tally {
+fn counted() -> RowCounts {
     let mut t = vector_replay::start();
     let mut turns = u64::MAX;
     while turns > 0 {

@@ -1,7 +1,6 @@
 // Hexadecimal numbers at fixed places of a text, for programs that read recorded answers.
 ghost use mathlib.Core.Path.{_≡_};
-ghost use Rattle.hex_text.specs.Hex.{digitOf, hexAt};
-
+ghost use Rattle.hex_text.specs.Hex.{hexDigit, hexAt};
 // A number that was read, or none: the text ends before it, or something else than a digit stands there.
 pub enum Word {
     Value(u64),
@@ -10,7 +9,7 @@ pub enum Word {
 
 // What the digit with this ASCII code counts, `0` to `9` and `a` to `f`, and 16 for every other byte.
 pub fn digit(code: u8) -> u64
-    ensures { λ r. ⌜ r ≡ digitOf code ⌝ }
+    ensures { λ r. ⌜ r ≡ hexDigit code ⌝ }
 {
     let c = code as u64;
     if c < 48 {

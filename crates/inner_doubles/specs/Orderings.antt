@@ -3,7 +3,7 @@ use Prim.Native.Nat.{ℕ}
 use Rattle.doubles.specs.declared.Ordering.{Ordering}
 use Rattle.doubles.specs.declared.Ordering.the-variants.{Less, Equal, Greater}
 
-abbrev pub digitOf : Ordering → ℕ
-digitOf Less = 0
-digitOf Equal = 1
-digitOf Greater = 2
+abbrev pub orderingCode : Ordering → ℕ
+orderingCode Less = 0
+orderingCode Equal = 1
+orderingCode Greater = 2

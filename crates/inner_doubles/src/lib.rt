@@ -3,7 +3,7 @@ ghost use mathlib.Core.Path.{_≡_};
 ghost use lib.Ieee.{binary64, ofBits, toBits, toUnsigned};
 ghost use Rattle.doubles.specs.Doubles.{largerOf, smallerOf, clampOf, floorOf, ceilOf, keyOf, totalOf, absOf};
 ghost use Rattle.doubles_sqrt.specs.Root.{squareRoot};
-ghost use Rattle.inner_doubles.specs.Orderings.{digitOf};
+ghost use Rattle.inner_doubles.specs.Orderings.{orderingCode};
 
 #[no_mangle]
 pub extern "C" fn tridexel_inner_larger(a: f64, b: f64) -> f64
@@ -84,7 +84,7 @@ pub extern "C" fn tridexel_inner_order_key(x: f64) -> u64
 
 #[no_mangle]
 pub extern "C" fn tridexel_inner_total_cmp(a: f64, b: f64) -> u32
-    ensures { λ r. ⌜ r ≡ digitOf (totalOf a b) ⌝ }
+    ensures { λ r. ⌜ r ≡ orderingCode (totalOf a b) ⌝ }
 {
     let o = doubles_bits::total_cmp(a, b);
     match o {

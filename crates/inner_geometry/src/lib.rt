@@ -3,7 +3,7 @@ ghost use mathlib.Core.Path.{_≡_};
 ghost use Rattle.strips.specs.Strip.{diskStrip, stadiumStrip};
 ghost use Rattle.polygons.specs.Polygon.{polygonStrip};
 ghost use Rattle.cutter.specs.Cutter.{radiusAt, cutRadius, cutMax, cutMin};
-ghost use Rattle.cutter_check.specs.Limits.{Checked};
+ghost use Rattle.cutter_check.specs.Limits.{ToolCheckPost};
 ghost use Rattle.inner_geometry.specs.Geometry.{stripAs, sliceAs, radiusAs, CheckedAs};
 ghost use Rattle.enum_codes.specs.Named.{namedShape};
 use cutter::PreparedCutter;
@@ -170,7 +170,7 @@ pub extern "C" fn tridexel_inner_cut_min(
 // Document 01's refusal number, or 0.
 #[no_mangle]
 pub extern "C" fn tridexel_inner_check_tool(kind: u64, m: f64, n: f64, c: PreparedCutter) -> u32
-    ensures { λ r. ⌜ CheckedAs (Checked (namedShape kind m n) c) r ⌝ }
+    ensures { λ r. ⌜ CheckedAs (ToolCheckPost (namedShape kind m n) c) r ⌝ }
 {
     let t = cutter_check::check_tool(enum_codes::named_shape(kind, m, n), c);
     match t {

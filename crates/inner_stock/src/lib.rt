@@ -2,9 +2,9 @@
 // and asks what that asks.
 ghost use Prim.Native.Nat.{_*_, _<_, _^_};
 ghost use Rattle.grid.specs.Axes.{worldAxis, cellsAlong, crossOf};
-ghost use Rattle.grid.specs.Rays.{rayCount, raysAlong, rayNumber, centerOf, cellBoundOf, cellAt};
-ghost use Rattle.ray_text.specs.Run.{Ran};
-ghost use Rattle.stock.specs.Stock.{Tells, SoundCells};
+ghost use Rattle.grid.specs.Rays.{rayCount, raysAlong, rayNumber, rayCenterOf, cellBoundOf, cellAt};
+ghost use Rattle.ray_text.specs.Run.{ProgramRan};
+ghost use Rattle.stock.specs.Stock.{Decides, SoundCells};
 ghost use Rattle.store.specs.Updates.{cells, Room};
 ghost use mathlib.Core.Path.{_≡_};
 use grid::DexelGrid;
@@ -44,7 +44,7 @@ pub extern "C" fn tridexel_inner_ray_center(
     index: u64,
 ) -> RayCenter
     requires { ⌜ 0 < cellsAlong g (crossOf (worldAxis axis) .u) ⌝ }
-    ensures { λ r. ⌜ r ≡ centerOf spec g (worldAxis axis) index ⌝ }
+    ensures { λ r. ⌜ r ≡ rayCenterOf spec g (worldAxis axis) index ⌝ }
 {
     grid_cells::ray_center(spec, g, WorldAxis(axis), index)
 }
@@ -84,7 +84,7 @@ pub extern "C" fn tridexel_inner_check_stock(
     intervals: u64,
 ) -> bool
     requires { ⌜ Room (spec .«max_intervals») (2 * rayCount g) (cells (now spans) (now links) (now heads)) ⌝ }
-    ensures { λ r. ⌜ Tells (SoundCells spec g (cells (now (spans .entry)) (now (links .entry)) (now (heads .entry))) intervals) r ⌝ }
+    ensures { λ r. ⌜ Decides (SoundCells spec g (cells (now (spans .entry)) (now (links .entry)) (now (heads .entry))) intervals) r ⌝ }
 {
     stock::check_stock(spec, g, spans, links, heads, intervals)
 }
@@ -92,7 +92,7 @@ pub extern "C" fn tridexel_inner_check_stock(
 // `ray_text::run`
 #[no_mangle]
 pub extern "C" fn tridexel_inner_merge_ray(s: &[u8], out: &mut [u8; 65536]) -> usize
-    ensures { λ r. ⌜ Ran (now (s .entry)) (now (out .entry)) (now (out .exit)) r ⌝ }
+    ensures { λ r. ⌜ ProgramRan (now (s .entry)) (now (out .entry)) (now (out .exit)) r ⌝ }
 {
     ray_text::run(s, out)
 }

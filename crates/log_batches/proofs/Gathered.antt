@@ -8,7 +8,7 @@ use native.Mathlib.Nat.{mul-le-mul-right}
 use lib.ListN.{length}
 use lib.Ieee.{Float}
 use Rattle.grid.specs.declared.DexelGrid.{DexelGrid}
-use Rattle.log_model.specs.Logs.{entryAt, entryCount, rayOf}
+use Rattle.log_model.specs.Logs.{entryAt, entryCount, entryRay}
 use Rattle.log_batches.specs.Batches.{Batched, AddPre, AddPost, GatherRaysPost}
 use Rattle.log_batches.specs.declared.Batch.{Batch}
 
@@ -20,7 +20,7 @@ pub record GatherRaysLoop (g : DexelGrid) (log : List Float) (first width : ℕ)
   pub some : 0 < w .width
   pub most : w .width ≤ width
   pub room : w .count ≤ length after
-  pub batched : Batched (λ k. rayOf g (entryAt log k)) (entryCount log) first i (w .width) after (w .count)
+  pub batched : Batched (λ k. entryRay g (entryAt log k)) (entryCount log) first i (w .width) after (w .count)
 
 module _ (g : DexelGrid) (log : List Float) (first : ℕ) {width : ℕ} (before : List ℕ) where
   pub gathering-start : 0 < width → GatherRaysLoop g log first width before 0 before (record { width = width; count = 0; full = false })
@@ -52,7 +52,7 @@ module _ {g : DexelGrid} {log : List Float} {first width : ℕ} {before : List �
     batched = λ _. let all : i ≡ entryCount log = omega (arith, s .past) in rw all at (s .batched);
   }
 
-  module _ {ray : ℕ} {after : List ℕ} {r : Batch} (named : ray ≡ rayOf g (entryAt log i))
+  module _ {ray : ℕ} {after : List ℕ} {r : Batch} (named : ray ≡ entryRay g (entryAt log i))
       (a : AddPost first ray (entryCount log) i now w after r) where
     pub gathering-turn : i < entryCount log → r .full ≡ false → GatherRaysLoop g log first width before (i + 1) after r
     gathering-turn inside f = record {
@@ -61,7 +61,7 @@ module _ {g : DexelGrid} {log : List Float} {first width : ℕ} {before : List �
       some = a .some;
       most = omega (arith, a .most, s .most);
       room = a .room f;
-      batched = a .batched (λ k. rayOf g (entryAt log k)) f (sym named) (s .batched);
+      batched = a .batched (λ k. entryRay g (entryAt log k)) f (sym named) (s .batched);
     }
 
     pub gathering-full : r .full ≡ true → GatherRaysPost g log first width before after r

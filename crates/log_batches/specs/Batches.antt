@@ -6,7 +6,7 @@ use Prim.Native.Nat.{ℕ, _+_, _-_, _*_, _^_, _≤_, _<_}
 use lib.ListN.{length, getD}
 use lib.Ieee.{Float}
 use Rattle.grid.specs.declared.DexelGrid.{DexelGrid}
-use Rattle.log_model.specs.Logs.{entryAt, entryCount, rayOf}
+use Rattle.log_model.specs.Logs.{entryAt, entryCount, entryRay}
 use Rattle.log_batches.specs.declared.Batch.{Batch}
 
 -- the key of the entry at place i of n, which is on the ray, in a batch from the ray `first` on
@@ -54,7 +54,7 @@ pub record GatherRaysPost (g : DexelGrid) (log : List Float) (first width : ℕ)
   pub most : r .width ≤ width
   pub room : r .full ≡ false → r .count ≤ length after
   pub batched : r .full ≡ false
-      → Batched (λ i. rayOf g (entryAt log i)) (entryCount log) first (entryCount log) (r .width) after (r .count)
+      → Batched (λ i. entryRay g (entryAt log i)) (entryCount log) first (entryCount log) (r .width) after (r .count)
 
 -- the first m keys are the same, in some order and however often
 pub record SameKeys (m : ℕ) (before after : List ℕ) : Type 0 where

@@ -12,18 +12,18 @@ use Rattle.grid.specs.Rays.{rayCount}
 use Rattle.grid.specs.declared.DexelStockSpec.{DexelStockSpec}
 use Rattle.grid.specs.declared.DexelGrid.{DexelGrid}
 use Rattle.store.specs.Updates.{Cells}
-use Rattle.log_model.specs.Logs.{entryAt, entryCount, entries, rayOf}
-use Rattle.log_model.specs.Counts.{raysChanged, pairsLeft}
+use Rattle.log_model.specs.Logs.{entryAt, entryCount, entries, entryRay}
+use Rattle.log_model.specs.Counts.{changedRayCount, pairsAfter}
 use Rattle.log_model.specs.Lent.{listsIn}
 use Rattle.log_entries.specs.Named.{namedFrom}
 use Rattle.log_entries.proofs.Places.{AllFrom, all-first, all-rest}
-use Rattle.log_count.specs.Totals.{Countable, Prefixed, sum, changesOf}
-use Rattle.log_count.specs.declared.Totals.{Totals}
+use Rattle.log_count.specs.Totals.{Countable, Prefixed, sumBelow, rayChangeCount}
+use Rattle.log_count.specs.declared.RayTotals.{RayTotals}
 use Rattle.log_count.proofs.Sums.{sum-prefix}
 use Rattle.log_count.proofs.Bounds.{total-is, changed-is, left-is, unchanged, untouched}
 
 -- no place has an entry on the ray
-none-from : (g : DexelGrid) (log : List Float) (ray i k : ℕ) → AllFrom (λ j. eqb (rayOf g (entryAt log j)) ray ≡ false) i k
+none-from : (g : DexelGrid) (log : List Float) (ray i k : ℕ) → AllFrom (λ j. eqb (entryRay g (entryAt log j)) ray ≡ false) i k
     → namedFrom g log ray i k ≡ []
 unfolding namedFrom
 none-from g log ray i zero f = refl
@@ -33,21 +33,21 @@ none-from g log ray i (suc k) f =
 
 -- no entry is on one of the rays from r to just below e
 abbrev pub NoEntry : DexelGrid → List Float → (r e : ℕ) → Type 0
-NoEntry g log r e = (i : ℕ) → i < entryCount log → r ≤ rayOf g (entryAt log i) → rayOf g (entryAt log i) < e → ⊥
+NoEntry g log r e = (i : ℕ) → i < entryCount log → r ≤ entryRay g (entryAt log i) → entryRay g (entryAt log i) < e → ⊥
 
 module _ (spec : DexelStockSpec) (g : DexelGrid) (c : Cells) (intervals : ℕ) (log : List Float)
     (ok : Countable spec g c intervals log) where
   -- ---- rays with no entry
 
-  pass-one : (t : Totals) (ray : ℕ) → ray < rayCount g → NoEntry g log ray (suc ray) → Prefixed spec g c log ray t
+  pass-one : (t : RayTotals) (ray : ℕ) → ray < rayCount g → NoEntry g log ray (suc ray) → Prefixed spec g c log ray t
       → Prefixed spec g c log (suc ray) t
-  unfolding sum
+  unfolding sumBelow
   pass-one t ray h none p =
-      let other : (j : ℕ) → j < entryCount log → rayOf g (entryAt log j) ≡ ray → ⊥ =
+      let other : (j : ℕ) → j < entryCount log → entryRay g (entryAt log j) ≡ ray → ⊥ =
       λ j l e. none j l (omega (arith, e)) (omega (arith, e)) in
       let u : namedFrom g log ray 0 (entryCount log) ≡ [] =
-      none-from g log ray 0 (entryCount log) (λ j _ l. ne-eqb (rayOf g (entryAt log j)) ray (other j (omega (arith, l)))) in
-      let x : _≡_ {A = ℕ} (cond (changesOf spec g c log ray) 1 0) 0 =
+      none-from g log ray 0 (entryCount log) (λ j _ l. ne-eqb (entryRay g (entryAt log j)) ray (other j (omega (arith, l)))) in
+      let x : _≡_ {A = ℕ} (cond (rayChangeCount spec g c log ray) 1 0) 0 =
       ap (λ (b : Bool). cond b 1 0) (unchanged spec g c intervals log ok ray h u) in
       record {
         changed = omega (arith, p .changed);
@@ -55,7 +55,7 @@ module _ (spec : DexelStockSpec) (g : DexelGrid) (c : Cells) (intervals : ℕ) (
       }
 
   -- THE LAW: the totals stay over rays with no entry
-  pub pass-rays : (t : Totals) (r e : ℕ) → r ≤ e → e ≤ rayCount g → NoEntry g log r e → Prefixed spec g c log r t
+  pub pass-rays : (t : RayTotals) (r e : ℕ) → r ≤ e → e ≤ rayCount g → NoEntry g log r e → Prefixed spec g c log r t
       → Prefixed spec g c log e t
   pass-rays t r zero h l none p = let q : r ≡ 0 = omega arith in rw q at p
   pass-rays t r (suc e) h l none p = elim (decLt r (suc e)) [
@@ -67,18 +67,18 @@ module _ (spec : DexelStockSpec) (g : DexelGrid) (c : Cells) (intervals : ℕ) (
 
   -- ---- the start and the end
 
-  pub start : (t : Totals) → t .changed ≡ 0 → t .pairs ≡ intervals → Prefixed spec g c log 0 t
-  unfolding sum
+  pub start : (t : RayTotals) → t .changed ≡ 0 → t .pairs ≡ intervals → Prefixed spec g c log 0 t
+  unfolding sumBelow
   start t a b = record { changed = a; pairs = omega (arith, total-is spec g c intervals log ok) }
 
-  pub changed-so-far : (t : Totals) (ray : ℕ) → ray ≤ rayCount g → Prefixed spec g c log ray t
-      → t .changed ≤ raysChanged g (listsIn spec g c) (entries log)
+  pub changed-so-far : (t : RayTotals) (ray : ℕ) → ray ≤ rayCount g → Prefixed spec g c log ray t
+      → t .changed ≤ changedRayCount g (listsIn spec g c) (entries log)
   changed-so-far t ray h p =
-      let f : ℕ → ℕ = λ r. cond (changesOf spec g c log r) 1 0 in
+      let f : ℕ → ℕ = λ r. cond (rayChangeCount spec g c log r) 1 0 in
       omega (arith, sum-prefix f (rayCount g) ray h, p .changed, changed-is spec g c intervals log ok)
 
-  pub all-counted : (t : Totals) (ray : ℕ) → ray ≤ rayCount g → rayCount g ≤ ray → Prefixed spec g c log ray t
-      → (t .changed ≡ raysChanged g (listsIn spec g c) (entries log)) × (t .pairs ≡ pairsLeft g (listsIn spec g c) (entries log))
+  pub all-counted : (t : RayTotals) (ray : ℕ) → ray ≤ rayCount g → rayCount g ≤ ray → Prefixed spec g c log ray t
+      → (t .changed ≡ changedRayCount g (listsIn spec g c) (entries log)) × (t .pairs ≡ pairsAfter g (listsIn spec g c) (entries log))
   all-counted t ray x y q =
       let e : ray ≡ rayCount g = omega arith in
       let p : Prefixed spec g c log (rayCount g) t = rw e at q in

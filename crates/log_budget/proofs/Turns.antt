@@ -10,13 +10,13 @@ use lib.Ieee.{Float}
 use Rattle.grid.specs.declared.DexelStockSpec.{DexelStockSpec}
 use Rattle.grid.specs.declared.DexelGrid.{DexelGrid}
 use Rattle.store.specs.Updates.{Cells}
-use Rattle.log_model.specs.Logs.{entryAt, entryCount, rayOf}
+use Rattle.log_model.specs.Logs.{entryAt, entryCount, entryRay}
 use Rattle.log_keys.specs.Keys.{entryOfKey}
 use Rattle.log_gather.specs.Gathering.{Shaped}
 use Rattle.log_batches.specs.Batches.{batchKeyOf}
 use Rattle.log_count.specs.Steps.{CountPre, KeysOf}
 use Rattle.log_count.specs.Totals.{Prefixed}
-use Rattle.log_count.specs.declared.Totals.{Totals}
+use Rattle.log_count.specs.declared.RayTotals.{RayTotals}
 use Rattle.log_budget.specs.Steps.{BatchKeys, RunEnd}
 use Rattle.log_count.proofs.Bounds.{few-rays}
 use Rattle.log_budget.proofs.Division.{quotient, remainder, quotient-le}
@@ -28,7 +28,7 @@ rayAt log first keys t = first + getD keys t 0 / entryCount log
 
 -- The first i keys are counted: their rays, and only theirs, lie below `upto`, and so do all rays that are counted.
 pub record CountedBelow (spec : DexelStockSpec) (g : DexelGrid) (c : Cells) (log : List Float) (first width : ℕ) (keys : List ℕ) (m i : ℕ)
-    (t : Totals) : Type 0 where
+    (t : RayTotals) : Type 0 where
   pub upto : ℕ
   pub least : first ≤ upto
   pub most : upto ≤ first + width
@@ -40,31 +40,31 @@ pub record CountedBelow (spec : DexelStockSpec) (g : DexelGrid) (c : Cells) (log
 pub same-shape : (a b : List Float) → length a ≡ length b → Shaped b → Shaped a
 same-shape a b size s = record { quarters = rw size (s .quarters); least = rw size (s .least) }
 
-module _ {spec : DexelStockSpec} {g : DexelGrid} {c : Cells} {log : List Float} {first width : ℕ} {keys : List ℕ} {m : ℕ} {before : Totals}
+module _ {spec : DexelStockSpec} {g : DexelGrid} {c : Cells} {log : List Float} {first width : ℕ} {keys : List ℕ} {m : ℕ} {before : RayTotals}
     {buffer : List Float} (a : CountPre spec g c log first before buffer) (b : BatchKeys g log first width keys m) where
   -- a key in terms of its entry
-  key-parts : (t i : ℕ) → i < entryCount log → first ≤ rayOf g (entryAt log i)
-      → getD keys t 0 ≡ batchKeyOf first (rayOf g (entryAt log i)) (entryCount log) i
-      → (rayAt log first keys t ≡ rayOf g (entryAt log i)) × (getD keys t 0 % entryCount log ≡ i)
+  key-parts : (t i : ℕ) → i < entryCount log → first ≤ entryRay g (entryAt log i)
+      → getD keys t 0 ≡ batchKeyOf first (entryRay g (entryAt log i)) (entryCount log) i
+      → (rayAt log first keys t ≡ entryRay g (entryAt log i)) × (getD keys t 0 % entryCount log ≡ i)
   key-parts t i h l e =
-      let d = rayOf g (entryAt log i) - first in
+      let d = entryRay g (entryAt log i) - first in
       let q : getD keys t 0 / entryCount log ≡ d = ap (λ (k : ℕ). k / entryCount log) e ∙ quotient d (entryCount log) i h in
       (omega arith, ap (λ (k : ℕ). k % entryCount log) e ∙ remainder d (entryCount log) i h)
 
   -- each key is one of an entry on its ray, which the batch has
-  key-ray : (t : ℕ) → t < m → (rayOf g (entryOfKey log (getD keys t 0)) ≡ rayAt log first keys t) × (rayAt log first keys t < first + width)
+  key-ray : (t : ℕ) → t < m → (entryRay g (entryOfKey log (getD keys t 0)) ≡ rayAt log first keys t) × (rayAt log first keys t < first + width)
   unfolding entryOfKey
   key-ray t h =
       let (i, l, x, y, e) = b .batched .each t h in
       let (r, p) = key-parts t i l x e in
-      (ap (λ (k : ℕ). rayOf g (entryAt log k)) p ∙ sym r, omega arith)
+      (ap (λ (k : ℕ). entryRay g (entryAt log k)) p ∙ sym r, omega arith)
 
   pub ray-fits : (t : ℕ) → t < m → rayAt log first keys t < 2 ^ 53
   ray-fits t h = omega (arith, key-ray t h .1, b .inside, few-rays spec g c (a .counting .intervals) log (a .counting .countable))
 
   -- each entry on such a ray has one
-  entry-key : (i : ℕ) → i < entryCount log → first ≤ rayOf g (entryAt log i) → rayOf g (entryAt log i) < first + width
-      → (t : ℕ) × (t < m) × (rayAt log first keys t ≡ rayOf g (entryAt log i)) × (getD keys t 0 % entryCount log ≡ i)
+  entry-key : (i : ℕ) → i < entryCount log → first ≤ entryRay g (entryAt log i) → entryRay g (entryAt log i) < first + width
+      → (t : ℕ) × (t < m) × (rayAt log first keys t ≡ entryRay g (entryAt log i)) × (getD keys t 0 % entryCount log ≡ i)
   entry-key i h x y =
       let (t, l, e) = b .batched .all i h x y in
       let (r, p) = key-parts t i h x e in
@@ -95,7 +95,7 @@ module _ {spec : DexelStockSpec} {g : DexelGrid} {c : Cells} {log : List Float} 
 
   -- ---- one turn: the keys from i to just before j are those of one ray
 
-  module _ {i : ℕ} {t : Totals} (s : CountedBelow spec g c log first width keys m i t) (fit : i < m) where
+  module _ {i : ℕ} {t : RayTotals} (s : CountedBelow spec g c log first width keys m i t) (fit : i < m) where
     -- no entry lies between what is counted and the next key's ray
     before-ray : Prefixed spec g c log (rayAt log first keys i) t
     before-ray =
@@ -125,7 +125,7 @@ module _ {spec : DexelStockSpec} {g : DexelGrid} {c : Cells} {log : List Float} 
           let f : j < m = omega arith in
           omega (arith, rays-ascend i j (omega (arith, e .past)) f, e .other f, rays-ascend j k l h)
 
-      pub reached-turn : {r : Totals} → Prefixed spec g c log (rayAt log first keys i + 1) r → CountedBelow spec g c log first width keys m j r
+      pub reached-turn : {r : RayTotals} → Prefixed spec g c log (rayAt log first keys i + 1) r → CountedBelow spec g c log first width keys m j r
       reached-turn p = record {
         upto = rayAt log first keys i + 1;
         least = omega arith;
@@ -161,7 +161,7 @@ module _ {spec : DexelStockSpec} {g : DexelGrid} {c : Cells} {log : List Float} 
 
   -- ---- the end
 
-  pub reached-end : {i : ℕ} {t : Totals} → m ≤ i → CountedBelow spec g c log first width keys m i t → Prefixed spec g c log (first + width) t
+  pub reached-end : {i : ℕ} {t : RayTotals} → m ≤ i → CountedBelow spec g c log first width keys m i t → Prefixed spec g c log (first + width) t
   reached-end {i} {t} l s =
       pass-rays spec g c (a .counting .intervals) log (a .counting .countable) t (s .upto) (first + width)
       (s .most) (b .inside) none (s .prefixed)

@@ -8,16 +8,16 @@ use Rattle.grid.specs.declared.DexelStockSpec.{DexelStockSpec}
 use Rattle.grid.specs.declared.DexelGrid.{DexelGrid}
 use Rattle.store.specs.Updates.{Cells}
 use Rattle.log_model.specs.Logs.{entries}
-use Rattle.log_model.specs.Counts.{raysChanged, pairsLeft}
+use Rattle.log_model.specs.Counts.{changedRayCount, pairsAfter}
 use Rattle.log_model.specs.Lent.{listsIn}
-use Rattle.log_budget.specs.declared.Budgets.{Budgets}
-use Rattle.log_budget.specs.declared.Budgets.the-variants.{Kept, Rays, Intervals}
+use Rattle.log_budget.specs.declared.BudgetAnswer.{BudgetAnswer}
+use Rattle.log_budget.specs.declared.BudgetAnswer.the-variants.{Kept, Rays, Intervals}
 
 -- document 01's number of each answer; 0 where there is none
-abbrev pub numberOf : Budgets → ℕ
-numberOf Kept = 0
-numberOf Rays = 9
-numberOf Intervals = 10
+abbrev pub budgetNumber : BudgetAnswer → ℕ
+budgetNumber Kept = 0
+budgetNumber Rays = 9
+budgetNumber Intervals = 10
 
 -- 9: one more changed ray than allowed; 10: intervals after the commit above `max_intervals`; 9 comes first
 unfoldable pub budgetOf : (allowance intervals changed left : ℕ) → ℕ
@@ -26,5 +26,5 @@ budgetOf allowance intervals changed left = cond (ltb allowance changed) 9 (cond
 -- the same of a log on a store: the rays that it would change, and the pairs of all lists as they would then be
 abbrev pub budgetIn : (spec : DexelStockSpec) (g : DexelGrid) → Cells → (log : List Float) (allowance : ℕ) → ℕ
 budgetIn spec g c log allowance =
-    budgetOf allowance (spec .«max_intervals») (raysChanged g (listsIn spec g c) (entries log))
-    (pairsLeft g (listsIn spec g c) (entries log))
+    budgetOf allowance (spec .«max_intervals») (changedRayCount g (listsIn spec g c) (entries log))
+    (pairsAfter g (listsIn spec g c) (entries log))

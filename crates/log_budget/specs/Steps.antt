@@ -9,7 +9,7 @@ use Rattle.grid.specs.Rays.{rayCount}
 use Rattle.grid.specs.declared.DexelStockSpec.{DexelStockSpec}
 use Rattle.grid.specs.declared.DexelGrid.{DexelGrid}
 use Rattle.store.specs.Updates.{Cells}
-use Rattle.log_model.specs.Logs.{entryAt, entryCount, rayOf}
+use Rattle.log_model.specs.Logs.{entryAt, entryCount, entryRay}
 use Rattle.log_batches.specs.Batches.{Batched}
 use Rattle.log_count.specs.Totals.{Prefixed}
 use Rattle.log_batches.specs.declared.Batch.{Batch}
@@ -19,7 +19,7 @@ use Rattle.log_budget.specs.declared.CountNextAnswer.{CountNextAnswer}
 pub record BatchKeys (g : DexelGrid) (log : List Float) (first width : ℕ) (keys : List ℕ) (m : ℕ) : Type 0 where
   pub room : m ≤ length keys
   pub inside : first + width ≤ rayCount g
-  pub batched : Batched (λ i. rayOf g (entryAt log i)) (entryCount log) first (entryCount log) width keys m
+  pub batched : Batched (λ i. entryRay g (entryAt log i)) (entryCount log) first (entryCount log) width keys m
   pub ascending : (i : ℕ) → 0 < i → i < m → getD keys (i - 1) 0 ≤ getD keys i 0
 
 -- the keys of one ray, which begin at place i, end before place r

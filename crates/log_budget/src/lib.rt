@@ -11,14 +11,14 @@ ghost use Rattle.store.specs.Updates.{cells};
 ghost use Rattle.log_model.specs.Logs.{entryCount};
 ghost use Rattle.log_entries.specs.Named.{EachNamed};
 ghost use Rattle.log_gather.specs.Gathering.{Shaped};
-ghost use Rattle.log_count.specs.Totals.{Countable, CountPost};
+ghost use Rattle.log_count.specs.RayTotals.{Countable, CountPost};
 ghost use Rattle.log_count.specs.Steps.{CountPre};
-ghost use Rattle.log_budget.specs.Answer.{numberOf, budgetIn};
+ghost use Rattle.log_budget.specs.Answer.{budgetNumber, budgetIn};
 ghost use Rattle.log_budget.specs.Steps.{BatchKeys, RunEnd, NextBatchPre, NextBatchPost, CountNextPost};
 use grid::DexelGrid;
 use grid::DexelStockSpec;
 use log_batches::Batch;
-use log_count::Totals;
+use log_count::RayTotals;
 
 // As many keys of entries as a batch holds, and as many cells for the hits of a list.
 const KEYS: usize = 3072;
@@ -26,7 +26,7 @@ const KEYS: usize = 3072;
 const CELLS: usize = 1024;
 
 // Which of the two budgets a commit would not keep, if any.
-pub enum Budgets {
+pub enum BudgetAnswer {
     Kept,
     Rays,
     Intervals,
@@ -36,7 +36,7 @@ pub enum Budgets {
 pub struct CountNextAnswer {
     pub next: usize,
     pub guess: usize,
-    pub totals: Totals,
+    pub totals: RayTotals,
 }
 
 // Where the keys of one ray end that begin at place i of the first m.
@@ -68,8 +68,8 @@ fn count_batch(
     keys: &[u64],
     m: usize,
     buffer: &mut [f64],
-    totals: Totals,
-) -> Totals
+    totals: RayTotals,
+) -> RayTotals
     requires { ⌜ CountPre spec g (cells (now spans) (now links) (now heads)) (now log) first totals (now buffer)
         × BatchKeys g (now log) first width (now keys) m ⌝ }
     ensures { λ r. ⌜ CountPost spec g (cells (now (spans .entry)) (now (links .entry)) (now (heads .entry))) (now (log .entry))
@@ -166,7 +166,7 @@ fn count_next(
     width: usize,
     keys: &mut [u64],
     buffer: &mut [f64],
-    t: Totals,
+    t: RayTotals,
 ) -> CountNextAnswer
     requires { ⌜ CountPre spec g (cells (now spans) (now links) (now heads)) (now log) first t (now buffer)
         × NextBatchPre g (now log) first width (now keys) ⌝ }
@@ -226,15 +226,15 @@ fn count_all(
     allowance: u64,
     keys: &mut [u64],
     buffer: &mut [f64],
-) -> Budgets
+) -> BudgetAnswer
     requires { ⌜ Countable spec g (cells (now spans) (now links) (now heads)) intervals (now log) × (0 < entryCount (now log))
         × (0 < length (now keys)) × (length (now keys) ≤ 2 ^ 16) × Shaped (now buffer) ⌝ }
-    ensures { λ r. ⌜ numberOf r ≡ budgetIn spec g (cells (now (spans .entry)) (now (links .entry)) (now (heads .entry)))
+    ensures { λ r. ⌜ budgetNumber r ≡ budgetIn spec g (cells (now (spans .entry)) (now (links .entry)) (now (heads .entry)))
         (now (log .entry)) allowance ⌝ }
 {
     let rays = grid_rays::total_rays(g) as usize;
     let n = log.len() / 6;
-    let mut t = Totals {
+    let mut t = RayTotals {
         changed: 0,
         pairs: intervals,
     };
@@ -257,15 +257,15 @@ fn count_all(
         );
         t = s.totals;
         if t.changed > allowance {
-            return Budgets::Rays;
+            return BudgetAnswer::Rays;
         }
         first = s.next;
         wanted = s.guess;
     }
     if t.pairs > spec.max_intervals {
-        return Budgets::Intervals;
+        return BudgetAnswer::Intervals;
     }
-    Budgets::Kept
+    BudgetAnswer::Kept
 }
 
 // Whether no log with so many entries can change more rays than the allowance: it has no more entries, or the grid no more rays.
@@ -294,19 +294,19 @@ pub fn budget(
     intervals: u64,
     log: &[f64],
     allowance: u64,
-) -> Budgets
+) -> BudgetAnswer
     requires { ⌜ Countable spec g (cells (now spans) (now links) (now heads)) intervals (now log) ⌝ }
-    ensures { λ r. ⌜ numberOf r ≡ budgetIn spec g (cells (now (spans .entry)) (now (links .entry)) (now (heads .entry)))
+    ensures { λ r. ⌜ budgetNumber r ≡ budgetIn spec g (cells (now (spans .entry)) (now (links .entry)) (now (heads .entry)))
         (now (log .entry)) allowance ⌝ }
 {
     let entries = (log.len() / 6) as u64;
     if allows_all(g, entries, allowance) {
         if intervals + 3 * entries <= spec.max_intervals {
-            return Budgets::Kept;
+            return BudgetAnswer::Kept;
         }
     }
     if entries == 0 {
-        return Budgets::Kept;
+        return BudgetAnswer::Kept;
     }
     let mut keys = [0; KEYS];
     let mut buffer = [0.0; CELLS];

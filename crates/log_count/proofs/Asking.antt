@@ -18,11 +18,11 @@ use Rattle.log_keys.specs.Keys.{hitsTo}
 use Rattle.log_count.specs.Totals.{Prefixed}
 use Rattle.log_count.specs.Steps.{CountPre, KeysOf, CountListPost, ListCounted, AddRayPre, AddRayPost, possibleLoses, certainLoses}
 use Rattle.log_count.specs.declared.ListCount.{ListCount}
-use Rattle.log_count.specs.declared.Totals.{Totals}
+use Rattle.log_count.specs.declared.RayTotals.{RayTotals}
 use Rattle.log_count.proofs.Keyed.{keyed-points}
 use Rattle.log_count.proofs.Prefixes.{ray-addable, ray-added}
 
-module _ {spec : DexelStockSpec} {g : DexelGrid} {c : Cells} {log : List Float} {ray : ℕ} {t : Totals} {buffer : List Float}
+module _ {spec : DexelStockSpec} {g : DexelGrid} {c : Cells} {log : List Float} {ray : ℕ} {t : RayTotals} {buffer : List Float}
     (a : CountPre spec g c log ray t buffer) where
   -- ---- its lists
 
@@ -61,5 +61,5 @@ module _ {spec : DexelStockSpec} {g : DexelGrid} {c : Cells} {log : List Float} 
     pub asked-addable : AddRayPre t p q
     asked-addable = ray-addable spec g c log ray t p q (a .counting) (a .inside) (a .prefixed) fit possible certain
 
-    pub asked-added : (r : Totals) → AddRayPost t p q r → Prefixed spec g c log (ray + 1) r
+    pub asked-added : (r : RayTotals) → AddRayPost t p q r → Prefixed spec g c log (ray + 1) r
     asked-added = ray-added spec g c log ray t p q (a .counting) (a .inside) (a .prefixed) fit possible certain

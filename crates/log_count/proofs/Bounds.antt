@@ -19,26 +19,25 @@ use Rattle.store.specs.Updates.{Cells}
 use Rattle.store.proofs.FreePlaces.{free-records}
 use Rattle.stock.specs.Stock.{Stock, possibleIn, certainIn, SoundStock}
 use Rattle.store_lists.proofs.Steps.{ends-length}
-use Rattle.log_model.specs.Logs.{possible, certain, entryAt, entryCount, entries, rayOf, HitKind, outer, inner}
-use Rattle.log_model.specs.Model.{pairs}
-use Rattle.log_model.specs.Counts.{hitBy, startsLeft, hitsOn, changesRay, raysChanged, pairsLeft}
+use Rattle.log_model.specs.Logs.{possible, certain, entryAt, entryCount, entries, entryRay, HitKind, outer, inner}
+use Rattle.log_model.specs.Model.{pairTotal}
+use Rattle.log_model.specs.Counts.{isHitBy, startsLeft, hitsOnList, isRayChanged, changedRayCount, pairsAfter}
 use Rattle.log_model.specs.Lent.{listNumber, listIn, listsIn}
 use Rattle.log_model.proofs.Lent.{lent-laws}
 use Rattle.log_model.proofs.Starts.{pairs-left}
-use Rattle.log_entries.specs.Named.{pairsNamed, namedFrom, pairsAt}
+use Rattle.log_entries.specs.Named.{hitsOnRayNumber, namedFrom, pairsAt}
 use Rattle.log_entries.proofs.Places.{AllFrom, all-first, all-rest, pairs-named, each-below, pairs-of}
-use Rattle.log_count.specs.Totals.{Countable}
-use Rattle.log_count.specs.Totals.{sum, pairsOf, leftOf, changesOf}
+use Rattle.log_count.specs.Totals.{Countable, sumBelow, pairsOf, leftOf, rayChangeCount}
 use Rattle.log_count.proofs.Sums.{sum-over, sum-le, sum-at, sum-one, sum-plus, sum-times, sum-none}
 use Rattle.log_count.proofs.Starts.{starts-le}
 
 -- no more rays are counted than there are
-pub at-most-all : (f : ℕ → Bool) (n : ℕ) → sum (λ ray. cond (f ray) 1 0) n ≤ n
-unfolding sum
+pub at-most-all : (f : ℕ → Bool) (n : ℕ) → sumBelow (λ ray. cond (f ray) 1 0) n ≤ n
+unfolding sumBelow
 at-most-all f zero = omega arith
 at-most-all f (suc n) = go (f n) (at-most-all f n)
   where
-    go : (b : Bool) → sum (λ ray. cond (f ray) 1 0) n ≤ n → sum (λ ray. cond (f ray) 1 0) n + cond b 1 0 ≤ suc n
+    go : (b : Bool) → sumBelow (λ ray. cond (f ray) 1 0) n ≤ n → sumBelow (λ ray. cond (f ray) 1 0) n + cond b 1 0 ≤ suc n
     go true h = omega arith
     go false h = omega arith
 
@@ -50,21 +49,21 @@ places-length log [] w = refl
 places-length log (i ∷ ps) w = omega (arith, places-length log ps w)
 
 -- each entry names one ray, so that the rays share them out
-shared-out : (g : DexelGrid) (log : List Float) (i k : ℕ) → AllFrom (λ j. rayOf g (entryAt log j) < rayCount g) i k
-    → sum (λ ray. length (namedFrom g log ray i k)) (rayCount g) ≡ k
+shared-out : (g : DexelGrid) (log : List Float) (i k : ℕ) → AllFrom (λ j. entryRay g (entryAt log j) < rayCount g) i k
+    → sumBelow (λ ray. length (namedFrom g log ray i k)) (rayCount g) ≡ k
 unfolding namedFrom
 shared-out g log i zero f = sum-none (rayCount g)
 shared-out g log i (suc k) f = more (sum-one old new (rayCount g) ray (all-first i k f) others) at
     (shared-out g log (suc i) k (all-rest i k f))
   where
     ray : ℕ
-    ray = rayOf g (entryAt log i)
+    ray = entryRay g (entryAt log i)
 
     old : ℕ → ℕ
     old r = length (namedFrom g log r (suc i) k)
 
     new : ℕ → ℕ
-    new r = length (cond (eqb (rayOf g (entryAt log i)) r) (i ∷ namedFrom g log r (suc i) k) (namedFrom g log r (suc i) k))
+    new r = length (cond (eqb (entryRay g (entryAt log i)) r) (i ∷ namedFrom g log r (suc i) k) (namedFrom g log r (suc i) k))
 
     others : (r : ℕ) → (r ≡ ray → ⊥) → new r ≡ old r
     others r n = ap (λ (b : Bool). length (cond b (i ∷ namedFrom g log r (suc i) k) (namedFrom g log r (suc i) k)))
@@ -78,8 +77,8 @@ shared-out g log i (suc k) f = more (sum-one old new (rayCount g) ray (all-first
 
 -- ---- nothing is taken
 
-no-hits : (l : List Float) → hitBy l [] ≡ false
-unfolding hitBy
+no-hits : (l : List Float) → isHitBy l [] ≡ false
+unfolding isHitBy
 no-hits l = refl
 
 none-taken : (l : List Float) → sound l ≡ true → startsLeft l [] ≡ length l / 2
@@ -94,9 +93,9 @@ module _ (spec : DexelStockSpec) (g : DexelGrid) (c : Cells) (intervals : ℕ) (
   unfolding stock
   isStock = ok .isSound
 
-  -- the interval total is the sum of the pairs of all rays
-  pub total-is : intervals ≡ sum (pairsOf spec c) (rayCount g)
-  unfolding stock pairs pairsOf listIn listNumber
+  -- the interval total is the sumBelow of the pairTotal of all rays
+  pub total-is : intervals ≡ sumBelow (pairsOf spec c) (rayCount g)
+  unfolding stock pairTotal pairsOf listIn listNumber
   total-is = lent-laws spec g .all-pairs stock isStock
       ∙ sum-over g (λ r. length (possibleIn spec c (r .0)) / 2 + length (certainIn spec c (r .0)) / 2) (pairsOf spec c) (λ r. refl)
 
@@ -108,17 +107,17 @@ module _ (spec : DexelStockSpec) (g : DexelGrid) (c : Cells) (intervals : ℕ) (
   )
 
   -- the counts of the causes 9 and 10 as sums by number
-  pub changed-is : raysChanged g (listsIn spec g c) (entries log) ≡ sum (λ ray. cond (changesOf spec g c log ray) 1 0) (rayCount g)
-  unfolding raysChanged changesRay changesOf hitsOn listNumber
-  changed-is = sum-over g (λ r. cond (changesRay g (listsIn spec g c) (entries log) r) 1 0) (λ ray. cond (changesOf spec g c log ray) 1 0)
-      (λ r. ap₂ (λ (o i : List Float). cond (hitBy (possibleIn spec c (r .0)) i || hitBy (certainIn spec c (r .0)) (o ++ i)) 1 0)
+  pub changed-is : changedRayCount g (listsIn spec g c) (entries log) ≡ sumBelow (λ ray. cond (rayChangeCount spec g c log ray) 1 0) (rayCount g)
+  unfolding changedRayCount isRayChanged rayChangeCount hitsOnList listNumber
+  changed-is = sum-over g (λ r. cond (isRayChanged g (listsIn spec g c) (entries log) r) 1 0) (λ ray. cond (rayChangeCount spec g c log ray) 1 0)
+      (λ r. ap₂ (λ (o i : List Float). cond (isHitBy (possibleIn spec c (r .0)) i || isHitBy (certainIn spec c (r .0)) (o ++ i)) 1 0)
       (pairs-named g (entries log) r outer) (pairs-named g (entries log) r inner))
 
-  pub left-is : pairsLeft g (listsIn spec g c) (entries log) ≡ sum (leftOf spec g c log) (rayCount g)
-  unfolding pairsLeft leftOf hitsOn listNumber
+  pub left-is : pairsAfter g (listsIn spec g c) (entries log) ≡ sumBelow (leftOf spec g c log) (rayCount g)
+  unfolding pairsAfter leftOf hitsOnList listNumber
   left-is = sum-over g
-      (λ r. startsLeft (listsIn spec g c r possible) (hitsOn g (entries log) r possible)
-      + startsLeft (listsIn spec g c r certain) (hitsOn g (entries log) r certain))
+      (λ r. startsLeft (listsIn spec g c r possible) (hitsOnList g (entries log) r possible)
+      + startsLeft (listsIn spec g c r certain) (hitsOnList g (entries log) r certain))
       (leftOf spec g c log)
       (λ r. ap₂ (λ (o i : List Float). startsLeft (possibleIn spec c (r .0)) i + startsLeft (certainIn spec c (r .0)) (o ++ i))
       (pairs-named g (entries log) r outer) (pairs-named g (entries log) r inner))
@@ -131,20 +130,20 @@ module _ (spec : DexelStockSpec) (g : DexelGrid) (c : Cells) (intervals : ℕ) (
   unfoldable pub entriesOf : ℕ → ℕ
   entriesOf ray = length (namedFrom g log ray 0 (entryCount log))
 
-  hits-of : (ray : ℕ) (w : HitKind) → length (pairsNamed g (entries log) ray w) ≡ 2 * entriesOf ray
+  hits-of : (ray : ℕ) (w : HitKind) → length (hitsOnRayNumber g (entries log) ray w) ≡ 2 * entriesOf ray
   unfolding entriesOf
   hits-of ray w = ap length (sym (pairs-of g log (ok .named) ray w)) ∙ places-length log (namedFrom g log ray 0 (entryCount log)) w
 
-  pub all-entries : sum entriesOf (rayCount g) ≡ entryCount log
+  pub all-entries : sumBelow entriesOf (rayCount g) ≡ entryCount log
   unfolding entriesOf
   all-entries = shared-out g log 0 (entryCount log) (λ j _ h. each-below g log (ok .named) j (omega arith))
 
-  -- three pairs more for each entry: one on possible, two on certain
+  -- three pairTotal more for each entry: one on possible, two on certain
   pub left-le : (ray : ℕ) → leftOf spec g c log ray ≤ pairsOf spec c ray + 3 * entriesOf ray
   unfolding leftOf pairsOf
   left-le ray =
-      let i = pairsNamed g (entries log) ray inner in
-      let o = pairsNamed g (entries log) ray outer in
+      let i = hitsOnRayNumber g (entries log) ray inner in
+      let o = hitsOnRayNumber g (entries log) ray outer in
       let a = starts-le (possibleIn spec c ray) i in
       let b = starts-le (certainIn spec c ray) (o ++ i) in
       let d = length-append o i in
@@ -156,12 +155,12 @@ module _ (spec : DexelStockSpec) (g : DexelGrid) (c : Cells) (intervals : ℕ) (
 
   -- a ray that no entry names stays
   module _ (ray : ℕ) (h : ray < rayCount g) (u : namedFrom g log ray 0 (entryCount log) ≡ []) where
-    no-pairs : (w : HitKind) → pairsNamed g (entries log) ray w ≡ []
+    no-pairs : (w : HitKind) → hitsOnRayNumber g (entries log) ray w ≡ []
     no-pairs w = sym (pairs-of g log (ok .named) ray w) ∙ ap (λ (l : List ℕ). pairsAt log l w) u ∙ unfold pairsAt in refl
 
-    pub unchanged : changesOf spec g c log ray ≡ false
-    unfolding changesOf
-    unchanged = ap₂ (λ (o i : List Float). hitBy (possibleIn spec c ray) i || hitBy (certainIn spec c ray) (o ++ i)) (no-pairs outer)
+    pub unchanged : rayChangeCount spec g c log ray ≡ false
+    unfolding rayChangeCount
+    unchanged = ap₂ (λ (o i : List Float). isHitBy (possibleIn spec c ray) i || isHitBy (certainIn spec c ray) (o ++ i)) (no-pairs outer)
         (no-pairs inner)
         ∙ ap₂ _||_ (no-hits (possibleIn spec c ray)) (no-hits (certainIn spec c ray))
 
@@ -173,33 +172,33 @@ module _ (spec : DexelStockSpec) (g : DexelGrid) (c : Cells) (intervals : ℕ) (
         (none-taken (certainIn spec c ray) (ok .isSound .valid ray h .certain-sound))
 
   -- a ray that changes has an entry
-  changed-le : (ray : ℕ) → ray < rayCount g → cond (changesOf spec g c log ray) 1 0 ≤ entriesOf ray
+  changed-le : (ray : ℕ) → ray < rayCount g → cond (rayChangeCount spec g c log ray) 1 0 ≤ entriesOf ray
   unfolding entriesOf
-  changed-le ray h = go (namedFrom g log ray 0 (entryCount log)) refl (changesOf spec g c log ray) refl
+  changed-le ray h = go (namedFrom g log ray 0 (entryCount log)) refl (rayChangeCount spec g c log ray) refl
     where
       one : (b : Bool) (k : ℕ) → cond b 1 0 ≤ suc k
       one true k = omega arith
       one false k = omega arith
 
-      go : (l : List ℕ) → namedFrom g log ray 0 (entryCount log) ≡ l → (b : Bool) → changesOf spec g c log ray ≡ b → cond b 1 0 ≤ length l
+      go : (l : List ℕ) → namedFrom g log ray 0 (entryCount log) ≡ l → (b : Bool) → rayChangeCount spec g c log ray ≡ b → cond b 1 0 ≤ length l
       go [] u b e = subst (λ (x : Bool). cond x 1 0 ≤ 0) (sym (unchanged ray h u) ∙ e) (omega arith)
       go (i ∷ l) u b e = one b (length l)
 
   -- ---- THE LAWS of the cheap test
 
-  pub rays-le : raysChanged g (listsIn spec g c) (entries log) ≤ entryCount log
-  rays-le = omega (arith, changed-is, all-entries, sum-le (λ ray. cond (changesOf spec g c log ray) 1 0) entriesOf (rayCount g) changed-le)
+  pub rays-le : changedRayCount g (listsIn spec g c) (entries log) ≤ entryCount log
+  rays-le = omega (arith, changed-is, all-entries, sum-le (λ ray. cond (rayChangeCount spec g c log ray) 1 0) entriesOf (rayCount g) changed-le)
 
   -- no log changes more rays than it has entries, or than there are
-  pub rays-allowed : {a : ℕ} → (entryCount log ≤ a) ⊎ (rayCount g ≤ a) → raysChanged g (listsIn spec g c) (entries log) ≤ a
+  pub rays-allowed : {a : ℕ} → (entryCount log ≤ a) ⊎ (rayCount g ≤ a) → changedRayCount g (listsIn spec g c) (entries log) ≤ a
   rays-allowed (inl h) = omega (arith, rays-le)
-  rays-allowed (inr h) = omega (arith, changed-is, at-most-all (changesOf spec g c log) (rayCount g))
+  rays-allowed (inr h) = omega (arith, changed-is, at-most-all (rayChangeCount spec g c log) (rayCount g))
 
-  pub thrice : sum (λ ray. pairsOf spec c ray + 3 * entriesOf ray) (rayCount g) ≡ intervals + 3 * entryCount log
+  pub thrice : sumBelow (λ ray. pairsOf spec c ray + 3 * entriesOf ray) (rayCount g) ≡ intervals + 3 * entryCount log
   thrice = sum-plus (pairsOf spec c) (λ ray. 3 * entriesOf ray) (rayCount g)
       ∙ ap₂ _+_ (sym total-is) (sum-times 3 entriesOf (rayCount g) ∙ ap (λ (k : ℕ). 3 * k) all-entries)
 
-  pub pairs-le : pairsLeft g (listsIn spec g c) (entries log) ≤ intervals + 3 * entryCount log
+  pub pairs-le : pairsAfter g (listsIn spec g c) (entries log) ≤ intervals + 3 * entryCount log
   pairs-le = omega (
     arith,
     left-is,
@@ -208,7 +207,7 @@ module _ (spec : DexelStockSpec) (g : DexelGrid) (c : Cells) (intervals : ℕ) (
         (λ ray _. left-le ray),
   )
 
-  -- a ray's pairs fit, before and after
+  -- a ray's pairTotal fit, before and after
   pub pairs-fit : (ray : ℕ) → ray < rayCount g → pairsOf spec c ray ≤ spec .«max_intervals»
   pairs-fit ray h = omega (arith, total-is, total-fits, sum-at (pairsOf spec c) (rayCount g) ray h)
 

@@ -7,7 +7,7 @@ use Rattle.doubles.specs.Doubles.{Number}
 use Rattle.doubles.proofs.Bools.{by-cases, clash}
 use Rattle.doubles.proofs.Order.{lt-number, lt-irrefl, le-refl, lt→le, not-lt→le, lt-le-trans, lt-trans}
 use Rattle.span_overlay.specs.Overlay.{higherOf, lowerOf}
-use Rattle.log_model.specs.Logs.{Entry, HitKind, outer, inner, loOf, hiOf}
+use Rattle.log_model.specs.Logs.{Entry, HitKind, outer, inner, hitLo, hitHi}
 use Rattle.log_keys.proofs.Hits.{LosesKind, inner-hit, outer-hit}
 use Rattle.log_long.specs.Long.{beginPast, leastPast}
 use Rattle.log_long.specs.declared.LongPart.{LongPart}
@@ -24,18 +24,18 @@ module _ (x y : Float) (p : Number x) (q : Number y) where
 module _ (top b : Float) where
   -- a hit of this kind that begins past b
   pub record Begun (w : HitKind) (e : Entry) (x : Float) : Type 0 where
-    pub proper : lt (loOf w e) (hiOf w e) ≡ true
-    pub past : lt b (loOf w e) ≡ true
-    pub is : x ≡ loOf w e
+    pub proper : lt (hitLo w e) (hitHi w e) ≡ true
+    pub past : lt b (hitLo w e) ≡ true
+    pub is : x ≡ hitLo w e
 
   module _ (e : Entry) where
     begins : HitKind → Float
-    begins w = beginPast top b (loOf w e) (hiOf w e)
+    begins w = beginPast top b (hitLo w e) (hitHi w e)
 
     begin-cases : (w : HitKind) → (begins w ≡ top) ⊎ Begun w e (begins w)
-    unfolding beginPast begins loOf
-    begin-cases w = elim (by-cases (lt (loOf w e) (hiOf w e))) [
-      | inl h ↦ elim (by-cases (lt b (loOf w e))) [
+    unfolding beginPast begins hitLo
+    begin-cases w = elim (by-cases (lt (hitLo w e) (hitHi w e))) [
+      | inl h ↦ elim (by-cases (lt b (hitLo w e))) [
         | inl k ↦ inr (record { proper = h; past = k; is = rw (h, k) })
         | inr k ↦ inl (rw (h, k))
       ]
@@ -43,18 +43,18 @@ module _ (top b : Float) where
     ]
 
     begin-number : Number top → (w : HitKind) → Number (begins w)
-    begin-number n w = elim (begin-cases w) [ inl h ↦ rw h n | inr h ↦ rw (h .is) (lt-number b (loOf w e) (h .past) .1) ]
+    begin-number n w = elim (begin-cases w) [ inl h ↦ rw h n | inr h ↦ rw (h .is) (lt-number b (hitLo w e) (h .past) .1) ]
 
     least-lower : leastPast top b e ≡ lowerOf (begins outer) (begins inner)
     unfolding leastPast begins
     least-lower = refl
 
     -- the first begin is at or before each
-    pub least-before : Number top → (w : HitKind) → lt (loOf w e) (hiOf w e) ≡ true → lt b (loOf w e) ≡ true
-        → le (leastPast top b e) (loOf w e) ≡ true
+    pub least-before : Number top → (w : HitKind) → lt (hitLo w e) (hitHi w e) ≡ true → lt b (hitLo w e) ≡ true
+        → le (leastPast top b e) (hitLo w e) ≡ true
     least-before n w h k = rw (least-lower, ← begin-at) (low w)
       where
-        begin-at : begins w ≡ loOf w e
+        begin-at : begins w ≡ hitLo w e
         begin-at = elim (begin-cases w) [ inl t ↦ unfold begins beginPast in rw (h, k) | inr t ↦ t .is ]
 
         low : (w : HitKind) → le (lowerOf (begins outer) (begins inner)) (begins w) ≡ true

@@ -12,14 +12,14 @@ use Rattle.grid.specs.declared.DexelGrid.{DexelGrid}
 use Rattle.store.specs.Updates.{Cells}
 use Rattle.stock.specs.Stock.{possibleIn, certainIn}
 use Rattle.log_model.specs.Logs.{entryCount}
-use Rattle.log_count.specs.Totals.{Counting, Prefixed, sum, pairsOf, leftOf, changesOf}
+use Rattle.log_count.specs.Totals.{Counting, Prefixed, sumBelow, pairsOf, leftOf, rayChangeCount}
 use Rattle.log_count.specs.Steps.{ListCounted, AddRayPre, AddRayPost, possibleLoses, certainLoses}
 use Rattle.log_count.specs.declared.ListCount.{ListCount}
-use Rattle.log_count.specs.declared.Totals.{Totals}
+use Rattle.log_count.specs.declared.RayTotals.{RayTotals}
 use Rattle.log_count.proofs.Sums.{sum-le, sum-prefix, sum-next, sum-plus, sum-times}
 use Rattle.log_count.proofs.Bounds.{at-most-all, total-is, total-fits, few-rays, entriesOf, all-entries, left-le, left-fits}
 
-module _ (spec : DexelStockSpec) (g : DexelGrid) (c : Cells) (log : List Float) (ray : ℕ) (t : Totals) (p q : ListCount)
+module _ (spec : DexelStockSpec) (g : DexelGrid) (c : Cells) (log : List Float) (ray : ℕ) (t : RayTotals) (p q : ListCount)
     (ok : Counting spec g c log) (inside : ray < rayCount g) (have : Prefixed spec g c log ray t)
     (fit : spec .«max_intervals» + 3 * entryCount log < 2 ^ 64)
     (possible : ListCounted (possibleIn spec c ray) (possibleLoses g log ray) p)
@@ -36,14 +36,14 @@ module _ (spec : DexelStockSpec) (g : DexelGrid) (c : Cells) (log : List Float) 
       let most = left-fits spec g c (ok .intervals) log (ok .countable) ray inside in
       ap₂ _+_ (possible .after ∙ mod-eq-of-lt (omega arith)) (certain .after ∙ mod-eq-of-lt (omega arith))
 
-  changes-is : (p .changes || q .changes) ≡ changesOf spec g c log ray
-  unfolding changesOf
+  changes-is : (p .changes || q .changes) ≡ rayChangeCount spec g c log ray
+  unfolding rayChangeCount
   changes-is = ap₂ _||_ (possible .changes) (certain .changes)
 
   -- ---- sums up to it
 
   -- all together have at most three pairs more for each entry
-  left-most : sum (leftOf spec g c log) (ray + 1) ≤ sum (pairsOf spec c) (ray + 1) + 3 * entryCount log
+  left-most : sumBelow (leftOf spec g c log) (ray + 1) ≤ sumBelow (pairsOf spec c) (ray + 1) + 3 * entryCount log
   left-most =
       let named = entriesOf spec g c (ok .intervals) log (ok .countable) in
       omega (
@@ -56,7 +56,7 @@ module _ (spec : DexelStockSpec) (g : DexelGrid) (c : Cells) (log : List Float) 
         all-entries spec g c (ok .intervals) log (ok .countable),
       )
 
-  pairs-within : sum (pairsOf spec c) (ray + 1) ≤ sum (pairsOf spec c) (rayCount g)
+  pairs-within : sumBelow (pairsOf spec c) (ray + 1) ≤ sumBelow (pairsOf spec c) (rayCount g)
   pairs-within = sum-prefix (pairsOf spec c) (rayCount g) (ray + 1) (omega arith)
 
   -- ---- THE LAWS
@@ -66,7 +66,7 @@ module _ (spec : DexelStockSpec) (g : DexelGrid) (c : Cells) (log : List Float) 
       let total = total-is spec g c (ok .intervals) log (ok .countable) in
       let most = total-fits spec g c (ok .intervals) log (ok .countable) in
       let few = few-rays spec g c (ok .intervals) log (ok .countable) in
-      let counted = at-most-all (changesOf spec g c log) ray in
+      let counted = at-most-all (rayChangeCount spec g c log) ray in
       let pairs = sum-next (pairsOf spec c) ray in
       let left = sum-next (leftOf spec g c log) ray in
       let a = before-is in
@@ -80,9 +80,9 @@ module _ (spec : DexelStockSpec) (g : DexelGrid) (c : Cells) (log : List Float) 
         changed = omega (arith, have .changed);
       }
 
-  pub ray-added : (r : Totals) → AddRayPost t p q r → Prefixed spec g c log (ray + 1) r
+  pub ray-added : (r : RayTotals) → AddRayPost t p q r → Prefixed spec g c log (ray + 1) r
   ray-added r n = record {
     changed = n .changed ∙ ap₂ (λ (k : ℕ) (b : Bool). k + cond b 1 0) (have .changed) changes-is
-        ∙ sym (sum-next (λ k. cond (changesOf spec g c log k) 1 0) ray);
+        ∙ sym (sum-next (λ k. cond (rayChangeCount spec g c log k) 1 0) ray);
     pairs = omega (arith, n .pairs, have .pairs, before-is, after-is, sum-next (pairsOf spec c) ray, sum-next (leftOf spec g c log) ray);
   }

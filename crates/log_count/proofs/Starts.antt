@@ -6,7 +6,7 @@ use native.Mathlib.Omega.{arith}
 use lib.ListN.{length, length-append}
 use lib.Ieee.{Float, lt}
 use Rattle.spans.specs.Spans.{holds}
-use Rattle.log_model.specs.Counts.{losOf, hisOf, among, distinct, startsLeft}
+use Rattle.log_model.specs.Counts.{losOf, hisOf, memberEq, countDistinct, startsLeft}
 
 his-length : (l : List Float) → 2 * length (hisOf l) ≤ length l
 unfolding hisOf
@@ -24,12 +24,12 @@ los-length [] = omega arith
 los-length (lo ∷ []) = omega arith
 los-length (lo ∷ hi ∷ l) = omega (arith, los-length l)
 
-distinct-le : (t : Float → Bool) (l : List Float) → distinct t l ≤ length l
-unfolding distinct
+distinct-le : (t : Float → Bool) (l : List Float) → countDistinct t l ≤ length l
+unfolding countDistinct
 distinct-le t [] = omega arith
-distinct-le t (x ∷ l) = go (t x && not (among x l)) (distinct-le t l)
+distinct-le t (x ∷ l) = go (t x && not (memberEq x l)) (distinct-le t l)
   where
-    go : (b : Bool) → distinct t l ≤ length l → cond b (suc (distinct t l)) (distinct t l) ≤ length (x ∷ l)
+    go : (b : Bool) → countDistinct t l ≤ length l → cond b (suc (countDistinct t l)) (countDistinct t l) ≤ length (x ∷ l)
     go true q = omega arith
     go false q = omega arith
 

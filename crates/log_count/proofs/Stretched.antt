@@ -14,7 +14,7 @@ use Rattle.doubles.proofs.Bools.{and-left, and-right, both, by-cases}
 use Rattle.doubles.proofs.Order.{lt-number, le-refl, lt→le, le-lt-trans, le-trans}
 use Rattle.grid.specs.declared.DexelGrid.{DexelGrid}
 use Rattle.spans.specs.Spans.{within, holds}
-use Rattle.log_model.specs.Logs.{entryAt, entryCount, rayOf, HitKind, outer, inner, loOf, hiOf}
+use Rattle.log_model.specs.Logs.{entryAt, entryCount, entryRay, HitKind, outer, inner, hitLo, hitHi}
 use Rattle.log_entries.specs.Named.{EachNamed}
 use Rattle.log_keys.specs.Keys.{entryOfKey, hitsTo, pairsPast, Stretch}
 use Rattle.log_keys.proofs.Hits.{LosesKind, inner-hit, outer-hit, hits-struck, struck-hits, losesOf, Lost, lost-holds, lost-past, holds-lost}
@@ -43,7 +43,7 @@ module _ (g : DexelGrid) (log : List Float) (ray : ℕ) (named : EachNamed g log
   -- ---- the stretch
 
   module _ (top-number : Number last) (bottom-number : Number (neg last)) (none-below : (x : Float) → lt x (neg last) ≡ false) where
-    reaches : (k : HitKind) → FrontReach (λ i. rayOf g (entryAt log i)) log ray b (entryCount log) k (kindFront k w)
+    reaches : (k : HitKind) → FrontReach (λ i. entryRay g (entryAt log i)) log ray b (entryCount log) k (kindFront k w)
     reaches outer = r .outers none-below bottom-number
     reaches inner = r .inners none-below bottom-number
 
@@ -75,24 +75,24 @@ module _ (g : DexelGrid) (log : List Float) (ray : ℕ) (named : EachNamed g log
             let e = entryAt log (l .place) in
             let k = l .struck .kind in
             let lies = l .struck .holds-it in
-            let rises = proper (loOf k e) (hiOf k e) x lies in
-            elim (by-cases (lt b (loOf k e))) [
+            let rises = proper (hitLo k e) (hitHi k e) x lies in
+            elim (by-cases (lt b (hitLo k e))) [
               | inl p ↦
                   let low = least-before last b e top-number k rises p in
                   let under = le-lt-trans (leastPast last b e) x (w .end)
-                  (le-trans (leastPast last b e) (loOf k e) x low (and-left (le (loOf k e) x) (lt x (hiOf k e)) lies))
+                  (le-trans (leastPast last b e) (hitLo k e) x low (and-left (le (hitLo k e) x) (lt x (hitHi k e)) lies))
                   (and-right (le b x) (lt x (w .end)) h) in
                   let (t, a, q) = r .longKeys .all (l .place) (l .below) (l .on-ray) under in
                   inr (struck-hits log (take (w .count) keys) certain x (length (take (w .count) keys)) t (omega (arith, a, used-length))
                   (rw (used-entry t a, q) (l .struck)))
               | inr p ↦ inl (below-front w x (reaches outer .number) (reaches inner .number) certain k (l .struck .loses)
-                  (reaches k .all (l .place) (l .below) (l .on-ray) rises p x (and-right (le (loOf k e) x) (lt x (hiOf k e)) lies)))
+                  (reaches k .all (l .place) (l .below) (l .on-ray) rises p x (and-right (le (hitLo k e) x) (lt x (hitHi k e)) lies)))
             ]
 
   -- ---- its end
 
   -- the certain list loses each hit, and a hit holds where it begins
-  begun-past : (k : HitKind) (i : ℕ) → i < entryCount log → rayOf g (entryAt log i) ≡ ray → Begun last b k (entryAt log i) (w .end)
+  begun-past : (k : HitKind) (i : ℕ) → i < entryCount log → entryRay g (entryAt log i) ≡ ray → Begun last b k (entryAt log i) (w .end)
       → holds (pairsPast b (losesOf g log ray true)) (w .end) ≡ true
   begun-past k i a d s = rw (s .is) (lost-past g log ray named true b lo (record {
     place = i;
@@ -106,10 +106,10 @@ module _ (g : DexelGrid) (log : List Float) (ray : ℕ) (named : EachNamed g log
   }) (s .past))
     where
       lo : Float
-      lo = loOf k (entryAt log i)
+      lo = hitLo k (entryAt log i)
 
       hi : Float
-      hi = hiOf k (entryAt log i)
+      hi = hitHi k (entryAt log i)
 
       each : (k : HitKind) → LosesKind true k
       each outer = outer-hit
@@ -126,5 +126,5 @@ module _ (g : DexelGrid) (log : List Float) (ray : ℕ) (named : EachNamed g log
     | inl q ↦ rw q h
     | inr (l, (i, a, d, q)) ↦
         let (k, s) = least-is last b (entryAt log i) (rw q at l) in
-        rw (q, s .is) (lt→le b (loOf k (entryAt log i)) (s .past))
+        rw (q, s .is) (lt→le b (hitLo k (entryAt log i)) (s .past))
   ]

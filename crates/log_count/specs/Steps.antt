@@ -12,9 +12,9 @@ use Rattle.grid.specs.declared.DexelStockSpec.{DexelStockSpec}
 use Rattle.grid.specs.declared.DexelGrid.{DexelGrid}
 use Rattle.store.specs.Updates.{Cells}
 use Rattle.store_lists.specs.Reading.{listFrom, Readable}
-use Rattle.log_model.specs.Logs.{entries, entryAt, entryCount, rayOf, outer, inner}
-use Rattle.log_model.specs.Counts.{hitBy, startsLeft}
-use Rattle.log_entries.specs.Named.{EachNamed, pairsNamed}
+use Rattle.log_model.specs.Logs.{entries, entryAt, entryCount, entryRay, outer, inner}
+use Rattle.log_model.specs.Counts.{isHitBy, startsLeft}
+use Rattle.log_entries.specs.Named.{EachNamed, hitsOnRayNumber}
 use Rattle.log_keys.specs.Keys.{entryOfKey, pairsPast}
 use Rattle.log_left.specs.ListLeft.{ListWalked}
 use Rattle.log_left.specs.declared.Rest.{Rest}
@@ -22,7 +22,7 @@ use Rattle.log_gather.specs.Gathering.{Shaped}
 use Rattle.log_stretches.specs.Stretches.{Taken}
 use Rattle.log_count.specs.Totals.{Counting, Prefixed}
 use Rattle.log_count.specs.declared.ListCount.{ListCount}
-use Rattle.log_count.specs.declared.Totals.{Totals}
+use Rattle.log_count.specs.declared.RayTotals.{RayTotals}
 use Rattle.log_count.specs.declared.RayWalks.{RayWalks}
 
 -- plus infinity, which no hit reaches past
@@ -31,7 +31,7 @@ top = ofBits binary64 0x7ff0_0000_0000_0000
 
 -- whether a list changes when the hits are taken from it, its pairs, and the pairs it then has
 pub record ListCounted (l hits : List Float) (t : ListCount) : Type 0 where
-  pub changes : t .changes ≡ hitBy l hits
+  pub changes : t .changes ≡ isHitBy l hits
   pub before : t .before ≡ length l / 2
   pub after : t .after ≡ startsLeft l hits % 2 ^ 64
 
@@ -49,19 +49,19 @@ pub record CountListPost (n : ℕ) (spans : List Float) (links : List ℕ) (head
       → ListCounted (listFrom n spans links head) hits t
 
 -- the totals of the machine's numbers have room for one ray more
-pub record AddRayPre (t : Totals) (p c : ListCount) : Type 0 where
+pub record AddRayPre (t : RayTotals) (p c : ListCount) : Type 0 where
   pub before : p .before + c .before ≤ t .pairs
   pub after : p .after + c .after < 2 ^ 64
   pub pairs : t .pairs - (p .before + c .before) + (p .after + c .after) < 2 ^ 64
   pub changed : t .changed + 1 < 2 ^ 64
 
 -- one ray more
-pub record AddRayPost (t : Totals) (p c : ListCount) (r : Totals) : Type 0 where
+pub record AddRayPost (t : RayTotals) (p c : ListCount) (r : RayTotals) : Type 0 where
   pub changed : r .changed ≡ t .changed + cond (p .changes || c .changes) 1 0
   pub pairs : r .pairs + (p .before + c .before) ≡ t .pairs + (p .after + c .after)
 
 -- a log with entries on a sound store, the totals of the rays below one of its rays, and a buffer
-pub record CountPre (spec : DexelStockSpec) (g : DexelGrid) (c : Cells) (log : List Float) (ray : ℕ) (t : Totals)
+pub record CountPre (spec : DexelStockSpec) (g : DexelGrid) (c : Cells) (log : List Float) (ray : ℕ) (t : RayTotals)
     (buffer : List Float) : Type 0 where
   pub counting : Counting spec g c log
   pub some : 0 < entryCount log
@@ -71,16 +71,16 @@ pub record CountPre (spec : DexelStockSpec) (g : DexelGrid) (c : Cells) (log : L
 
 -- the keys are those of the ray's entries
 pub record KeysOf (g : DexelGrid) (log : List Float) (ray : ℕ) (keys : List ℕ) : Type 0 where
-  pub each : (t : ℕ) → t < length keys → rayOf g (entryOfKey log (getD keys t 0)) ≡ ray
-  pub all : (i : ℕ) → i < entryCount log → rayOf g (entryAt log i) ≡ ray
+  pub each : (t : ℕ) → t < length keys → entryRay g (entryOfKey log (getD keys t 0)) ≡ ray
+  pub all : (i : ℕ) → i < entryCount log → entryRay g (entryAt log i) ≡ ray
       → (t : ℕ) × (t < length keys) × (getD keys t 0 % entryCount log ≡ i)
 
 -- what the ray's possible list loses, and its certain list
 abbrev pub possibleLoses : DexelGrid → List Float → ℕ → List Float
-possibleLoses g log ray = pairsNamed g (entries log) ray inner
+possibleLoses g log ray = hitsOnRayNumber g (entries log) ray inner
 
 abbrev pub certainLoses : DexelGrid → List Float → ℕ → List Float
-certainLoses g log ray = pairsNamed g (entries log) ray outer ++ pairsNamed g (entries log) ray inner
+certainLoses g log ray = hitsOnRayNumber g (entries log) ray outer ++ hitsOnRayNumber g (entries log) ray inner
 
 -- what is asked to take a stretch of a ray's hits from both its lists
 pub record TakePartPre (g : DexelGrid) (n : ℕ) (spans : List Float) (links : List ℕ) (log : List Float) (keys : List ℕ)

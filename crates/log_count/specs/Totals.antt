@@ -12,9 +12,9 @@ use Rattle.grid.specs.declared.DexelGrid.{DexelGrid}
 use Rattle.store.specs.Updates.{Cells, Room}
 use Rattle.stock.specs.Stock.{SoundCells, possibleIn, certainIn}
 use Rattle.log_model.specs.Logs.{entries, outer, inner}
-use Rattle.log_model.specs.Counts.{hitBy, startsLeft}
-use Rattle.log_entries.specs.Named.{EachNamed, pairsNamed}
-use Rattle.log_count.specs.declared.Totals.{Totals}
+use Rattle.log_model.specs.Counts.{isHitBy, startsLeft}
+use Rattle.log_entries.specs.Named.{EachNamed, hitsOnRayNumber}
+use Rattle.log_count.specs.declared.RayTotals.{RayTotals}
 
 -- a log whose entries each name a ray, on a sound store with room
 pub record Countable (spec : DexelStockSpec) (g : DexelGrid) (c : Cells) (intervals : ℕ) (log : List Float) : Type 0 where
@@ -28,10 +28,10 @@ pub record Counting (spec : DexelStockSpec) (g : DexelGrid) (c : Cells) (log : L
   pub intervals : ℕ
   pub countable : Countable spec g c intervals log
 
--- the sum of f over the first n numbers
-unfoldable pub sum : (ℕ → ℕ) → ℕ → ℕ
-sum f zero = 0
-sum f (suc i) = sum f i + f i
+-- the sumBelow of f over the first n numbers
+unfoldable pub sumBelow : (ℕ → ℕ) → ℕ → ℕ
+sumBelow f zero = 0
+sumBelow f (suc i) = sumBelow f i + f i
 
 -- ---- one ray, by its number
 
@@ -41,27 +41,27 @@ pairsOf spec c ray = length (possibleIn spec c ray) / 2 + length (certainIn spec
 
 -- and when the log's hits are taken from them
 unfoldable pub leftOf : DexelStockSpec → DexelGrid → Cells → List Float → ℕ → ℕ
-unfolding startsLeft pairsNamed entries
+unfolding startsLeft hitsOnRayNumber entries
 leftOf spec g c log ray =
-    startsLeft (possibleIn spec c ray) (pairsNamed g (entries log) ray inner)
-    + startsLeft (certainIn spec c ray) (pairsNamed g (entries log) ray outer ++ pairsNamed g (entries log) ray inner)
+    startsLeft (possibleIn spec c ray) (hitsOnRayNumber g (entries log) ray inner)
+    + startsLeft (certainIn spec c ray) (hitsOnRayNumber g (entries log) ray outer ++ hitsOnRayNumber g (entries log) ray inner)
 
 -- the ray would change
-unfoldable pub changesOf : DexelStockSpec → DexelGrid → Cells → List Float → ℕ → Bool
-unfolding hitBy pairsNamed entries
-changesOf spec g c log ray =
-    hitBy (possibleIn spec c ray) (pairsNamed g (entries log) ray inner)
-    || hitBy (certainIn spec c ray) (pairsNamed g (entries log) ray outer ++ pairsNamed g (entries log) ray inner)
+unfoldable pub rayChangeCount : DexelStockSpec → DexelGrid → Cells → List Float → ℕ → Bool
+unfolding isHitBy hitsOnRayNumber entries
+rayChangeCount spec g c log ray =
+    isHitBy (possibleIn spec c ray) (hitsOnRayNumber g (entries log) ray inner)
+    || isHitBy (certainIn spec c ray) (hitsOnRayNumber g (entries log) ray outer ++ hitsOnRayNumber g (entries log) ray inner)
 
 -- ---- all rays
 
 -- the totals with the rays below `ray` counted: these have the pairs that are left to them, all others those that they have
-pub record Prefixed (spec : DexelStockSpec) (g : DexelGrid) (c : Cells) (log : List Float) (ray : ℕ) (t : Totals) : Type 0 where
-  pub changed : t .changed ≡ sum (λ r. cond (changesOf spec g c log r) 1 0) ray
-  pub pairs : t .pairs + sum (pairsOf spec c) ray ≡ sum (pairsOf spec c) (rayCount g) + sum (leftOf spec g c log) ray
+pub record Prefixed (spec : DexelStockSpec) (g : DexelGrid) (c : Cells) (log : List Float) (ray : ℕ) (t : RayTotals) : Type 0 where
+  pub changed : t .changed ≡ sumBelow (λ r. cond (rayChangeCount spec g c log r) 1 0) ray
+  pub pairs : t .pairs + sumBelow (pairsOf spec c) ray ≡ sumBelow (pairsOf spec c) (rayCount g) + sumBelow (leftOf spec g c log) ray
 
 -- the rays below `next` are counted, and a buffer of the same size is left
 pub record CountPost (spec : DexelStockSpec) (g : DexelGrid) (c : Cells) (log : List Float) (next : ℕ) (before after : List Float)
-    (t : Totals) : Type 0 where
+    (t : RayTotals) : Type 0 where
   pub size : length after ≡ length before
   pub prefixed : Prefixed spec g c log next t

@@ -8,7 +8,7 @@ ghost use Rattle.store_lists.specs.Reading.{Readable};
 ghost use Rattle.log_model.specs.Logs.{entryCount};
 ghost use Rattle.log_keys.specs.Keys.{hitsTo};
 ghost use Rattle.log_gather.specs.Gathering.{Shaped};
-ghost use Rattle.log_count.specs.Totals.{CountPost};
+ghost use Rattle.log_count.specs.RayTotals.{CountPost};
 ghost use Rattle.log_count.specs.Steps.{EndListPost, CountListPost, AddRayPre, AddRayPost};
 ghost use Rattle.log_count.specs.Steps.{CountPre, KeysOf, TakePartPre, TakePartPost};
 use grid::DexelGrid;
@@ -23,7 +23,7 @@ pub struct ListCount {
 }
 
 // The rays that would change, and the pairs of all lists, as far as counted.
-pub struct Totals {
+pub struct RayTotals {
     pub changed: u64,
     pub pairs: u64,
 }
@@ -83,24 +83,24 @@ fn count_list(
 }
 
 // The totals with one ray more, by the counts of its lists.
-fn add_ray(t: Totals, p: ListCount, c: ListCount) -> Totals
+fn add_ray(t: RayTotals, p: ListCount, c: ListCount) -> RayTotals
     requires { ⌜ AddRayPre t p c ⌝ }
     ensures { λ r. ⌜ AddRayPost t p c r ⌝ }
 {
     let pairs = t.pairs - (p.before + c.before) + (p.after + c.after);
     if p.changes {
-        return Totals {
+        return RayTotals {
             changed: t.changed + 1,
             pairs,
         };
     }
     if c.changes {
-        return Totals {
+        return RayTotals {
             changed: t.changed + 1,
             pairs,
         };
     }
-    Totals {
+    RayTotals {
         changed: t.changed,
         pairs,
     }
@@ -117,8 +117,8 @@ pub fn count_ray(
     ray: usize,
     keys: &[u64],
     buffer: &mut [f64],
-    t: Totals,
-) -> Totals
+    t: RayTotals,
+) -> RayTotals
     requires { ⌜ CountPre spec g (cells (now spans) (now links) (now heads)) (now log) ray t (now buffer)
         × KeysOf g (now log) ray (now keys) ⌝ }
     ensures { λ r. ⌜ CountPost spec g (cells (now (spans .entry)) (now (links .entry)) (now (heads .entry))) (now (log .entry)) (ray + 1)
@@ -196,8 +196,8 @@ pub fn count_long(
     ray: usize,
     keys: &mut [u64],
     buffer: &mut [f64],
-    t: Totals,
-) -> Totals
+    t: RayTotals,
+) -> RayTotals
     requires { ⌜ CountPre spec g (cells (now spans) (now links) (now heads)) (now log) ray t (now buffer) × (0 < length (now keys)) ⌝ }
     ensures { λ r. ⌜ (length (now (keys .exit)) ≡ length (now (keys .entry)))
         × CountPost spec g (cells (now (spans .entry)) (now (links .entry)) (now (heads .entry))) (now (log .entry)) (ray + 1)

@@ -10,7 +10,7 @@ use Rattle.grid.specs.Axes.{worldAxis, byDigit}
 use Rattle.grid.specs.Rays.{rayCount, raysAlong, offset, rayNumber}
 use Rattle.grid.specs.declared.DexelGrid.{DexelGrid}
 use Rattle.grid.proofs.Numbering.{offset-le}
-use Rattle.log_model.specs.Logs.{Entry, isWhole, wholeOf, namesOne, rayOf}
+use Rattle.log_model.specs.Logs.{Entry, isWhole, wholeOf, namesSomeRay, entryRay}
 use Rattle.log_model.proofs.Naming.{named}
 use Rattle.log_entries.specs.Named.{beforeAxis}
 
@@ -33,8 +33,8 @@ module _ (g : DexelGrid) where
       ∙ by-number (wholeOf axis) h
 
   -- the number of the ray that an entry names
-  pub ray-of : (e : Entry) → namesOne g e ≡ true → beforeAxis (e .axis) (raysAlong g (worldAxis 0)) (raysAlong g (worldAxis 1)) + wholeOf (e .index) ≡ rayOf g e
-  unfolding rayOf rayNumber
+  pub ray-of : (e : Entry) → namesSomeRay g e ≡ true → beforeAxis (e .axis) (raysAlong g (worldAxis 0)) (raysAlong g (worldAxis 1)) + wholeOf (e .index) ≡ entryRay g e
+  unfolding entryRay rayNumber
   ray-of e h = let n = named g e h in ap (λ (k : ℕ). k + wholeOf (e .index)) (before-axis (e .axis) (n .axis-whole) (n .axis-digit))
 
   pub both-le : raysAlong g (worldAxis 0) + raysAlong g (worldAxis 1) ≤ rayCount g

@@ -9,11 +9,11 @@ use lib.Ieee.{Float}
 use Rattle.doubles.proofs.Bools.{clash}
 use Rattle.grid.specs.Rays.{rayCount}
 use Rattle.grid.specs.declared.DexelGrid.{DexelGrid}
-use Rattle.log_model.specs.Logs.{Ray, Entry, entryAt, entriesFrom, entryCount, entries, namesOne, rayOf, names, HitKind, loOf, hiOf, pairsOn}
-use Rattle.log_model.specs.Model.{NoRay}
+use Rattle.log_model.specs.Logs.{Ray, Entry, entryAt, entriesFrom, entryCount, entries, namesSomeRay, entryRay, namesRay, HitKind, hitLo, hitHi, hitsOnRay}
+use Rattle.log_model.specs.Model.{NamesNoRay}
 use Rattle.log_model.proofs.Entries.{entry-at}
 use Rattle.log_model.proofs.Naming.{named-below}
-use Rattle.log_entries.specs.Named.{EachNamed, pairsNamed, namedFrom, pairsAt}
+use Rattle.log_entries.specs.Named.{EachNamed, hitsOnRayNumber, namedFrom, pairsAt}
 
 -- the k places from i on have the property P
 abbrev pub AllFrom : (ℕ → Type 0) → (i k : ℕ) → Type 0
@@ -25,24 +25,24 @@ all-first i k f = f i (omega arith) (omega arith)
 pub all-rest : {P : ℕ → Type 0} (i k : ℕ) → AllFrom P i (suc k) → AllFrom P (suc i) k
 all-rest i k f j a b = f j (omega arith) (omega arith)
 
--- the ray of an entry that names one is below the count of all rays
-pub each-below : (g : DexelGrid) (log : List Float) → EachNamed g log → (i : ℕ) → i < entryCount log → rayOf g (entryAt log i) < rayCount g
+-- the ray of an entry that namesRay one is below the count of all rays
+pub each-below : (g : DexelGrid) (log : List Float) → EachNamed g log → (i : ℕ) → i < entryCount log → entryRay g (entryAt log i) < rayCount g
 unfolding EachNamed
 each-below g log all i h = named-below g (entryAt log i) (all i h)
 
--- 17 is absent where each entry names a ray
-pub each-no : (g : DexelGrid) (log : List Float) → EachNamed g log → ¬ NoRay g (entries log)
-unfolding EachNamed NoRay
+-- 17 is absent where each entry namesRay a ray
+pub each-no : (g : DexelGrid) (log : List Float) → EachNamed g log → ¬ NamesNoRay g (entries log)
+unfolding EachNamed NamesNoRay
 each-no g log all (e, m, n) =
     let (i, h, q) = entry-at log e m in
-    clash (namesOne g (entryAt log i)) (all i h) (rw q at n)
+    clash (namesSomeRay g (entryAt log i)) (all i h) (rw q at n)
 
 -- ---- by number
 
-pub pairs-named : (g : DexelGrid) (es : List Entry) (r : Ray g) (w : HitKind) → pairsOn g es r w ≡ pairsNamed g es (r .0) w
-unfolding pairsOn pairsNamed names
+pub pairs-named : (g : DexelGrid) (es : List Entry) (r : Ray g) (w : HitKind) → hitsOnRay g es r w ≡ hitsOnRayNumber g es (r .0) w
+unfolding hitsOnRay hitsOnRayNumber namesRay
 pairs-named g [] r w = refl
-pairs-named g (e ∷ es) r w = ap (λ (l : List Float). cond (namesOne g e && eqb (rayOf g e) (r .0)) (loOf w e ∷ hiOf w e ∷ l) l) (pairs-named g es r w)
+pairs-named g (e ∷ es) r w = ap (λ (l : List Float). cond (namesSomeRay g e && eqb (entryRay g e) (r .0)) (hitLo w e ∷ hitHi w e ∷ l) l) (pairs-named g es r w)
 
 -- ---- by places
 
@@ -58,7 +58,7 @@ module _ (g : DexelGrid) (log : List Float) (ray : ℕ) where
       left : (m : ℕ) → 0 + m ≡ m
       left m = omega arith
   named-append i (suc k) m = subst (λ (n : ℕ). namedFrom g log ray i n ≡ namedFrom g log ray i (suc k) ++ namedFrom g log ray (i + suc k) m) (one k m)
-      (go (eqb (rayOf g (entryAt log i)) ray) (named-append (suc i) k m ∙ ap (λ (j : ℕ). namedFrom g log ray (suc i) k ++ namedFrom g log ray j m) (next i k)))
+      (go (eqb (entryRay g (entryAt log i)) ray) (named-append (suc i) k m ∙ ap (λ (j : ℕ). namedFrom g log ray (suc i) k ++ namedFrom g log ray j m) (next i k)))
     where
       one : (k m : ℕ) → suc (k + m) ≡ suc k + m
       one k m = omega arith
@@ -72,33 +72,33 @@ module _ (g : DexelGrid) (log : List Float) (ray : ℕ) where
       go true q = ap (λ (l : List ℕ). i ∷ l) q
       go false q = q
 
-  pub pairs-from : (w : HitKind) (i k : ℕ) → AllFrom (λ j. namesOne g (entryAt log j) ≡ true) i k
-      → pairsAt log (namedFrom g log ray i k) w ≡ pairsNamed g (entriesFrom log i k) ray w
-  unfolding pairsAt namedFrom pairsNamed entriesFrom
+  pub pairs-from : (w : HitKind) (i k : ℕ) → AllFrom (λ j. namesSomeRay g (entryAt log j) ≡ true) i k
+      → pairsAt log (namedFrom g log ray i k) w ≡ hitsOnRayNumber g (entriesFrom log i k) ray w
+  unfolding pairsAt namedFrom hitsOnRayNumber entriesFrom
   pairs-from w i zero h = refl
-  pairs-from w i (suc k) h = go (eqb (rayOf g (entryAt log i)) ray) (namesOne g (entryAt log i)) (all-first i k h) (pairs-from w (suc i) k (all-rest i k h))
+  pairs-from w i (suc k) h = go (eqb (entryRay g (entryAt log i)) ray) (namesSomeRay g (entryAt log i)) (all-first i k h) (pairs-from w (suc i) k (all-rest i k h))
     where
       lo : Float
-      lo = loOf w (entryAt log i)
+      lo = hitLo w (entryAt log i)
 
       hi : Float
-      hi = hiOf w (entryAt log i)
+      hi = hitHi w (entryAt log i)
 
-      go : (b n : Bool) → n ≡ true → pairsAt log (namedFrom g log ray (suc i) k) w ≡ pairsNamed g (entriesFrom log (suc i) k) ray w
+      go : (b n : Bool) → n ≡ true → pairsAt log (namedFrom g log ray (suc i) k) w ≡ hitsOnRayNumber g (entriesFrom log (suc i) k) ray w
           → pairsAt log (cond b (i ∷ namedFrom g log ray (suc i) k) (namedFrom g log ray (suc i) k)) w
-          ≡ cond (n && b) (lo ∷ hi ∷ pairsNamed g (entriesFrom log (suc i) k) ray w) (pairsNamed g (entriesFrom log (suc i) k) ray w)
+          ≡ cond (n && b) (lo ∷ hi ∷ hitsOnRayNumber g (entriesFrom log (suc i) k) ray w) (hitsOnRayNumber g (entriesFrom log (suc i) k) ray w)
       go true true t q = ap (λ (l : List Float). lo ∷ hi ∷ l) q
       go false true t q = q
       go b false t q = absurd (false≢true t)
 
 -- THE LAW: the pairs at the places of a ray are the pairs on it
 pub pairs-at : (g : DexelGrid) (log : List Float) → EachNamed g log → (r : Ray g) (w : HitKind)
-    → pairsAt log (namedFrom g log (r .0) 0 (entryCount log)) w ≡ pairsOn g (entries log) r w
+    → pairsAt log (namedFrom g log (r .0) 0 (entryCount log)) w ≡ hitsOnRay g (entries log) r w
 unfolding EachNamed entries
 pairs-at g log all r w = pairs-from g log (r .0) w 0 (entryCount log) (λ j _ h. all j (omega arith)) ∙ sym (pairs-named g (entries log) r w)
 
 -- and those named by its number
 pub pairs-of : (g : DexelGrid) (log : List Float) → EachNamed g log → (ray : ℕ) (w : HitKind)
-    → pairsAt log (namedFrom g log ray 0 (entryCount log)) w ≡ pairsNamed g (entries log) ray w
+    → pairsAt log (namedFrom g log ray 0 (entryCount log)) w ≡ hitsOnRayNumber g (entries log) ray w
 unfolding EachNamed entries
 pairs-of g log all ray w = pairs-from g log ray w 0 (entryCount log) (λ j _ h. all j (omega arith))

@@ -7,25 +7,25 @@ use native.Mathlib.Omega.{arith}
 use lib.Dec.{eqb}
 use lib.ListN.{length}
 use Rattle.grid.specs.declared.DexelGrid.{DexelGrid}
-use Rattle.log_model.specs.Logs.{Entry, namesOne, rayOf, HitKind, loOf, hiOf}
-use Rattle.log_entries.specs.Named.{pairsNamed}
+use Rattle.log_model.specs.Logs.{Entry, namesSomeRay, entryRay, HitKind, hitLo, hitHi}
+use Rattle.log_entries.specs.Named.{hitsOnRayNumber}
 
 module _ (g : DexelGrid) (ray : ℕ) (w : HitKind) where
-  pub named-even : (es : List Entry) → length (pairsNamed g es ray w) % 2 ≡ 0
-  unfolding pairsNamed
+  pub named-even : (es : List Entry) → length (hitsOnRayNumber g es ray w) % 2 ≡ 0
+  unfolding hitsOnRayNumber
   named-even [] = refl
-  named-even (e ∷ es) = go (namesOne g e && eqb (rayOf g e) ray) (named-even es)
+  named-even (e ∷ es) = go (namesSomeRay g e && eqb (entryRay g e) ray) (named-even es)
     where
-      go : (b : Bool) → length (pairsNamed g es ray w) % 2 ≡ 0 → length (cond b (loOf w e ∷ hiOf w e ∷ pairsNamed g es ray w) (pairsNamed g es ray w)) % 2 ≡ 0
+      go : (b : Bool) → length (hitsOnRayNumber g es ray w) % 2 ≡ 0 → length (cond b (hitLo w e ∷ hitHi w e ∷ hitsOnRayNumber g es ray w) (hitsOnRayNumber g es ray w)) % 2 ≡ 0
       go true h = omega arith
       go false h = h
 
   -- an entry brings one pair at most
-  pub named-most : (es : List Entry) → length (pairsNamed g es ray w) ≤ 2 * length es
-  unfolding pairsNamed
+  pub named-most : (es : List Entry) → length (hitsOnRayNumber g es ray w) ≤ 2 * length es
+  unfolding hitsOnRayNumber
   named-most [] = omega arith
-  named-most (e ∷ es) = go (namesOne g e && eqb (rayOf g e) ray) (named-most es)
+  named-most (e ∷ es) = go (namesSomeRay g e && eqb (entryRay g e) ray) (named-most es)
     where
-      go : (b : Bool) → length (pairsNamed g es ray w) ≤ 2 * length es → length (cond b (loOf w e ∷ hiOf w e ∷ pairsNamed g es ray w) (pairsNamed g es ray w)) ≤ 2 * length (e ∷ es)
+      go : (b : Bool) → length (hitsOnRayNumber g es ray w) ≤ 2 * length es → length (cond b (hitLo w e ∷ hitHi w e ∷ hitsOnRayNumber g es ray w) (hitsOnRayNumber g es ray w)) ≤ 2 * length (e ∷ es)
       go true h = omega arith
       go false h = omega arith

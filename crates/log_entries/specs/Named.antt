@@ -6,17 +6,17 @@ use Prim.Native.Nat.{ℕ, zero, suc, _+_, _<_}
 use lib.Dec.{eqb}
 use lib.Ieee.{Float, binary64, le, ofBits}
 use Rattle.grid.specs.declared.DexelGrid.{DexelGrid}
-use Rattle.log_model.specs.Logs.{Entry, entryAt, entryCount, entries, namesOne, rayOf, HitKind, loOf, hiOf}
-use Rattle.log_model.specs.Model.{NoRay}
+use Rattle.log_model.specs.Logs.{Entry, entryAt, entryCount, entries, namesSomeRay, entryRay, HitKind, hitLo, hitHi}
+use Rattle.log_model.specs.Model.{NamesNoRay}
 
 -- each whole entry names a ray
 unfoldable pub EachNamed : DexelGrid → List Float → Type 0
-EachNamed g log = (i : ℕ) → i < entryCount log → namesOne g (entryAt log i) ≡ true
+EachNamed g log = (i : ℕ) → i < entryCount log → namesSomeRay g (entryAt log i) ≡ true
 
 -- the answer whether each whole entry names a ray: if not, document 01's 17 is present
 pub record NamesAll (g : DexelGrid) (log : List Float) (r : Bool) : Type 0 where
   pub yes : r ≡ true → EachNamed g log
-  pub no : r ≡ false → NoRay g (entries log)
+  pub no : r ≡ false → NamesNoRay g (entries log)
 
 -- how many rays stand before those along an axis, where so many run along the first and the second one: axis 2 is at least 2, axis 1 at
 -- least 1
@@ -25,16 +25,16 @@ beforeAxis axis first second =
     cond (le (ofBits binary64 0x4000_0000_0000_0000) axis) (first + second) (cond (le (ofBits binary64 0x3ff0_0000_0000_0000) axis) first 0)
 
 -- the outer or the inner pairs of the entries that name the ray of this number, as a flat list
-unfoldable pub pairsNamed : DexelGrid → List Entry → ℕ → HitKind → List Float
-pairsNamed g [] ray w = []
-pairsNamed g (e ∷ es) ray w = cond (namesOne g e && eqb (rayOf g e) ray) (loOf w e ∷ hiOf w e ∷ pairsNamed g es ray w) (pairsNamed g es ray w)
+unfoldable pub hitsOnRayNumber : DexelGrid → List Entry → ℕ → HitKind → List Float
+hitsOnRayNumber g [] ray w = []
+hitsOnRayNumber g (e ∷ es) ray w = cond (namesSomeRay g e && eqb (entryRay g e) ray) (hitLo w e ∷ hitHi w e ∷ hitsOnRayNumber g es ray w) (hitsOnRayNumber g es ray w)
 
 -- of the places i to i + k - 1 those whose entry is on the ray, in a log whose entries each name one
 unfoldable pub namedFrom : DexelGrid → List Float → (ray i k : ℕ) → List ℕ
 namedFrom g log ray i zero = []
-namedFrom g log ray i (suc k) = cond (eqb (rayOf g (entryAt log i)) ray) (i ∷ namedFrom g log ray (suc i) k) (namedFrom g log ray (suc i) k)
+namedFrom g log ray i (suc k) = cond (eqb (entryRay g (entryAt log i)) ray) (i ∷ namedFrom g log ray (suc i) k) (namedFrom g log ray (suc i) k)
 
 -- the outer or the inner pairs of the entries at the places, as a flat list
 unfoldable pub pairsAt : List Float → List ℕ → HitKind → List Float
 pairsAt log [] w = []
-pairsAt log (i ∷ is) w = loOf w (entryAt log i) ∷ hiOf w (entryAt log i) ∷ pairsAt log is w
+pairsAt log (i ∷ is) w = hitLo w (entryAt log i) ∷ hitHi w (entryAt log i) ∷ pairsAt log is w

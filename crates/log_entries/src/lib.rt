@@ -4,7 +4,7 @@ ghost use mathlib.Core.Bool.{true};
 ghost use Prim.Native.Nat.{_+_, _*_, _^_, _<_};
 ghost use lib.ListN.{length};
 ghost use Rattle.grid.specs.Rays.{rayCount};
-ghost use Rattle.log_model.specs.Logs.{entryAt, isWhole, wholeOf, namesOne, rayOf};
+ghost use Rattle.log_model.specs.Logs.{entryAt, isWhole, wholeOf, namesSomeRay, entryRay};
 ghost use Rattle.log_entries.specs.Named.{NamesAll, beforeAxis};
 use grid::DexelGrid;
 use grid::WorldAxis;
@@ -19,7 +19,7 @@ fn is_whole(x: f64) -> bool
 // Whether the entry at place i names a ray.
 fn named(g: DexelGrid, log: &[f64], i: usize) -> bool
     requires { ⌜ (rayCount g < 2 ^ 64) × (6 * i + 5 < length (now log)) ⌝ }
-    ensures { λ r. ⌜ r ≡ namesOne g (entryAt (now (log .entry)) i) ⌝ }
+    ensures { λ r. ⌜ r ≡ namesSomeRay g (entryAt (now (log .entry)) i) ⌝ }
 {
     let axis = log[6 * i];
     let index = log[6 * i + 1];
@@ -67,8 +67,8 @@ fn rays_before(axis: f64, first: u64, second: u64) -> u64
 
 // The number of the ray that the entry at place i names.
 pub fn ray_at(g: DexelGrid, log: &[f64], i: usize) -> usize
-    requires { ⌜ (rayCount g < 2 ^ 64) × (6 * i + 5 < length (now log)) × (namesOne g (entryAt (now log) i) ≡ true) ⌝ }
-    ensures { λ r. ⌜ r ≡ rayOf g (entryAt (now (log .entry)) i) ⌝ }
+    requires { ⌜ (rayCount g < 2 ^ 64) × (6 * i + 5 < length (now log)) × (namesSomeRay g (entryAt (now log) i) ≡ true) ⌝ }
+    ensures { λ r. ⌜ r ≡ entryRay g (entryAt (now (log .entry)) i) ⌝ }
 {
     let index = whole_number(log[6 * i + 1]);
     let first = grid_rays::rays(g, WorldAxis(0));

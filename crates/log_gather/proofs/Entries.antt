@@ -11,24 +11,24 @@ use lib.ListN.{length, getD}
 use lib.Ieee.{Float, lt, le}
 use Rattle.spans.specs.Spans.{holds}
 use Rattle.doubles.proofs.Bools.{and-right}
-use Rattle.log_model.specs.Logs.{Entry, entryAt, entryCount, outer, inner, loOf, hiOf}
+use Rattle.log_model.specs.Logs.{Entry, entryAt, entryCount, outer, inner, hitLo, hitHi}
 use Rattle.log_keys.specs.Keys.{entryOfKey, withEntry, hitsTo}
 use Rattle.log_gather.specs.declared.HeldHits.{HeldHits}
 use Rattle.log_gather.specs.Gathering.{Shaped, PutPost, PutEntryPost, GatherPost}
 
 module _ (b : Float) (e : Entry) (before after : List Float) (h r : HeldHits) where
-  pub puts-inner : (certain : Bool) → certain ≡ false → PutPost b (loOf inner e) (hiOf inner e) before h after r
+  pub puts-inner : (certain : Bool) → certain ≡ false → PutPost b (hitLo inner e) (hitHi inner e) before h after r
       → PutEntryPost b e certain before h after r
   unfolding withEntry
   puts-inner certain c p = record { size = p .size; roomy = p .roomy; gathers = λ u f hits g. rw c (p .gathers u f hits g) }
 
-  pub puts-both : (certain : Bool) (mid : List Float) (w : HeldHits) → certain ≡ true → PutPost b (loOf outer e) (hiOf outer e) before h mid w
-      → PutPost b (loOf inner e) (hiOf inner e) mid w after r → PutEntryPost b e certain before h after r
+  pub puts-both : (certain : Bool) (mid : List Float) (w : HeldHits) → certain ≡ true → PutPost b (hitLo outer e) (hitHi outer e) before h mid w
+      → PutPost b (hitLo inner e) (hitHi inner e) mid w after r → PutEntryPost b e certain before h after r
   unfolding withEntry
   puts-both certain mid w c p q = record {
     size = q .size ∙ p .size;
     roomy = q .roomy;
-    gathers = λ u f hits g. rw c (q .gathers u f (loOf outer e ∷ hiOf outer e ∷ hits) (p .gathers u f hits g));
+    gathers = λ u f hits g. rw c (q .gathers u f (hitLo outer e ∷ hitHi outer e ∷ hits) (p .gathers u f hits g));
   }
 
 -- ---- the keys one after the other

@@ -10,7 +10,7 @@ use lib.ListN.{length, getD, take}
 use lib.Seq.{length-take-le, getD-take, take-take}
 use lib.Ieee.{Float, nan, lt, le}
 use Rattle.spans.specs.Spans.{holds, NormalOf}
-use Rattle.spans.specs.Steps.{Filled}
+use Rattle.spans.specs.Steps.{FilledFront}
 use Rattle.spans.proofs.Sets.{sound-mod}
 use Rattle.spans.proofs.Points.{front-only, front-in, in-pair, pair-rises, number-at}
 use Rattle.doubles.specs.Doubles.{Number}
@@ -98,7 +98,7 @@ module _ (b u f : Float) (hits before after : List Float) (h : HeldHits) (m : �
 
 -- what that leaves of a buffer of quarters: three of them at most where the pairs are only joined
 module _ (before after : List Float) (h : HeldHits) (m : ℕ) (shaped : Shaped before) (roomy : WholePairs before (h .count))
-    (filled : Filled (NormalOf (take (h .count) before)) before (h .count) after m) where
+    (filled : FilledFront (NormalOf (take (h .count) before)) before (h .count) after m) where
   abbrev half : ℕ
   half = length before / 4 * 2
 

@@ -14,20 +14,20 @@ use Rattle.log_numbers.specs.Numbers.{numberCell, numberAt, largestNumber}
 use Rattle.log_numbers.proofs.Cells.{number-put, number-same, number-zero}
 use Rattle.grid.specs.Rays.{rayCount}
 use Rattle.grid.specs.declared.DexelGrid.{DexelGrid}
-use Rattle.log_model.specs.Logs.{entryAt, entryCount, rayOf}
+use Rattle.log_model.specs.Logs.{entryAt, entryCount, entryRay}
 use Rattle.log_entries.specs.Named.{EachNamed, namedFrom}
-use Rattle.log_group.specs.Groups.{Chain, ends, more, Grouped, Groups}
+use Rattle.log_group.specs.Groups.{PlaceChain, ends, more, Grouped, GroupPost}
 
 -- a chain stands where the cells of its places are the same
 pub chain-kept : {w v : List Float} {rays from to low k : ℕ} {is : List ℕ} → low ≤ from
-    → ((q : ℕ) → from ≤ q → q < to → numberAt v (rays + q) ≡ numberAt w (rays + q)) → Chain w rays from to k is → Chain v rays low to k is
+    → ((q : ℕ) → from ≤ q → q < to → numberAt v (rays + q) ≡ numberAt w (rays + q)) → PlaceChain w rays from to k is → PlaceChain v rays low to k is
 chain-kept h same ends = ends
 chain-kept {w} {v} {rays} {from} {to} {low} h same (more {i = i} {is = is} a b c) =
-    more {i = i} (omega arith) b (subst (λ (k : ℕ). Chain v rays low to k is) (sym (same i a b)) (chain-kept h same c))
+    more {i = i} (omega arith) b (subst (λ (k : ℕ). PlaceChain v rays low to k is) (sym (same i a b)) (chain-kept h same c))
 
 -- ---- the places of a ray from i on, and from the place before
 module _ (g : DexelGrid) (log : List Float) (ray j n : ℕ) (below : j < n) where
-  more-named : namedFrom g log ray j (n - j) ≡ cond (eqb (rayOf g (entryAt log j)) ray) (j ∷ namedFrom g log ray (suc j) (n - suc j)) (namedFrom g log ray (suc j) (n - suc j))
+  more-named : namedFrom g log ray j (n - j) ≡ cond (eqb (entryRay g (entryAt log j)) ray) (j ∷ namedFrom g log ray (suc j) (n - suc j)) (namedFrom g log ray (suc j) (n - suc j))
   unfolding namedFrom
   more-named = ap (λ (k : ℕ). namedFrom g log ray j k) (next n j below)
     where
@@ -38,7 +38,7 @@ module _ (g : DexelGrid) (log : List Float) (ray j n : ℕ) (below : j < n) wher
 pub record Grouping (g : DexelGrid) (log before w : List Float) (i : ℕ) : Type 0 where
   pub size : length w ≡ length before
   pub most : i ≤ entryCount log
-  pub chains : (ray : ℕ) → ray < rayCount g → Chain w (rayCount g) i (entryCount log) (numberAt w ray) (namedFrom g log ray i (entryCount log - i))
+  pub chains : (ray : ℕ) → ray < rayCount g → PlaceChain w (rayCount g) i (entryCount log) (numberAt w ray) (namedFrom g log ray i (entryCount log - i))
   pub past : (q : ℕ) → rayCount g + entryCount log ≤ q → getD w q nan ≡ getD before q nan
 
 module _ (g : DexelGrid) (log before w : List Float) (room : rayCount g + entryCount log ≤ length before) where
@@ -58,7 +58,7 @@ module _ (g : DexelGrid) (log before w : List Float) (room : rayCount g + entryC
       no-more : (ray : ℕ) → namedFrom g log ray (entryCount log) (entryCount log - entryCount log) ≡ []
       no-more ray = ap (λ (k : ℕ). namedFrom g log ray (entryCount log) k) (zero-left (entryCount log))
 
-  module _ (j : ℕ) (below : j < entryCount log) (ray₀ : ℕ) (is-ray : ray₀ ≡ rayOf g (entryAt log j)) (fits : ray₀ < rayCount g) (s : Grouping g log before w (suc j)) where
+  module _ (j : ℕ) (below : j < entryCount log) (ray₀ : ℕ) (is-ray : ray₀ ≡ entryRay g (entryAt log j)) (fits : ray₀ < rayCount g) (s : Grouping g log before w (suc j)) where
     abbrev moved : List Float
     moved = set w (rayCount g + j) (getD w ray₀ nan)
 
@@ -81,19 +81,19 @@ module _ (g : DexelGrid) (log before w : List Float) (room : rayCount g + entryC
         number-same after w (rayCount g + q)
         (other (rayCount g + q) (λ (e : rayCount g + q ≡ rayCount g + j). omega arith) (λ (e : rayCount g + q ≡ ray₀). omega arith))
 
-    chains′ : j + 1 ≤ largestNumber → (ray : ℕ) → ray < rayCount g → Chain after (rayCount g) j (entryCount log) (numberAt after ray) (namedFrom g log ray j (entryCount log - j))
+    chains′ : j + 1 ≤ largestNumber → (ray : ℕ) → ray < rayCount g → PlaceChain after (rayCount g) j (entryCount log) (numberAt after ray) (namedFrom g log ray j (entryCount log - j))
     chains′ small ray h = go (eqb ray₀ ray) refl
       where
         rest : List ℕ
         rest = namedFrom g log ray (suc j) (entryCount log - suc j)
 
-        old : Chain after (rayCount g) j (entryCount log) (numberAt w ray) rest
+        old : PlaceChain after (rayCount g) j (entryCount log) (numberAt w ray) rest
         old = chain-kept (omega arith) kept (s .chains ray h)
 
         is-places : (b : Bool) → eqb ray₀ ray ≡ b → cond b (j ∷ rest) rest ≡ namedFrom g log ray j (entryCount log - j)
         is-places b e = sym (more-named g log ray j (entryCount log) below ∙ ap (λ (x : Bool). cond x (j ∷ rest) rest) (ap (λ (y : ℕ). eqb y ray) (sym is-ray) ∙ e))
 
-        go : (b : Bool) → eqb ray₀ ray ≡ b → Chain after (rayCount g) j (entryCount log) (numberAt after ray) (namedFrom g log ray j (entryCount log - j))
+        go : (b : Bool) → eqb ray₀ ray ≡ b → PlaceChain after (rayCount g) j (entryCount log) (numberAt after ray) (namedFrom g log ray j (entryCount log - j))
         go true e =
             let same : ray₀ ≡ ray = eqb-true ray₀ ray e in
             let first : numberAt after ray ≡ suc j = subst (λ (x : ℕ). numberAt after x ≡ suc j) same (first-cell small) in
@@ -118,15 +118,15 @@ module _ (g : DexelGrid) (log before w : List Float) (room : rayCount g + entryC
         (sym (e ∙ ap (λ (r : ℕ). set (set w (r + j) (getD w ray₀ nan)) ray₀ (numberCell (j + 1))) same)) (stepped small)
 
   pub grouping-done : EachNamed g log → (i : ℕ) → i ≤ 0 → (first : List Float) → length before ≡ length first
-      → ((q : ℕ) → rayCount g ≤ q → getD before q nan ≡ getD first q nan) → Grouping g log before w i → Groups g log first w
+      → ((q : ℕ) → rayCount g ≤ q → getD before q nan ≡ getD first q nan) → Grouping g log before w i → GroupPost g log first w
   grouping-done named i none first size past s = record {
     size = s .size ∙ size;
     grouped = record {
       named = named;
       room = omega (arith, s .size);
       chains = λ ray h.
-          subst (λ (n : ℕ). Chain w (rayCount g) 0 (entryCount log) (numberAt w ray) (namedFrom g log ray 0 n)) (all (entryCount log))
-          (subst (λ (k : ℕ). Chain w (rayCount g) k (entryCount log) (numberAt w ray) (namedFrom g log ray k (entryCount log - k))) (zero-of i none) (s .chains ray h));
+          subst (λ (n : ℕ). PlaceChain w (rayCount g) 0 (entryCount log) (numberAt w ray) (namedFrom g log ray 0 n)) (all (entryCount log))
+          (subst (λ (k : ℕ). PlaceChain w (rayCount g) k (entryCount log) (numberAt w ray) (namedFrom g log ray k (entryCount log - k))) (zero-of i none) (s .chains ray h));
     };
     past = λ q h. s .past q h ∙ past q (omega arith);
   }
@@ -143,7 +143,7 @@ grouped-kept g log w v size same s = record {
   named = s .named;
   room = omega (arith, s .room);
   chains = λ ray h.
-      subst (λ (k : ℕ). Chain v (rayCount g) 0 (entryCount log) k (namedFrom g log ray 0 (entryCount log))) (sym (number-same v w ray (same ray (omega arith))))
+      subst (λ (k : ℕ). PlaceChain v (rayCount g) 0 (entryCount log) k (namedFrom g log ray 0 (entryCount log))) (sym (number-same v w ray (same ray (omega arith))))
       (chain-kept (omega arith) (λ q a b. number-same v w (rayCount g + q) (same (rayCount g + q) (omega arith))) (s .chains ray h));
 }
 

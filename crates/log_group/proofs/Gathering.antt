@@ -10,22 +10,22 @@ use Rattle.log_numbers.specs.Numbers.{numberAt}
 use Rattle.log_numbers.proofs.Cells.{number-same}
 use Rattle.grid.specs.Rays.{rayCount}
 use Rattle.grid.specs.declared.DexelGrid.{DexelGrid}
-use Rattle.log_model.specs.Logs.{entryAt, entries, entryCount, HitKind, outer, inner, loOf, hiOf}
-use Rattle.log_entries.specs.Named.{namedFrom, pairsNamed, pairsAt}
+use Rattle.log_model.specs.Logs.{entryAt, entries, entryCount, HitKind, outer, inner, hitLo, hitHi}
+use Rattle.log_entries.specs.Named.{namedFrom, hitsOnRayNumber, pairsAt}
 use Rattle.log_entries.proofs.Places.{pairs-named, pairs-at}
-use Rattle.store_lists.specs.Reading.{Copied}
-use Rattle.log_group.specs.Groups.{Chain, ends, more, Grouped, columnOf}
+use Rattle.store_lists.specs.Reading.{ReadListPost}
+use Rattle.log_group.specs.Groups.{PlaceChain, ends, more, Grouped, columnOf}
 use Rattle.log_group.proofs.Chains.{chain-kept}
 
 -- the two ends of an entry's pair in the log
 module _ (log : List Float) (i : ℕ) where
-  pub lo-at : (k : HitKind) → loOf k (entryAt log i) ≡ getD log (6 * i + columnOf k) nan
-  unfolding loOf entryAt
+  pub lo-at : (k : HitKind) → hitLo k (entryAt log i) ≡ getD log (6 * i + columnOf k) nan
+  unfolding hitLo entryAt
   lo-at outer = refl
   lo-at inner = refl
 
-  pub hi-at : (k : HitKind) → hiOf k (entryAt log i) ≡ getD log (6 * i + columnOf k + 1) nan
-  unfolding hiOf entryAt
+  pub hi-at : (k : HitKind) → hitHi k (entryAt log i) ≡ getD log (6 * i + columnOf k + 1) nan
+  unfolding hitHi entryAt
   hi-at outer = ap (λ (n : ℕ). getD log n nan) (omega arith)
   hi-at inner = ap (λ (n : ℕ). getD log n nan) (omega arith)
 
@@ -34,7 +34,7 @@ column-most outer = omega arith
 column-most inner = omega arith
 
 -- two chains from the same number have the same places
-pub chain-one : {w : List Float} {rays from to k : ℕ} {is js : List ℕ} → Chain w rays from to k is → Chain w rays from to k js → is ≡ js
+pub chain-one : {w : List Float} {rays from to k : ℕ} {is js : List ℕ} → PlaceChain w rays from to k is → PlaceChain w rays from to k js → is ≡ js
 chain-one ends ends = refl
 chain-one (more {i = i} a b c) (more d e f) = ap (_∷_ i) (chain-one c f)
 
@@ -42,8 +42,8 @@ chain-one (more {i = i} a b c) (more d e f) = ap (_∷_ i) (chain-one c f)
 pub record Gathering (rays : ℕ) (log : List Float) (kind : HitKind) (ray at : ℕ) (before w : List Float) (t k : ℕ) : Type 0 where
   pub places : List ℕ
   pub left : List ℕ
-  pub first : Chain before rays 0 (entryCount log) (numberAt before ray) places
-  pub chain : Chain w rays 0 (entryCount log) k left
+  pub first : PlaceChain before rays 0 (entryCount log) (numberAt before ray) places
+  pub chain : PlaceChain w rays 0 (entryCount log) k left
   pub size : length w ≡ length before
   pub past : rays + entryCount log ≤ t
   pub room : at + length (pairsAt log places kind) ≤ length before
@@ -51,7 +51,7 @@ pub record Gathering (rays : ℕ) (log : List Float) (kind : HitKind) (ray at : 
   pub cells : sets before at (pairsAt log places kind) ≡ sets w t (pairsAt log left kind)
 
 module _ (rays : ℕ) (log : List Float) (kind : HitKind) (ray at : ℕ) (before : List Float) where
-  pub gathering-start : (places : List ℕ) → Chain before rays 0 (entryCount log) (numberAt before ray) places → at + length (pairsAt log places kind) ≤ length before
+  pub gathering-start : (places : List ℕ) → PlaceChain before rays 0 (entryCount log) (numberAt before ray) places → at + length (pairsAt log places kind) ≤ length before
       → rays + entryCount log ≤ at → Gathering rays log kind ray at before before at (numberAt before ray)
   gathering-start places c room h = record { places = places; left = places; first = c; chain = c; size = refl; past = h; room = room; count = refl; cells = refl }
 
@@ -91,13 +91,13 @@ module _ (rays : ℕ) (log : List Float) (kind : HitKind) (ray at : ℕ) (before
     same-size i = length-set (set w t (getD log (6 * i + columnOf kind) nan)) (t + 1) (getD log (6 * i + columnOf kind + 1) nan) ∙ length-set w t (getD log (6 * i + columnOf kind) nan)
 
     -- the rest of the chain, when the pair at place i is copied
-    rest : {k : ℕ} (s : Gathering rays log kind ray at before w t k) (i : ℕ) (is : List ℕ) → i < entryCount log → Chain w rays 0 (entryCount log) (numberAt w (rays + i)) is
+    rest : {k : ℕ} (s : Gathering rays log kind ray at before w t k) (i : ℕ) (is : List ℕ) → i < entryCount log → PlaceChain w rays 0 (entryCount log) (numberAt w (rays + i)) is
         → s .left ≡ i ∷ is → Gathering rays log kind ray at before (turned w t i) (t + 2) (numberAt (turned w t i) (rays + i))
     rest s i is b c e = record {
       places = s .places;
       left = is;
       first = s .first;
-      chain = subst (λ (n : ℕ). Chain (turned w t i) rays 0 (entryCount log) n is) (sym (number-same (turned w t i) w (rays + i) (kept i i (s .past) b)))
+      chain = subst (λ (n : ℕ). PlaceChain (turned w t i) rays 0 (entryCount log) n is) (sym (number-same (turned w t i) w (rays + i) (kept i i (s .past) b)))
           (chain-kept (omega arith) (λ q d f. number-same (turned w t i) w (rays + q) (kept i q (s .past) f)) c);
       size = same-size i ∙ s .size;
       past = omega (arith, s .past);
@@ -112,7 +112,7 @@ module _ (rays : ℕ) (log : List Float) (kind : HitKind) (ray at : ℕ) (before
         one : (i : ℕ) → suc i - 1 ≡ i
         one i = omega arith
 
-        go : {n : ℕ} (left : List ℕ) → s .left ≡ left → (n ≡ 0 → ⊥) → Chain w rays 0 (entryCount log) n left → Turn w t n
+        go : {n : ℕ} (left : List ℕ) → s .left ≡ left → (n ≡ 0 → ⊥) → PlaceChain w rays 0 (entryCount log) n left → Turn w t n
         go left e none ends = absurd (none refl)
         go left e none (more {i = i} {is = is} a b c) = record {
           some = omega arith;
@@ -121,7 +121,7 @@ module _ (rays : ℕ) (log : List Float) (kind : HitKind) (ray at : ℕ) (before
           again = subst (λ (n : ℕ). Gathering rays log kind ray at before (turned w t n) (t + 2) (numberAt (turned w t n) (rays + n))) (sym (one i)) (rest s i is b c e);
         }
 
-  pub gathering-done : (w : List Float) (t k : ℕ) → k ≡ 0 → (s : Gathering rays log kind ray at before w t k) → Copied (pairsAt log (s .places) kind) before at w t
+  pub gathering-done : (w : List Float) (t k : ℕ) → k ≡ 0 → (s : Gathering rays log kind ray at before w t k) → ReadListPost (pairsAt log (s .places) kind) before at w t
   unfolding pairsAt
   gathering-done w t k none s =
       let empty : s .left ≡ [] = last (s .chain) none in
@@ -130,7 +130,7 @@ module _ (rays : ℕ) (log : List Float) (kind : HitKind) (ray at : ℕ) (before
         cells = sym (s .cells ∙ ap (λ (l : List ℕ). sets w t (pairsAt log l kind)) empty) ∙ sets-eq (pairsAt log (s .places) kind) before at (s .room);
       }
     where
-      last : {k : ℕ} {left : List ℕ} → Chain w rays 0 (entryCount log) k left → k ≡ 0 → left ≡ []
+      last : {k : ℕ} {left : List ℕ} → PlaceChain w rays 0 (entryCount log) k left → k ≡ 0 → left ≡ []
       last ends e = refl
       last (more a b c) e = absurd (omega arith)
 
@@ -149,32 +149,32 @@ module _ (g : DexelGrid) (log before : List Float) (grouped : Grouped g log befo
   places : List ℕ
   places = namedFrom g log ray 0 (entryCount log)
 
-  hits : pairsAt log places kind ≡ pairsNamed g (entries log) ray kind
+  hits : pairsAt log places kind ≡ hitsOnRayNumber g (entries log) ray kind
   unfolding places
   hits = pairs-at g log (grouped .named) (ray, h) kind ∙ pairs-named g (entries log) (ray, h) kind
 
-  chain : Chain before rays 0 (entryCount log) (numberAt before ray) places
+  chain : PlaceChain before rays 0 (entryCount log) (numberAt before ray) places
   unfolding places
-  chain = subst (λ (n : ℕ). Chain before n 0 (entryCount log) (numberAt before ray) places) (sym same) (grouped .chains ray h)
+  chain = subst (λ (n : ℕ). PlaceChain before n 0 (entryCount log) (numberAt before ray) places) (sym same) (grouped .chains ray h)
 
-  pub gathers : at + length (pairsNamed g (entries log) ray kind) ≤ length before → rayCount g + entryCount log ≤ at → (k : ℕ) → k ≡ numberAt before ray
+  pub gathers : at + length (hitsOnRayNumber g (entries log) ray kind) ≤ length before → rayCount g + entryCount log ≤ at → (k : ℕ) → k ≡ numberAt before ray
       → Gathering rays log kind ray at before before at k
   gathers room past k e =
       subst (λ (n : ℕ). Gathering rays log kind ray at before before at n) (sym e)
       (gathering-start rays log kind ray at before places chain (subst (λ (l : List Float). at + length l ≤ length before) (sym hits) room) (omega arith))
 
-  pub gathered : (w : List Float) (t k : ℕ) → k ≡ 0 → Gathering rays log kind ray at before w t k → Copied (pairsNamed g (entries log) ray kind) before at w t
+  pub gathered : (w : List Float) (t k : ℕ) → k ≡ 0 → Gathering rays log kind ray at before w t k → ReadListPost (hitsOnRayNumber g (entries log) ray kind) before at w t
   gathered w t k none s =
-      subst (λ (l : List Float). Copied l before at w t) (ap (λ (l : List ℕ). pairsAt log l kind) (chain-one (s .first) chain) ∙ hits)
+      subst (λ (l : List Float). ReadListPost l before at w t) (ap (λ (l : List ℕ). pairsAt log l kind) (chain-one (s .first) chain) ∙ hits)
       (gathering-done rays log kind ray at before w t k none s)
 
 -- a ray whose first cell is zero has no hits
-pub none-named : (g : DexelGrid) (log w : List Float) → Grouped g log w → (ray : ℕ) → ray < rayCount g → numberAt w ray ≡ 0 → (kind : HitKind) → pairsNamed g (entries log) ray kind ≡ []
+pub none-named : (g : DexelGrid) (log w : List Float) → Grouped g log w → (ray : ℕ) → ray < rayCount g → numberAt w ray ≡ 0 → (kind : HitKind) → hitsOnRayNumber g (entries log) ray kind ≡ []
 unfolding pairsAt
 none-named g log w s ray h e kind =
     sym (pairs-at g log (s .named) (ray, h) kind ∙ pairs-named g (entries log) (ray, h) kind)
     ∙ ap (λ (l : List ℕ). pairsAt log l kind) (last (s .chains ray h) e)
   where
-    last : {k : ℕ} {is : List ℕ} → Chain w (rayCount g) 0 (entryCount log) k is → k ≡ 0 → is ≡ []
+    last : {k : ℕ} {is : List ℕ} → PlaceChain w (rayCount g) 0 (entryCount log) k is → k ≡ 0 → is ≡ []
     last ends n = refl
     last (more a b c) n = absurd (omega arith)

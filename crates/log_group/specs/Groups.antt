@@ -13,26 +13,26 @@ use Rattle.log_model.specs.Logs.{entryCount, HitKind, outer, inner}
 use Rattle.log_entries.specs.Named.{EachNamed, namedFrom}
 
 -- from the number k on, the cells name these places one after the other, each from `from` to `to`
-pub data Chain (w : List Float) (rays from to : ℕ) : ℕ → List ℕ → Type 0 where
-  ends : Chain w rays from to zero []
-  more : {i : ℕ} {is : List ℕ} → from ≤ i → i < to → Chain w rays from to (numberAt w (rays + i)) is → Chain w rays from to (suc i) (i ∷ is)
+pub data PlaceChain (w : List Float) (rays from to : ℕ) : ℕ → List ℕ → Type 0 where
+  ends : PlaceChain w rays from to zero []
+  more : {i : ℕ} {is : List ℕ} → from ≤ i → i < to → PlaceChain w rays from to (numberAt w (rays + i)) is → PlaceChain w rays from to (suc i) (i ∷ is)
 
 -- each ray's chain has the places of the entries on it, in order
 pub record Grouped (g : DexelGrid) (log w : List Float) : Type 0 where
   pub named : EachNamed g log
   pub room : rayCount g + entryCount log ≤ length w
-  pub chains : (ray : ℕ) → ray < rayCount g → Chain w (rayCount g) 0 (entryCount log) (numberAt w ray) (namedFrom g log ray 0 (entryCount log))
+  pub chains : (ray : ℕ) → ray < rayCount g → PlaceChain w (rayCount g) 0 (entryCount log) (numberAt w ray) (namedFrom g log ray 0 (entryCount log))
 
 -- and the cells past the chains are as before
-pub record Groups (g : DexelGrid) (log before after : List Float) : Type 0 where
+pub record GroupPost (g : DexelGrid) (log before after : List Float) : Type 0 where
   pub size : length after ≡ length before
   pub grouped : Grouped g log after
   pub past : (q : ℕ) → rayCount g + entryCount log ≤ q → getD after q nan ≡ getD before q nan
 
 -- the kind of the hits that are asked for
-abbrev pub kindOf : (isInner : Bool) → HitKind
-kindOf true = inner
-kindOf false = outer
+abbrev pub hitKindOf : (isInner : Bool) → HitKind
+hitKindOf true = inner
+hitKindOf false = outer
 
 -- where the pair of this kind begins in an entry of six doubles
 abbrev pub columnOf : HitKind → ℕ

@@ -6,9 +6,9 @@ ghost use lib.ListN.{length, getD, set};
 ghost use Rattle.log_numbers.specs.Numbers.{numberCell};
 ghost use Rattle.grid.specs.Rays.{rayCount};
 ghost use Rattle.log_model.specs.Logs.{entries, entryCount};
-ghost use Rattle.log_entries.specs.Named.{EachNamed, pairsNamed};
-ghost use Rattle.store_lists.specs.Reading.{Copied};
-ghost use Rattle.log_group.specs.Groups.{Grouped, Groups, kindOf, columnOf};
+ghost use Rattle.log_entries.specs.Named.{EachNamed, hitsOnRayNumber};
+ghost use Rattle.store_lists.specs.Reading.{ReadListPost};
+ghost use Rattle.log_group.specs.Groups.{Grouped, GroupPost, hitKindOf, columnOf};
 use grid::DexelGrid;
 
 // Puts place i in front of the chain of the ray.
@@ -23,7 +23,7 @@ fn link(work: &mut [f64], rays: usize, ray: usize, i: usize)
 // Chains the entries of each ray. Each goes in front of those behind it, so that no entry is looked at twice.
 pub fn group(g: DexelGrid, log: &[f64], work: &mut [f64])
     requires { ⌜ EachNamed g (now log) × (rayCount g + entryCount (now log) ≤ length (now work)) ⌝ }
-    ensures { λ _. ⌜ Groups g (now (log .entry)) (now (work .entry)) (now (work .exit)) ⌝ }
+    ensures { λ _. ⌜ GroupPost g (now (log .entry)) (now (work .entry)) (now (work .exit)) ⌝ }
 {
     let rays = grid_rays::total_rays(g) as usize;
     spans::clear_from(&mut work[..rays], 0);
@@ -37,7 +37,7 @@ pub fn group(g: DexelGrid, log: &[f64], work: &mut [f64])
 
 // Where an entry's pair begins.
 fn column(inner: bool) -> usize
-    ensures { λ r. ⌜ r ≡ columnOf (kindOf inner) ⌝ }
+    ensures { λ r. ⌜ r ≡ columnOf (hitKindOf inner) ⌝ }
 {
     if inner {
         return 4;
@@ -64,8 +64,8 @@ pub fn gather_hits(
     at: usize,
 ) -> usize
     requires { ⌜ Grouped g (now log) (now work) × (ray < rayCount g) × (rayCount g + entryCount (now log) ≤ at)
-        × (at + length (pairsNamed g (entries (now log)) ray (kindOf inner)) ≤ length (now work)) ⌝ }
-    ensures { λ r. ⌜ Copied (pairsNamed g (entries (now (log .entry))) ray (kindOf inner)) (now (work .entry)) at (now (work .exit)) r ⌝ }
+        × (at + length (hitsOnRayNumber g (entries (now log)) ray (hitKindOf inner)) ≤ length (now work)) ⌝ }
+    ensures { λ r. ⌜ ReadListPost (hitsOnRayNumber g (entries (now (log .entry))) ray (hitKindOf inner)) (now (work .entry)) at (now (work .exit)) r ⌝ }
 {
     let rays = grid_rays::total_rays(g) as usize;
     let c = column(inner);

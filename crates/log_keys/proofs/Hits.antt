@@ -15,8 +15,8 @@ use Rattle.grid.specs.declared.DexelGrid.{DexelGrid}
 use Rattle.spans.specs.Spans.{within, holds}
 use Rattle.spans.proofs.Sets.{oddN-mod}
 use Rattle.spans.proofs.Points.{holds-append}
-use Rattle.log_model.specs.Logs.{Entry, entryAt, entriesFrom, entryCount, entries, namesOne, rayOf, HitKind, outer, inner, loOf, hiOf}
-use Rattle.log_entries.specs.Named.{EachNamed, pairsNamed}
+use Rattle.log_model.specs.Logs.{Entry, entryAt, entriesFrom, entryCount, entries, namesSomeRay, entryRay, HitKind, outer, inner, hitLo, hitHi}
+use Rattle.log_entries.specs.Named.{EachNamed, hitsOnRayNumber}
 use Rattle.log_entries.proofs.Places.{AllFrom, all-first, all-rest}
 use Rattle.log_entries.proofs.Sizes.{named-even}
 use Rattle.log_keys.specs.Keys.{entryOfKey, withEntry, hitsTo, pairsPast}
@@ -24,7 +24,7 @@ use Rattle.log_keys.proofs.Past.{past-first, past-more}
 
 -- the point lies in the entry's hit of this kind
 abbrev pub inHit : HitKind → Entry → Float → Bool
-inHit w e x = within (loOf w e) (hiOf w e) x
+inHit w e x = within (hitLo w e) (hitHi w e) x
 
 -- a possible list loses the inner hits, a certain list the outer ones too
 pub data LosesKind : (certain : Bool) → HitKind → Type 0 where
@@ -122,30 +122,30 @@ module _ {lo hi : Float} where
 
 -- what the ray's possible list loses, or its certain list
 abbrev pub losesOf : DexelGrid → List Float → (ray : ℕ) → (certain : Bool) → List Float
-losesOf g log ray true = pairsNamed g (entries log) ray outer ++ pairsNamed g (entries log) ray inner
-losesOf g log ray false = pairsNamed g (entries log) ray inner
+losesOf g log ray true = hitsOnRayNumber g (entries log) ray outer ++ hitsOnRayNumber g (entries log) ray inner
+losesOf g log ray false = hitsOnRayNumber g (entries log) ray inner
 
 -- the point lies in a hit of an entry on the ray that the list loses
 pub record Lost (g : DexelGrid) (log : List Float) (ray : ℕ) (certain : Bool) (x : Float) : Type 0 where
   pub place : ℕ
   pub below : place < entryCount log
-  pub on-ray : rayOf g (entryAt log place) ≡ ray
+  pub on-ray : entryRay g (entryAt log place) ≡ ray
   pub struck : Struck (entryAt log place) certain x
 
 module _ (g : DexelGrid) (log : List Float) (ray : ℕ) where
   module _ (w : HitKind) where
-    named-pair : (i k j : ℕ) → AllFrom (λ n. namesOne g (entryAt log n) ≡ true) i k → i ≤ j → j < i + k → rayOf g (entryAt log j) ≡ ray
-        → HasPair (loOf w (entryAt log j)) (hiOf w (entryAt log j)) (pairsNamed g (entriesFrom log i k) ray w)
-    unfolding pairsNamed entriesFrom
+    named-pair : (i k j : ℕ) → AllFrom (λ n. namesSomeRay g (entryAt log n) ≡ true) i k → i ≤ j → j < i + k → entryRay g (entryAt log j) ≡ ray
+        → HasPair (hitLo w (entryAt log j)) (hitHi w (entryAt log j)) (hitsOnRayNumber g (entriesFrom log i k) ray w)
+    unfolding hitsOnRayNumber entriesFrom
     named-pair i zero j f a b q = absurd (omega arith)
     named-pair i (suc k) j f a b q = elim (decLt i j) [
-      | yes h ↦ more (loOf w (entryAt log i)) (hiOf w (entryAt log i)) (namesOne g (entryAt log i) && eqb (rayOf g (entryAt log i)) ray)
+      | yes h ↦ more (hitLo w (entryAt log i)) (hitHi w (entryAt log i)) (namesSomeRay g (entryAt log i) && eqb (entryRay g (entryAt log i)) ray)
           (named-pair (suc i) k j (all-rest i k f) h (next i j k b) q)
       | no h ↦ let e : j ≡ i = same i j a h in
           rw (
             e,
-            both (namesOne g (entryAt log i)) (eqb (rayOf g (entryAt log i)) ray) (all-first i k f)
-                (eq-eqb (rayOf g (entryAt log i)) ray (rw e at q)),
+            both (namesSomeRay g (entryAt log i)) (eqb (entryRay g (entryAt log i)) ray) (all-first i k f)
+                (eq-eqb (entryRay g (entryAt log i)) ray (rw e at q)),
           ) here
     ]
       where
@@ -159,17 +159,17 @@ module _ (g : DexelGrid) (log : List Float) (ray : ℕ) where
         more a c true p = later p
         more a c false p = p
 
-    named-hit : (i k : ℕ) (x : Float) → holds (pairsNamed g (entriesFrom log i k) ray w) x ≡ true
-        → (j : ℕ) × (j < i + k) × (rayOf g (entryAt log j) ≡ ray) × (inHit w (entryAt log j) x ≡ true)
-    unfolding pairsNamed entriesFrom holds
+    named-hit : (i k : ℕ) (x : Float) → holds (hitsOnRayNumber g (entriesFrom log i k) ray w) x ≡ true
+        → (j : ℕ) × (j < i + k) × (entryRay g (entryAt log j) ≡ ray) × (inHit w (entryAt log j) x ≡ true)
+    unfolding hitsOnRayNumber entriesFrom holds
     named-hit i zero x h = absurd (false≢true h)
-    named-hit i (suc k) x h = elim (by-cases (namesOne g (entryAt log i) && eqb (rayOf g (entryAt log i)) ray)) [
-      | inl t ↦ elim (or-cases (inHit w (entryAt log i) x) (holds (pairsNamed g (entriesFrom log (suc i) k) ray w) x) (rw t at h)) [
+    named-hit i (suc k) x h = elim (by-cases (namesSomeRay g (entryAt log i) && eqb (entryRay g (entryAt log i)) ray)) [
+      | inl t ↦ elim (or-cases (inHit w (entryAt log i) x) (holds (hitsOnRayNumber g (entriesFrom log (suc i) k) ray w) x) (rw t at h)) [
         | inl q ↦ (
           i,
           omega arith,
-          eqb-true (rayOf g (entryAt log i)) ray
-              (and-right (namesOne g (entryAt log i)) (eqb (rayOf g (entryAt log i)) ray) t),
+          eqb-true (entryRay g (entryAt log i)) ray
+              (and-right (namesSomeRay g (entryAt log i)) (eqb (entryRay g (entryAt log i)) ray) t),
           q,
         )
         | inr q ↦ on (named-hit (suc i) k x q)
@@ -177,20 +177,20 @@ module _ (g : DexelGrid) (log : List Float) (ray : ℕ) where
       | inr t ↦ on (named-hit (suc i) k x (rw t at h))
     ]
       where
-        on : (j : ℕ) × (j < suc i + k) × (rayOf g (entryAt log j) ≡ ray) × (inHit w (entryAt log j) x ≡ true)
-            → (j : ℕ) × (j < i + suc k) × (rayOf g (entryAt log j) ≡ ray) × (inHit w (entryAt log j) x ≡ true)
+        on : (j : ℕ) × (j < suc i + k) × (entryRay g (entryAt log j) ≡ ray) × (inHit w (entryAt log j) x ≡ true)
+            → (j : ℕ) × (j < i + suc k) × (entryRay g (entryAt log j) ≡ ray) × (inHit w (entryAt log j) x ≡ true)
         on (j, a, b, d) = (j, omega (arith, a), b, d)
 
-  loses-named : {lo hi : Float} (certain : Bool) (w : HitKind) → LosesKind certain w → HasPair lo hi (pairsNamed g (entries log) ray w)
+  loses-named : {lo hi : Float} (certain : Bool) (w : HitKind) → LosesKind certain w → HasPair lo hi (hitsOnRayNumber g (entries log) ray w)
       → HasPair lo hi (losesOf g log ray certain)
-  loses-named true inner inner-hit p = pair-right (pairsNamed g (entries log) ray outer) (named-even g ray outer (entries log)) p
-  loses-named true outer outer-hit p = pair-left (pairsNamed g (entries log) ray inner) p
+  loses-named true inner inner-hit p = pair-right (hitsOnRayNumber g (entries log) ray outer) (named-even g ray outer (entries log)) p
+  loses-named true outer outer-hit p = pair-left (hitsOnRayNumber g (entries log) ray inner) p
   loses-named false inner inner-hit p = p
 
   -- THE LAWS: the points that the list loses are those in a hit that it loses of an entry on the ray
   module _ (all : EachNamed g log) (certain : Bool) where
-    loses-pair : (w : HitKind) → LosesKind certain w → (i : ℕ) → i < entryCount log → rayOf g (entryAt log i) ≡ ray
-        → HasPair (loOf w (entryAt log i)) (hiOf w (entryAt log i)) (losesOf g log ray certain)
+    loses-pair : (w : HitKind) → LosesKind certain w → (i : ℕ) → i < entryCount log → entryRay g (entryAt log i) ≡ ray
+        → HasPair (hitLo w (entryAt log i)) (hitHi w (entryAt log i)) (losesOf g log ray certain)
     unfolding EachNamed entries
     loses-pair w l i h q = loses-named certain w l (named-pair w 0 (entryCount log) i (λ j _ k. all j (omega (arith, k))) (omega arith)
         (omega arith) q)
@@ -199,7 +199,7 @@ module _ (g : DexelGrid) (log : List Float) (ray : ℕ) where
     lost-holds x l = pair-holds x (loses-pair (l .struck .kind) (l .struck .loses) (l .place) (l .below) (l .on-ray)) (l .struck .holds-it)
 
     -- a hit that begins past b
-    pub lost-past : (b x : Float) (l : Lost g log ray certain x) → lt b (loOf (l .struck .kind) (entryAt log (l .place))) ≡ true
+    pub lost-past : (b x : Float) (l : Lost g log ray certain x) → lt b (hitLo (l .struck .kind) (entryAt log (l .place))) ≡ true
         → holds (pairsPast b (losesOf g log ray certain)) x ≡ true
     lost-past b x l k = pair-past b x (loses-pair (l .struck .kind) (l .struck .loses) (l .place) (l .below) (l .on-ray)) k
         (l .struck .holds-it)
@@ -208,15 +208,15 @@ module _ (g : DexelGrid) (log : List Float) (ray : ℕ) where
   holds-lost certain x h = cases certain h
     where
       outers : List Float
-      outers = pairsNamed g (entries log) ray outer
+      outers = hitsOnRayNumber g (entries log) ray outer
 
       inners : List Float
-      inners = pairsNamed g (entries log) ray inner
+      inners = hitsOnRayNumber g (entries log) ray inner
 
       even : length outers % 2 ≡ 0
       even = named-even g ray outer (entries log)
 
-      lost : (certain : Bool) (w : HitKind) → LosesKind certain w → holds (pairsNamed g (entries log) ray w) x ≡ true → Lost g log ray certain x
+      lost : (certain : Bool) (w : HitKind) → LosesKind certain w → holds (hitsOnRayNumber g (entries log) ray w) x ≡ true → Lost g log ray certain x
       lost certain w l k = let (i, a, b, d) = named-hit w 0 (entryCount log) x (unfold entries in k) in
           record { place = i; below = omega (arith, a); on-ray = b; struck = record { kind = w; loses = l; holds-it = d } }
 

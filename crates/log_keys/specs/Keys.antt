@@ -7,7 +7,7 @@ use Prim.Native.Nat.{ℕ, zero, suc, _%_}
 use lib.ListN.{getD}
 use lib.Ieee.{Float, lt}
 use Rattle.spans.specs.Spans.{within, holds}
-use Rattle.log_model.specs.Logs.{Entry, entryAt, entryCount, outer, inner, loOf, hiOf}
+use Rattle.log_model.specs.Logs.{Entry, entryAt, entryCount, outer, inner, hitLo, hitHi}
 
 -- the entry that a key stands for: what the key leaves when it is divided by the number of entries is its place
 unfoldable pub entryOfKey : List Float → ℕ → Entry
@@ -16,9 +16,9 @@ entryOfKey log key = entryAt log (key % entryCount log)
 
 -- the hits with those of one entry more in front: a possible list loses the inner one, a certain list the outer one too
 unfoldable pub withEntry : Entry → (certain : Bool) → List Float → List Float
-unfolding loOf hiOf
-withEntry e true hits = loOf inner e ∷ hiOf inner e ∷ loOf outer e ∷ hiOf outer e ∷ hits
-withEntry e false hits = loOf inner e ∷ hiOf inner e ∷ hits
+unfolding hitLo hitHi
+withEntry e true hits = hitLo inner e ∷ hitHi inner e ∷ hitLo outer e ∷ hitHi outer e ∷ hits
+withEntry e false hits = hitLo inner e ∷ hitHi inner e ∷ hits
 
 -- the hits of the entries of the first i keys, the last first
 unfoldable pub hitsTo : List Float → List ℕ → (certain : Bool) → ℕ → List Float

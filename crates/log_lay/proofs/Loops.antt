@@ -8,13 +8,13 @@ use native.Mathlib.Omega.{arith}
 use lib.ListN.{length}
 use lib.Ieee.{Float}
 use Rattle.store.specs.Store.{placesOf}
-use Rattle.store.specs.Updates.{Cells, Update, Room, SoundStore, Kept, Freeable, freedList, freedAll, laidList, laidAll}
+use Rattle.store.specs.Updates.{Cells, Update, Room, CellsChainsSound, CellsPastKept, FreeListPre, freedList, freedAll, laidList, laidAll}
 use Rattle.store.proofs.Replacing.{Replaced}
 use Rattle.store.proofs.Freeing.{freed-list, freed-kept}
 use Rattle.store.proofs.Updating.{kept-none, kept-then, kept-room, freed-append, laid-append}
 use Rattle.log_lay.specs.Updates.{firstSize, updatesFrom, listsEnd}
 use Rattle.log_lay.specs.Steps.{RayFreeable, AllFreeable, EachLayable, RaysLayable, RaysLaid}
-use Rattle.log_lay.specs.declared.Place.{Place}
+use Rattle.log_lay.specs.declared.LayPlace.{LayPlace}
 use Rattle.log_lay.proofs.Lists.{updates-none, end-none, end-past, end-more, updates-more}
 use Rattle.log_lay.proofs.Turns.{freed-none, laid-none, no-update, freed-ray-new}
 
@@ -24,7 +24,7 @@ pub record FreedTo (n : ℕ) (c : Cells) (w : List Float) (sizes rays ray : ℕ)
   pub most : ray ≤ rays
   pub still : AllFreeable n d w sizes rays
   pub done : (q : ℕ) → d ≡ freedAll n c (updatesFrom w sizes q 0 ray)
-  pub kept : Kept n (2 * rays) c d
+  pub kept : CellsPastKept n (2 * rays) c d
 
 module _ (n : ℕ) (c : Cells) (w : List Float) (sizes rays : ℕ) where
   pub freed-start : AllFreeable n c w sizes rays → FreedTo n c w sizes rays 0 c
@@ -36,8 +36,8 @@ module _ (n : ℕ) (c : Cells) (w : List Float) (sizes rays : ℕ) where
   }
 
 -- a store with one list freed
-module _ (n m total : ℕ) (c : Cells) (s : SoundStore n m total c) (room : Room n m c) (j : ℕ) (j<m : j < m) where
-  one-freeable : Freeable n c j
+module _ (n m total : ℕ) (c : Cells) (s : CellsChainsSound n m total c) (room : Room n m c) (j : ℕ) (j<m : j < m) where
+  one-freeable : FreeListPre n c j
   one-freeable = record { in-spans = room .in-spans; in-links = room .in-links; in-heads = omega (arith, room .in-heads); chain = s .chains j j<m }
 
   one-room : Room n m (freedList n c j)
@@ -46,7 +46,7 @@ module _ (n m total : ℕ) (c : Cells) (s : SoundStore n m total c) (room : Room
   one-total : ℕ
   one-total = total - length (placesOf n (c .links) (c .heads) j)
 
-  one-sound : SoundStore n m one-total (freedList n c j)
+  one-sound : CellsChainsSound n m one-total (freedList n c j)
   unfolding one-total
   one-sound = let r : Replaced n m total c (freedList n c j) j [] = freed-list n m total c s room j j<m in r .isSound (total - length (placesOf n (c .links) (c .heads) j)) (omega (arith, r .less))
 
@@ -68,18 +68,18 @@ module _ (n : ℕ) (c : Cells) (w : List Float) (sizes rays ray : ℕ) (a : AllF
   }
 
   -- the store after the turn
-  turn-freed : (d : Cells) → ((q : ℕ) → d ≡ freedAll n c (updatesFrom w sizes q ray 1)) → AllFreeable n d w sizes rays × Kept n (2 * rays) c d
+  turn-freed : (d : Cells) → ((q : ℕ) → d ≡ freedAll n c (updatesFrom w sizes q ray 1)) → AllFreeable n d w sizes rays × CellsPastKept n (2 * rays) c d
   turn-freed d f = at (ℕ-discrete (firstSize w sizes ray) 0)
     where
       r₁ : Room n (2 * rays) (freedList n c (2 * ray))
       r₁ = one-room n (2 * rays) (a .total) c (a .store) (a .room) (2 * ray) in-first
 
-      s₁ : SoundStore n (2 * rays) (one-total n (2 * rays) (a .total) c (a .store) (a .room) (2 * ray) in-first) (freedList n c (2 * ray))
+      s₁ : CellsChainsSound n (2 * rays) (one-total n (2 * rays) (a .total) c (a .store) (a .room) (2 * ray) in-first) (freedList n c (2 * ray))
       s₁ = one-sound n (2 * rays) (a .total) c (a .store) (a .room) (2 * ray) in-first
 
-      at : Dec (firstSize w sizes ray ≡ 0) → AllFreeable n d w sizes rays × Kept n (2 * rays) c d
-      at (yes z) = subst (λ (d : Cells). AllFreeable n d w sizes rays × Kept n (2 * rays) c d) (sym (f 0 ∙ ap (freedAll n c) (no-update w sizes ray z 0) ∙ freed-none n c)) (a, kept-none n (2 * rays) c)
-      at (no nz) = subst (λ (d : Cells). AllFreeable n d w sizes rays × Kept n (2 * rays) c d) (sym (f 0 ∙ freed-ray-new n c w sizes ray nz 0)) (
+      at : Dec (firstSize w sizes ray ≡ 0) → AllFreeable n d w sizes rays × CellsPastKept n (2 * rays) c d
+      at (yes z) = subst (λ (d : Cells). AllFreeable n d w sizes rays × CellsPastKept n (2 * rays) c d) (sym (f 0 ∙ ap (freedAll n c) (no-update w sizes ray z 0) ∙ freed-none n c)) (a, kept-none n (2 * rays) c)
+      at (no nz) = subst (λ (d : Cells). AllFreeable n d w sizes rays × CellsPastKept n (2 * rays) c d) (sym (f 0 ∙ freed-ray-new n c w sizes ray nz 0)) (
         record {
           in-sizes = a .in-sizes;
           room = one-room n (2 * rays) _ (freedList n c (2 * ray)) s₁ r₁ (2 * ray + 1) in-second;
@@ -116,7 +116,7 @@ each-right n [] vs c e = e
 each-right n (u ∷ us) vs c e = each-right n us vs (laidList n c u) (e .1)
 
 -- of a + b rays, the first a are laid
-module _ (n : ℕ) (c : Cells) (w : List Float) (sizes ray a b : ℕ) (p : Place) (ready : RaysLayable n c w sizes ray (a + b) p) where
+module _ (n : ℕ) (c : Cells) (w : List Float) (sizes ray a b : ℕ) (p : LayPlace) (ready : RaysLayable n c w sizes ray (a + b) p) where
   each-more : EachLayable n c (updatesFrom w sizes (p .at) ray a ++ updatesFrom w sizes (listsEnd w sizes (p .at) ray a) (ray + a) b)
   each-more = subst (EachLayable n c) (updates-more w sizes a b (p .at) ray) (ready .each)
 
@@ -128,7 +128,7 @@ module _ (n : ℕ) (c : Cells) (w : List Float) (sizes ray a b : ℕ) (p : Place
     cursor = ready .cursor;
   }
 
-  pub layable-rest : (d : Cells) (q : Place) → RaysLaid n c w sizes ray a p d q → RaysLayable n d w sizes (ray + a) b q
+  pub layable-rest : (d : Cells) (q : LayPlace) → RaysLaid n c w sizes ray a p d q → RaysLayable n d w sizes (ray + a) b q
   layable-rest d q l = record {
     in-sizes = omega (arith, ready .in-sizes);
     in-lists = omega (arith, ready .in-lists, end-more w sizes a b (p .at) ray, ap (λ (x : ℕ). listsEnd w sizes x (ray + a) b) (l .at));
@@ -138,7 +138,7 @@ module _ (n : ℕ) (c : Cells) (w : List Float) (sizes ray a b : ℕ) (p : Place
     cursor = l .cursor;
   }
 
-pub laid-more : (n : ℕ) (c : Cells) (w : List Float) (sizes ray a b : ℕ) (p : Place) (d : Cells) (q : Place) (e : Cells) (r : Place) → RaysLaid n c w sizes ray a p d q → RaysLaid n d w sizes (ray + a) b q e r → RaysLaid n c w sizes ray (a + b) p e r
+pub laid-more : (n : ℕ) (c : Cells) (w : List Float) (sizes ray a b : ℕ) (p : LayPlace) (d : Cells) (q : LayPlace) (e : Cells) (r : LayPlace) → RaysLaid n c w sizes ray a p d q → RaysLaid n d w sizes (ray + a) b q e r → RaysLaid n c w sizes ray (a + b) p e r
 laid-more n c w sizes ray a b p d q e r l m = record {
   left =
       m .left ∙ ap₂ (λ (x : Cells) (y : ℕ). laidAll n x (updatesFrom w sizes y (ray + a) b)) (l .left) (l .at)
@@ -148,7 +148,7 @@ laid-more n c w sizes ray a b p d q e r l m = record {
 }
 
 -- the lists of the first rays are laid, and the sizes of the store are as before
-pub record LaidTo (n : ℕ) (c : Cells) (w : List Float) (sizes at rays ray : ℕ) (d : Cells) (p : Place) : Type 0 where
+pub record LaidTo (n : ℕ) (c : Cells) (w : List Float) (sizes at rays ray : ℕ) (d : Cells) (p : LayPlace) : Type 0 where
   pub most : ray ≤ rays
   pub done : RaysLaid n c w sizes 0 ray (record { from = 0; at = at }) d p
   pub spans-size : length (d .spans) ≡ length (c .spans)
@@ -165,7 +165,7 @@ module _ (n : ℕ) (c : Cells) (w : List Float) (sizes at rays : ℕ) (ready : R
     heads-size = refl;
   }
 
-  module _ (ray : ℕ) (d : Cells) (p : Place) (t : LaidTo n c w sizes at rays ray d p) where
+  module _ (ray : ℕ) (d : Cells) (p : LayPlace) (t : LaidTo n c w sizes at rays ray d p) where
     pub turn-layable : ray < rays → RaysLayable n d w sizes ray 1 p
     turn-layable h =
         let all : ray + (rays - ray) ≡ rays = omega arith in
@@ -173,7 +173,7 @@ module _ (n : ℕ) (c : Cells) (w : List Float) (sizes at rays : ℕ) (ready : R
         let left : RaysLayable n d w sizes (0 + ray) (rays - ray) p = layable-rest n c w sizes 0 ray (rays - ray) (record { from = 0; at = at }) (subst (λ (k : ℕ). RaysLayable n c w sizes 0 k (record { from = 0; at = at })) (sym all) ready) d p (t .done) in
         layable-first n d w sizes ray 1 (rays - ray - 1) p (subst (λ (k : ℕ). RaysLayable n d w sizes ray k p) (sym one) (subst (λ (k : ℕ). RaysLayable n d w sizes k (rays - ray) p) (zero-add ray) left))
 
-    pub laid-next : ray < rays → (e : Cells) (q : Place) → RaysLaid n d w sizes ray 1 p e q → length (e .spans) ≡ length (d .spans) → length (e .links) ≡ length (d .links) → length (e .heads) ≡ length (d .heads) → LaidTo n c w sizes at rays (ray + 1) e q
+    pub laid-next : ray < rays → (e : Cells) (q : LayPlace) → RaysLaid n d w sizes ray 1 p e q → length (e .spans) ≡ length (d .spans) → length (e .links) ≡ length (d .links) → length (e .heads) ≡ length (d .heads) → LaidTo n c w sizes at rays (ray + 1) e q
     laid-next h e q l ss ls hs = record {
       most = omega arith;
       done = laid-more n c w sizes 0 ray 1 (record { from = 0; at = at }) d p e q (t .done) (subst (λ (k : ℕ). RaysLaid n d w sizes k 1 p e q) (sym (zero-add ray)) l);

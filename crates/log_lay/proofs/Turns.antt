@@ -7,11 +7,11 @@ use lib.ListN.{length}
 use lib.Ieee.{Float}
 use borrow.Author.Tests.{eq-eqb, ne-eqb}
 use Rattle.log_numbers.specs.Numbers.{numberAt}
-use Rattle.store.specs.Updates.{Cells, Update, update, part, Layable, freedList, freedAll, laidList, laidAll}
-use Rattle.store_lay.specs.Rays.{LayableRay, LaidRay}
+use Rattle.store.specs.Updates.{Cells, Update, update, pairsFrom, LayListPre, freedList, freedAll, laidList, laidAll}
+use Rattle.store_lay.specs.Rays.{LayRayPre, LayRayPost}
 use Rattle.log_lay.specs.Updates.{firstSize, updatesFrom, listsEnd}
 use Rattle.log_lay.specs.Steps.{EachLayable, RaysLayable, RaysLaid}
-use Rattle.log_lay.specs.declared.Place.{Place}
+use Rattle.log_lay.specs.declared.LayPlace.{LayPlace}
 use Rattle.log_lay.proofs.Lists.{updates-none, end-none, pastRay, firstUpdate, secondUpdate, updates-same, updates-new, end-same, end-new}
 
 -- ---- no update, two updates
@@ -31,7 +31,7 @@ laid-two : (n : ℕ) (c : Cells) (u v : Update) → laidAll n c (u ∷ v ∷ [])
 unfolding laidAll
 laid-two n c u v = refl
 
-both-layable : (n : ℕ) (c : Cells) (u v : Update) → EachLayable n c (u ∷ v ∷ []) → Layable n c u × Layable n (laidList n c u) v
+both-layable : (n : ℕ) (c : Cells) (u v : Update) → EachLayable n c (u ∷ v ∷ []) → LayListPre n c u × LayListPre n (laidList n c u) v
 unfolding EachLayable
 both-layable n c u v e = (e .0, e .1 .0)
 
@@ -63,7 +63,7 @@ module _ (n : ℕ) (c : Cells) (w : List Float) (sizes ray first : ℕ) (e : fir
   freed-new nz b f q = f ∙ sym (freed-ray-new n c w sizes ray (λ z. nz (e ∙ z)) q)
 
 -- ---- laying
-module _ (n : ℕ) (c : Cells) (w : List Float) (sizes ray : ℕ) (p : Place) (ready : RaysLayable n c w sizes ray 1 p) (first : ℕ) (e : first ≡ firstSize w sizes ray) where
+module _ (n : ℕ) (c : Cells) (w : List Float) (sizes ray : ℕ) (p : LayPlace) (ready : RaysLayable n c w sizes ray 1 p) (first : ℕ) (e : first ≡ firstSize w sizes ray) where
   pub laid-same : first ≡ 0 → RaysLaid n c w sizes ray 1 p c p
   laid-same z = record {
     left = sym (ap (laidAll n c) (no-update w sizes ray (sym e ∙ z) (p .at)) ∙ laid-none n c);
@@ -86,23 +86,23 @@ module _ (n : ℕ) (c : Cells) (w : List Float) (sizes ray : ℕ) (p : Place) (r
     unfolding end middle
     lists-room = omega (arith, end-is, ready .in-lists)
 
-    first-is : update (2 * ray) (part w (p .at) (first - 1)) ≡ firstUpdate w sizes (p .at) ray 0
-    first-is = ap (λ (x : ℕ). update (2 * ray) (part w (p .at) (x - 1))) e
+    first-is : update (2 * ray) (pairsFrom w (p .at) (first - 1)) ≡ firstUpdate w sizes (p .at) ray 0
+    first-is = ap (λ (x : ℕ). update (2 * ray) (pairsFrom w (p .at) (x - 1))) e
 
-    second-is : update (2 * ray + 1) (part w (p .at + 2 * (first - 1)) second) ≡ secondUpdate w sizes (p .at) ray 0
-    second-is = ap₂ (λ (x y : ℕ). update (2 * ray + 1) (part w (p .at + 2 * (x - 1)) y)) e f
+    second-is : update (2 * ray + 1) (pairsFrom w (p .at + 2 * (first - 1)) second) ≡ secondUpdate w sizes (p .at) ray 0
+    second-is = ap₂ (λ (x y : ℕ). update (2 * ray + 1) (pairsFrom w (p .at + 2 * (x - 1)) y)) e f
 
-    both : Layable n c (firstUpdate w sizes (p .at) ray 0) × Layable n (laidList n c (firstUpdate w sizes (p .at) ray 0)) (secondUpdate w sizes (p .at) ray 0)
+    both : LayListPre n c (firstUpdate w sizes (p .at) ray 0) × LayListPre n (laidList n c (firstUpdate w sizes (p .at) ray 0)) (secondUpdate w sizes (p .at) ray 0)
     both = both-layable n c (firstUpdate w sizes (p .at) ray 0) (secondUpdate w sizes (p .at) ray 0) (subst (EachLayable n c) (two-updates w sizes ray (λ z. nz (e ∙ z)) (p .at)) (ready .each))
 
-    pub ray-layable : LayableRay n c ray (part w (p .at) (first - 1)) (part w (p .at + 2 * (first - 1)) second)
+    pub ray-layable : LayRayPre n c ray (pairsFrom w (p .at) (first - 1)) (pairsFrom w (p .at + 2 * (first - 1)) second)
     ray-layable = record {
-      possible = subst (Layable n c) (sym first-is) (both .0);
-      certain = subst (λ (u : Update). Layable n (laidList n c u) (update (2 * ray + 1) (part w (p .at + 2 * (first - 1)) second))) (sym first-is)
-          (subst (Layable n (laidList n c (firstUpdate w sizes (p .at) ray 0))) (sym second-is) (both .1));
+      possible = subst (LayListPre n c) (sym first-is) (both .0);
+      certain = subst (λ (u : Update). LayListPre n (laidList n c u) (update (2 * ray + 1) (pairsFrom w (p .at + 2 * (first - 1)) second))) (sym first-is)
+          (subst (LayListPre n (laidList n c (firstUpdate w sizes (p .at) ray 0))) (sym second-is) (both .1));
     }
 
-    pub laid-new : (b : Cells) (q : Place) → LaidRay n c ray (part w (p .at) (first - 1)) (part w (p .at + 2 * (first - 1)) second) (q .from) b → q .at ≡ p .at + 2 * (first - 1) + 2 * second → RaysLaid n c w sizes ray 1 p b q
+    pub laid-new : (b : Cells) (q : LayPlace) → LayRayPost n c ray (pairsFrom w (p .at) (first - 1)) (pairsFrom w (p .at + 2 * (first - 1)) second) (q .from) b → q .at ≡ p .at + 2 * (first - 1) + 2 * second → RaysLaid n c w sizes ray 1 p b q
     unfolding end middle
     laid-new b q laid at = record {
       left =

@@ -4,38 +4,38 @@ use mathlib.Core.List.{List, [], _∷_}
 use Prim.Native.Nat.{ℕ, _+_, _*_, _≤_, _<_}
 use lib.ListN.{length}
 use lib.Ieee.{Float}
-use Rattle.store.specs.Fills.{Cursor}
-use Rattle.store.specs.Updates.{Cells, Update, Room, SoundStore, Layable, laidList, laidAll}
-use Rattle.store_free.specs.Rays.{FreeableRay}
+use Rattle.store.specs.Fills.{FreeCursor}
+use Rattle.store.specs.Updates.{Cells, Update, Room, CellsChainsSound, LayListPre, laidList, laidAll}
+use Rattle.store_free.specs.Rays.{FreeRayPre}
 use Rattle.log_lay.specs.Updates.{updatesFrom, listsEnd}
-use Rattle.log_lay.specs.declared.Place.{Place}
+use Rattle.log_lay.specs.declared.LayPlace.{LayPlace}
 
 -- both lists of a ray can be freed, and its first size can be read
 pub record RayFreeable (n : ℕ) (c : Cells) (w : List Float) (sizes ray : ℕ) : Type 0 where
   pub in-sizes : sizes + 2 * ray < length w
-  pub lists : FreeableRay n c ray
+  pub lists : FreeRayPre n c ray
 
 -- a sound store of two lists for each ray, and the sizes of all rays in the work buffer
 pub record AllFreeable (n : ℕ) (c : Cells) (w : List Float) (sizes rays : ℕ) : Type 0 where
   pub in-sizes : sizes + 2 * rays ≤ length w
   pub room : Room n (2 * rays) c
   pub total : ℕ
-  pub store : SoundStore n (2 * rays) total c
+  pub store : CellsChainsSound n (2 * rays) total c
 
 -- each update finds the room that it needs, after those before it
 unfoldable pub EachLayable : ℕ → Cells → List Update → Type 0
 EachLayable n c [] = Unit
-EachLayable n c (u ∷ us) = Layable n c u × EachLayable n (laidList n c u) us
+EachLayable n c (u ∷ us) = LayListPre n c u × EachLayable n (laidList n c u) us
 
 -- the sizes and the new lists of k rays from `ray` on stand in the work buffer, and there is room for them
-pub record RaysLayable (n : ℕ) (c : Cells) (w : List Float) (sizes ray k : ℕ) (p : Place) : Type 0 where
+pub record RaysLayable (n : ℕ) (c : Cells) (w : List Float) (sizes ray k : ℕ) (p : LayPlace) : Type 0 where
   pub in-sizes : sizes + 2 * (ray + k) ≤ length w
   pub in-lists : listsEnd w sizes (p .at) ray k ≤ length w
   pub each : EachLayable n c (updatesFrom w sizes (p .at) ray k)
-  pub cursor : Cursor n (c .spans) (c .links) (p .from)
+  pub cursor : FreeCursor n (c .spans) (c .links) (p .from)
 
 -- the new lists of k rays from `ray` on are laid
-pub record RaysLaid (n : ℕ) (c : Cells) (w : List Float) (sizes ray k : ℕ) (p : Place) (d : Cells) (q : Place) : Type 0 where
+pub record RaysLaid (n : ℕ) (c : Cells) (w : List Float) (sizes ray k : ℕ) (p : LayPlace) (d : Cells) (q : LayPlace) : Type 0 where
   pub left : d ≡ laidAll n c (updatesFrom w sizes (p .at) ray k)
   pub at : q .at ≡ listsEnd w sizes (p .at) ray k
-  pub cursor : Cursor n (d .spans) (d .links) (q .from)
+  pub cursor : FreeCursor n (d .spans) (d .links) (q .from)

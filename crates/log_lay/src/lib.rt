@@ -47,7 +47,7 @@ pub fn free_all(
 }
 
 // Where laying stands: no record before place `from` is free, and the next new list stands at cell `at` of the work buffer.
-pub struct Place {
+pub struct LayPlace {
     pub from: usize,
     pub at: usize,
 }
@@ -61,8 +61,8 @@ fn lay_ray(
     work: &[f64],
     sizes: usize,
     ray: usize,
-    place: Place,
-) -> Place
+    place: LayPlace,
+) -> LayPlace
     requires { ⌜ RaysLayable n (cells (now spans) (now links) (now heads)) (now work) sizes ray 1 place ⌝ }
     ensures { λ r. ⌜ RaysLaid n (cells (now (spans .entry)) (now (links .entry)) (now (heads .entry))) (now (work .entry)) sizes ray 1 place
         (cells (now (spans .exit)) (now (links .exit)) (now (heads .exit))) r ⌝ }
@@ -89,7 +89,7 @@ fn lay_ray(
         possible,
         certain,
     );
-    Place { from, at: end }
+    LayPlace { from, at: end }
 }
 
 // Lays the new lists of all rays that change, which stand from cell `at` of the work buffer on. One place before which no record is free goes
@@ -108,7 +108,7 @@ pub fn lay_all(
     ensures { λ _. ⌜ cells (now (spans .exit)) (now (links .exit)) (now (heads .exit))
         ≡ laidAll n (cells (now (spans .entry)) (now (links .entry)) (now (heads .entry))) (updatesFrom (now (work .entry)) sizes at 0 rays) ⌝ }
 {
-    let mut place = Place { from: 0, at };
+    let mut place = LayPlace { from: 0, at };
     let mut ray: usize = 0;
     while ray < rays {
         place = lay_ray(spans, links, heads, n, work, sizes, ray, place);

@@ -19,7 +19,7 @@ use Rattle.spans.proofs.Points.{holds-append, holds-upTo, holds-above}
 use Rattle.store.specs.Store.{hiAt, nextAt, places}
 use Rattle.store_lists.specs.Reading.{listFrom, Readable}
 use Rattle.store_lists.proofs.Steps.{step, no-ends, ends-length}
-use Rattle.log_model.specs.Counts.{hitBy}
+use Rattle.log_model.specs.Counts.{isHitBy}
 use Rattle.log_model.proofs.Meets.{kept-unhit, hit-at}
 use Rattle.log_model.proofs.Starts.{pairs-left}
 use Rattle.log_left.specs.ListLeft.{startingAt, restOf, ListWalked, withoutPair, ListLeftPost}
@@ -334,7 +334,7 @@ module _ {n : ℕ} {spans : List Float} {links : List ℕ} where
       starting x [] = refl
       starting x (y ∷ m) = refl
 
-      go : (b : Bool) → r .moved ≡ b → b ≡ hitBy l hits
+      go : (b : Bool) → r .moved ≡ b → b ≡ isHitBy l hits
       go true h =
           let (p, a, b) = w .moves h in
           sym (hit-at l hits p a (not-false (holds hits p) (sym (ap (λ (b : Bool). b && not (holds hits p)) a) ∙ b)))

@@ -9,7 +9,7 @@ use lib.Ieee.{Float}
 use Rattle.spans.specs.Spans.{within, holds, less, ListOf}
 use Rattle.spans.specs.Steps.{UpTo}
 use Rattle.store_lists.specs.Reading.{listFrom}
-use Rattle.log_model.specs.Counts.{hitBy, startsLeft}
+use Rattle.log_model.specs.Counts.{isHitBy, startsLeft}
 use Rattle.log_left.specs.declared.Rest.{Rest}
 use Rattle.log_left.specs.declared.ListLeft.{ListLeft}
 
@@ -41,5 +41,5 @@ withoutPair s lo hi p = s p && not (within lo hi p)
 
 -- whether a list changes when the hits are taken from it, and how many pairs it then has, as far as the machine's numbers tell
 pub record ListLeftPost (l hits : List Float) (t : ListLeft) : Type 0 where
-  pub moved : t .moved ≡ hitBy l hits
+  pub moved : t .moved ≡ isHitBy l hits
   pub pairs : t .pairs ≡ startsLeft l hits % 2 ^ 64

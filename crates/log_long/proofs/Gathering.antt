@@ -5,7 +5,7 @@ use Prim.Native.Nat.{ℕ, _+_}
 use native.Mathlib.Omega.{arith}
 use lib.Ieee.{Float, neg}
 use Rattle.grid.specs.declared.DexelGrid.{DexelGrid}
-use Rattle.log_model.specs.Logs.{entryAt, rayOf, outer, inner}
+use Rattle.log_model.specs.Logs.{entryAt, entryRay, outer, inner}
 use Rattle.log_long.specs.declared.LongPart.{LongPart}
 use Rattle.log_long.specs.Long.{AddKeyPost, AddFrontsPost, GathersTo}
 use Rattle.log_long.proofs.Stretching.{longKeys-start, longKeys-passed}
@@ -13,7 +13,7 @@ use Rattle.log_long.proofs.Reaching.{reaches-start, reaches-passed, rea
 
 module _ (g : DexelGrid) (log : List Float) (ray : ℕ) (top b : Float) where
   abbrev ray-at : ℕ → ℕ
-  ray-at i = rayOf g (entryAt log i)
+  ray-at i = entryRay g (entryAt log i)
 
   pub gathers-start : (keys : List ℕ)
       → GathersTo g log ray top b 0 keys keys record { count = 0; end = top; outer = neg top; inner = neg top }
@@ -27,7 +27,7 @@ module _ (g : DexelGrid) (log : List Float) (ray : ℕ) (top b : Float) where
 
   module _ (i : ℕ) (keys : List ℕ) (w : LongPart) (s : GathersTo g log ray top b i keys keys w) where
     -- the entry at place i is not on the ray
-    pub gathers-passed : (rayOf g (entryAt log i) ≡ ray → ⊥) → GathersTo g log ray top b (i + 1) keys keys w
+    pub gathers-passed : (entryRay g (entryAt log i) ≡ ray → ⊥) → GathersTo g log ray top b (i + 1) keys keys w
     gathers-passed off = record {
       size = refl;
       inLog = s .inLog;
@@ -37,7 +37,7 @@ module _ (g : DexelGrid) (log : List Float) (ray : ℕ) (top b : Float) where
     }
 
     -- it is
-    pub gathers-added : (t : LongPart) (after : List ℕ) (r : LongPart) → rayOf g (entryAt log i) ≡ ray → AddFrontsPost b (entryAt log i) w t
+    pub gathers-added : (t : LongPart) (after : List ℕ) (r : LongPart) → entryRay g (entryAt log i) ≡ ray → AddFrontsPost b (entryAt log i) w t
         → AddKeyPost top b i log keys t after r → GathersTo g log ray top b (i + 1) keys after r
     gathers-added t after r on f a = record {
       size = a .size;

@@ -11,7 +11,7 @@ use Rattle.doubles.specs.Doubles.{Number}
 use Rattle.doubles.proofs.Bools.{and-left, and-right, both, clash}
 use Rattle.doubles.proofs.Order.{lt-number, le-number, not-lt→le, le-trans, lt-trans, lt-le-trans}
 use Rattle.spans.specs.Spans.{within}
-use Rattle.log_model.specs.Logs.{entryAt, HitKind, loOf, hiOf}
+use Rattle.log_model.specs.Logs.{entryAt, HitKind, hitLo, hitHi}
 use Rattle.log_long.specs.Long.{furtherOf, FrontReach}
 
 -- ---- one hit
@@ -73,9 +73,9 @@ module _ (rays : ℕ → ℕ) (log : List Float) (ray : ℕ) (b : Float) (w : Hi
 
   -- it is
   pub reaches-added : (i : ℕ) (front : Float) → rays i ≡ ray → FrontReach rays log ray b i w front
-      → FrontReach rays log ray b (i + 1) w (furtherOf front b (loOf w (entryAt log i)) (hiOf w (entryAt log i)))
+      → FrontReach rays log ray b (i + 1) w (furtherOf front b (hitLo w (entryAt log i)) (hitHi w (entryAt log i)))
   reaches-added i front on s =
-      let f = further-is front b (loOf w (entryAt log i)) (hiOf w (entryAt log i)) (s .number) in
+      let f = further-is front b (hitLo w (entryAt log i)) (hitHi w (entryAt log i)) (s .number) in
       record {
         number = f .number;
         all = λ j h r p q x l. elim (decLt j i) [

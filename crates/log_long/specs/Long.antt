@@ -10,7 +10,7 @@ use Rattle.doubles.specs.Doubles.{Number}
 use Rattle.spans.specs.Spans.{within}
 use Rattle.span_overlay.specs.Overlay.{lowerOf}
 use Rattle.grid.specs.declared.DexelGrid.{DexelGrid}
-use Rattle.log_model.specs.Logs.{Entry, entryAt, entryCount, rayOf, HitKind, outer, inner, loOf, hiOf}
+use Rattle.log_model.specs.Logs.{Entry, entryAt, entryCount, entryRay, HitKind, outer, inner, hitLo, hitHi}
 use Rattle.log_long.specs.declared.LongPart.{LongPart}
 
 -- where a hit begins, if that is past b, or else `top`
@@ -19,8 +19,8 @@ beginPast top b lo hi = cond (lt lo hi) (cond (lt b lo) lo top) top
 
 -- where the first of an entry's hits begins that begins past b
 unfoldable pub leastPast : (top b : Float) → Entry → Float
-unfolding beginPast loOf hiOf
-leastPast top b e = lowerOf (beginPast top b (loOf outer e) (hiOf outer e)) (beginPast top b (loOf inner e) (hiOf inner e))
+unfolding beginPast hitLo hitHi
+leastPast top b e = lowerOf (beginPast top b (hitLo outer e) (hitHi outer e)) (beginPast top b (hitLo inner e) (hitHi inner e))
 
 -- how far the hits that begin at or before b reach, with one hit more
 unfoldable pub furtherOf : (front b lo hi : Float) → Float
@@ -35,10 +35,10 @@ pub record InLog (log : List Float) (keys : List ℕ) (m : ℕ) : Type 0 where
 -- lies between b and `front` is in a hit of that kind
 pub record FrontReach (rays : ℕ → ℕ) (log : List Float) (ray : ℕ) (b : Float) (passed : ℕ) (w : HitKind) (front : Float) : Type 0 where
   pub number : Number front
-  pub all : (i : ℕ) → i < passed → rays i ≡ ray → lt (loOf w (entryAt log i)) (hiOf w (entryAt log i)) ≡ true
-      → lt b (loOf w (entryAt log i)) ≡ false → (x : Float) → lt x (hiOf w (entryAt log i)) ≡ true → lt x front ≡ true
+  pub all : (i : ℕ) → i < passed → rays i ≡ ray → lt (hitLo w (entryAt log i)) (hitHi w (entryAt log i)) ≡ true
+      → lt b (hitLo w (entryAt log i)) ≡ false → (x : Float) → lt x (hitHi w (entryAt log i)) ≡ true → lt x front ≡ true
   pub only : (x : Float) → within b front x ≡ true
-      → (i : ℕ) × (i < passed) × (rays i ≡ ray) × (within (loOf w (entryAt log i)) (hiOf w (entryAt log i)) x ≡ true)
+      → (i : ℕ) × (i < passed) × (rays i ≡ ray) × (within (hitLo w (entryAt log i)) (hitHi w (entryAt log i)) x ≡ true)
 
 -- The first keys are the places, before `passed`, of the entries on the ray that have a hit beginning between b and the end of the stretch.
 -- It ends at `top`, or where a hit of the ray begins that begins past b.
@@ -76,19 +76,19 @@ pub record AddKeyPost (top b : Float) (i : ℕ) (log : List Float) (before : Lis
 pub record AddFrontsPost (b : Float) (e : Entry) (w r : LongPart) : Type 0 where
   pub count-is : r .count ≡ w .count
   pub end-is : r .end ≡ w .end
-  pub outer-is : r .outer ≡ furtherOf (w .outer) b (loOf outer e) (hiOf outer e)
-  pub inner-is : r .inner ≡ furtherOf (w .inner) b (loOf inner e) (hiOf inner e)
+  pub outer-is : r .outer ≡ furtherOf (w .outer) b (hitLo outer e) (hitHi outer e)
+  pub inner-is : r .inner ≡ furtherOf (w .inner) b (hitLo inner e) (hitHi inner e)
 
 -- the ray's entries before place `passed` are gathered
 pub record GathersTo (g : DexelGrid) (log : List Float) (ray : ℕ) (top b : Float) (passed : ℕ) (before after : List ℕ) (r : LongPart)
     : Type 0 where
   pub size : length after ≡ length before
   pub inLog : InLog log after (r .count)
-  pub longKeys : LongKeys (λ i. rayOf g (entryAt log i)) log ray top b passed after (r .count) (r .end)
+  pub longKeys : LongKeys (λ i. entryRay g (entryAt log i)) log ray top b passed after (r .count) (r .end)
   pub outers : ((x : Float) → lt x (neg top) ≡ false) → Number (neg top)
-      → FrontReach (λ i. rayOf g (entryAt log i)) log ray b passed outer (r .outer)
+      → FrontReach (λ i. entryRay g (entryAt log i)) log ray b passed outer (r .outer)
   pub inners : ((x : Float) → lt x (neg top) ≡ false) → Number (neg top)
-      → FrontReach (λ i. rayOf g (entryAt log i)) log ray b passed inner (r .inner)
+      → FrontReach (λ i. entryRay g (entryAt log i)) log ray b passed inner (r .inner)
 
 -- all of the ray's entries are gathered
 abbrev pub GatherRayPost : (g : DexelGrid) (log : List Float) (ray : ℕ) (top b : Float) (before after : List ℕ) (r : LongPart) → Type 0

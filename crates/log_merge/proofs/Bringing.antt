@@ -8,29 +8,29 @@ use lib.ListN.{length, getD, take, drop, length-append, length-drop, List·getD-
 use lib.Seq.{length-take-le, getD-take, take-all, take-at, drop-at}
 use lib.Ieee.{Float, nan}
 use Rattle.spans.specs.Spans.{NormalOf}
-use Rattle.spans.specs.Steps.{Filled}
+use Rattle.spans.specs.Steps.{FilledFront}
 use Rattle.grid.specs.Rays.{rayCount}
 use Rattle.grid.specs.declared.DexelStockSpec.{DexelStockSpec}
 use Rattle.grid.specs.declared.DexelGrid.{DexelGrid}
 use Rattle.log_model.specs.Logs.{entries, entryCount, HitKind, outer, inner}
 use Rattle.log_model.proofs.Entries.{entries-length}
 use Rattle.store.specs.Store.{places}
-use Rattle.store.specs.Updates.{Cells, held}
+use Rattle.store.specs.Updates.{Cells, storeList}
 use Rattle.store.proofs.Chains.{places-within}
-use Rattle.store_lists.specs.Reading.{Copied, Readable}
+use Rattle.store_lists.specs.Reading.{ReadListPost, Readable}
 use Rattle.store_lists.proofs.Steps.{ends-length}
 use Rattle.stock.specs.Stock.{possibleIn, certainIn}
 use Rattle.stock.proofs.Rays.{list-readable}
-use Rattle.log_entries.specs.Named.{pairsNamed}
+use Rattle.log_entries.specs.Named.{hitsOnRayNumber}
 use Rattle.log_entries.proofs.Sizes.{named-most}
 use Rattle.log_group.specs.Groups.{Grouped}
 use Rattle.log_group.proofs.Chains.{grouped-kept}
-use Rattle.ray_subtract.specs.Steps.{part, Placed, Normal}
+use Rattle.ray_subtract.specs.Steps.{cellsFrom, PlacedAt, NormalizedAt}
 use Rattle.ray_subtract.proofs.Places.{part-kept, normal}
-use Rattle.log_merge.specs.Rays.{Bringable, Brought}
+use Rattle.log_merge.specs.Rays.{LoadPre, LoadPost}
 
 -- a list that was copied stands at its place
-module _ (l before : List Float) (at : ℕ) (after : List Float) (r : ℕ) (fit : at + length l ≤ length before) (c : Copied l before at after r) where
+module _ (l before : List Float) (at : ℕ) (after : List Float) (r : ℕ) (fit : at + length l ≤ length before) (c : ReadListPost l before at after r) where
   is : after ≡ take at before ++ (l ++ drop (at + length l) before)
   is = c .cells ∙ append-assoc (take at before) l (drop (at + length l) before)
 
@@ -39,7 +39,7 @@ module _ (l before : List Float) (at : ℕ) (after : List Float) (r : ℕ) (fit 
       ap length is ∙ length-append (take at before) (l ++ drop (at + length l) before)
       ∙ omega (arith, length-append l (drop (at + length l) before), length-take-le at before (omega arith), length-drop (at + length l) before)
 
-  pub copied-placed : Placed l at before after
+  pub copied-placed : PlacedAt l at before after
   copied-placed = record {
     size = copied-size;
     front = λ q h.
@@ -51,11 +51,11 @@ module _ (l before : List Float) (at : ℕ) (after : List Float) (r : ℕ) (fit 
       copied-from : drop at after ≡ l ++ drop (at + length l) before
       copied-from = ap (drop at) is ∙ drop-at (take at before) (l ++ drop (at + length l) before) at (length-take-le at before (omega arith))
 
--- hits that were copied, then made their sound list in the part from their place on
-pub hits-brought : (hits before w ys : List Float) (at e r : ℕ) → at + length hits ≤ length before → Copied hits before at w e
+-- hits that were copied, then made their sound list in the cellsFrom from their place on
+pub hits-brought : (hits before w ys : List Float) (at e r : ℕ) → at + length hits ≤ length before → ReadListPost hits before at w e
     → length ys ≡ length (take (length w - at) (drop at w))
-    → Filled (NormalOf (take (e - at) (take (length w - at) (drop at w)))) (take (length w - at) (drop at w)) (e - at) ys r
-    → Normal hits at before (putMid at (length w - at) w ys) r
+    → FilledFront (NormalOf (take (e - at) (take (length w - at) (drop at w)))) (take (length w - at) (drop at w)) (e - at) ys r
+    → NormalizedAt hits at before (putMid at (length w - at) w ys) r
 hits-brought hits before w ys at e r fit c size f =
     let p = copied-placed hits before at w e fit c in
     let there : take (length w - at) (drop at w) ≡ drop at w = take-all (length w - at) (drop at w) (omega (arith, length-drop at w)) in
@@ -72,9 +72,9 @@ hits-brought hits before w ys at e r fit c size f =
 -- ---- all four
 module _ (possible certain outers inners : List Float) (s : ℕ) (w w₁ w₂ w₃ w₄ : List Float) (no ni : ℕ)
     (room : s + length possible + length certain + length outers + length inners ≤ length w)
-    (p : Placed possible s w w₁) (c : Placed certain (s + length possible) w₁ w₂)
-    (o : Normal outers (s + length possible + length certain) w₂ w₃ no) (i : Normal inners (s + length possible + length certain + no) w₃ w₄ ni) where
-  pub brought : Brought possible certain outers inners s w w₄ (record { possible = length possible; certain = length certain; outer = no; inner = ni })
+    (p : PlacedAt possible s w w₁) (c : PlacedAt certain (s + length possible) w₁ w₂)
+    (o : NormalizedAt outers (s + length possible + length certain) w₂ w₃ no) (i : NormalizedAt inners (s + length possible + length certain + no) w₃ w₄ ni) where
+  pub brought : LoadPost possible certain outers inners s w w₄ (record { possible = length possible; certain = length certain; outer = no; inner = ni })
   brought = record {
     size = i .size ∙ o .size ∙ c .size ∙ p .size;
     front = λ q h. i .front q (omega arith) ∙ o .front q (omega arith) ∙ c .front q (omega arith) ∙ p .front q h;
@@ -91,17 +91,17 @@ module _ (possible certain outers inners : List Float) (s : ℕ) (w w₁ w₂ w�
   }
     where
       -- a list in front of the hits is as it was before they came
-      kept-in : (at n : ℕ) → at + n ≤ s + length possible + length certain → s + length possible + length certain ≤ length w₂ → part at n w₄ ≡ part at n w₂
+      kept-in : (at n : ℕ) → at + n ≤ s + length possible + length certain → s + length possible + length certain ≤ length w₂ → cellsFrom at n w₄ ≡ cellsFrom at n w₂
       kept-in at n h k =
           part-kept (s + length possible + length certain + no) at n w₃ w₄ (omega arith) (omega (arith, o .most, o .size, c .size, p .size)) (i .size) (i .front)
           ∙ part-kept (s + length possible + length certain) at n w₂ w₃ h k (o .size) (o .front)
 
 -- ---- step by step, from what `bring` is given
-module _ (spec : DexelStockSpec) (g : DexelGrid) (c : Cells) (log w : List Float) (ray s : ℕ) (b : Bringable spec g c log w ray s) where
+module _ (spec : DexelStockSpec) (g : DexelGrid) (c : Cells) (log w : List Float) (ray s : ℕ) (b : LoadPre spec g c log w ray s) where
   abbrev hits : HitKind → List Float
-  hits k = pairsNamed g (entries log) ray k
+  hits k = hitsOnRayNumber g (entries log) ray k
 
-  pub list-most : (j : ℕ) → length (held (spec .«max_intervals») c j) ≤ 2 * spec .«max_intervals»
+  pub list-most : (j : ℕ) → length (storeList (spec .«max_intervals») c j) ≤ 2 * spec .«max_intervals»
   list-most j =
       omega (arith, ends-length (c .spans) (places (c .links) (spec .«max_intervals») (getD (c .heads) j 0)), places-within (c .links) (spec .«max_intervals») (getD (c .heads) j 0))
 
@@ -111,8 +111,8 @@ module _ (spec : DexelStockSpec) (g : DexelGrid) (c : Cells) (log w : List Float
   pub possible-ready : Readable (spec .«max_intervals») (c .spans) (c .links) (getD (c .heads) (2 * ray) 0) × (s + length (possibleIn spec c ray) ≤ length w)
   possible-ready = (list-readable spec g c (b .store) (2 * ray) (omega (arith, b .below)), omega (arith, list-most (2 * ray), b .room))
 
-  module _ (w₁ : List Float) (r₁ : ℕ) (p : Copied (possibleIn spec c ray) w s w₁ r₁) where
-    placed₁ : Placed (possibleIn spec c ray) s w w₁
+  module _ (w₁ : List Float) (r₁ : ℕ) (p : ReadListPost (possibleIn spec c ray) w s w₁ r₁) where
+    placed₁ : PlacedAt (possibleIn spec c ray) s w w₁
     placed₁ = copied-placed (possibleIn spec c ray) w s w₁ r₁ (possible-ready .1) p
 
     pub certain-ready : Readable (spec .«max_intervals») (c .spans) (c .links) (getD (c .heads) (2 * ray + 1) 0) × (r₁ + length (certainIn spec c ray) ≤ length w₁)
@@ -121,8 +121,8 @@ module _ (spec : DexelStockSpec) (g : DexelGrid) (c : Cells) (log w : List Float
       omega (arith, p .past, placed₁ .size, list-most (2 * ray), list-most (2 * ray + 1), b .room),
     )
 
-    module _ (w₂ : List Float) (r₂ : ℕ) (q : Copied (certainIn spec c ray) w₁ r₁ w₂ r₂) where
-      placed₂ : Placed (certainIn spec c ray) r₁ w₁ w₂
+    module _ (w₂ : List Float) (r₂ : ℕ) (q : ReadListPost (certainIn spec c ray) w₁ r₁ w₂ r₂) where
+      placed₂ : PlacedAt (certainIn spec c ray) r₁ w₁ w₂
       placed₂ = copied-placed (certainIn spec c ray) w₁ r₁ w₂ r₂ (certain-ready .1) q
 
       pub outer-ready : Grouped g log w₂ × (ray < rayCount g) × (rayCount g + entryCount log ≤ r₂) × (r₂ + length (hits outer) ≤ length w₂)
@@ -133,7 +133,7 @@ module _ (spec : DexelStockSpec) (g : DexelGrid) (c : Cells) (log w : List Float
         omega (arith, p .past, q .past, placed₁ .size, placed₂ .size, list-most (2 * ray), list-most (2 * ray + 1), hits-most outer, b .room),
       )
 
-      module _ (w₃ : List Float) (no : ℕ) (o : Normal (hits outer) r₂ w₂ w₃ no) where
+      module _ (w₃ : List Float) (no : ℕ) (o : NormalizedAt (hits outer) r₂ w₂ w₃ no) where
         pub inner-fits : r₂ + no + length (hits inner) ≤ length w
         inner-fits = omega (arith, p .past, q .past, o .most, list-most (2 * ray), list-most (2 * ray + 1), hits-most outer, hits-most inner, b .room)
 
@@ -145,8 +145,8 @@ module _ (spec : DexelStockSpec) (g : DexelGrid) (c : Cells) (log w : List Float
           omega (arith, inner-fits, placed₁ .size, placed₂ .size, o .size),
         )
 
-        pub all-brought : (w₄ : List Float) (ni : ℕ) → Normal (hits inner) (r₂ + no) w₃ w₄ ni
-            → Brought (possibleIn spec c ray) (certainIn spec c ray) (hits outer) (hits inner) s w w₄ (record { possible = r₁ - s; certain = r₂ - r₁; outer = no; inner = ni })
+        pub all-brought : (w₄ : List Float) (ni : ℕ) → NormalizedAt (hits inner) (r₂ + no) w₃ w₄ ni
+            → LoadPost (possibleIn spec c ray) (certainIn spec c ray) (hits outer) (hits inner) s w w₄ (record { possible = r₁ - s; certain = r₂ - r₁; outer = no; inner = ni })
         all-brought w₄ ni i =
             let np : r₁ - s ≡ length (possibleIn spec c ray) = omega (arith, p .past) in
             let nc : r₂ - r₁ ≡ length (certainIn spec c ray) = omega (arith, q .past) in

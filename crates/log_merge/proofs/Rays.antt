@@ -1,4 +1,4 @@
--- One ray: its lists and hits brought, then cut in the part of the buffer that the new lists go to.
+-- One ray: its lists and hits brought, then cut in the cellsFrom of the buffer that the new lists go to.
 use mathlib.Core.Path.{_≡_, refl, sym, ap, _∙_, subst₂}
 use mathlib.Core.Bool.{true, false, not}
 use mathlib.Core.List.{List, []}
@@ -18,13 +18,13 @@ use Rattle.grid.specs.declared.DexelGrid.{DexelGrid}
 use Rattle.log_model.specs.Logs.{entries, HitKind, outer, inner}
 use Rattle.store.specs.Updates.{Cells}
 use Rattle.stock.specs.Stock.{possibleIn, certainIn, ValidAt}
-use Rattle.log_entries.specs.Named.{pairsNamed}
+use Rattle.log_entries.specs.Named.{hitsOnRayNumber}
 use Rattle.log_numbers.specs.Numbers.{numberAt}
 use Rattle.log_group.proofs.Gathering.{none-named}
-use Rattle.ray_subtract.specs.Steps.{part, Lies, Ready}
+use Rattle.ray_subtract.specs.Steps.{cellsFrom, SoundListAt, MergeWithinPre}
 use Rattle.ray_subtract.proofs.Places.{part-drop, tail-size, tail-front, tail-drop}
-use Rattle.log_merge.specs.Rays.{RayCut, Bringable, Brought, limitOf, RayMerged}
-use Rattle.log_merge.specs.declared.Change.{Change}
+use Rattle.log_merge.specs.Rays.{RayCutPost, LoadPre, LoadPost, limitOf, MergeRayPost}
+use Rattle.log_merge.specs.declared.RayUpdate.{RayUpdate}
 use Rattle.log_merge.specs.declared.Sizes.{Sizes}
 use Rattle.log_merge.proofs.Cutting.{untouched}
 use Rattle.log_merge.proofs.Bringing.{list-most, hits-most}
@@ -42,35 +42,35 @@ less-none : (l : List Float) → sound l ≡ true → lessOf l [] ≡ l
 less-none l h = less-apart l [] h none-sound (none-apart l)
 
 -- the same ray by its lists and those of its hits
-pub cut-same : {a b c d o u i v : List Float} {from limit : ℕ} {before after : List Float} {r : Change} → a ≡ b → c ≡ d → o ≡ u → i ≡ v
-    → RayCut a c o i from limit before after r → RayCut b d u v from limit before after r
+pub cut-same : {a b c d o u i v : List Float} {from limit : ℕ} {before after : List Float} {r : RayUpdate} → a ≡ b → c ≡ d → o ≡ u → i ≡ v
+    → RayCutPost a c o i from limit before after r → RayCutPost b d u v from limit before after r
 cut-same {a} {b} {c} {d} {o} {u} {i} {v} {from} {limit} {before} {after} {r} p q s t x =
-    subst₂ (λ (k l : List Float). RayCut b d k l from limit before after r) s t
-    (subst₂ (λ (k l : List Float). RayCut k l o i from limit before after r) p q x)
+    subst₂ (λ (k l : List Float). RayCutPost b d k l from limit before after r) s t
+    (subst₂ (λ (k l : List Float). RayCutPost k l o i from limit before after r) p q x)
 
 -- ---- what is lent from cell q on
 module _ (q : ℕ) (w : List Float) where
   there : take (length w - q) (drop q w) ≡ drop q w
   there = take-all (length w - q) (drop q w) (omega (arith, length-drop q w))
 
-  -- a part of it that stands at cell p of the whole buffer
-  seen : (p n at : ℕ) → q ≤ p → at ≡ p - q → part at n (take (length w - q) (drop q w)) ≡ part p n w
-  seen p n at h e = ap (part at n) there ∙ ap (λ (x : ℕ). part x n (drop q w)) e ∙ part-drop q p n w h
+  -- a cellsFrom of it that stands at cell p of the whole buffer
+  seen : (p n at : ℕ) → q ≤ p → at ≡ p - q → cellsFrom at n (take (length w - q) (drop q w)) ≡ cellsFrom p n w
+  seen p n at h e = ap (cellsFrom at n) there ∙ ap (λ (x : ℕ). cellsFrom x n (drop q w)) e ∙ part-drop q p n w h
 
-  lies-at : (p n at : ℕ) → q ≤ p → at ≡ p - q → p + n ≤ length w → sound (part p n w) ≡ true → Lies at n (take (length w - q) (drop q w))
+  lies-at : (p n at : ℕ) → q ≤ p → at ≡ p - q → p + n ≤ length w → sound (cellsFrom p n w) ≡ true → SoundListAt at n (take (length w - q) (drop q w))
   lies-at p n at h e room ok = record { room = omega (arith, ap length there, length-drop q w); isSound = ap sound (seen p n at h e) ∙ ok }
 
 -- ---- the ray cut there, seen from the whole buffer
 module _ (q : ℕ) (w ys : List Float) (fit : q ≤ length w) (size : length ys ≡ length (take (length w - q) (drop q w))) where
-  back-part : (k n : ℕ) → part (0 + k) n ys ≡ part (q + k) n (putMid q (length w - q) w ys)
+  back-part : (k n : ℕ) → cellsFrom (0 + k) n ys ≡ cellsFrom (q + k) n (putMid q (length w - q) w ys)
   back-part k n =
-      ap (λ (x : ℕ). part x n ys) (none k) ∙ ap (λ (l : List Float). take n (drop k l)) (sym (tail-drop q w ys fit size)) ∙ ap (take n) (drop-drop k q (putMid q (length w - q) w ys))
+      ap (λ (x : ℕ). cellsFrom x n ys) (none k) ∙ ap (λ (l : List Float). take n (drop k l)) (sym (tail-drop q w ys fit size)) ∙ ap (take n) (drop-drop k q (putMid q (length w - q) w ys))
     where
       none : (k : ℕ) → 0 + k ≡ k
       none k = omega arith
 
-  pub cut-back : {a c o i : List Float} {limit : ℕ} {r : Change} → RayCut a c o i 0 limit (take (length w - q) (drop q w)) ys r
-      → RayCut a c o i q limit w (putMid q (length w - q) w ys) r
+  pub cut-back : {a c o i : List Float} {limit : ℕ} {r : RayUpdate} → RayCutPost a c o i 0 limit (take (length w - q) (drop q w)) ys r
+      → RayCutPost a c o i q limit w (putMid q (length w - q) w ys) r
   cut-back {a} {c} {o} {i} {limit} {r} x = record {
     size = tail-size q w ys fit size;
     front = tail-front q w ys fit size;
@@ -79,8 +79,8 @@ module _ (q : ℕ) (w ys : List Float) (fit : q ≤ length w) (size : length ys 
     lists = λ h.
         let n = x .lists h in
         record {
-          possibleIs = sym (ap (λ (k : ℕ). part k (2 * r .possible) ys) (zero-left 0) ∙ back-part 0 (2 * r .possible)
-              ∙ ap (λ (k : ℕ). part k (2 * r .possible) (putMid q (length w - q) w ys)) (zero-right q)) ∙ n .possibleIs;
+          possibleIs = sym (ap (λ (k : ℕ). cellsFrom k (2 * r .possible) ys) (zero-left 0) ∙ back-part 0 (2 * r .possible)
+              ∙ ap (λ (k : ℕ). cellsFrom k (2 * r .possible) (putMid q (length w - q) w ys)) (zero-right q)) ∙ n .possibleIs;
           certainIs = sym (back-part (2 * r .possible) (2 * r .certain)) ∙ n .certainIs;
         };
     none = x .none;
@@ -93,15 +93,15 @@ module _ (q : ℕ) (w ys : List Float) (fit : q ≤ length w) (size : length ys 
       zero-right k = omega arith
 
 -- ---- from what `merge_ray` is given
-module _ (spec : DexelStockSpec) (g : DexelGrid) (c : Cells) (log w : List Float) (ray q s : ℕ) (b : Bringable spec g c log w ray s) (front : q + limitOf spec log ≤ s) where
+module _ (spec : DexelStockSpec) (g : DexelGrid) (c : Cells) (log w : List Float) (ray q s : ℕ) (b : LoadPre spec g c log w ray s) (front : q + limitOf spec log ≤ s) where
   abbrev hits : HitKind → List Float
-  hits k = pairsNamed g (entries log) ray k
+  hits k = hitsOnRayNumber g (entries log) ray k
 
   valid : ValidAt spec g c ray
   valid = b .valid ray (b .below)
 
   -- no entry names the ray
-  pub ray-same : numberAt w ray ≡ 0 → RayMerged spec g c log ray q w w (record { changed = false; possible = 0; certain = 0 })
+  pub ray-same : numberAt w ray ≡ 0 → MergeRayPost spec g c log ray q w w (record { changed = false; possible = 0; certain = 0 })
   ray-same e = record {
     outerNormal = [];
     innerNormal = [];
@@ -127,14 +127,14 @@ module _ (spec : DexelStockSpec) (g : DexelGrid) (c : Cells) (log w : List Float
       stays : (l : List Float) → sound l ≡ true → equal l (lessOf l []) ≡ true
       stays l h = ap (equal l) (less-none l h) ∙ same-set l l h h (λ p n. refl)
 
-  module _ (w₁ : List Float) (z : Sizes) (x : Brought (possibleIn spec c ray) (certainIn spec c ray) (hits outer) (hits inner) s w w₁ z) where
+  module _ (w₁ : List Float) (z : Sizes) (x : LoadPost (possibleIn spec c ray) (certainIn spec c ray) (hits outer) (hits inner) s w w₁ z) where
     few : z .possible + z .certain + z .outer + 2 * z .inner ≤ limitOf spec log
     few = omega (arith, x .possibleCells, x .certainCells, x .outerMost, x .innerMost, list-most spec g c log w ray s b (2 * ray), list-most spec g c log w ray s b (2 * ray + 1), hits-most spec g c log w ray s b outer, hits-most spec g c log w ray s b inner)
 
     fits : s + z .possible + z .certain + z .outer + z .inner ≤ length w₁
     fits = omega (arith, x .possibleCells, x .certainCells, x .outerMost, x .innerMost, x .size, b .room, list-most spec g c log w ray s b (2 * ray), list-most spec g c log w ray s b (2 * ray + 1), hits-most spec g c log w ray s b outer, hits-most spec g c log w ray s b inner)
 
-    pub cut-ready : Ready (s - q) (z .possible) (z .certain) (z .outer) (z .inner) (take (length w₁ - q) (drop q w₁))
+    pub cut-ready : MergeWithinPre (s - q) (z .possible) (z .certain) (z .outer) (z .inner) (take (length w₁ - q) (drop q w₁))
     cut-ready = record {
       room = omega (arith, few);
       possible = lies-at q w₁ s (z .possible) (s - q) (omega arith) refl (omega (arith, fits)) (ap sound (x .possibleIs) ∙ valid .possible-sound);
@@ -148,12 +148,12 @@ module _ (spec : DexelStockSpec) (g : DexelGrid) (c : Cells) (log w : List Float
     abbrev lent : List Float
     lent = take (length w₁ - q) (drop q w₁)
 
-    pub ray-merged : (ys : List Float) (r : Change) → length ys ≡ length lent
-        → RayCut (part (s - q) (z .possible) lent) (part (s - q + z .possible) (z .certain) lent)
-        (part (s - q + z .possible + z .certain) (z .outer) lent)
-        (part (s - q + z .possible + z .certain + z .outer) (z .inner) lent) 0
+    pub ray-merged : (ys : List Float) (r : RayUpdate) → length ys ≡ length lent
+        → RayCutPost (cellsFrom (s - q) (z .possible) lent) (cellsFrom (s - q + z .possible) (z .certain) lent)
+        (cellsFrom (s - q + z .possible + z .certain) (z .outer) lent)
+        (cellsFrom (s - q + z .possible + z .certain + z .outer) (z .inner) lent) 0
         (z .possible + z .certain + z .outer + 2 * z .inner) lent ys r
-        → RayMerged spec g c log ray q w (putMid q (length w₁ - q) w₁ ys) r
+        → MergeRayPost spec g c log ray q w (putMid q (length w₁ - q) w₁ ys) r
     ray-merged ys r size y =
         let k = cut-back q w₁ ys (omega (arith, fits)) size (cut-same
         (seen q w₁ s (z .possible) (s - q) (omega arith) refl ∙ x .possibleIs)
@@ -162,8 +162,8 @@ module _ (spec : DexelStockSpec) (g : DexelGrid) (c : Cells) (log w : List Float
         (seen q w₁ (s + z .possible + z .certain + z .outer) (z .inner) (s - q + z .possible + z .certain + z .outer) (omega arith)
         (omega arith)) y) in
         record {
-          outerNormal = part (s + z .possible + z .certain) (z .outer) w₁;
-          innerNormal = part (s + z .possible + z .certain + z .outer) (z .inner) w₁;
+          outerNormal = cellsFrom (s + z .possible + z .certain) (z .outer) w₁;
+          innerNormal = cellsFrom (s + z .possible + z .certain + z .outer) (z .inner) w₁;
           outerIs = x .outerHits;
           innerIs = x .innerHits;
           cut = record {

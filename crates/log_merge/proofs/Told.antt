@@ -13,19 +13,19 @@ use Rattle.grid.specs.declared.DexelStockSpec.{DexelStockSpec}
 use Rattle.grid.specs.declared.DexelGrid.{DexelGrid}
 use Rattle.stock.specs.Stock.{Stock, possibleIn, certainIn, SoundCells}
 use Rattle.log_model.specs.Logs.{Ray, Kind, possible, certain, entries, outer, inner}
-use Rattle.log_model.specs.Model.{Changes}
-use Rattle.log_model.specs.Counts.{changesRay, startsLeft, hitsOn}
+use Rattle.log_model.specs.Model.{RayChanges}
+use Rattle.log_model.specs.Counts.{isRayChanged, startsLeft, hitsOnList}
 use Rattle.log_model.specs.Lent.{listNumber, listIn}
 use Rattle.log_model.proofs.Decided.{changes-by}
 use Rattle.log_model.proofs.Doubles.{Doubles}
 use Rattle.log_entries.proofs.Places.{pairs-named}
-use Rattle.log_updates.specs.Merges.{ExactOf, listsOf}
+use Rattle.log_updates.specs.Merges.{MergedByLog, stockLists}
 use Rattle.log_updates.proofs.Asked.{exact-possible, exact-certain, exact-changes}
 use Rattle.log_updates.proofs.Totals.{each, one-pairs}
-use Rattle.ray_subtract.specs.Steps.{part}
+use Rattle.ray_subtract.specs.Steps.{cellsFrom}
 use Rattle.ray_subtract.proofs.Places.{part-length}
-use Rattle.log_merge.specs.Rays.{RayMerged, limitOf}
-use Rattle.log_merge.specs.declared.Change.{Change}
+use Rattle.log_merge.specs.Rays.{MergeRayPost, limitOf}
+use Rattle.log_merge.specs.declared.RayUpdate.{RayUpdate}
 
 -- ---- over a sound store
 module _ (spec : DexelStockSpec) (g : DexelGrid) (s : Stock) (total : ℕ) (snd : SoundCells spec g (s .cells) total) (log : List Float) where
@@ -34,18 +34,18 @@ module _ (spec : DexelStockSpec) (g : DexelGrid) (s : Stock) (total : ℕ) (snd 
   whole = record { cells = s .cells; generation = 0; intervals = total }
 
   abbrev sets : Ray g → Kind → Float → Bool
-  sets r k = holds (listsOf spec g s r k)
+  sets r k = holds (stockLists spec g s r k)
 
-  listed : (r : Ray g) (k : Kind) → ListOf (sets r k) (listsOf spec g s r k)
+  listed : (r : Ray g) (k : Kind) → ListOf (sets r k) (stockLists spec g s r k)
   unfolding listIn
   listed r k = each spec g whole snd (entries log) r k
 
-  module _ (ray : ℕ) (h : ray < rayCount g) (q : ℕ) (before after : List Float) (r : Change)
-      (m : RayMerged spec g (s .cells) log ray q before after r) where
+  module _ (ray : ℕ) (h : ray < rayCount g) (q : ℕ) (before after : List Float) (r : RayUpdate)
+      (m : MergeRayPost spec g (s .cells) log ray q before after r) where
     -- both lists less what normalising makes of the hits
     exact : (p c : List Float) → p ≡ lessOf (possibleIn spec (s .cells) ray) (m .innerNormal)
         → c ≡ lessOf (lessOf (certainIn spec (s .cells) ray) (m .outerNormal)) (m .innerNormal)
-        → ExactOf g (listsOf spec g s) (entries log) (ray, h) p c
+        → MergedByLog g (stockLists spec g s) (entries log) (ray, h) p c
     unfolding listIn listNumber
     exact p c a b = record {
       outerNormal = m .outerNormal;
@@ -57,43 +57,43 @@ module _ (spec : DexelStockSpec) (g : DexelGrid) (s : Stock) (total : ℕ) (snd 
     }
 
     pub new-exact : r .changed ≡ true
-        → ExactOf g (listsOf spec g s) (entries log) (ray, h) (part q (2 * r .possible) after)
-        (part (q + 2 * r .possible) (2 * r .certain) after)
-    new-exact e = exact (part q (2 * r .possible) after) (part (q + 2 * r .possible) (2 * r .certain) after)
+        → MergedByLog g (stockLists spec g s) (entries log) (ray, h) (cellsFrom q (2 * r .possible) after)
+        (cellsFrom (q + 2 * r .possible) (2 * r .certain) after)
+    new-exact e = exact (cellsFrom q (2 * r .possible) after) (cellsFrom (q + 2 * r .possible) (2 * r .certain) after)
         (m .cut .lists e .possibleIs) (m .cut .lists e .certainIs)
 
     -- the ray changes where a boundary moves
-    changed-by : r .changed ≡ changesRay g (listsOf spec g s) (entries log) (ray, h)
+    changed-by : r .changed ≡ isRayChanged g (stockLists spec g s) (entries log) (ray, h)
     unfolding listIn listNumber
     changed-by =
         m .cut .moved
-        ∙ exact-changes g (listsOf spec g s) (entries log) (ray, h) (lessOf (possibleIn spec (s .cells) ray) (m .innerNormal))
+        ∙ exact-changes g (stockLists spec g s) (entries log) (ray, h) (lessOf (possibleIn spec (s .cells) ray) (m .innerNormal))
         (lessOf (lessOf (certainIn spec (s .cells) ray) (m .outerNormal)) (m .innerNormal)) (exact _ _ refl refl)
         (listed (ray, h) possible .isSound) (listed (ray, h) certain .isSound)
 
-    pub changes : Doubles g (listsOf spec g s) (entries log) → r .changed ≡ true → Changes g sets (entries log) (ray, h)
-    changes d e = changes-by g sets (listsOf spec g s) listed (entries log) d (ray, h) .0 (sym changed-by ∙ e)
+    pub changes : Doubles g (stockLists spec g s) (entries log) → r .changed ≡ true → RayChanges g sets (entries log) (ray, h)
+    changes d e = changes-by g sets (stockLists spec g s) listed (entries log) d (ray, h) .0 (sym changed-by ∙ e)
 
-    pub changes-not : Doubles g (listsOf spec g s) (entries log) → r .changed ≡ false → ¬ Changes g sets (entries log) (ray, h)
-    changes-not d e = changes-by g sets (listsOf spec g s) listed (entries log) d (ray, h) .1 (sym changed-by ∙ e)
+    pub changes-not : Doubles g (stockLists spec g s) (entries log) → r .changed ≡ false → ¬ RayChanges g sets (entries log) (ray, h)
+    changes-not d e = changes-by g sets (stockLists spec g s) listed (entries log) d (ray, h) .1 (sym changed-by ∙ e)
 
     -- how many pairs both new lists have
     pub pairs-most : q + limitOf spec log ≤ length after
-        → r .possible + r .certain ≤ startsLeft (listsOf spec g s (ray, h) possible) (hitsOn g (entries log) (ray, h) possible)
-        + startsLeft (listsOf spec g s (ray, h) certain) (hitsOn g (entries log) (ray, h) certain)
+        → r .possible + r .certain ≤ startsLeft (stockLists spec g s (ray, h) possible) (hitsOnList g (entries log) (ray, h) possible)
+        + startsLeft (stockLists spec g s (ray, h) certain) (hitsOnList g (entries log) (ray, h) certain)
     unfolding listIn
     pairs-most fit = go (r .changed) refl
       where
         half : (k : ℕ) → 2 * k / 2 ≡ k
         half k = omega arith
 
-        go : (b : Bool) → r .changed ≡ b → r .possible + r .certain ≤ startsLeft (listsOf spec g s (ray, h) possible) (hitsOn g (entries log) (ray, h) possible)
-            + startsLeft (listsOf spec g s (ray, h) certain) (hitsOn g (entries log) (ray, h) certain)
+        go : (b : Bool) → r .changed ≡ b → r .possible + r .certain ≤ startsLeft (stockLists spec g s (ray, h) possible) (hitsOnList g (entries log) (ray, h) possible)
+            + startsLeft (stockLists spec g s (ray, h) certain) (hitsOnList g (entries log) (ray, h) certain)
         go true e =
-            let p = one-pairs spec g whole snd (entries log) (ray, h) possible (part q (2 * r .possible) after)
-            (exact-possible g (listsOf spec g s) (entries log) (ray, h) _ _ (new-exact e) (listed (ray, h) possible .isSound)) in
-            let c = one-pairs spec g whole snd (entries log) (ray, h) certain (part (q + 2 * r .possible) (2 * r .certain) after)
-            (exact-certain g (listsOf spec g s) (entries log) (ray, h) _ _ (new-exact e) (listed (ray, h) certain .isSound)) in
+            let p = one-pairs spec g whole snd (entries log) (ray, h) possible (cellsFrom q (2 * r .possible) after)
+            (exact-possible g (stockLists spec g s) (entries log) (ray, h) _ _ (new-exact e) (listed (ray, h) possible .isSound)) in
+            let c = one-pairs spec g whole snd (entries log) (ray, h) certain (cellsFrom (q + 2 * r .possible) (2 * r .certain) after)
+            (exact-certain g (stockLists spec g s) (entries log) (ray, h) _ _ (new-exact e) (listed (ray, h) certain .isSound)) in
             let lp = part-length q (2 * r .possible) after (omega (arith, m .cut .most)) in
             let lc = part-length (q + 2 * r .possible) (2 * r .certain) after (omega (arith, m .cut .most)) in
             omega (arith, sym p ∙ ap (λ (n : ℕ). n / 2) lp ∙ half (r .possible), sym c ∙ ap (λ (n : ℕ). n / 2) lc ∙ half (r .certain))

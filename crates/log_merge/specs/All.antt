@@ -12,18 +12,18 @@ use Rattle.grid.specs.declared.DexelGrid.{DexelGrid}
 use Rattle.store.specs.Updates.{Cells, Room}
 use Rattle.stock.specs.Stock.{Stock, SoundStock}
 use Rattle.log_model.specs.Logs.{entries, entryCount}
-use Rattle.log_model.specs.Counts.{pairsLeft}
+use Rattle.log_model.specs.Counts.{pairsAfter}
 use Rattle.log_lay.specs.Updates.{updatesFrom, listsEnd}
-use Rattle.log_updates.specs.Merges.{Merges, listsOf}
+use Rattle.log_updates.specs.Merges.{MergeUpdates, stockLists}
 use Rattle.log_group.specs.Groups.{Grouped}
-use Rattle.log_merge.specs.declared.Change.{Change}
+use Rattle.log_merge.specs.declared.RayUpdate.{RayUpdate}
 
 -- the first size of a ray: 0 where it does not change, else one more than the pairs of its new possible list
-abbrev pub firstOf : Change → ℕ
-firstOf m = cond (m .changed) (m .possible + 1) 0
+abbrev pub firstSizeOf : RayUpdate → ℕ
+firstSizeOf m = cond (m .changed) (m .possible + 1) 0
 
 -- what the ray adds to the number of those that change
-abbrev pub countOf : Change → ℕ
+abbrev pub countOf : RayUpdate → ℕ
 countOf m = cond (m .changed) 1 0
 
 -- where the sizes stand, and the lists
@@ -34,18 +34,18 @@ abbrev pub listsFrom : DexelGrid → (log : List Float) → ℕ
 listsFrom g log = sizesAt g log + 2 * rayCount g
 
 -- a sound stock of these cells, a grouped log that leaves it no more pairs than it has records, and document 01's work pairs
-pub record AllMergeable (spec : DexelStockSpec) (g : DexelGrid) (c : Cells) (log work : List Float) : Type 0 where
+pub record MergeAllPre (spec : DexelStockSpec) (g : DexelGrid) (c : Cells) (log work : List Float) : Type 0 where
   pub grid : GridFacts spec g
   pub room : Room (spec .«max_intervals») (2 * rayCount g) c
   pub stock : Stock
   pub of-cells : stock .cells ≡ c
   pub sound : SoundStock spec g stock
   pub grouped : Grouped g log work
-  pub budget : pairsLeft g (listsOf spec g stock) (entries log) ≤ spec .«max_intervals»
+  pub budget : pairsAfter g (stockLists spec g stock) (entries log) ≤ spec .«max_intervals»
   pub pairs : 12 * spec .«max_intervals» + 36 * entryCount log ≤ length work
 
 -- the sizes and the new lists in the buffer are the updates that the log asks of each stock of these cells, and so many rays change
-pub record AllMerged (spec : DexelStockSpec) (g : DexelGrid) (c : Cells) (log before after : List Float) (changed : ℕ) : Type 0 where
+pub record MergeAllPost (spec : DexelStockSpec) (g : DexelGrid) (c : Cells) (log before after : List Float) (changed : ℕ) : Type 0 where
   pub size : length after ≡ length before
-  pub merges : (s : Stock) → s .cells ≡ c → Merges g (listsOf spec g s) (entries log) 0 (updatesFrom after (sizesAt g log) (listsFrom g log) 0 (rayCount g)) changed
+  pub merges : (s : Stock) → s .cells ≡ c → MergeUpdates g (stockLists spec g s) (entries log) 0 (updatesFrom after (sizesAt g log) (listsFrom g log) 0 (rayCount g)) changed
   pub ends : listsEnd after (sizesAt g log) (listsFrom g log) 0 (rayCount g) ≤ length after

@@ -7,16 +7,16 @@ ghost use Rattle.grid.specs.Rays.{rayCount};
 ghost use Rattle.log_model.specs.Logs.{entries, entryCount, outer, inner};
 ghost use Rattle.store.specs.Updates.{cells};
 ghost use Rattle.stock.specs.Stock.{possibleIn, certainIn};
-ghost use Rattle.log_entries.specs.Named.{pairsNamed};
-ghost use Rattle.log_group.specs.Groups.{Grouped, kindOf};
-ghost use Rattle.ray_subtract.specs.Steps.{part, Ready, Normal};
-ghost use Rattle.log_merge.specs.Rays.{rayMoves, RayCut, Bringable, Brought, limitOf, RayMerged};
-ghost use Rattle.log_merge.specs.All.{firstOf, countOf, AllMergeable, AllMerged};
+ghost use Rattle.log_entries.specs.Named.{hitsOnRayNumber};
+ghost use Rattle.log_group.specs.Groups.{Grouped, hitKindOf};
+ghost use Rattle.ray_subtract.specs.Steps.{cellsFrom, MergeWithinPre, NormalizedAt};
+ghost use Rattle.log_merge.specs.Rays.{rayMoves, RayCutPost, LoadPre, LoadPost, limitOf, MergeRayPost};
+ghost use Rattle.log_merge.specs.All.{firstSizeOf, countOf, MergeAllPre, MergeAllPost};
 use grid::DexelGrid;
 use grid::DexelStockSpec;
 
 // Whether a ray changes, and if so how many pairs its new lists have.
-pub struct Change {
+pub struct RayUpdate {
     pub changed: bool,
     pub possible: usize,
     pub certain: usize,
@@ -32,9 +32,9 @@ pub struct Sizes {
 
 // Whether a boundary of one of the ray's lists moves.
 fn is_changed(w: &[f64], at: usize, np: usize, nc: usize, no: usize, ni: usize) -> bool
-    requires { ⌜ Ready at np nc no ni (now w) ⌝ }
-    ensures { λ r. ⌜ r ≡ rayMoves (part at np (now (w .entry))) (part (at + np) nc (now (w .entry))) (part (at + np + nc) no (now (w .entry)))
-        (part (at + np + nc + no) ni (now (w .entry))) ⌝ }
+    requires { ⌜ MergeWithinPre at np nc no ni (now w) ⌝ }
+    ensures { λ r. ⌜ r ≡ rayMoves (cellsFrom at np (now (w .entry))) (cellsFrom (at + np) nc (now (w .entry))) (cellsFrom (at + np + nc) no (now (w .entry)))
+        (cellsFrom (at + np + nc + no) ni (now (w .entry))) ⌝ }
 {
     let c = at + np;
     if ray_subtract::share_point(w, at, np, c + nc + no, ni) {
@@ -45,13 +45,13 @@ fn is_changed(w: &[f64], at: usize, np: usize, nc: usize, no: usize, ni: usize) 
 
 // Where the ray changes, writes both its lists less the hits to the start of w, possible's before certain's: the one that no hit touches as well,
 // since both are laid again.
-fn cut_ray(w: &mut [f64], at: usize, np: usize, nc: usize, no: usize, ni: usize) -> Change
-    requires { ⌜ Ready at np nc no ni (now w) ⌝ }
-    ensures { λ r. ⌜ RayCut (part at np (now (w .entry))) (part (at + np) nc (now (w .entry))) (part (at + np + nc) no (now (w .entry)))
-        (part (at + np + nc + no) ni (now (w .entry))) 0 (np + nc + no + 2 * ni) (now (w .entry)) (now (w .exit)) r ⌝ }
+fn cut_ray(w: &mut [f64], at: usize, np: usize, nc: usize, no: usize, ni: usize) -> RayUpdate
+    requires { ⌜ MergeWithinPre at np nc no ni (now w) ⌝ }
+    ensures { λ r. ⌜ RayCutPost (cellsFrom at np (now (w .entry))) (cellsFrom (at + np) nc (now (w .entry))) (cellsFrom (at + np + nc) no (now (w .entry)))
+        (cellsFrom (at + np + nc + no) ni (now (w .entry))) 0 (np + nc + no + 2 * ni) (now (w .entry)) (now (w .exit)) r ⌝ }
 {
     if !is_changed(w, at, np, nc, no, ni) {
-        return Change {
+        return RayUpdate {
             changed: false,
             possible: 0,
             certain: 0,
@@ -60,7 +60,7 @@ fn cut_ray(w: &mut [f64], at: usize, np: usize, nc: usize, no: usize, ni: usize)
     let c = at + np;
     let p = ray_subtract::subtract_at(w, at, np, c + nc + no, ni);
     let r = ray_subtract::subtract_both(w, p, np + 2 * ni, c, nc, no, ni);
-    Change {
+    RayUpdate {
         changed: true,
         possible: p / 2,
         certain: r / 2,
@@ -77,8 +77,8 @@ fn bring_hits(
     at: usize,
 ) -> usize
     requires { ⌜ Grouped g (now log) (now work) × (ray < rayCount g) × (rayCount g + entryCount (now log) ≤ at)
-        × (at + length (pairsNamed g (entries (now log)) ray (kindOf inner)) ≤ length (now work)) ⌝ }
-    ensures { λ r. ⌜ Normal (pairsNamed g (entries (now (log .entry))) ray (kindOf inner)) at (now (work .entry)) (now (work .exit)) r ⌝ }
+        × (at + length (hitsOnRayNumber g (entries (now log)) ray (hitKindOf inner)) ≤ length (now work)) ⌝ }
+    ensures { λ r. ⌜ NormalizedAt (hitsOnRayNumber g (entries (now (log .entry))) ray (hitKindOf inner)) at (now (work .entry)) (now (work .exit)) r ⌝ }
 {
     let e = log_group::gather_hits(g, log, work, ray, inner, at);
     span_normalize::normalize_front(&mut work[at..], e - at)
@@ -96,10 +96,10 @@ fn bring(
     ray: usize,
     s: usize,
 ) -> Sizes
-    requires { ⌜ Bringable spec g (cells (now spans) (now links) (now heads)) (now log) (now work) ray s ⌝ }
-    ensures { λ r. ⌜ Brought (possibleIn spec (cells (now (spans .entry)) (now (links .entry)) (now (heads .entry))) ray)
+    requires { ⌜ LoadPre spec g (cells (now spans) (now links) (now heads)) (now log) (now work) ray s ⌝ }
+    ensures { λ r. ⌜ LoadPost (possibleIn spec (cells (now (spans .entry)) (now (links .entry)) (now (heads .entry))) ray)
         (certainIn spec (cells (now (spans .entry)) (now (links .entry)) (now (heads .entry))) ray)
-        (pairsNamed g (entries (now (log .entry))) ray outer) (pairsNamed g (entries (now (log .entry))) ray inner) s (now (work .entry)) (now (work .exit)) r ⌝ }
+        (hitsOnRayNumber g (entries (now (log .entry))) ray outer) (hitsOnRayNumber g (entries (now (log .entry))) ray inner) s (now (work .entry)) (now (work .exit)) r ⌝ }
 {
     let n = spec.max_intervals as usize;
     let j = 2 * ray;
@@ -127,14 +127,14 @@ fn merge_ray(
     ray: usize,
     q: usize,
     s: usize,
-) -> Change
-    requires { ⌜ Bringable spec g (cells (now spans) (now links) (now heads)) (now log) (now work) ray s
+) -> RayUpdate
+    requires { ⌜ LoadPre spec g (cells (now spans) (now links) (now heads)) (now log) (now work) ray s
         × (q + limitOf spec (now log) ≤ s) ⌝ }
-    ensures { λ r. ⌜ RayMerged spec g (cells (now (spans .entry)) (now (links .entry)) (now (heads .entry))) (now (log .entry)) ray q
+    ensures { λ r. ⌜ MergeRayPost spec g (cells (now (spans .entry)) (now (links .entry)) (now (heads .entry))) (now (log .entry)) ray q
         (now (work .entry)) (now (work .exit)) r ⌝ }
 {
     if log_numbers::number_at(work, ray) == 0 {
-        return Change {
+        return RayUpdate {
             changed: false,
             possible: 0,
             certain: 0,
@@ -149,9 +149,9 @@ fn merge_ray(
 }
 
 // The first size of a ray.
-fn first_size(m: Change) -> u64
+fn first_size(m: RayUpdate) -> u64
     requires { ⌜ m .possible + 1 < 2 ^ 64 ⌝ }
-    ensures { λ r. ⌜ r ≡ firstOf m ⌝ }
+    ensures { λ r. ⌜ r ≡ firstSizeOf m ⌝ }
 {
     if m.changed {
         return (m.possible + 1) as u64;
@@ -160,9 +160,9 @@ fn first_size(m: Change) -> u64
 }
 
 // Writes both sizes of a ray.
-fn put_sizes(work: &mut [f64], at: usize, m: Change)
+fn put_sizes(work: &mut [f64], at: usize, m: RayUpdate)
     requires { ⌜ (at + 1 < length (now work)) × (m .possible + 1 < 2 ^ 64) ⌝ }
-    ensures { λ _. ⌜ now (work .exit) ≡ set (set (now (work .entry)) at (numberCell (firstOf m))) (at + 1) (numberCell (m .certain)) ⌝ }
+    ensures { λ _. ⌜ now (work .exit) ≡ set (set (now (work .entry)) at (numberCell (firstSizeOf m))) (at + 1) (numberCell (m .certain)) ⌝ }
 {
     let first = first_size(m);
     let second = m.certain;
@@ -171,7 +171,7 @@ fn put_sizes(work: &mut [f64], at: usize, m: Change)
 }
 
 // What a ray adds to the number of those that change.
-fn count(m: Change) -> u64
+fn count(m: RayUpdate) -> u64
     ensures { λ r. ⌜ r ≡ countOf m ⌝ }
 {
     if m.changed {
@@ -191,8 +191,8 @@ pub fn merge_all(
     log: &[f64],
     work: &mut [f64],
 ) -> u64
-    requires { ⌜ AllMergeable spec g (cells (now spans) (now links) (now heads)) (now log) (now work) ⌝ }
-    ensures { λ r. ⌜ AllMerged spec g (cells (now (spans .entry)) (now (links .entry)) (now (heads .entry))) (now (log .entry))
+    requires { ⌜ MergeAllPre spec g (cells (now spans) (now links) (now heads)) (now log) (now work) ⌝ }
+    ensures { λ r. ⌜ MergeAllPost spec g (cells (now (spans .entry)) (now (links .entry)) (now (heads .entry))) (now (log .entry))
         (now (work .entry)) (now (work .exit)) r ⌝ }
 {
     let rays = grid_rays::total_rays(g) as usize;

@@ -1,4 +1,4 @@
--- The causes of a log commit as tests over the lists of a sound store: 9 by `raysChanged`, 10 by `pairsLeft`. So each cause is decided before
+-- The logCommitCauses of a log commit as tests over the lists of a sound store: 9 by `raysChanged`, 10 by `pairsLeft`. So each cause is decided before
 -- anything is written, and the order always has an answer.
 use mathlib.Core.Path.{_≡_, refl, sym, ap, ap₂, _∙_, subst, fun-ext}
 use mathlib.Core.Bool.{Bool, true, false, cond, not, _&&_, _||_, true≢false, false≢true}
@@ -19,9 +19,9 @@ use Rattle.spans.proofs.Points.{or-assoc}
 use Rattle.grid.specs.Rays.{rayCount}
 use Rattle.grid.specs.declared.DexelStockSpec.{DexelStockSpec}
 use Rattle.grid.specs.declared.DexelGrid.{DexelGrid}
-use Rattle.log_model.specs.Logs.{Ray, Kind, possible, certain, Entry, entries, workNeeded, namesOne, names, HitKind, outer, inner, loOf, hiOf, pairsOn, taken, Commit}
-use Rattle.log_model.specs.Model.{Sets, without, Changes, Count, none, counted, skipped, sumTo, sumOver, pairs, Intervals, Lent, Short, Bad, NoRay, TooManyRays, TooManyIntervals, causes, Answer, changed, refused, Judged}
-use Rattle.log_model.specs.Counts.{hitBy, startsLeft, hitsOn, changesRay, raysChanged, pairsLeft}
+use Rattle.log_model.specs.Logs.{Ray, Kind, possible, certain, Entry, entries, workNeeded, namesSomeRay, namesRay, HitKind, outer, inner, hitLo, hitHi, hitsOnRay, removed, Commit}
+use Rattle.log_model.specs.Model.{Sets, setsAfter, RayChanges, Count, none, counted, skipped, sumTo, sumOver, pairTotal, IntervalTotal, Capacity, LogBuffersShort, LogInputBad, NamesNoRay, TooManyRays, TooManyIntervals, logCommitCauses, LogAnswer, changed, refused, AnswerDue}
+use Rattle.log_model.specs.Counts.{isHitBy, startsLeft, hitsOnList, isRayChanged, changedRayCount, pairsAfter}
 use Rattle.log_model.proofs.Unique.{count-unique, intervals-unique, intervals-points}
 use Rattle.log_model.proofs.Meets.{kept-unhit, unhit-points}
 use Rattle.log_model.proofs.Starts.{pairs-left}
@@ -31,24 +31,24 @@ use Rattle.log_model.proofs.Doubles.{Doubles, less-doubles}
 -- ---- the points that a log takes, as those of one flat list
 
 module _ (g : DexelGrid) (r : Ray g) where
-  pairs-append : (es : List Entry) (w : HitKind) (m : List Float) (p : Float) → holds (pairsOn g es r w ++ m) p ≡ (holds (pairsOn g es r w) p || holds m p)
-  unfolding pairsOn holds
+  pairs-append : (es : List Entry) (w : HitKind) (m : List Float) (p : Float) → holds (hitsOnRay g es r w ++ m) p ≡ (holds (hitsOnRay g es r w) p || holds m p)
+  unfolding hitsOnRay holds
   pairs-append [] w m p = refl
-  pairs-append (e ∷ es) w m p = go (names g e r) (pairs-append es w m p)
+  pairs-append (e ∷ es) w m p = go (namesRay g e r) (pairs-append es w m p)
     where
-      go : (b : Bool) → holds (pairsOn g es r w ++ m) p ≡ (holds (pairsOn g es r w) p || holds m p)
-          → holds (cond b (loOf w e ∷ hiOf w e ∷ pairsOn g es r w) (pairsOn g es r w) ++ m) p
-          ≡ (holds (cond b (loOf w e ∷ hiOf w e ∷ pairsOn g es r w) (pairsOn g es r w)) p || holds m p)
-      go true f = ap (_||_ (within (loOf w e) (hiOf w e) p)) f ∙ sym (or-assoc (within (loOf w e) (hiOf w e) p) (holds (pairsOn g es r w) p) (holds m p))
+      go : (b : Bool) → holds (hitsOnRay g es r w ++ m) p ≡ (holds (hitsOnRay g es r w) p || holds m p)
+          → holds (cond b (hitLo w e ∷ hitHi w e ∷ hitsOnRay g es r w) (hitsOnRay g es r w) ++ m) p
+          ≡ (holds (cond b (hitLo w e ∷ hitHi w e ∷ hitsOnRay g es r w) (hitsOnRay g es r w)) p || holds m p)
+      go true f = ap (_||_ (within (hitLo w e) (hitHi w e) p)) f ∙ sym (or-assoc (within (hitLo w e) (hitHi w e) p) (holds (hitsOnRay g es r w) p) (holds m p))
       go false f = f
 
-  pub taken-hits : (es : List Entry) (k : Kind) (p : Float) → taken g es r k p ≡ holds (hitsOn g es r k) p
-  unfolding taken hitsOn
+  pub taken-hits : (es : List Entry) (k : Kind) (p : Float) → removed g es r k p ≡ holds (hitsOnList g es r k) p
+  unfolding removed hitsOnList
   taken-hits es possible p = refl
-  taken-hits es certain p = sym (pairs-append es outer (pairsOn g es r inner) p)
+  taken-hits es certain p = sym (pairs-append es outer (hitsOnRay g es r inner) p)
 
-  pub without-hits : (s : Sets g) (es : List Entry) (k : Kind) (p : Float) → without g s es r k p ≡ (s r k p && not (holds (hitsOn g es r k) p))
-  unfolding without
+  pub without-hits : (s : Sets g) (es : List Entry) (k : Kind) (p : Float) → setsAfter g s es r k p ≡ (s r k p && not (holds (hitsOnList g es r k) p))
+  unfolding setsAfter
   without-hits s es k p = ap (λ (b : Bool). s r k p && not b) (taken-hits es k p)
 
 -- ---- a test that decides
@@ -78,27 +78,27 @@ less-than a b = (ltb-true a b, λ h k. no a b (ltb-false a b h) k)
 
 -- ---- 17
 
--- an entry names no ray
+-- an entry namesRay no ray
 unfoldable pub unnamed : DexelGrid → List Entry → Bool
-unfolding namesOne
+unfolding namesSomeRay
 unnamed g [] = false
-unnamed g (e ∷ es) = not (namesOne g e) || unnamed g es
+unnamed g (e ∷ es) = not (namesSomeRay g e) || unnamed g es
 
-pub no-ray : (g : DexelGrid) (es : List Entry) → Decides (NoRay g es) (unnamed g es)
-unfolding unnamed NoRay
+pub no-ray : (g : DexelGrid) (es : List Entry) → Decides (NamesNoRay g es) (unnamed g es)
+unfolding unnamed NamesNoRay
 no-ray g [] = ((λ h. absurd (false≢true h)), λ h x. List·Memᴰ·not-nil (x .1))
 no-ray g (e ∷ es) = (some (no-ray g es), all (no-ray g es))
   where
-    some : Decides (NoRay g es) (unnamed g es) → (not (namesOne g e) || unnamed g es) ≡ true → NoRay g (e ∷ es)
-    some d h = elim (or-cases (not (namesOne g e)) (unnamed g es) h) [
-      | inl u ↦ (e, List·Memᴰ·head refl, not-true (namesOne g e) u)
+    some : Decides (NamesNoRay g es) (unnamed g es) → (not (namesSomeRay g e) || unnamed g es) ≡ true → NamesNoRay g (e ∷ es)
+    some d h = elim (or-cases (not (namesSomeRay g e)) (unnamed g es) h) [
+      | inl u ↦ (e, List·Memᴰ·head refl, not-true (namesSomeRay g e) u)
       | inr u ↦ let (f, i, n) = d .0 u in (f, List·Memᴰ·tail i, n)
     ]
 
-    all : Decides (NoRay g es) (unnamed g es) → (not (namesOne g e) || unnamed g es) ≡ false → NoRay g (e ∷ es) → ⊥
+    all : Decides (NamesNoRay g es) (unnamed g es) → (not (namesSomeRay g e) || unnamed g es) ≡ false → NamesNoRay g (e ∷ es) → ⊥
     all d h (f, i, n) = elim (List·Memᴰ·cases-cons i) [
-      | inl q ↦ absurd (clash (not (namesOne g e) || unnamed g es) (or-left (not (namesOne g e)) (unnamed g es) (ap not (ap (namesOne g) (sym q) ∙ n))) h)
-      | inr j ↦ d .1 (not-right (not (namesOne g e)) (unnamed g es) h) (f, j, n)
+      | inl q ↦ absurd (clash (not (namesSomeRay g e) || unnamed g es) (or-left (not (namesSomeRay g e)) (unnamed g es) (ap not (ap (namesSomeRay g) (sym q) ∙ n))) h)
+      | inr j ↦ d .1 (not-right (not (namesSomeRay g e)) (unnamed g es) h) (f, j, n)
     ]
 
 -- ---- 9 and 10
@@ -116,69 +116,69 @@ count-by g P test d (suc i) h = go (test (i, h)) refl (sumTo g (λ r. cond (test
 
 module _ (g : DexelGrid) (s : Sets g) (lists : Ray g → Kind → List Float) (each : (r : Ray g) (k : Kind) → ListOf (s r k) (lists r k)) (es : List Entry) where
   -- a set stays exactly when no hit has a point of its list
-  pub stays : (r : Ray g) (k : Kind) → ((p : Float) → without g s es r k p ≡ s r k p) ↔ (hitBy (lists r k) (hitsOn g es r k) ≡ false)
+  pub stays : (r : Ray g) (k : Kind) → ((p : Float) → setsAfter g s es r k p ≡ s r k p) ↔ (isHitBy (lists r k) (hitsOnList g es r k) ≡ false)
   stays r k =
-      let law = kept-unhit (lists r k) (hitsOn g es r k) (each r k .isSound) in (
-        (λ f. law .0 (λ p. ap (λ (b : Bool). b && not (holds (hitsOn g es r k) p)) (each r k .points p) ∙ sym (without-hits g r s es k p) ∙ f p ∙ sym (each r k .points p))),
-        (λ h p. without-hits g r s es k p ∙ ap (λ (b : Bool). b && not (holds (hitsOn g es r k) p)) (sym (each r k .points p)) ∙ law .1 h p ∙ each r k .points p),
+      let law = kept-unhit (lists r k) (hitsOnList g es r k) (each r k .isSound) in (
+        (λ f. law .0 (λ p. ap (λ (b : Bool). b && not (holds (hitsOnList g es r k) p)) (each r k .points p) ∙ sym (without-hits g r s es k p) ∙ f p ∙ sym (each r k .points p))),
+        (λ h p. without-hits g r s es k p ∙ ap (λ (b : Bool). b && not (holds (hitsOnList g es r k) p)) (sym (each r k .points p)) ∙ law .1 h p ∙ each r k .points p),
       )
 
   -- the same where the ends of the lists and of the hits are doubles, by the points alone
   module _ (d : Doubles g lists es) where
-    stays-points : (r : Ray g) (k : Kind) → ((p : Float) → Point p → without g s es r k p ≡ s r k p) → hitBy (lists r k) (hitsOn g es r k) ≡ false
-    stays-points r k f = unhit-points (lists r k) (hitsOn g es r k) (each r k .isSound) (d .of-lists r k) (d .of-hits r k)
-        (λ p h. ap (λ (b : Bool). b && not (holds (hitsOn g es r k) p)) (each r k .points p) ∙ sym (without-hits g r s es k p) ∙ f p h ∙ sym (each r k .points p))
+    stays-points : (r : Ray g) (k : Kind) → ((p : Float) → Point p → setsAfter g s es r k p ≡ s r k p) → isHitBy (lists r k) (hitsOnList g es r k) ≡ false
+    stays-points r k f = unhit-points (lists r k) (hitsOnList g es r k) (each r k .isSound) (d .of-lists r k) (d .of-hits r k)
+        (λ p h. ap (λ (b : Bool). b && not (holds (hitsOnList g es r k) p)) (each r k .points p) ∙ sym (without-hits g r s es k p) ∙ f p h ∙ sym (each r k .points p))
 
-    pub changes-by : (r : Ray g) → Decides (Changes g s es r) (changesRay g lists es r)
-    unfolding Changes changesRay
+    pub changes-by : (r : Ray g) → Decides (RayChanges g s es r) (isRayChanged g lists es r)
+    unfolding RayChanges isRayChanged
     changes-by r = (
-      (λ h f. elim (or-cases (hitBy (lists r possible) (hitsOn g es r possible)) (hitBy (lists r certain) (hitsOn g es r certain)) h) [
-        | inl u ↦ clash (hitBy (lists r possible) (hitsOn g es r possible)) u (stays-points r possible (f possible))
-        | inr u ↦ clash (hitBy (lists r certain) (hitsOn g es r certain)) u (stays-points r certain (f certain))
+      (λ h f. elim (or-cases (isHitBy (lists r possible) (hitsOnList g es r possible)) (isHitBy (lists r certain) (hitsOnList g es r certain)) h) [
+        | inl u ↦ clash (isHitBy (lists r possible) (hitsOnList g es r possible)) u (stays-points r possible (f possible))
+        | inr u ↦ clash (isHitBy (lists r certain) (hitsOnList g es r certain)) u (stays-points r certain (f certain))
       ]),
       (λ h n. n (λ k p _. elim k [
-        | possible ↦ stays r possible .1 (not-left (hitBy (lists r possible) (hitsOn g es r possible)) (hitBy (lists r certain) (hitsOn g es r certain)) h) p
-        | certain ↦ stays r certain .1 (not-right (hitBy (lists r possible) (hitsOn g es r possible)) (hitBy (lists r certain) (hitsOn g es r certain)) h) p
+        | possible ↦ stays r possible .1 (not-left (isHitBy (lists r possible) (hitsOnList g es r possible)) (isHitBy (lists r certain) (hitsOnList g es r certain)) h) p
+        | certain ↦ stays r certain .1 (not-right (isHitBy (lists r possible) (hitsOnList g es r possible)) (isHitBy (lists r certain) (hitsOnList g es r certain)) h) p
       ])),
     )
 
-    pub rays-counted : Count g (Changes g s es) (rayCount g) (raysChanged g lists es)
-    unfolding raysChanged
-    rays-counted = count-by g (Changes g s es) (changesRay g lists es) changes-by (rayCount g) (le-refl (rayCount g))
+    pub rays-counted : Count g (RayChanges g s es) (rayCount g) (changedRayCount g lists es)
+    unfolding changedRayCount
+    rays-counted = count-by g (RayChanges g s es) (isRayChanged g lists es) changes-by (rayCount g) (le-refl (rayCount g))
 
   -- the sound lists of the sets as they would be
-  pub left-list : (r : Ray g) (k : Kind) → ListOf (without g s es r k) (less (lists r k) (hitsOn g es r k))
+  pub left-list : (r : Ray g) (k : Kind) → ListOf (setsAfter g s es r k) (less (lists r k) (hitsOnList g es r k))
   left-list r k =
-      same-list (λ p. s r k p && not (holds (hitsOn g es r k) p)) (without g s es r k) (less (lists r k) (hitsOn g es r k))
-      (λ p. sym (without-hits g r s es k p)) (less-list (s r k) (lists r k) (hitsOn g es r k) (each r k))
+      same-list (λ p. s r k p && not (holds (hitsOnList g es r k) p)) (setsAfter g s es r k) (less (lists r k) (hitsOnList g es r k))
+      (λ p. sym (without-hits g r s es k p)) (less-list (s r k) (lists r k) (hitsOnList g es r k) (each r k))
 
-  -- and whichever they are, their number of pairs
-  one-count : (r : Ray g) (k : Kind) → length (less (lists r k) (hitsOn g es r k)) / 2 ≡ startsLeft (lists r k) (hitsOn g es r k)
+  -- and whichever they are, their number of pairTotal
+  one-count : (r : Ray g) (k : Kind) → length (less (lists r k) (hitsOnList g es r k)) / 2 ≡ startsLeft (lists r k) (hitsOnList g es r k)
   one-count r k =
-      pairs-left (lists r k) (hitsOn g es r k) (less (lists r k) (hitsOn g es r k)) (each r k .isSound)
-      (same-list (without g s es r k) (λ p. holds (lists r k) p && not (holds (hitsOn g es r k) p)) (less (lists r k) (hitsOn g es r k))
-      (λ p. without-hits g r s es k p ∙ ap (λ (b : Bool). b && not (holds (hitsOn g es r k) p)) (sym (each r k .points p))) (left-list r k))
+      pairs-left (lists r k) (hitsOnList g es r k) (less (lists r k) (hitsOnList g es r k)) (each r k .isSound)
+      (same-list (setsAfter g s es r k) (λ p. holds (lists r k) p && not (holds (hitsOnList g es r k) p)) (less (lists r k) (hitsOnList g es r k))
+      (λ p. without-hits g r s es k p ∙ ap (λ (b : Bool). b && not (holds (hitsOnList g es r k) p)) (sym (each r k .points p))) (left-list r k))
 
-  pub intervals-counted : Intervals g (without g s es) (pairsLeft g lists es)
-  unfolding pairsLeft pairs
+  pub intervals-counted : IntervalTotal g (setsAfter g s es) (pairsAfter g lists es)
+  unfolding pairsAfter pairTotal
   intervals-counted = record {
-    lists = λ r k. less (lists r k) (hitsOn g es r k);
+    lists = λ r k. less (lists r k) (hitsOnList g es r k);
     each = left-list;
     number = ap (sumOver g) (fun-ext (λ r. ap₂ _+_ (sym (one-count r possible)) (sym (one-count r certain))));
   }
 
   -- where the ends of the lists and of the hits are doubles, the points alone settle this number: whichever sound lists of doubles have
-  -- the points of the sets as they would be, it is the number of their pairs
-  pub left-number : Doubles g lists es → {n : ℕ} → Intervals g (without g s es) n
+  -- the points of the sets as they would be, it is the number of their pairTotal
+  pub left-number : Doubles g lists es → {n : ℕ} → IntervalTotal g (setsAfter g s es) n
       → (others : Ray g → Kind → List Float) → ((r : Ray g) (k : Kind) → All Double (others r k))
       → ((r : Ray g) (k : Kind) → sound (others r k) ≡ true)
-      → ((r : Ray g) (k : Kind) (p : Float) → Point p → holds (others r k) p ≡ without g s es r k p)
-      → n ≡ pairs g others
+      → ((r : Ray g) (k : Kind) (p : Float) → Point p → holds (others r k) p ≡ setsAfter g s es r k p)
+      → n ≡ pairTotal g others
   unfolding intervals-counted
   left-number d a others e o h =
-      intervals-unique g (without g s es) a intervals-counted
-      ∙ intervals-points g (without g s es) intervals-counted
-      (λ r k. less-doubles (lists r k) (hitsOn g es r k) (d .of-lists r k) (d .of-hits r k)) others e o h
+      intervals-unique g (setsAfter g s es) a intervals-counted
+      ∙ intervals-points g (setsAfter g s es) intervals-counted
+      (λ r k. less-doubles (lists r k) (hitsOnList g es r k) (d .of-lists r k) (d .of-hits r k)) others e o h
 
 -- ---- the order
 
@@ -190,12 +190,12 @@ AllDecided (c ∷ cs) [] = ⊥
 AllDecided (c ∷ cs) (b ∷ bs) = Decides (c .present) b × AllDecided cs bs
 
 -- the number of the first cause whose test is passed, or else the other answer
-unfoldable pub answerBy : List Cause → List Bool → Answer → Answer
+unfoldable pub answerBy : List Cause → List Bool → LogAnswer → LogAnswer
 answerBy [] bs a = a
 answerBy (c ∷ cs) [] a = a
 answerBy (c ∷ cs) (b ∷ bs) a = cond b (refused (c .number)) (answerBy cs bs a)
 
-pub due-by : (cs : List Cause) (bs : List Bool) (a : Answer) → AllDecided cs bs
+pub due-by : (cs : List Cause) (bs : List Bool) (a : LogAnswer) → AllDecided cs bs
     → ((k : ℕ) × (answerBy cs bs a ≡ refused k) × Due cs k) ⊎ ((answerBy cs bs a ≡ a) × NoneDue cs)
 unfolding answerBy Due NoneDue
 due-by [] [] a d = inr (refl, tt)
@@ -207,64 +207,64 @@ due-by (c ∷ cs) (false ∷ bs) a d = elim (due-by cs bs a (d .1)) [
   | inr (e, x) ↦ inr (e, (d .0 .1 refl, x))
 ]
 
-module _ (spec : DexelStockSpec) (g : DexelGrid) (b : Lent) where
-  -- the causes of the order on a sound store with these lists, each as its test
+module _ (spec : DexelStockSpec) (g : DexelGrid) (b : Capacity) where
+  -- the logCommitCauses of the order on a sound store with these lists, each as its test
   unfoldable pub tests : (Ray g → Kind → List Float) → ℕ → Commit → List Bool
-  unfolding raysChanged pairsLeft unnamed entries
+  unfolding changedRayCount pairsAfter unnamed entries
   tests lists n c =
       (ltb (b .records) (spec .«max_intervals») || (ltb (b .heads) (2 * rayCount g) || ltb (c .work) (workNeeded (spec .«max_intervals») (c .log))))
       ∷ not (eqb (length (c .log) % 6) 0)
       ∷ eqb n (2 ^ 64 - 1)
       ∷ unnamed g (entries (c .log))
-      ∷ ltb (c .allowance) (raysChanged g lists (entries (c .log)))
-      ∷ ltb (spec .«max_intervals») (pairsLeft g lists (entries (c .log)))
+      ∷ ltb (c .allowance) (changedRayCount g lists (entries (c .log)))
+      ∷ ltb (spec .«max_intervals») (pairsAfter g lists (entries (c .log)))
       ∷ []
 
   module _ (s : Sets g) (lists : Ray g → Kind → List Float) (each : (r : Ray g) (k : Kind) → ListOf (s r k) (lists r k)) (n : ℕ) (c : Commit)
       (d : Doubles g lists (entries (c .log))) where
-    short-by : Decides (Short spec g b c) (ltb (b .records) (spec .«max_intervals») || (ltb (b .heads) (2 * rayCount g) || ltb (c .work) (workNeeded (spec .«max_intervals») (c .log))))
-    unfolding Short
+    short-by : Decides (LogBuffersShort spec g b c) (ltb (b .records) (spec .«max_intervals») || (ltb (b .heads) (2 * rayCount g) || ltb (c .work) (workNeeded (spec .«max_intervals») (c .log))))
+    unfolding LogBuffersShort
     short-by =
         either (ltb (b .records) (spec .«max_intervals»)) (ltb (b .heads) (2 * rayCount g) || ltb (c .work) (workNeeded (spec .«max_intervals») (c .log)))
         (less-than (b .records) (spec .«max_intervals»))
         (either (ltb (b .heads) (2 * rayCount g)) (ltb (c .work) (workNeeded (spec .«max_intervals») (c .log))) (less-than (b .heads) (2 * rayCount g))
         (less-than (c .work) (workNeeded (spec .«max_intervals») (c .log))))
 
-    bad-by : Decides (Bad ⊥ c) (not (eqb (length (c .log) % 6) 0))
-    unfolding Bad
+    bad-by : Decides (LogInputBad ⊥ c) (not (eqb (length (c .log) % 6) 0))
+    unfolding LogInputBad
     bad-by = (
       (λ h. inl (eqb-false (length (c .log) % 6) 0 (not-true (eqb (length (c .log) % 6) 0) h))),
       (λ h x. elim x [ inl y ↦ y (eqb-true (length (c .log) % 6) 0 (not-false (eqb (length (c .log) % 6) 0) h)) | inr y ↦ y ]),
     )
 
     -- 9 is present exactly when the count is above the allowance
-    pub rays-by : Decides (TooManyRays g s c) (ltb (c .allowance) (raysChanged g lists (entries (c .log))))
+    pub rays-by : Decides (TooManyRays g s c) (ltb (c .allowance) (changedRayCount g lists (entries (c .log))))
     unfolding TooManyRays
     rays-by =
         let x = rays-counted g s lists each (entries (c .log)) d in
-        let d = less-than (c .allowance) (raysChanged g lists (entries (c .log))) in (
-          (λ h. (raysChanged g lists (entries (c .log)), x, d .0 h)),
+        let d = less-than (c .allowance) (changedRayCount g lists (entries (c .log))) in (
+          (λ h. (changedRayCount g lists (entries (c .log)), x, d .0 h)),
           (λ h y. d .1 h (subst (λ (m : ℕ). c .allowance < m) (count-unique (y .1) x) (y .2))),
         )
 
     -- 10 is present exactly when the count is above the budget
-    pub intervals-by : Decides (TooManyIntervals spec g s c) (ltb (spec .«max_intervals») (pairsLeft g lists (entries (c .log))))
+    pub intervals-by : Decides (TooManyIntervals spec g s c) (ltb (spec .«max_intervals») (pairsAfter g lists (entries (c .log))))
     unfolding TooManyIntervals
     intervals-by =
         let x = intervals-counted g s lists each (entries (c .log)) in
-        let d = less-than (spec .«max_intervals») (pairsLeft g lists (entries (c .log))) in (
-          (λ h. (pairsLeft g lists (entries (c .log)), x, d .0 h)),
-          (λ h y. d .1 h (subst (λ (m : ℕ). spec .«max_intervals» < m) (intervals-unique g (without g s (entries (c .log))) (y .1) x) (y .2))),
+        let d = less-than (spec .«max_intervals») (pairsAfter g lists (entries (c .log))) in (
+          (λ h. (pairsAfter g lists (entries (c .log)), x, d .0 h)),
+          (λ h y. d .1 h (subst (λ (m : ℕ). spec .«max_intervals» < m) (intervals-unique g (setsAfter g s (entries (c .log))) (y .1) x) (y .2))),
         )
 
-    all-decided : AllDecided (causes spec g b ⊥ s n c) (tests lists n c)
-    unfolding causes tests
+    all-decided : AllDecided (logCommitCauses spec g b ⊥ s n c) (tests lists n c)
+    unfolding logCommitCauses tests
     all-decided = (short-by, (bad-by, ((eqb-true n (2 ^ 64 - 1), eqb-false n (2 ^ 64 - 1)), (no-ray g (entries (c .log)), (rays-by, (intervals-by, tt))))))
 
     -- the order's answer, worked out
-    pub judged : Judged spec g b ⊥ s n c (answerBy (causes spec g b ⊥ s n c) (tests lists n c) (changed (raysChanged g lists (entries (c .log)))))
-    unfolding Judged
-    judged = elim (due-by (causes spec g b ⊥ s n c) (tests lists n c) (changed (raysChanged g lists (entries (c .log)))) all-decided) [
-      | inl (k, e, x) ↦ subst (λ (a : Answer). Judged spec g b ⊥ s n c a) (sym e) x
-      | inr (e, x) ↦ subst (λ (a : Answer). Judged spec g b ⊥ s n c a) (sym e) (x, rays-counted g s lists each (entries (c .log)) d)
+    pub judged : AnswerDue spec g b ⊥ s n c (answerBy (logCommitCauses spec g b ⊥ s n c) (tests lists n c) (changed (changedRayCount g lists (entries (c .log)))))
+    unfolding AnswerDue
+    judged = elim (due-by (logCommitCauses spec g b ⊥ s n c) (tests lists n c) (changed (changedRayCount g lists (entries (c .log)))) all-decided) [
+      | inl (k, e, x) ↦ subst (λ (a : LogAnswer). AnswerDue spec g b ⊥ s n c a) (sym e) x
+      | inr (e, x) ↦ subst (λ (a : LogAnswer). AnswerDue spec g b ⊥ s n c a) (sym e) (x, rays-counted g s lists each (entries (c .log)) d)
     ]

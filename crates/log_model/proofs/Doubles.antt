@@ -10,8 +10,8 @@ use Rattle.grid.specs.declared.DexelStockSpec.{DexelStockSpec}
 use Rattle.grid.specs.declared.DexelGrid.{DexelGrid}
 use Rattle.store.specs.Store.{placesOf, endsAt}
 use Rattle.stock.specs.Stock.{Stock}
-use Rattle.log_model.specs.Logs.{Ray, Kind, possible, certain, Entry, entryAt, entriesFrom, entryCount, entries, names, HitKind, outer, inner, loOf, hiOf, pairsOn}
-use Rattle.log_model.specs.Counts.{hitsOn}
+use Rattle.log_model.specs.Logs.{Ray, Kind, possible, certain, Entry, entryAt, entriesFrom, entryCount, entries, namesRay, HitKind, outer, inner, hitLo, hitHi, hitsOnRay}
+use Rattle.log_model.specs.Counts.{hitsOnList}
 use Rattle.log_model.specs.Lent.{listNumber, listIn}
 use Rattle.log_model.proofs.Less.{piece, lower, higher, lessPair, less}
 
@@ -35,35 +35,35 @@ list-doubles spec s d r k = ends-doubles (s .cells .spans) d
 -- ---- the hits of a log
 
 module _ (g : DexelGrid) (log : List Float) (d : DoubleCells log) (r : Ray g) where
-  lo-double : (i : ℕ) (w : HitKind) → Double (loOf w (entryAt log i))
-  unfolding loOf entryAt
+  lo-double : (i : ℕ) (w : HitKind) → Double (hitLo w (entryAt log i))
+  unfolding hitLo entryAt
   lo-double i outer = d (6 * i + 2)
   lo-double i inner = d (6 * i + 4)
 
-  hi-double : (i : ℕ) (w : HitKind) → Double (hiOf w (entryAt log i))
-  unfolding hiOf entryAt
+  hi-double : (i : ℕ) (w : HitKind) → Double (hitHi w (entryAt log i))
+  unfolding hitHi entryAt
   hi-double i outer = d (6 * i + 3)
   hi-double i inner = d (6 * i + 5)
 
-  from-doubles : (i n : ℕ) (w : HitKind) → All Double (pairsOn g (entriesFrom log i n) r w)
-  unfolding pairsOn entriesFrom
+  from-doubles : (i n : ℕ) (w : HitKind) → All Double (hitsOnRay g (entriesFrom log i n) r w)
+  unfolding hitsOnRay entriesFrom
   from-doubles i zero w = tt
-  from-doubles i (suc n) w = go (names g (entryAt log i) r) (from-doubles (suc i) n w)
+  from-doubles i (suc n) w = go (namesRay g (entryAt log i) r) (from-doubles (suc i) n w)
     where
-      go : (b : Bool) → All Double (pairsOn g (entriesFrom log (suc i) n) r w)
-          → All Double (cond b (loOf w (entryAt log i) ∷ hiOf w (entryAt log i) ∷ pairsOn g (entriesFrom log (suc i) n) r w)
-          (pairsOn g (entriesFrom log (suc i) n) r w))
+      go : (b : Bool) → All Double (hitsOnRay g (entriesFrom log (suc i) n) r w)
+          → All Double (cond b (hitLo w (entryAt log i) ∷ hitHi w (entryAt log i) ∷ hitsOnRay g (entriesFrom log (suc i) n) r w)
+          (hitsOnRay g (entriesFrom log (suc i) n) r w))
       go true h = (lo-double i w, (hi-double i w, h))
       go false h = h
 
-  pub pairs-doubles : (w : HitKind) → All Double (pairsOn g (entries log) r w)
+  pub pairs-doubles : (w : HitKind) → All Double (hitsOnRay g (entries log) r w)
   unfolding entries
   pairs-doubles w = from-doubles 0 (entryCount log) w
 
-  pub hits-doubles : (k : Kind) → All Double (hitsOn g (entries log) r k)
-  unfolding hitsOn
+  pub hits-doubles : (k : Kind) → All Double (hitsOnList g (entries log) r k)
+  unfolding hitsOnList
   hits-doubles possible = pairs-doubles inner
-  hits-doubles certain = all-append Double (pairsOn g (entries log) r outer) (pairsOn g (entries log) r inner)
+  hits-doubles certain = all-append Double (hitsOnRay g (entries log) r outer) (hitsOnRay g (entries log) r inner)
       (pairs-doubles outer) (pairs-doubles inner)
 
 -- ---- both
@@ -71,7 +71,7 @@ module _ (g : DexelGrid) (log : List Float) (d : DoubleCells log) (r : Ray g) wh
 -- each end of a list, and of a hit on its ray, is a double
 pub record Doubles (g : DexelGrid) (lists : Ray g → Kind → List Float) (es : List Entry) : Type 0 where
   pub of-lists : (r : Ray g) (k : Kind) → All Double (lists r k)
-  pub of-hits : (r : Ray g) (k : Kind) → All Double (hitsOn g es r k)
+  pub of-hits : (r : Ray g) (k : Kind) → All Double (hitsOnList g es r k)
 
 -- so it is where a store and a log stand in slices of doubles
 pub all-doubles : (spec : DexelStockSpec) (g : DexelGrid) (s : Stock) (log : List Float) → DoubleCells (s .cells .spans) → DoubleCells log

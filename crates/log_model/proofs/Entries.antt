@@ -9,7 +9,7 @@ use native.Mathlib.Decide.{decLt}
 use lib.ListN.{length}
 use lib.Ieee.{Float}
 use Rattle.grid.specs.declared.DexelGrid.{DexelGrid}
-use Rattle.log_model.specs.Logs.{Ray, Entry, entryAt, entriesFrom, entryCount, entries, names, HitKind, loOf, hiOf, pairsOn}
+use Rattle.log_model.specs.Logs.{Ray, Entry, entryAt, entriesFrom, entryCount, entries, namesRay, HitKind, hitLo, hitHi, hitsOnRay}
 
 from-length : (log : List Float) (i n : ℕ) → length (entriesFrom log i n) ≡ n
 unfolding entriesFrom
@@ -73,19 +73,19 @@ from-last log i (suc n) j h = ap (λ (es : List Entry). entryAt log i ∷ es) (f
     same i n j h = omega arith
 
 module _ (g : DexelGrid) (r : Ray g) (w : HitKind) where
-  pairs-of-append : (es fs : List Entry) → pairsOn g (es ++ fs) r w ≡ pairsOn g es r w ++ pairsOn g fs r w
-  unfolding pairsOn
+  pairs-of-append : (es fs : List Entry) → hitsOnRay g (es ++ fs) r w ≡ hitsOnRay g es r w ++ hitsOnRay g fs r w
+  unfolding hitsOnRay
   pairs-of-append [] fs = refl
-  pairs-of-append (e ∷ es) fs = go (names g e r) (pairs-of-append es fs)
+  pairs-of-append (e ∷ es) fs = go (namesRay g e r) (pairs-of-append es fs)
     where
-      go : (b : Bool) → pairsOn g (es ++ fs) r w ≡ pairsOn g es r w ++ pairsOn g fs r w
-          → cond b (loOf w e ∷ hiOf w e ∷ pairsOn g (es ++ fs) r w) (pairsOn g (es ++ fs) r w)
-          ≡ cond b (loOf w e ∷ hiOf w e ∷ pairsOn g es r w) (pairsOn g es r w) ++ pairsOn g fs r w
-      go true q = ap (λ (l : List Float). loOf w e ∷ hiOf w e ∷ l) q
+      go : (b : Bool) → hitsOnRay g (es ++ fs) r w ≡ hitsOnRay g es r w ++ hitsOnRay g fs r w
+          → cond b (hitLo w e ∷ hitHi w e ∷ hitsOnRay g (es ++ fs) r w) (hitsOnRay g (es ++ fs) r w)
+          ≡ cond b (hitLo w e ∷ hitHi w e ∷ hitsOnRay g es r w) (hitsOnRay g es r w) ++ hitsOnRay g fs r w
+      go true q = ap (λ (l : List Float). hitLo w e ∷ hitHi w e ∷ l) q
       go false q = q
 
   pub pairs-more : (log : List Float) (n : ℕ)
-      → pairsOn g (entriesFrom log 0 (suc n)) r w
-      ≡ pairsOn g (entriesFrom log 0 n) r w ++ cond (names g (entryAt log n) r) (loOf w (entryAt log n) ∷ hiOf w (entryAt log n) ∷ []) []
-  unfolding pairsOn
-  pairs-more log n = ap (λ (es : List Entry). pairsOn g es r w) (from-last log 0 n n (omega arith)) ∙ pairs-of-append (entriesFrom log 0 n) (entryAt log n ∷ [])
+      → hitsOnRay g (entriesFrom log 0 (suc n)) r w
+      ≡ hitsOnRay g (entriesFrom log 0 n) r w ++ cond (namesRay g (entryAt log n) r) (hitLo w (entryAt log n) ∷ hitHi w (entryAt log n) ∷ []) []
+  unfolding hitsOnRay
+  pairs-more log n = ap (λ (es : List Entry). hitsOnRay g es r w) (from-last log 0 n n (omega arith)) ∙ pairs-of-append (entriesFrom log 0 n) (entryAt log n ∷ [])

@@ -16,17 +16,17 @@ use Rattle.spans.specs.Spans.{All, Double, holds, sound, equal, ListOf}
 use Rattle.doubles.proofs.Order.{lt-number, eq-refl}
 use Rattle.spans.proofs.Pieces.{agree, by-ends, of-list, in-left, in-right, both-of}
 use Rattle.grid.specs.Axes.{byDigit}
-use Rattle.grid.specs.Grid.{allWithin, within}
-use Rattle.grid_from_spec.specs.Grid.{gridOf, isMm, misdescribed, anyBelow, gridOver, anyAbove, cellsOf, tooFine, leastStep, magnitudeOf}
+use Rattle.grid.specs.Grid.{allBetween, isBetween}
+use Rattle.grid_from_spec.specs.Grid.{gridOf, isMm, misdescribed, anyBelow, gridOver, anyAbove, cellCount, tooFine, leastStep, magnitudeOf}
 use Rattle.grid.specs.Rays.{rayCount, raysAlong, offset, rayAxis, boundsOf}
-use Rattle.grid.specs.declared.Gridded.the-variants.{Accepted}
-use Rattle.store.specs.Store.{usedAt, places, Chain, ends, more, placesOf, chained, endsAt}
+use Rattle.grid.specs.declared.GridAnswer.the-variants.{Accepted}
+use Rattle.store.specs.Store.{usedAt, places, RecordChain, ends, more, placesOf, chained, endsAt}
 use Rattle.ray_validity.specs.Ray.{bounded, ValidRay}
-use Rattle.log_model.specs.Logs.{Ray, Kind, possible, certain, entries, namesOne, loOf, hiOf, Among, Alike, Commit}
-use Rattle.log_model.specs.Model.{Answer, changed, refused, causes, Judged, accepted}
-use Rattle.log_model.specs.Counts.{hitsOn, raysChanged}
-use Rattle.log_model.specs.Runs.{points, Left, Committed, Run, done, next, Settled, Agree}
-use Rattle.log_model.specs.Examples.{num, box, grid, filled, hit, commit, notAllowed, innerWider, threeLogs, threeAnswers, listAfter, AtEnd, RunRight}
+use Rattle.log_model.specs.Logs.{Ray, Kind, possible, certain, entries, namesSomeRay, hitLo, hitHi, HitsIncluded, Alike, Commit}
+use Rattle.log_model.specs.Model.{LogAnswer, changed, refused, logCommitCauses, AnswerDue, acceptedLogs}
+use Rattle.log_model.specs.Counts.{hitsOnList, changedRayCount}
+use Rattle.log_model.specs.Runs.{pointSets, CommitEffect, CommitStep, Run, done, next, RunMeetsModel, StoresAgree}
+use Rattle.log_model.specs.Examples.{num, exampleBox, exampleGrid, exampleStock, exampleHit, exampleCommit, notAllowed, innerWider, threeLogs, threeAnswers, exampleListAfter, AtEnd, RunRight}
 use Rattle.store.specs.Updates.{cells}
 use Rattle.stock.specs.Stock.{Stock, ValidAt, SoundStock}
 use Rattle.stock_fill.specs.Uncut.{uncut as uncutCells, uncutSpans, uncutLinks, uncutHeads, recordAt}
@@ -38,16 +38,16 @@ use Rattle.log_model.proofs.Decided.{tests, answerBy, judged, left-list
 use Rattle.log_model.proofs.Lent.{lent-laws, demand3-lent}
 use Rattle.log_model.proofs.Plain.{Plain, Valid, answers, final}
 
-accepted-box : gridOf (box 8) (109 ∷ 109 ∷ []) ≡ Accepted grid
-unfolding gridOf isMm misdescribed allWithin within anyBelow gridOver anyAbove cellsOf tooFine leastStep magnitudeOf largerOf ceilOf absOf le lt neg ofBits ofInt toUnsigned isNan sub add mul div
+accepted-box : gridOf (exampleBox 8) (109 ∷ 109 ∷ []) ≡ Accepted exampleGrid
+unfolding gridOf isMm misdescribed allBetween isBetween anyBelow gridOver anyAbove cellCount tooFine leastStep magnitudeOf largerOf ceilOf absOf le lt neg ofBits ofInt toUnsigned isNan sub add mul div
 accepted-box = refl
 
 -- minus zero names axis 0; an axis of 3, a fraction, a negative number, an infinity and NaN name no ray
-naming : map (λ log. map (namesOne grid) (entries log))
-    (hit (neg (num 0)) (num 0) ∷ hit (num 2) (neg (num 0)) ∷ hit (num 3) (num 0) ∷ hit (num 0) (num 1) ∷ hit (num 1) (ratio 1 2) ∷ hit (num 1) (neg (num 1))
-    ∷ hit (inf false) (num 0) ∷ hit (num 0) nan ∷ [])
+naming : map (λ log. map (namesSomeRay exampleGrid) (entries log))
+    (exampleHit (neg (num 0)) (num 0) ∷ exampleHit (num 2) (neg (num 0)) ∷ exampleHit (num 3) (num 0) ∷ exampleHit (num 0) (num 1) ∷ exampleHit (num 1) (ratio 1 2) ∷ exampleHit (num 1) (neg (num 1))
+    ∷ exampleHit (inf false) (num 0) ∷ exampleHit (num 0) nan ∷ [])
     ≡ (true ∷ []) ∷ (true ∷ []) ∷ (false ∷ []) ∷ (false ∷ []) ∷ (false ∷ []) ∷ (false ∷ []) ∷ (false ∷ []) ∷ (false ∷ []) ∷ []
-unfolding namesOne entries ratio eq neg ofInt byDigit
+unfolding namesSomeRay entries ratio eq neg ofInt byDigit
 naming = refl
 
 -- ---- doubles, by a test
@@ -76,41 +76,41 @@ by-fit l h = cells-doubles l (fit-doubles l h)
 
 -- ---- a run on full rays. The log hits the ray along axis 1, which is ray 1.
 
-abbrev uncut : ℕ → Plain grid
+abbrev uncut : ℕ → Plain exampleGrid
 uncut n = record { lists = λ r k. num 0 ∷ num 10 ∷ []; generation = 0; lent = record { records = n; heads = 6 } }
 
-full : (n : ℕ) → Valid grid (uncut n)
+full : (n : ℕ) → Valid exampleGrid (uncut n)
 unfolding sound lt ofInt all-fit fits
 full n = record { isSound = λ r k. refl; doubles = λ r k. fit-doubles (num 0 ∷ num 10 ∷ []) refl; within = λ r p t. t }
 
--- the ray changes once; the same log again is accepted and changes nothing, even with no ray allowed
-twice : answers (box 8) grid (uncut 8) (commit 0 1 66 ∷ commit 0 0 66 ∷ []) ≡ changed 1 ∷ changed 0 ∷ []
+-- the ray changes once; the same log again is acceptedLogs and changes nothing, even with no ray allowed
+twice : answers (exampleBox 8) exampleGrid (uncut 8) (exampleCommit 0 1 66 ∷ exampleCommit 0 0 66 ∷ []) ≡ changed 1 ∷ changed 0 ∷ []
 unfolding answers rayCount byDigit eq lt le
 twice = refl
 
--- one work pair short; part of an entry over; no such ray; no ray allowed; and after those refusals the log is accepted
-refusals : answers (box 8) grid (uncut 8) (commit 0 1 65 ∷ record { log = num 1 ∷ []; allowance = 1; work = 66 } ∷ commit 1 1 66 ∷ commit 0 0 66 ∷ commit 0 1 66 ∷ [])
+-- one work pair short; part of an entry over; no such ray; no ray allowed; and after those refusals the log is acceptedLogs
+refusals : answers (exampleBox 8) exampleGrid (uncut 8) (exampleCommit 0 1 65 ∷ record { log = num 1 ∷ []; allowance = 1; work = 66 } ∷ exampleCommit 1 1 66 ∷ exampleCommit 0 0 66 ∷ exampleCommit 0 1 66 ∷ [])
     ≡ refused 12 ∷ refused 11 ∷ refused 17 ∷ refused 9 ∷ changed 1 ∷ []
 unfolding answers rayCount byDigit eq lt le
 refusals = refl
 
 -- eight intervals would be left where seven are allowed
-over-budget : answers (box 7) grid (uncut 7) (commit 0 1 60 ∷ []) ≡ refused 10 ∷ []
+over-budget : answers (exampleBox 7) exampleGrid (uncut 7) (exampleCommit 0 1 60 ∷ []) ≡ refused 10 ∷ []
 unfolding answers rayCount byDigit eq lt le
 over-budget = refl
 
 -- both lists of ray 1
-ray-one : Plain grid → List (List Float)
+ray-one : Plain exampleGrid → List (List Float)
 unfolding rayCount
 ray-one s = s .lists (1, lit< tt) possible ∷ s .lists (1, lit< tt) certain ∷ []
 
 -- after the two commits of `twice`
-cut-ray : ray-one (final (box 8) grid (uncut 8) (commit 0 1 66 ∷ commit 0 0 66 ∷ []))
+cut-ray : ray-one (final (exampleBox 8) exampleGrid (uncut 8) (exampleCommit 0 1 66 ∷ exampleCommit 0 0 66 ∷ []))
     ≡ (num 0 ∷ num 2 ∷ num 3 ∷ num 10 ∷ []) ∷ (num 0 ∷ num 1 ∷ num 4 ∷ num 10 ∷ []) ∷ []
 unfolding final ray-one rayCount byDigit eq lt le
 cut-ray = refl
 
-cut-generation : final (box 8) grid (uncut 8) (commit 0 1 66 ∷ commit 0 0 66 ∷ []) .generation ≡ 2
+cut-generation : final (exampleBox 8) exampleGrid (uncut 8) (exampleCommit 0 1 66 ∷ exampleCommit 0 0 66 ∷ []) .generation ≡ 2
 unfolding final rayCount byDigit eq lt le
 cut-generation = refl
 
@@ -141,7 +141,7 @@ cut-again = record {
 }
 
 -- what holds of each of the three rays holds of every ray
-three : (P : Ray grid → Type 0) → ((h : 0 < rayCount grid) → P (0, h)) → ((h : 1 < rayCount grid) → P (1, h)) → ((h : 2 < rayCount grid) → P (2, h)) → (r : Ray grid) → P r
+three : (P : Ray exampleGrid → Type 0) → ((h : 0 < rayCount exampleGrid) → P (0, h)) → ((h : 1 < rayCount exampleGrid) → P (1, h)) → ((h : 2 < rayCount exampleGrid) → P (2, h)) → (r : Ray exampleGrid) → P r
 unfolding rayCount
 three P a b c (zero, h) = a h
 three P a b c (suc zero, h) = b h
@@ -204,13 +204,13 @@ whole-ray : ValidRay (num 0) (num 10) (num 0 ∷ num 10 ∷ []) (num 0 ∷ num 1
 unfolding sound bounded lt le ofInt
 whole-ray = record { possible-sound = refl; certain-sound = refl; possible-bounded = refl; certain-bounded = refl; inside = λ p t. t }
 
--- certain lies within possible, by a test at the ends
+-- certain lies isBetween possible, by a test at the ends
 inside-of : (P C : List Float) → agree (C ++ P) (λ (q : Float). holds C q && holds P q) (holds C) ≡ true → (p : Float) → holds C p ≡ true → holds P p ≡ true
 inside-of P C h p t =
     and-right (holds C p) (holds P p)
     (by-ends (C ++ P) (λ (q : Float). holds C q && holds P q) (holds C) (both-of (C ++ P) (holds C) (holds P) (in-left C P (holds C) (of-list C)) (in-right C P (holds P) (of-list P))) (in-left C P (holds C) (of-list C)) h p ∙ t)
 
--- the ray that was cut: 0 to 1 and 4 to 10 lie within 0 to 2 and 3 to 10
+-- the ray that was cut: 0 to 1 and 4 to 10 lie isBetween 0 to 2 and 3 to 10
 cut-whole : ValidRay (num 0) (num 10) (num 0 ∷ num 2 ∷ num 3 ∷ num 10 ∷ []) (num 0 ∷ num 1 ∷ num 4 ∷ num 10 ∷ [])
 unfolding sound bounded holds lt le ofInt
 cut-whole = record {
@@ -221,7 +221,7 @@ cut-whole = record {
   inside = inside-of (num 0 ∷ num 2 ∷ num 3 ∷ num 10 ∷ []) (num 0 ∷ num 1 ∷ num 4 ∷ num 10 ∷ []) refl;
 }
 
--- and cut again: 0 to 1 lies within 0 to 2 and 3 to 4
+-- and cut again: 0 to 1 lies isBetween 0 to 2 and 3 to 4
 again-whole : ValidRay (num 0) (num 10) (num 0 ∷ num 2 ∷ num 3 ∷ num 4 ∷ []) (num 0 ∷ num 1 ∷ [])
 unfolding sound bounded holds lt le ofInt
 again-whole = record {
@@ -232,95 +232,95 @@ again-whole = record {
   inside = inside-of (num 0 ∷ num 2 ∷ num 3 ∷ num 4 ∷ []) (num 0 ∷ num 1 ∷ []) refl;
 }
 
-filled-sound : SoundStock (box 8) grid filled
+filled-sound : SoundStock (exampleBox 8) exampleGrid exampleStock
 unfolding rayCount boundsOf rayAxis offset raysAlong byDigit listIn chained places endsAt usedAt all-used elem ofInt
 filled-sound = record {
   store = record {
-    chains = six (λ j. Chain (filled .cells .links) 8 (suc j) (getD (filled .cells .heads) j 0) (placesOf 8 (filled .cells .links) (filled .cells .heads) j))
+    chains = six (λ j. RecordChain (exampleStock .cells .links) 8 (suc j) (getD (exampleStock .cells .heads) j 0) (placesOf 8 (exampleStock .cells .links) (exampleStock .cells .heads) j))
         (more (lit< tt) refl ends) (more (lit< tt) refl ends) (more (lit< tt) refl ends) (more (lit< tt) refl ends) (more (lit< tt) refl ends) (more (lit< tt) refl ends);
-    others = used-in (chained 8 (filled .cells .links) (filled .cells .heads) 0 6) (usedAt (filled .cells .spans) (filled .cells .links)) 8 refl;
+    others = used-in (chained 8 (exampleStock .cells .links) (exampleStock .cells .heads) 0 6) (usedAt (exampleStock .cells .spans) (exampleStock .cells .links)) 8 refl;
     counts = refl;
   };
-  valid = λ ray h. three (λ r. ValidAt (box 8) grid (filled .cells) (r .0)) (λ h. whole-ray) (λ h. whole-ray) (λ h. whole-ray) (ray, h);
+  valid = λ ray h. three (λ r. ValidAt (exampleBox 8) exampleGrid (exampleStock .cells) (r .0)) (λ h. whole-ray) (λ h. whole-ray) (λ h. whole-ray) (ray, h);
 }
 
-cut-sound : SoundStock (box 8) grid cut
+cut-sound : SoundStock (exampleBox 8) exampleGrid cut
 unfolding rayCount boundsOf rayAxis offset raysAlong byDigit listIn chained places endsAt usedAt all-used elem ofInt
 cut-sound = record {
   store = record {
-    chains = six (λ j. Chain (cut .cells .links) 8 (suc j) (getD (cut .cells .heads) j 0) (placesOf 8 (cut .cells .links) (cut .cells .heads) j))
+    chains = six (λ j. RecordChain (cut .cells .links) 8 (suc j) (getD (cut .cells .heads) j 0) (placesOf 8 (cut .cells .links) (cut .cells .heads) j))
         (more (lit< tt) refl ends) (more (lit< tt) refl ends) (more (lit< tt) refl (more (lit< tt) refl ends)) (more (lit< tt) refl (more (lit< tt) refl ends)) (more (lit< tt) refl ends) (more (lit< tt) refl ends);
     others = used-in (chained 8 (cut .cells .links) (cut .cells .heads) 0 6) (usedAt (cut .cells .spans) (cut .cells .links)) 8 refl;
     counts = refl;
   };
-  valid = λ ray h. three (λ r. ValidAt (box 8) grid (cut .cells) (r .0)) (λ h. whole-ray) (λ h. cut-whole) (λ h. whole-ray) (ray, h);
+  valid = λ ray h. three (λ r. ValidAt (exampleBox 8) exampleGrid (cut .cells) (r .0)) (λ h. whole-ray) (λ h. cut-whole) (λ h. whole-ray) (ray, h);
 }
 
-again-sound : SoundStock (box 8) grid cut-again
+again-sound : SoundStock (exampleBox 8) exampleGrid cut-again
 unfolding rayCount boundsOf rayAxis offset raysAlong byDigit listIn chained places endsAt usedAt all-used elem ofInt
 again-sound = record {
   store = record {
-    chains = six (λ j. Chain (cut-again .cells .links) 8 (suc j) (getD (cut-again .cells .heads) j 0) (placesOf 8 (cut-again .cells .links) (cut-again .cells .heads) j))
+    chains = six (λ j. RecordChain (cut-again .cells .links) 8 (suc j) (getD (cut-again .cells .heads) j 0) (placesOf 8 (cut-again .cells .links) (cut-again .cells .heads) j))
         (more (lit< tt) refl ends) (more (lit< tt) refl ends) (more (lit< tt) refl (more (lit< tt) refl ends)) (more (lit< tt) refl ends) (more (lit< tt) refl ends) (more (lit< tt) refl ends);
     others = used-in (chained 8 (cut-again .cells .links) (cut-again .cells .heads) 0 6) (usedAt (cut-again .cells .spans) (cut-again .cells .links)) 8 refl;
     counts = refl;
   };
-  valid = λ ray h. three (λ r. ValidAt (box 8) grid (cut-again .cells) (r .0)) (λ h. whole-ray) (λ h. again-whole) (λ h. whole-ray) (ray, h);
+  valid = λ ray h. three (λ r. ValidAt (exampleBox 8) exampleGrid (cut-again .cells) (r .0)) (λ h. whole-ray) (λ h. again-whole) (λ h. whole-ray) (ray, h);
 }
 
--- the answer that the order gives to a commit on a sound stock, worked out
-abbrev answer-on : Stock → Commit → Answer
+-- the answer that the order gives to a exampleCommit on a sound stock, worked out
+abbrev answer-on : Stock → Commit → LogAnswer
 answer-on s c =
-    answerBy (causes (box 8) grid (lentStore (box 8) grid .lent s) ⊥ (points grid (lentStore (box 8) grid) s) (s .generation) c)
-    (tests (box 8) grid (lentStore (box 8) grid .lent s) (λ r k. listIn (box 8) s (r .0) k) (s .generation) c)
-    (changed (raysChanged grid (λ r k. listIn (box 8) s (r .0) k) (entries (c .log))))
+    answerBy (logCommitCauses (exampleBox 8) exampleGrid (lentStore (exampleBox 8) exampleGrid .lent s) ⊥ (pointSets exampleGrid (lentStore (exampleBox 8) exampleGrid) s) (s .generation) c)
+    (tests (exampleBox 8) exampleGrid (lentStore (exampleBox 8) exampleGrid .lent s) (λ r k. listIn (exampleBox 8) s (r .0) k) (s .generation) c)
+    (changed (changedRayCount exampleGrid (λ r k. listIn (exampleBox 8) s (r .0) k) (entries (c .log))))
 
-module _ (s : Stock) (S : SoundStock (box 8) grid s) (ds : DoubleCells (s .cells .spans)) (c : Commit) (dc : DoubleCells (c .log)) where
+module _ (s : Stock) (S : SoundStock (exampleBox 8) exampleGrid s) (ds : DoubleCells (s .cells .spans)) (c : Commit) (dc : DoubleCells (c .log)) where
   -- the lists of the stock are those of its sets
-  lists-on : (r : Ray grid) (k : Kind) → ListOf (points grid (lentStore (box 8) grid) s r k) (listIn (box 8) s (r .0) k)
-  unfolding points
-  lists-on r k = record { isSound = lent-laws (box 8) grid .sound-list s S r k; points = λ p. refl }
+  lists-on : (r : Ray exampleGrid) (k : Kind) → ListOf (pointSets exampleGrid (lentStore (exampleBox 8) exampleGrid) s r k) (listIn (exampleBox 8) s (r .0) k)
+  unfolding pointSets
+  lists-on r k = record { isSound = lent-laws (exampleBox 8) exampleGrid .sound-list s S r k; points = λ p. refl }
 
-  judged-on : (a : Answer) → answer-on s c ≡ a
-      → Judged (box 8) grid (lentStore (box 8) grid .lent s) (¬ SoundStock (box 8) grid s) (points grid (lentStore (box 8) grid) s) (s .generation) c a
-  judged-on a e = judged-unsound (box 8) grid (lentStore (box 8) grid .lent s) (¬ SoundStock (box 8) grid s) (λ n. n S) (points grid (lentStore (box 8) grid) s) (s .generation) c a
-      (subst (λ (b : Answer). Judged (box 8) grid (lentStore (box 8) grid .lent s) ⊥ (points grid (lentStore (box 8) grid) s) (s .generation) c b) e
-      (judged (box 8) grid (lentStore (box 8) grid .lent s) (points grid (lentStore (box 8) grid) s)
-      (λ r k. listIn (box 8) s (r .0) k) lists-on (s .generation) c
-      (all-doubles (box 8) grid s (c .log) ds dc)))
+  judged-on : (a : LogAnswer) → answer-on s c ≡ a
+      → AnswerDue (exampleBox 8) exampleGrid (lentStore (exampleBox 8) exampleGrid .lent s) (¬ SoundStock (exampleBox 8) exampleGrid s) (pointSets exampleGrid (lentStore (exampleBox 8) exampleGrid) s) (s .generation) c a
+  judged-on a e = judged-unsound (exampleBox 8) exampleGrid (lentStore (exampleBox 8) exampleGrid .lent s) (¬ SoundStock (exampleBox 8) exampleGrid s) (λ n. n S) (pointSets exampleGrid (lentStore (exampleBox 8) exampleGrid) s) (s .generation) c a
+      (subst (λ (b : LogAnswer). AnswerDue (exampleBox 8) exampleGrid (lentStore (exampleBox 8) exampleGrid .lent s) ⊥ (pointSets exampleGrid (lentStore (exampleBox 8) exampleGrid) s) (s .generation) c b) e
+      (judged (exampleBox 8) exampleGrid (lentStore (exampleBox 8) exampleGrid .lent s) (pointSets exampleGrid (lentStore (exampleBox 8) exampleGrid) s)
+      (λ r k. listIn (exampleBox 8) s (r .0) k) lists-on (s .generation) c
+      (all-doubles (exampleBox 8) exampleGrid s (c .log) ds dc)))
 
-  refuses : (k : ℕ) → answer-on s c ≡ refused k → Committed (box 8) grid (lentStore (box 8) grid) s c (refused k) s
-  unfolding Left
+  refuses : (k : ℕ) → answer-on s c ≡ refused k → CommitStep (exampleBox 8) exampleGrid (lentStore (exampleBox 8) exampleGrid) s c (refused k) s
+  unfolding CommitEffect
   refuses k e = record { answers = judged-on (refused k) e; leaves = refl }
 
   -- the lists that are left are the old ones less the hits
-  cuts-to : (n : ℕ) (t : Stock) → answer-on s c ≡ changed n → SoundStock (box 8) grid t
-      → ((r : Ray grid) (k : Kind) → listIn (box 8) t (r .0) k ≡ less (listIn (box 8) s (r .0) k) (hitsOn grid (entries (c .log)) r k))
-      → t .generation ≡ suc (s .generation) → lentStore (box 8) grid .lent t ≡ lentStore (box 8) grid .lent s
-      → Committed (box 8) grid (lentStore (box 8) grid) s c (changed n) t
-  unfolding Left
+  cuts-to : (n : ℕ) (t : Stock) → answer-on s c ≡ changed n → SoundStock (exampleBox 8) exampleGrid t
+      → ((r : Ray exampleGrid) (k : Kind) → listIn (exampleBox 8) t (r .0) k ≡ less (listIn (exampleBox 8) s (r .0) k) (hitsOnList exampleGrid (entries (c .log)) r k))
+      → t .generation ≡ suc (s .generation) → lentStore (exampleBox 8) exampleGrid .lent t ≡ lentStore (exampleBox 8) exampleGrid .lent s
+      → CommitStep (exampleBox 8) exampleGrid (lentStore (exampleBox 8) exampleGrid) s c (changed n) t
+  unfolding CommitEffect
   cuts-to n t e T l g h = record {
     answers = judged-on (changed n) e;
     leaves = record {
       sound = T;
       exactly = λ r k p.
-          unfold points in ap (λ (l : List Float). holds l p) (l r k)
-          ∙ left-list grid (points grid (lentStore (box 8) grid) s) (λ r k. listIn (box 8) s (r .0) k) lists-on (entries (c .log)) r k .points p;
+          unfold pointSets in ap (λ (l : List Float). holds l p) (l r k)
+          ∙ left-list exampleGrid (pointSets exampleGrid (lentStore (exampleBox 8) exampleGrid) s) (λ r k. listIn (exampleBox 8) s (r .0) k) lists-on (entries (c .log)) r k .points p;
       generation = g;
       lent = h;
     };
   }
 
-first-answer : answer-on filled (commit 0 1 66) ≡ changed 1
-unfolding answerBy causes tests raysChanged rayCount eq byDigit lt listIn endsAt places le
+first-answer : answer-on exampleStock (exampleCommit 0 1 66) ≡ changed 1
+unfolding answerBy logCommitCauses tests changedRayCount rayCount eq byDigit lt listIn endsAt places le
 first-answer = refl
 
 second-answer : answer-on cut notAllowed ≡ refused 9
-unfolding answerBy causes tests raysChanged rayCount eq byDigit lt listIn endsAt places le
+unfolding answerBy logCommitCauses tests changedRayCount rayCount eq byDigit lt listIn endsAt places le
 second-answer = refl
 
 third-answer : answer-on cut innerWider ≡ changed 1
-unfolding answerBy causes tests raysChanged rayCount eq byDigit lt listIn endsAt places le
+unfolding answerBy logCommitCauses tests changedRayCount rayCount eq byDigit lt listIn endsAt places le
 third-answer = refl
 
 -- the lists after the first log, and the pairs that the first and the third take from each
@@ -342,60 +342,60 @@ third-pairs (suc zero) possible = num 4 ∷ num 10 ∷ []
 third-pairs (suc zero) certain = num 9 ∷ num 10 ∷ num 4 ∷ num 10 ∷ []
 third-pairs (suc (suc n)) k = []
 
-filled-lists : (r : Ray grid) (k : Kind) → listIn (box 8) filled (r .0) k ≡ num 0 ∷ num 10 ∷ []
+filled-lists : (r : Ray exampleGrid) (k : Kind) → listIn (exampleBox 8) exampleStock (r .0) k ≡ num 0 ∷ num 10 ∷ []
 unfolding listIn endsAt places
-filled-lists r possible = three (λ r. listIn (box 8) filled (r .0) possible ≡ num 0 ∷ num 10 ∷ []) (λ h. refl) (λ h. refl) (λ h. refl) r
-filled-lists r certain = three (λ r. listIn (box 8) filled (r .0) certain ≡ num 0 ∷ num 10 ∷ []) (λ h. refl) (λ h. refl) (λ h. refl) r
+filled-lists r possible = three (λ r. listIn (exampleBox 8) exampleStock (r .0) possible ≡ num 0 ∷ num 10 ∷ []) (λ h. refl) (λ h. refl) (λ h. refl) r
+filled-lists r certain = three (λ r. listIn (exampleBox 8) exampleStock (r .0) certain ≡ num 0 ∷ num 10 ∷ []) (λ h. refl) (λ h. refl) (λ h. refl) r
 
-cut-lists : (r : Ray grid) (k : Kind) → listIn (box 8) cut (r .0) k ≡ cut-at (r .0) k
+cut-lists : (r : Ray exampleGrid) (k : Kind) → listIn (exampleBox 8) cut (r .0) k ≡ cut-at (r .0) k
 unfolding listIn endsAt places
-cut-lists r possible = three (λ r. listIn (box 8) cut (r .0) possible ≡ cut-at (r .0) possible) (λ h. refl) (λ h. refl) (λ h. refl) r
-cut-lists r certain = three (λ r. listIn (box 8) cut (r .0) certain ≡ cut-at (r .0) certain) (λ h. refl) (λ h. refl) (λ h. refl) r
+cut-lists r possible = three (λ r. listIn (exampleBox 8) cut (r .0) possible ≡ cut-at (r .0) possible) (λ h. refl) (λ h. refl) (λ h. refl) r
+cut-lists r certain = three (λ r. listIn (exampleBox 8) cut (r .0) certain ≡ cut-at (r .0) certain) (λ h. refl) (λ h. refl) (λ h. refl) r
 
-again-lists : (r : Ray grid) (k : Kind) → listIn (box 8) cut-again (r .0) k ≡ listAfter (r .0) k
+again-lists : (r : Ray exampleGrid) (k : Kind) → listIn (exampleBox 8) cut-again (r .0) k ≡ exampleListAfter (r .0) k
 unfolding listIn endsAt places
-again-lists r possible = three (λ r. listIn (box 8) cut-again (r .0) possible ≡ listAfter (r .0) possible) (λ h. refl) (λ h. refl) (λ h. refl) r
-again-lists r certain = three (λ r. listIn (box 8) cut-again (r .0) certain ≡ listAfter (r .0) certain) (λ h. refl) (λ h. refl) (λ h. refl) r
+again-lists r possible = three (λ r. listIn (exampleBox 8) cut-again (r .0) possible ≡ exampleListAfter (r .0) possible) (λ h. refl) (λ h. refl) (λ h. refl) r
+again-lists r certain = three (λ r. listIn (exampleBox 8) cut-again (r .0) certain ≡ exampleListAfter (r .0) certain) (λ h. refl) (λ h. refl) (λ h. refl) r
 
-first-hits : (r : Ray grid) (k : Kind) → hitsOn grid (entries (commit 0 1 66 .log)) r k ≡ first-pairs (r .0) k
-unfolding hitsOn entries eq byDigit
-first-hits r possible = three (λ r. hitsOn grid (entries (commit 0 1 66 .log)) r possible ≡ first-pairs (r .0) possible) (λ h. refl) (λ h. refl) (λ h. refl) r
-first-hits r certain = three (λ r. hitsOn grid (entries (commit 0 1 66 .log)) r certain ≡ first-pairs (r .0) certain) (λ h. refl) (λ h. refl) (λ h. refl) r
+first-hits : (r : Ray exampleGrid) (k : Kind) → hitsOnList exampleGrid (entries (exampleCommit 0 1 66 .log)) r k ≡ first-pairs (r .0) k
+unfolding hitsOnList entries eq byDigit
+first-hits r possible = three (λ r. hitsOnList exampleGrid (entries (exampleCommit 0 1 66 .log)) r possible ≡ first-pairs (r .0) possible) (λ h. refl) (λ h. refl) (λ h. refl) r
+first-hits r certain = three (λ r. hitsOnList exampleGrid (entries (exampleCommit 0 1 66 .log)) r certain ≡ first-pairs (r .0) certain) (λ h. refl) (λ h. refl) (λ h. refl) r
 
-third-hits : (r : Ray grid) (k : Kind) → hitsOn grid (entries (innerWider .log)) r k ≡ third-pairs (r .0) k
-unfolding hitsOn entries eq byDigit
-third-hits r possible = three (λ r. hitsOn grid (entries (innerWider .log)) r possible ≡ third-pairs (r .0) possible) (λ h. refl) (λ h. refl) (λ h. refl) r
-third-hits r certain = three (λ r. hitsOn grid (entries (innerWider .log)) r certain ≡ third-pairs (r .0) certain) (λ h. refl) (λ h. refl) (λ h. refl) r
+third-hits : (r : Ray exampleGrid) (k : Kind) → hitsOnList exampleGrid (entries (innerWider .log)) r k ≡ third-pairs (r .0) k
+unfolding hitsOnList entries eq byDigit
+third-hits r possible = three (λ r. hitsOnList exampleGrid (entries (innerWider .log)) r possible ≡ third-pairs (r .0) possible) (λ h. refl) (λ h. refl) (λ h. refl) r
+third-hits r certain = three (λ r. hitsOnList exampleGrid (entries (innerWider .log)) r certain ≡ third-pairs (r .0) certain) (λ h. refl) (λ h. refl) (λ h. refl) r
 
 -- the lists that are left are the old ones less the hits
-first-less : (r : Ray grid) (k : Kind) → cut-at (r .0) k ≡ less (num 0 ∷ num 10 ∷ []) (first-pairs (r .0) k)
+first-less : (r : Ray exampleGrid) (k : Kind) → cut-at (r .0) k ≡ less (num 0 ∷ num 10 ∷ []) (first-pairs (r .0) k)
 unfolding less lt ofInt
 first-less r possible = three (λ r. cut-at (r .0) possible ≡ less (num 0 ∷ num 10 ∷ []) (first-pairs (r .0) possible)) (λ h. refl) (λ h. refl) (λ h. refl) r
 first-less r certain = three (λ r. cut-at (r .0) certain ≡ less (num 0 ∷ num 10 ∷ []) (first-pairs (r .0) certain)) (λ h. refl) (λ h. refl) (λ h. refl) r
 
-third-less : (r : Ray grid) (k : Kind) → listAfter (r .0) k ≡ less (cut-at (r .0) k) (third-pairs (r .0) k)
+third-less : (r : Ray exampleGrid) (k : Kind) → exampleListAfter (r .0) k ≡ less (cut-at (r .0) k) (third-pairs (r .0) k)
 unfolding less lt ofInt
-third-less r possible = three (λ r. listAfter (r .0) possible ≡ less (cut-at (r .0) possible) (third-pairs (r .0) possible)) (λ h. refl) (λ h. refl) (λ h. refl) r
-third-less r certain = three (λ r. listAfter (r .0) certain ≡ less (cut-at (r .0) certain) (third-pairs (r .0) certain)) (λ h. refl) (λ h. refl) (λ h. refl) r
+third-less r possible = three (λ r. exampleListAfter (r .0) possible ≡ less (cut-at (r .0) possible) (third-pairs (r .0) possible)) (λ h. refl) (λ h. refl) (λ h. refl) r
+third-less r certain = three (λ r. exampleListAfter (r .0) certain ≡ less (cut-at (r .0) certain) (third-pairs (r .0) certain)) (λ h. refl) (λ h. refl) (λ h. refl) r
 
-first-lists : (r : Ray grid) (k : Kind) → listIn (box 8) cut (r .0) k ≡ less (listIn (box 8) filled (r .0) k) (hitsOn grid (entries (commit 0 1 66 .log)) r k)
+first-lists : (r : Ray exampleGrid) (k : Kind) → listIn (exampleBox 8) cut (r .0) k ≡ less (listIn (exampleBox 8) exampleStock (r .0) k) (hitsOnList exampleGrid (entries (exampleCommit 0 1 66 .log)) r k)
 first-lists r k = cut-lists r k ∙ first-less r k ∙ ap₂ less (sym (filled-lists r k)) (sym (first-hits r k))
 
-third-lists : (r : Ray grid) (k : Kind) → listIn (box 8) cut-again (r .0) k ≡ less (listIn (box 8) cut (r .0) k) (hitsOn grid (entries (innerWider .log)) r k)
+third-lists : (r : Ray exampleGrid) (k : Kind) → listIn (exampleBox 8) cut-again (r .0) k ≡ less (listIn (exampleBox 8) cut (r .0) k) (hitsOnList exampleGrid (entries (innerWider .log)) r k)
 third-lists r k = again-lists r k ∙ third-less r k ∙ ap₂ less (sym (cut-lists r k)) (sym (third-hits r k))
 
 -- every cell is a double
-filled-doubles : DoubleCells (filled .cells .spans)
+filled-doubles : DoubleCells (exampleStock .cells .spans)
 unfolding all-fit ofInt
-filled-doubles = by-fit (filled .cells .spans) refl
+filled-doubles = by-fit (exampleStock .cells .spans) refl
 
 cut-doubles : DoubleCells (cut .cells .spans)
 unfolding all-fit ofInt
 cut-doubles = by-fit (cut .cells .spans) refl
 
-first-doubles : DoubleCells (commit 0 1 66 .log)
+first-doubles : DoubleCells (exampleCommit 0 1 66 .log)
 unfolding all-fit ofInt
-first-doubles = by-fit (commit 0 1 66 .log) refl
+first-doubles = by-fit (exampleCommit 0 1 66 .log) refl
 
 second-doubles : DoubleCells (notAllowed .log)
 unfolding all-fit ofInt
@@ -405,48 +405,48 @@ third-doubles : DoubleCells (innerWider .log)
 unfolding all-fit ofInt
 third-doubles = by-fit (innerWider .log) refl
 
-three-run : Run (box 8) grid (lentStore (box 8) grid) filled threeLogs threeAnswers cut-again
+three-run : Run (exampleBox 8) exampleGrid (lentStore (exampleBox 8) exampleGrid) exampleStock threeLogs threeAnswers cut-again
 three-run =
-    next (cuts-to filled filled-sound filled-doubles (commit 0 1 66) first-doubles 1 cut first-answer cut-sound first-lists refl refl)
+    next (cuts-to exampleStock filled-sound filled-doubles (exampleCommit 0 1 66) first-doubles 1 cut first-answer cut-sound first-lists refl refl)
     (next (refuses cut cut-sound cut-doubles notAllowed second-doubles 9 second-answer)
     (next (cuts-to cut cut-sound cut-doubles innerWider third-doubles 1 cut-again third-answer again-sound third-lists refl refl) done))
 
 -- what demand 3 says of it
-three-settled : Settled (box 8) grid (lentStore (box 8) grid) filled threeLogs threeAnswers cut-again
-three-settled = demand3-lent (box 8) grid .settles filled cut-again threeLogs threeAnswers filled-sound three-run
+three-settled : RunMeetsModel (exampleBox 8) exampleGrid (lentStore (exampleBox 8) exampleGrid) exampleStock threeLogs threeAnswers cut-again
+three-settled = demand3-lent (exampleBox 8) exampleGrid .settles exampleStock cut-again threeLogs threeAnswers filled-sound three-run
 
 -- ---- and of every other run of the three logs
 
-alike-self : (ls : List (List Float)) → Alike grid ls ls
-unfolding Alike Among
+alike-self : (ls : List (List Float)) → Alike exampleGrid ls ls
+unfolding Alike HitsIncluded
 alike-self ls = (self, self)
   where
-    self : Among grid ls ls
+    self : HitsIncluded exampleGrid ls ls
     self r w h =
-        let n = lt-number (loOf w (h .entry)) (hiOf w (h .entry)) (h .proper) in
-        (h, eq-refl (loOf w (h .entry)) (n .0), eq-refl (hiOf w (h .entry)) (n .1))
+        let n = lt-number (hitLo w (h .entry)) (hitHi w (h .entry)) (h .proper) in
+        (h, eq-refl (hitLo w (h .entry)) (n .0), eq-refl (hitHi w (h .entry)) (n .1))
 
-module _ (vs : List Answer) (t : Stock) (x : Run (box 8) grid (lentStore (box 8) grid) filled threeLogs vs t) where
+module _ (vs : List LogAnswer) (t : Stock) (x : Run (exampleBox 8) exampleGrid (lentStore (exampleBox 8) exampleGrid) exampleStock threeLogs vs t) where
   same-answers : threeAnswers ≡ vs
-  same-answers = demand3-lent (box 8) grid .settles filled t threeLogs vs filled-sound x .no-others threeAnswers (three-settled .answers)
+  same-answers = demand3-lent (exampleBox 8) exampleGrid .settles exampleStock t threeLogs vs filled-sound x .no-others threeAnswers (three-settled .answers)
 
-  same-end : Agree grid (lentStore (box 8) grid) t cut-again
-  same-end = demand3-lent (box 8) grid .agrees filled t cut-again threeLogs threeLogs vs threeAnswers filled-sound x three-run
-      (subst (λ (ws : List Answer). Alike grid (accepted threeLogs ws) (accepted threeLogs threeAnswers)) same-answers (alike-self (accepted threeLogs threeAnswers)))
+  same-end : StoresAgree exampleGrid (lentStore (exampleBox 8) exampleGrid) t cut-again
+  same-end = demand3-lent (exampleBox 8) exampleGrid .agrees exampleStock t cut-again threeLogs threeLogs vs threeAnswers filled-sound x three-run
+      (subst (λ (ws : List LogAnswer). Alike exampleGrid (acceptedLogs threeLogs ws) (acceptedLogs threeLogs threeAnswers)) same-answers (alike-self (acceptedLogs threeLogs threeAnswers)))
 
   two-accepted : t .generation ≡ 2
-  unfolding accepted
-  two-accepted = demand3-lent (box 8) grid .settles filled t threeLogs vs filled-sound x .generation ∙ ap (λ (ws : List Answer). 0 + length (accepted threeLogs ws)) (sym same-answers)
+  unfolding acceptedLogs
+  two-accepted = demand3-lent (exampleBox 8) exampleGrid .settles exampleStock t threeLogs vs filled-sound x .generation ∙ ap (λ (ws : List LogAnswer). 0 + length (acceptedLogs threeLogs ws)) (sym same-answers)
 
   at-end : AtEnd t
   at-end = record {
-    lists = λ r k. subst (λ (l : List Float). equal (listIn (box 8) t (r .0) k) l ≡ true) (again-lists r k) (same-end .same-lists r k);
+    lists = λ r k. subst (λ (l : List Float). equal (listIn (exampleBox 8) t (r .0) k) l ≡ true) (again-lists r k) (same-end .same-lists r k);
     generation = two-accepted;
     intervals = same-end .same-total;
   }
 
--- the uncut store of the box
-fill-lays : uncutCells (box 8) grid (cells (replicate 16 (num 7)) (replicate 16 7) (replicate 6 7)) ≡ filled .cells
+-- the uncut store of the exampleBox
+fill-lays : uncutCells (exampleBox 8) exampleGrid (cells (replicate 16 (num 7)) (replicate 16 7) (replicate 6 7)) ≡ exampleStock .cells
 unfolding uncutSpans uncutLinks uncutHeads recordAt rayCount boundsOf rayAxis offset raysAlong byDigit ofInt ofBits
 fill-lays = refl
 

@@ -8,7 +8,7 @@ use Rattle.doubles.proofs.Bools.{or-cases, or-left, or-right, and-left, and-rig
 use Rattle.doubles.proofs.Order.{le-trans, le-lt-trans, lt-le-trans, eq→le, eq→ge}
 use Rattle.spans.specs.Spans.{within, holds}
 use Rattle.grid.specs.declared.DexelGrid.{DexelGrid}
-use Rattle.log_model.specs.Logs.{Ray, Kind, possible, certain, Entry, entries, names, HitKind, outer, inner, loOf, hiOf, pairsOn, taken, Lies, Among, Alike}
+use Rattle.log_model.specs.Logs.{Ray, Kind, possible, certain, Entry, entries, namesRay, HitKind, outer, inner, hitLo, hitHi, hitsOnRay, removed, InHit, HitsIncluded, Alike}
 
 -- ---- pairs and points
 
@@ -21,64 +21,64 @@ within-same lo hi lo′ hi′ p a b t =
     both (le lo′ p) (lt p hi′) (le-trans lo′ lo p (eq→ge lo lo′ a) (and-left (le lo p) (lt p hi) t))
     (lt-le-trans p hi hi′ (and-right (le lo p) (lt p hi) t) (eq→le hi hi′ b))
 
--- an entry that takes p, and that names the ray r
+-- an entry that takes p, and that namesRay the ray r
 record Taker (g : DexelGrid) (es : List Entry) (r : Ray g) (w : HitKind) (p : Float) : Type 0 where
   entry : Entry
   in-log : List·Memᴰ entry es
-  on-ray : names g entry r ≡ true
-  does : within (loOf w entry) (hiOf w entry) p ≡ true
+  on-ray : namesRay g entry r ≡ true
+  does : within (hitLo w entry) (hitHi w entry) p ≡ true
 
 module _ (g : DexelGrid) (r : Ray g) (w : HitKind) (p : Float) where
-  pub pairs-cons : (e : Entry) (es : List Entry) (b : Bool) → names g e r ≡ b
-      → holds (pairsOn g (e ∷ es) r w) p ≡ (b && within (loOf w e) (hiOf w e) p || holds (pairsOn g es r w) p)
-  unfolding pairsOn holds
-  pairs-cons e es true h = ap (λ (b : Bool). holds (cond b (loOf w e ∷ hiOf w e ∷ pairsOn g es r w) (pairsOn g es r w)) p) h
-  pairs-cons e es false h = ap (λ (b : Bool). holds (cond b (loOf w e ∷ hiOf w e ∷ pairsOn g es r w) (pairsOn g es r w)) p) h
+  pub pairs-cons : (e : Entry) (es : List Entry) (b : Bool) → namesRay g e r ≡ b
+      → holds (hitsOnRay g (e ∷ es) r w) p ≡ (b && within (hitLo w e) (hitHi w e) p || holds (hitsOnRay g es r w) p)
+  unfolding hitsOnRay holds
+  pairs-cons e es true h = ap (λ (b : Bool). holds (cond b (hitLo w e ∷ hitHi w e ∷ hitsOnRay g es r w) (hitsOnRay g es r w)) p) h
+  pairs-cons e es false h = ap (λ (b : Bool). holds (cond b (hitLo w e ∷ hitHi w e ∷ hitsOnRay g es r w) (hitsOnRay g es r w)) p) h
 
-  taker : (es : List Entry) → holds (pairsOn g es r w) p ≡ true → Taker g es r w p
-  unfolding pairsOn holds
+  taker : (es : List Entry) → holds (hitsOnRay g es r w) p ≡ true → Taker g es r w p
+  unfolding hitsOnRay holds
   taker [] t = absurd (false≢true t)
-  taker (e ∷ es) t = go (names g e r) refl (taker es)
+  taker (e ∷ es) t = go (namesRay g e r) refl (taker es)
     where
       later : Taker g es r w p → Taker g (e ∷ es) r w p
       later f = record { entry = f .entry; in-log = List·Memᴰ·tail (f .in-log); on-ray = f .on-ray; does = f .does }
 
-      go : (b : Bool) → names g e r ≡ b → (holds (pairsOn g es r w) p ≡ true → Taker g es r w p) → Taker g (e ∷ es) r w p
-      go true h f = elim (or-cases (within (loOf w e) (hiOf w e) p) (holds (pairsOn g es r w) p) (sym (pairs-cons e es true h) ∙ t)) [
+      go : (b : Bool) → namesRay g e r ≡ b → (holds (hitsOnRay g es r w) p ≡ true → Taker g es r w p) → Taker g (e ∷ es) r w p
+      go true h f = elim (or-cases (within (hitLo w e) (hitHi w e) p) (holds (hitsOnRay g es r w) p) (sym (pairs-cons e es true h) ∙ t)) [
         | inl u ↦ record { entry = e; in-log = List·Memᴰ·head refl; on-ray = h; does = u }
         | inr u ↦ later (f u)
       ]
       go false h f = later (f (sym (pairs-cons e es false h) ∙ t))
 
-  of-taker : (es : List Entry) (e : Entry) → List·Memᴰ e es → names g e r ≡ true → within (loOf w e) (hiOf w e) p ≡ true → holds (pairsOn g es r w) p ≡ true
+  of-taker : (es : List Entry) (e : Entry) → List·Memᴰ e es → namesRay g e r ≡ true → within (hitLo w e) (hitHi w e) p ≡ true → holds (hitsOnRay g es r w) p ≡ true
   of-taker [] e i a b = absurd (List·Memᴰ·not-nil i)
   of-taker (f ∷ es) e i a b = go (List·Memᴰ·cases-cons i) (λ j. of-taker es e j a b)
     where
-      go : (e ≡ f) ⊎ List·Memᴰ e es → (List·Memᴰ e es → holds (pairsOn g es r w) p ≡ true) → holds (pairsOn g (f ∷ es) r w) p ≡ true
+      go : (e ≡ f) ⊎ List·Memᴰ e es → (List·Memᴰ e es → holds (hitsOnRay g es r w) p ≡ true) → holds (hitsOnRay g (f ∷ es) r w) p ≡ true
       go (inl q) _ =
-          pairs-cons f es true (subst (λ (x : Entry). names g x r ≡ true) q a)
-          ∙ or-left (within (loOf w f) (hiOf w f) p) (holds (pairsOn g es r w) p) (subst (λ (x : Entry). within (loOf w x) (hiOf w x) p ≡ true) q b)
+          pairs-cons f es true (subst (λ (x : Entry). namesRay g x r ≡ true) q a)
+          ∙ or-left (within (hitLo w f) (hitHi w f) p) (holds (hitsOnRay g es r w) p) (subst (λ (x : Entry). within (hitLo w x) (hitHi w x) p ≡ true) q b)
       go (inr j) more =
-          pairs-cons f es (names g f r) refl ∙ or-right (names g f r && within (loOf w f) (hiOf w f) p) (holds (pairsOn g es r w) p) (more j)
+          pairs-cons f es (namesRay g f r) refl ∙ or-right (namesRay g f r && within (hitLo w f) (hitHi w f) p) (holds (hitsOnRay g es r w) p) (more j)
 
 -- ---- lists of logs
 
 -- an outer or an inner pair of the logs holds p
 heldBy : (g : DexelGrid) → List (List Float) → Ray g → HitKind → Float → Bool
 heldBy g [] r w p = false
-heldBy g (l ∷ ls) r w p = holds (pairsOn g (entries l) r w) p || heldBy g ls r w p
+heldBy g (l ∷ ls) r w p = holds (hitsOnRay g (entries l) r w) p || heldBy g ls r w p
 
 -- the logs take p from the list of kind k
 pub takenBy : (g : DexelGrid) → List (List Float) → Ray g → Kind → Float → Bool
 takenBy g [] r k p = false
-takenBy g (l ∷ ls) r k p = taken g (entries l) r k p || takenBy g ls r k p
+takenBy g (l ∷ ls) r k p = removed g (entries l) r k p || takenBy g ls r k p
 
 pub takenBy-none : (g : DexelGrid) (r : Ray g) (k : Kind) (p : Float) → takenBy g [] r k p ≡ false
 unfolding takenBy
 takenBy-none g r k p = refl
 
 pub takenBy-more : (g : DexelGrid) (l : List Float) (ls : List (List Float)) (r : Ray g) (k : Kind) (p : Float)
-    → takenBy g (l ∷ ls) r k p ≡ (taken g (entries l) r k p || takenBy g ls r k p)
+    → takenBy g (l ∷ ls) r k p ≡ (removed g (entries l) r k p || takenBy g ls r k p)
 unfolding takenBy
 takenBy-more g l ls r k p = refl
 
@@ -90,23 +90,23 @@ by-kinds false false c d = refl
 
 module _ (g : DexelGrid) (r : Ray g) (p : Float) where
   from-possible : (ls : List (List Float)) → takenBy g ls r possible p ≡ heldBy g ls r inner p
-  unfolding takenBy heldBy taken
+  unfolding takenBy heldBy removed
   from-possible [] = refl
-  from-possible (l ∷ ls) = ap (_||_ (holds (pairsOn g (entries l) r inner) p)) (from-possible ls)
+  from-possible (l ∷ ls) = ap (_||_ (holds (hitsOnRay g (entries l) r inner) p)) (from-possible ls)
 
   from-certain : (ls : List (List Float)) → takenBy g ls r certain p ≡ (heldBy g ls r outer p || heldBy g ls r inner p)
-  unfolding takenBy heldBy taken
+  unfolding takenBy heldBy removed
   from-certain [] = refl
   from-certain (l ∷ ls) =
-      ap (_||_ (holds (pairsOn g (entries l) r outer) p || holds (pairsOn g (entries l) r inner) p)) (from-certain ls)
-      ∙ by-kinds (holds (pairsOn g (entries l) r outer) p) (holds (pairsOn g (entries l) r inner) p) (heldBy g ls r outer p) (heldBy g ls r inner p)
+      ap (_||_ (holds (hitsOnRay g (entries l) r outer) p || holds (hitsOnRay g (entries l) r inner) p)) (from-certain ls)
+      ∙ by-kinds (holds (hitsOnRay g (entries l) r outer) p) (holds (hitsOnRay g (entries l) r inner) p) (heldBy g ls r outer p) (heldBy g ls r inner p)
 
-  to-lies : (ls : List (List Float)) (w : HitKind) → heldBy g ls r w p ≡ true → Lies g ls r w p
-  unfolding heldBy Lies
+  to-lies : (ls : List (List Float)) (w : HitKind) → heldBy g ls r w p ≡ true → InHit g ls r w p
+  unfolding heldBy InHit
   to-lies [] w t = absurd (false≢true t)
-  to-lies (l ∷ ls) w t = go (or-cases (holds (pairsOn g (entries l) r w) p) (heldBy g ls r w p) t) (to-lies ls w)
+  to-lies (l ∷ ls) w t = go (or-cases (holds (hitsOnRay g (entries l) r w) p) (heldBy g ls r w p) t) (to-lies ls w)
     where
-      go : (holds (pairsOn g (entries l) r w) p ≡ true) ⊎ (heldBy g ls r w p ≡ true) → (heldBy g ls r w p ≡ true → Lies g ls r w p) → Lies g (l ∷ ls) r w p
+      go : (holds (hitsOnRay g (entries l) r w) p ≡ true) ⊎ (heldBy g ls r w p ≡ true) → (heldBy g ls r w p ≡ true → InHit g ls r w p) → InHit g (l ∷ ls) r w p
       go (inl u) _ =
           let f = taker g r w p (entries l) u in (
             record {
@@ -115,7 +115,7 @@ module _ (g : DexelGrid) (r : Ray g) (p : Float) where
               in-logs = List·Memᴰ·head refl;
               in-log = f .in-log;
               on-ray = f .on-ray;
-              proper = within-proper (loOf w (f .entry)) (hiOf w (f .entry)) p (f .does);
+              proper = within-proper (hitLo w (f .entry)) (hitHi w (f .entry)) p (f .does);
             },
             f .does,
           )
@@ -125,50 +125,50 @@ module _ (g : DexelGrid) (r : Ray g) (p : Float) where
             t,
           )
 
-  held-in : (ls : List (List Float)) (w : HitKind) (l : List Float) (e : Entry) → List·Memᴰ l ls → List·Memᴰ e (entries l) → names g e r ≡ true
-      → within (loOf w e) (hiOf w e) p ≡ true → heldBy g ls r w p ≡ true
+  held-in : (ls : List (List Float)) (w : HitKind) (l : List Float) (e : Entry) → List·Memᴰ l ls → List·Memᴰ e (entries l) → namesRay g e r ≡ true
+      → within (hitLo w e) (hitHi w e) p ≡ true → heldBy g ls r w p ≡ true
   unfolding heldBy
   held-in [] w l e i j a b = absurd (List·Memᴰ·not-nil i)
   held-in (m ∷ ls) w l e i j a b = go (List·Memᴰ·cases-cons i) (λ k. held-in ls w l e k j a b)
     where
-      go : (l ≡ m) ⊎ List·Memᴰ l ls → (List·Memᴰ l ls → heldBy g ls r w p ≡ true) → (holds (pairsOn g (entries m) r w) p || heldBy g ls r w p) ≡ true
+      go : (l ≡ m) ⊎ List·Memᴰ l ls → (List·Memᴰ l ls → heldBy g ls r w p ≡ true) → (holds (hitsOnRay g (entries m) r w) p || heldBy g ls r w p) ≡ true
       go (inl q) _ =
-          or-left (holds (pairsOn g (entries m) r w) p) (heldBy g ls r w p)
+          or-left (holds (hitsOnRay g (entries m) r w) p) (heldBy g ls r w p)
           (of-taker g r w p (entries m) e (subst (λ (x : List Float). List·Memᴰ e (entries x)) q j) a b)
-      go (inr k) more = or-right (holds (pairsOn g (entries m) r w) p) (heldBy g ls r w p) (more k)
+      go (inr k) more = or-right (holds (hitsOnRay g (entries m) r w) p) (heldBy g ls r w p) (more k)
 
-  of-lies : (ls : List (List Float)) (w : HitKind) → Lies g ls r w p → heldBy g ls r w p ≡ true
-  unfolding Lies
+  of-lies : (ls : List (List Float)) (w : HitKind) → InHit g ls r w p → heldBy g ls r w p ≡ true
+  unfolding InHit
   of-lies ls w (h, t) = held-in ls w (h .log) (h .entry) (h .in-logs) (h .in-log) (h .on-ray) t
 
   -- possible loses exactly the points in inner hits
-  pub to-inner : (ls : List (List Float)) → takenBy g ls r possible p ≡ true → Lies g ls r inner p
+  pub to-inner : (ls : List (List Float)) → takenBy g ls r possible p ≡ true → InHit g ls r inner p
   to-inner ls t = to-lies ls inner (sym (from-possible ls) ∙ t)
 
-  pub of-inner : (ls : List (List Float)) → Lies g ls r inner p → takenBy g ls r possible p ≡ true
+  pub of-inner : (ls : List (List Float)) → InHit g ls r inner p → takenBy g ls r possible p ≡ true
   of-inner ls x = from-possible ls ∙ of-lies ls inner x
 
   -- certain loses exactly the points in outer and in inner hits
-  pub to-either : (ls : List (List Float)) → takenBy g ls r certain p ≡ true → Lies g ls r outer p ⊎ Lies g ls r inner p
+  pub to-either : (ls : List (List Float)) → takenBy g ls r certain p ≡ true → InHit g ls r outer p ⊎ InHit g ls r inner p
   to-either ls t = elim (or-cases (heldBy g ls r outer p) (heldBy g ls r inner p) (sym (from-certain ls) ∙ t)) [
     | inl u ↦ inl (to-lies ls outer u)
     | inr u ↦ inr (to-lies ls inner u)
   ]
 
-  pub of-either : (ls : List (List Float)) → Lies g ls r outer p ⊎ Lies g ls r inner p → takenBy g ls r certain p ≡ true
+  pub of-either : (ls : List (List Float)) → InHit g ls r outer p ⊎ InHit g ls r inner p → takenBy g ls r certain p ≡ true
   of-either ls (inl x) = from-certain ls ∙ or-left (heldBy g ls r outer p) (heldBy g ls r inner p) (of-lies ls outer x)
   of-either ls (inr x) = from-certain ls ∙ or-right (heldBy g ls r outer p) (heldBy g ls r inner p) (of-lies ls inner x)
 
 -- ---- logs that are alike in hits take the same points
 
 module _ (g : DexelGrid) where
-  carry : (ls ms : List (List Float)) → Among g ls ms → (r : Ray g) (w : HitKind) (p : Float) → Lies g ls r w p → Lies g ms r w p
-  unfolding Lies Among
+  carry : (ls ms : List (List Float)) → HitsIncluded g ls ms → (r : Ray g) (w : HitKind) (p : Float) → InHit g ls r w p → InHit g ms r w p
+  unfolding InHit HitsIncluded
   carry ls ms f r w p (h, t) =
       let (i, a, b) = f r w h in
-      (i, within-same (loOf w (h .entry)) (hiOf w (h .entry)) (loOf w (i .entry)) (hiOf w (i .entry)) p a b t)
+      (i, within-same (hitLo w (h .entry)) (hitHi w (h .entry)) (hitLo w (i .entry)) (hitHi w (i .entry)) p a b t)
 
-  among : (ls ms : List (List Float)) → Among g ls ms → (r : Ray g) (k : Kind) (p : Float) → takenBy g ls r k p ≡ true → takenBy g ms r k p ≡ true
+  among : (ls ms : List (List Float)) → HitsIncluded g ls ms → (r : Ray g) (k : Kind) (p : Float) → takenBy g ls r k p ≡ true → takenBy g ms r k p ≡ true
   among ls ms f r possible p t = of-inner g r p ms (carry ls ms f r inner p (to-inner g r p ls t))
   among ls ms f r certain p t = of-either g r p ms (elim (to-either g r p ls t) [ inl x ↦ inl (carry ls ms f r outer p x) | inr x ↦ inr (carry ls ms f r inner p x) ])
 

@@ -12,8 +12,8 @@ use Rattle.grid.specs.declared.DexelGrid.{DexelGrid}
 use Rattle.stock.specs.Stock.{Stock}
 use Rattle.store.specs.Store.{placesOf, chained, endsAt}
 use Rattle.log_model.specs.Logs.{Kind, possible, certain}
-use Rattle.log_model.specs.Model.{sumTo, pairs}
-use Rattle.log_model.specs.Runs.{Lawful, Demand3}
+use Rattle.log_model.specs.Model.{sumTo, pairTotal}
+use Rattle.log_model.specs.Runs.{SoundView, RunCorrect}
 use Rattle.log_model.specs.Lent.{listNumber, listIn, lentStore}
 use Rattle.log_model.proofs.Demand3.{demand3}
 
@@ -87,21 +87,21 @@ module _ (spec : DexelStockSpec) (g : DexelGrid) (s : Stock) where
       group : (a b c : ℕ) → a + b + c ≡ a + (b + c)
       group a b c = omega arith
 
-  -- the chained records are the pairs of all lists
+  -- the chained records are the pairTotal of all lists
   counted : (i : ℕ) (h : i ≤ rayCount g)
       → total (2 * i) ≡ sumTo g (λ r. length (listIn spec s (r .0) possible) / 2 + length (listIn spec s (r .0) certain) / 2) i h
   unfolding sumTo listNumber
   counted zero h = unfold total chained in refl
   counted (suc i) h = two-more i ∙ ap₂ _+_ (counted i (le-of-lt h)) (ap₂ _+_ (sym (list-pairs i possible)) (sym (list-pairs i certain)))
 
-pub lent-laws : (spec : DexelStockSpec) (g : DexelGrid) → Lawful g (lentStore spec g)
+pub lent-laws : (spec : DexelStockSpec) (g : DexelGrid) → SoundView g (lentStore spec g)
 unfolding listIn listNumber
 lent-laws spec g = record {
   sound-list = λ s S r k. elim k [ possible ↦ S .valid (r .0) (r .1) .possible-sound | certain ↦ S .valid (r .0) (r .1) .certain-sound ];
   within = λ s S r. S .valid (r .0) (r .1) .inside;
-  all-pairs = λ s S. S .store .counts ∙ unfold total pairs in counted spec g s (rayCount g) (le-refl (rayCount g));
+  all-pairs = λ s S. S .store .counts ∙ unfold total pairTotal in counted spec g s (rayCount g) (le-refl (rayCount g));
 }
 
 -- THE THEOREM, of the lent store
-pub demand3-lent : (spec : DexelStockSpec) (g : DexelGrid) → Demand3 spec g (lentStore spec g)
+pub demand3-lent : (spec : DexelStockSpec) (g : DexelGrid) → RunCorrect spec g (lentStore spec g)
 demand3-lent spec g = demand3 spec g (lentStore spec g) (lent-laws spec g)

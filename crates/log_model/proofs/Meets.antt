@@ -10,7 +10,7 @@ use Rattle.spans.specs.Spans.{All, Double, Point, within, holds, rising, sound,
 use Rattle.doubles.specs.Doubles.{Number}
 use Rattle.spans.proofs.Ends.{rising-tail, rising-above}
 use Rattle.spans.proofs.Sets.{sound-rising, equal-holds, same-set}
-use Rattle.log_model.specs.Counts.{meets, hitBy}
+use Rattle.log_model.specs.Counts.{meets, isHitBy}
 
 -- two pairs that meet have a point in common, which is a lo of one of them
 module _ (P : Float → Type 0) where
@@ -45,11 +45,11 @@ module _ (P : Float → Type 0) where
         (p, d, or-right (within a b p) (holds l p) x, y)
   ]
 
-  pub hit-point : (l hits : List Float) → All P l → All P hits → rising l ≡ true → hitBy l hits ≡ true → (p : Float) × P p × (holds l p ≡ true) × (holds hits p ≡ true)
-  unfolding hitBy holds
+  pub hit-point : (l hits : List Float) → All P l → All P hits → rising l ≡ true → isHitBy l hits ≡ true → (p : Float) × P p × (holds l p ≡ true) × (holds hits p ≡ true)
+  unfolding isHitBy holds
   hit-point l [] pl ph r t = absurd (false≢true t)
   hit-point l (lo ∷ []) pl ph r t = absurd (false≢true t)
-  hit-point l (lo ∷ hi ∷ hits) pl ph r t = elim (or-cases (lt lo hi && meets lo hi l) (hitBy l hits) t) [
+  hit-point l (lo ∷ hi ∷ hits) pl ph r t = elim (or-cases (lt lo hi && meets lo hi l) (isHitBy l hits) t) [
     | inl u ↦
         let (p, d, x, y) = meets-point lo hi l (ph .0) pl r (and-left (lt lo hi) (meets lo hi l) u) (and-right (lt lo hi) (meets lo hi l) u) in
         (p, d, x, or-left (within lo hi p) (holds hits p) y)
@@ -71,19 +71,19 @@ meets-at lo hi (a ∷ b ∷ l) p s t = elim (or-cases (within a b p) (holds l p)
   | inr u ↦ or-right (lt lo b && lt a hi) (meets lo hi l) (meets-at lo hi l p u t)
 ]
 
-pub hit-at : (l hits : List Float) (p : Float) → holds l p ≡ true → holds hits p ≡ true → hitBy l hits ≡ true
-unfolding hitBy holds
+pub hit-at : (l hits : List Float) (p : Float) → holds l p ≡ true → holds hits p ≡ true → isHitBy l hits ≡ true
+unfolding isHitBy holds
 hit-at l [] p s t = absurd (false≢true t)
 hit-at l (lo ∷ []) p s t = absurd (false≢true t)
 hit-at l (lo ∷ hi ∷ hits) p s t = elim (or-cases (within lo hi p) (holds hits p) t) [
   | inl u ↦
-      or-left (lt lo hi && meets lo hi l) (hitBy l hits)
+      or-left (lt lo hi && meets lo hi l) (isHitBy l hits)
       (both (lt lo hi) (meets lo hi l) (le-lt-trans lo p hi (and-left (le lo p) (lt p hi) u) (and-right (le lo p) (lt p hi) u)) (meets-at lo hi l p s u))
-  | inr u ↦ or-right (lt lo hi && meets lo hi l) (hitBy l hits) (hit-at l hits p s u)
+  | inr u ↦ or-right (lt lo hi && meets lo hi l) (isHitBy l hits) (hit-at l hits p s u)
 ]
 
-pub no-hit : (l hits : List Float) → hitBy l hits ≡ false → Apart l hits
-no-hit l hits t p s = elim (by-cases (holds hits p)) [ inl u ↦ absurd (clash (hitBy l hits) (hit-at l hits p s u) t) | inr u ↦ u ]
+pub no-hit : (l hits : List Float) → isHitBy l hits ≡ false → Apart l hits
+no-hit l hits t p s = elim (by-cases (holds hits p)) [ inl u ↦ absurd (clash (isHitBy l hits) (hit-at l hits p s u) t) | inr u ↦ u ]
 
 held-number : (l : List Float) (p : Float) → holds l p ≡ true → Number p
 unfolding holds
@@ -99,8 +99,8 @@ not-not false = refl
 taken-away : (l hits : List Float) (p : Float) → holds l p ≡ true → holds hits p ≡ true → (holds l p && not (holds hits p)) ≡ holds l p → ⊥
 taken-away l hits p x y e = clash (holds hits p) y (sym (not-not (holds hits p)) ∙ ap not (and-right (holds l p) (not (holds hits p)) (e ∙ x)))
 
-pub unhit-points : (l hits : List Float) → sound l ≡ true → All Double l → All Double hits → ((p : Float) → Point p → (holds l p && not (holds hits p)) ≡ holds l p) → hitBy l hits ≡ false
-unhit-points l hits s dl dh f = elim (by-cases (hitBy l hits)) [
+pub unhit-points : (l hits : List Float) → sound l ≡ true → All Double l → All Double hits → ((p : Float) → Point p → (holds l p && not (holds hits p)) ≡ holds l p) → isHitBy l hits ≡ false
+unhit-points l hits s dl dh f = elim (by-cases (isHitBy l hits)) [
   | inl t ↦
       let (p, d, x, y) = hit-point Double l hits dl dh (sound-rising l s) t in
       absurd (taken-away l hits p x y (f p (d, held-number l p x)))
@@ -111,26 +111,26 @@ all-unit : (l : List Float) → All (λ e. Unit {0}) l
 all-unit [] = tt
 all-unit (x ∷ l) = (tt, all-unit l)
 
-pub kept-unhit : (l hits : List Float) → sound l ≡ true → ((p : Float) → (holds l p && not (holds hits p)) ≡ holds l p) ↔ (hitBy l hits ≡ false)
+pub kept-unhit : (l hits : List Float) → sound l ≡ true → ((p : Float) → (holds l p && not (holds hits p)) ≡ holds l p) ↔ (isHitBy l hits ≡ false)
 kept-unhit l hits s = (to, from)
   where
-    to : ((p : Float) → (holds l p && not (holds hits p)) ≡ holds l p) → hitBy l hits ≡ false
-    to f = elim (by-cases (hitBy l hits)) [
+    to : ((p : Float) → (holds l p && not (holds hits p)) ≡ holds l p) → isHitBy l hits ≡ false
+    to f = elim (by-cases (isHitBy l hits)) [
       | inl t ↦ let (p, d, x, y) = hit-point (λ e. Unit {0}) l hits (all-unit l) (all-unit hits) (sound-rising l s) t in absurd (taken-away l hits p x y (f p))
       | inr t ↦ t
     ]
 
-    from : hitBy l hits ≡ false → (p : Float) → (holds l p && not (holds hits p)) ≡ holds l p
+    from : isHitBy l hits ≡ false → (p : Float) → (holds l p && not (holds hits p)) ≡ holds l p
     from t p = elim (by-cases (holds l p)) [
       | inl x ↦ both (holds l p) (not (holds hits p)) x (ap not (no-hit l hits t p x)) ∙ sym x
       | inr x ↦ ap (λ (b : Bool). b && not (holds hits p)) x ∙ sym x
     ]
 
 -- a boundary of a sound list moves exactly when a hit has a point of it
-pub moves-hit : (l hits m : List Float) → sound l ≡ true → ListOf (λ p. holds l p && not (holds hits p)) m → not (equal l m) ≡ hitBy l hits
+pub moves-hit : (l hits m : List Float) → sound l ≡ true → ListOf (λ p. holds l p && not (holds hits p)) m → not (equal l m) ≡ isHitBy l hits
 moves-hit l hits m s k = elim (by-cases (equal l m)) [
   | inl e ↦ ap not e ∙ sym (kept-unhit l hits s .0 (λ p. sym (k .points p) ∙ sym (equal-holds l m e p)))
-  | inr e ↦ elim (by-cases (hitBy l hits)) [
+  | inr e ↦ elim (by-cases (isHitBy l hits)) [
     | inl t ↦ ap not e ∙ sym t
     | inr t ↦ absurd (clash (equal l m) (same-set l m s (k .isSound) (λ p n. sym (kept-unhit l hits s .1 t p) ∙ sym (k .points p))) e)
   ]

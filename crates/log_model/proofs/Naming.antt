@@ -16,7 +16,7 @@ use Rattle.grid.specs.Axes.{worldAxis}
 use Rattle.grid.specs.Rays.{rayCount, raysAlong, rayNumber}
 use Rattle.grid.specs.declared.DexelGrid.{DexelGrid}
 use Rattle.grid.proofs.Numbering.{offset-le}
-use Rattle.log_model.specs.Logs.{Ray, Entry, isWhole, wholeOf, namesOne, rayOf, names}
+use Rattle.log_model.specs.Logs.{Ray, Entry, isWhole, wholeOf, namesSomeRay, entryRay, namesRay}
 
 -- ---- doubles that are equal as numbers have one whole part
 
@@ -76,15 +76,15 @@ whole-is x n h = (to, from)
 -- ---- entries
 
 module _ (g : DexelGrid) (e : Entry) where
-  -- the facts of an entry that names a ray
+  -- the facts of an entry that namesRay a ray
   pub record Named : Type 0 where
     pub axis-whole : isWhole (e .axis) ≡ true
     pub axis-digit : wholeOf (e .axis) < 3
     pub index-whole : isWhole (e .index) ≡ true
     pub index-below : wholeOf (e .index) < raysAlong g (worldAxis (wholeOf (e .axis)))
 
-  pub named : namesOne g e ≡ true → Named
-  unfolding namesOne
+  pub named : namesSomeRay g e ≡ true → Named
+  unfolding namesSomeRay
   named h =
       let a = isWhole (e .axis) in
       let b = ltb (wholeOf (e .axis)) 3 in
@@ -99,8 +99,8 @@ module _ (g : DexelGrid) (e : Entry) where
         index-below = ltb-true (wholeOf (e .index)) (raysAlong g (worldAxis (wholeOf (e .axis)))) (and-right c d cd);
       }
 
-  pub of-named : Named → namesOne g e ≡ true
-  unfolding namesOne
+  pub of-named : Named → namesSomeRay g e ≡ true
+  unfolding namesSomeRay
   of-named n =
       let a = isWhole (e .axis) in
       let b = ltb (wholeOf (e .axis)) 3 in
@@ -110,25 +110,25 @@ module _ (g : DexelGrid) (e : Entry) where
       (both b (c && d) (lt-ltb (wholeOf (e .axis)) 3 (n .axis-digit))
       (both c d (n .index-whole) (lt-ltb (wholeOf (e .index)) (raysAlong g (worldAxis (wholeOf (e .axis)))) (n .index-below))))
 
-  -- the ray that an entry names is one
-  pub named-below : namesOne g e ≡ true → rayOf g e < rayCount g
-  unfolding rayOf rayNumber
+  -- the ray that an entry namesRay is one
+  pub named-below : namesSomeRay g e ≡ true → entryRay g e < rayCount g
+  unfolding entryRay rayNumber
   named-below h = omega (arith, offset-le g (worldAxis (wholeOf (e .axis))), named h .index-below)
 
-  pub names-it : (h : namesOne g e ≡ true) → names g e (rayOf g e, named-below h) ≡ true
-  unfolding names
-  names-it h = both (namesOne g e) (eqb (rayOf g e) (rayOf g e)) h (eq-eqb (rayOf g e) (rayOf g e) refl)
+  pub names-it : (h : namesSomeRay g e ≡ true) → namesRay g e (entryRay g e, named-below h) ≡ true
+  unfolding namesRay
+  names-it h = both (namesSomeRay g e) (eqb (entryRay g e) (entryRay g e)) h (eq-eqb (entryRay g e) (entryRay g e) refl)
 
   -- and there is no other
-  pub names-only : (r : Ray g) → names g e r ≡ true → (namesOne g e ≡ true) × (rayOf g e ≡ r .0)
-  unfolding names
-  names-only r h = (and-left (namesOne g e) (eqb (rayOf g e) (r .0)) h, eqb-true (rayOf g e) (r .0) (and-right (namesOne g e) (eqb (rayOf g e) (r .0)) h))
+  pub names-only : (r : Ray g) → namesRay g e r ≡ true → (namesSomeRay g e ≡ true) × (entryRay g e ≡ r .0)
+  unfolding namesRay
+  names-only r h = (and-left (namesSomeRay g e) (eqb (entryRay g e) (r .0)) h, eqb-true (entryRay g e) (r .0) (and-right (namesSomeRay g e) (eqb (entryRay g e) (r .0)) h))
 
-  -- THE LAW: an entry names the ray r exactly when its axis and index, as numbers, are those of r
+  -- THE LAW: an entry namesRay the ray r exactly when its axis and index, as numbers, are those of r
   pub names-is : rayCount g ≤ 2 ^ 53 → (r : Ray g)
-      → (names g e r ≡ true)
+      → (namesRay g e r ≡ true)
       ↔ ((a i : ℕ) × (a < 3) × (i < raysAlong g (worldAxis a)) × (eq (e .axis) (ofInt binary64 (pos a)) ≡ true) × (eq (e .index) (ofInt binary64 (pos i)) ≡ true) × (rayNumber g (worldAxis a) i ≡ r .0))
-  unfolding names rayOf
+  unfolding namesRay entryRay
   names-is few r = (to, from)
     where
       below : (n : ℕ) → n < 3 → n ≤ 2 ^ 53
@@ -137,7 +137,7 @@ module _ (g : DexelGrid) (e : Entry) where
       small : (a i : ℕ) → i < raysAlong g (worldAxis a) → i ≤ 2 ^ 53
       small a i h = omega (arith, offset-le g (worldAxis a))
 
-      to : names g e r ≡ true
+      to : namesRay g e r ≡ true
           → (a i : ℕ) × (a < 3) × (i < raysAlong g (worldAxis a)) × (eq (e .axis) (ofInt binary64 (pos a)) ≡ true) × (eq (e .index) (ofInt binary64 (pos i)) ≡ true) × (rayNumber g (worldAxis a) i ≡ r .0)
       to h =
           let (o, q) = names-only r h in
@@ -154,10 +154,10 @@ module _ (g : DexelGrid) (e : Entry) where
           )
 
       from : (a i : ℕ) × (a < 3) × (i < raysAlong g (worldAxis a)) × (eq (e .axis) (ofInt binary64 (pos a)) ≡ true) × (eq (e .index) (ofInt binary64 (pos i)) ≡ true) × (rayNumber g (worldAxis a) i ≡ r .0)
-          → names g e r ≡ true
+          → namesRay g e r ≡ true
       from (a, i, h, k, x, y, q) =
           let (u, v) = whole-is (e .axis) a (below a h) .0 x in
           let (s, t) = whole-is (e .index) i (small a i k) .0 y in
-          both (namesOne g e) (eqb (rayOf g e) (r .0))
+          both (namesSomeRay g e) (eqb (entryRay g e) (r .0))
           (of-named (record { axis-whole = u; axis-digit = rw v h; index-whole = s; index-below = rw (v, t) k }))
-          (eq-eqb (rayOf g e) (r .0) (rw (v, t) q))
+          (eq-eqb (entryRay g e) (r .0) (rw (v, t) q))

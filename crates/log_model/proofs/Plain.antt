@@ -10,10 +10,10 @@ use Rattle.doubles.proofs.Bools.{or-right, and-left, and-right, both, by-cases,
 use Rattle.spans.specs.Spans.{All, Double, holds, sound, ListOf}
 use Rattle.grid.specs.declared.DexelStockSpec.{DexelStockSpec}
 use Rattle.grid.specs.declared.DexelGrid.{DexelGrid}
-use Rattle.log_model.specs.Logs.{Ray, Kind, possible, certain, entries, outer, inner, pairsOn, taken, Commit}
-use Rattle.log_model.specs.Model.{without, pairs, Lent, Answer, changed, refused, causes}
-use Rattle.log_model.specs.Counts.{hitsOn, raysChanged}
-use Rattle.log_model.specs.Runs.{Reading, Lawful, points, Cut, Left, Committed, Run, done, next}
+use Rattle.log_model.specs.Logs.{Ray, Kind, possible, certain, entries, outer, inner, hitsOnRay, removed, Commit}
+use Rattle.log_model.specs.Model.{setsAfter, pairTotal, Capacity, LogAnswer, changed, refused, logCommitCauses}
+use Rattle.log_model.specs.Counts.{hitsOnList, changedRayCount}
+use Rattle.log_model.specs.Runs.{StoreView, SoundView, pointSets, AcceptedEffect, CommitEffect, CommitStep, Run, done, next}
 use Rattle.log_model.proofs.Unique.{judged-unsound}
 use Rattle.log_model.proofs.Less.{less}
 use Rattle.log_model.proofs.Doubles.{DoubleCells, Doubles, hits-doubles, less-doubles}
@@ -22,7 +22,7 @@ use Rattle.log_model.proofs.Decided.{tests, answerBy, judged, left-list
 pub record Plain (g : DexelGrid) : Type 0 where
   pub lists : Ray g → Kind → List Float
   pub generation : ℕ
-  pub lent : Lent
+  pub lent : Capacity
 
 pub record Valid (g : DexelGrid) (s : Plain g) : Type 0 where
   pub isSound : (r : Ray g) (k : Kind) → sound (s .lists r k) ≡ true
@@ -34,34 +34,34 @@ abbrev pub DoubleLogs : List Commit → Type 0
 DoubleLogs [] = Unit {0}
 DoubleLogs (c ∷ cs) = DoubleCells (c .log) × DoubleLogs cs
 
-abbrev pub plain : (g : DexelGrid) → Reading g
+abbrev pub plain : (g : DexelGrid) → StoreView g
 plain g = record {
   Store = Plain g;
   lists = λ s. s .lists;
-  intervals = λ s. pairs g (s .lists);
+  intervals = λ s. pairTotal g (s .lists);
   generation = λ s. s .generation;
   lent = λ s. s .lent;
   Sound = Valid g;
 }
 
-pub plain-laws : (g : DexelGrid) → Lawful g (plain g)
+pub plain-laws : (g : DexelGrid) → SoundView g (plain g)
 plain-laws g = record { sound-list = λ s v. v .isSound; within = λ s v. v .within; all-pairs = λ s v. refl }
 
 -- ---- the run, worked out
 
 module _ (spec : DexelStockSpec) (g : DexelGrid) where
-  unfoldable pub answer : Plain g → Commit → Answer
-  unfolding answerBy causes tests points raysChanged
+  unfoldable pub answer : Plain g → Commit → LogAnswer
+  unfolding answerBy logCommitCauses tests pointSets changedRayCount
   answer s c =
-      answerBy (causes spec g (s .lent) ⊥ (points g (plain g) s) (s .generation) c) (tests spec g (s .lent) (s .lists) (s .generation) c)
-      (changed (raysChanged g (s .lists) (entries (c .log))))
+      answerBy (logCommitCauses spec g (s .lent) ⊥ (pointSets g (plain g) s) (s .generation) c) (tests spec g (s .lent) (s .lists) (s .generation) c)
+      (changed (changedRayCount g (s .lists) (entries (c .log))))
 
-  unfoldable pub after : Plain g → Commit → Answer → Plain g
-  unfolding less hitsOn entries
+  unfoldable pub after : Plain g → Commit → LogAnswer → Plain g
+  unfolding less hitsOnList entries
   after s c (refused k) = s
-  after s c (changed n) = record { lists = λ r k. less (s .lists r k) (hitsOn g (entries (c .log)) r k); generation = suc (s .generation); lent = s .lent }
+  after s c (changed n) = record { lists = λ r k. less (s .lists r k) (hitsOnList g (entries (c .log)) r k); generation = suc (s .generation); lent = s .lent }
 
-  unfoldable pub answers : Plain g → List Commit → List Answer
+  unfoldable pub answers : Plain g → List Commit → List LogAnswer
   unfolding answer after
   answers s [] = []
   answers s (c ∷ cs) = answer s c ∷ answers (after s c (answer s c)) cs
@@ -74,38 +74,38 @@ module _ (spec : DexelStockSpec) (g : DexelGrid) where
   -- ---- it is a run
 
   module _ (s : Plain g) (v : Valid g s) (c : Commit) (d : DoubleCells (c .log)) where
-    listed : (r : Ray g) (k : Kind) → ListOf (points g (plain g) s r k) (s .lists r k)
-    unfolding points
+    listed : (r : Ray g) (k : Kind) → ListOf (pointSets g (plain g) s r k) (s .lists r k)
+    unfolding pointSets
     listed r k = record { isSound = v .isSound r k; points = λ p. refl }
 
-    new : (r : Ray g) (k : Kind) → ListOf (without g (points g (plain g) s) (entries (c .log)) r k) (less (s .lists r k) (hitsOn g (entries (c .log)) r k))
-    new r k = left-list g (points g (plain g) s) (s .lists) listed (entries (c .log)) r k
+    new : (r : Ray g) (k : Kind) → ListOf (setsAfter g (pointSets g (plain g) s) (entries (c .log)) r k) (less (s .lists r k) (hitsOnList g (entries (c .log)) r k))
+    new r k = left-list g (pointSets g (plain g) s) (s .lists) listed (entries (c .log)) r k
 
     -- certain loses what possible loses
-    lost-too : (r : Ray g) (p : Float) → taken g (entries (c .log)) r possible p ≡ true → taken g (entries (c .log)) r certain p ≡ true
-    unfolding taken
-    lost-too r p t = or-right (holds (pairsOn g (entries (c .log)) r outer) p) (holds (pairsOn g (entries (c .log)) r inner) p) t
+    lost-too : (r : Ray g) (p : Float) → removed g (entries (c .log)) r possible p ≡ true → removed g (entries (c .log)) r certain p ≡ true
+    unfolding removed
+    lost-too r p t = or-right (holds (hitsOnRay g (entries (c .log)) r outer) p) (holds (hitsOnRay g (entries (c .log)) r inner) p) t
 
-    inside-still : (r : Ray g) (p : Float) → holds (less (s .lists r certain) (hitsOn g (entries (c .log)) r certain)) p ≡ true
-        → holds (less (s .lists r possible) (hitsOn g (entries (c .log)) r possible)) p ≡ true
-    unfolding without points
+    inside-still : (r : Ray g) (p : Float) → holds (less (s .lists r certain) (hitsOnList g (entries (c .log)) r certain)) p ≡ true
+        → holds (less (s .lists r possible) (hitsOnList g (entries (c .log)) r possible)) p ≡ true
+    unfolding setsAfter pointSets
     inside-still r p t =
         let es = entries (c .log) in
         let u = sym (new r certain .points p) ∙ t in
-        let kept : taken g es r possible p ≡ false = elim (by-cases (taken g es r possible p)) [
-          | inl w ↦ absurd (clash (taken g es r certain p) (lost-too r p w) (not-true (taken g es r certain p) (and-right (holds (s .lists r certain) p) (not (taken g es r certain p)) u)))
+        let kept : removed g es r possible p ≡ false = elim (by-cases (removed g es r possible p)) [
+          | inl w ↦ absurd (clash (removed g es r certain p) (lost-too r p w) (not-true (removed g es r certain p) (and-right (holds (s .lists r certain) p) (not (removed g es r certain p)) u)))
           | inr w ↦ w
         ] in
         new r possible .points p
-        ∙ both (holds (s .lists r possible) p) (not (taken g es r possible p)) (v .within r p (and-left (holds (s .lists r certain) p) (not (taken g es r certain p)) u))
+        ∙ both (holds (s .lists r possible) p) (not (removed g es r possible p)) (v .within r p (and-left (holds (s .lists r certain) p) (not (removed g es r certain p)) u))
         (ap not kept)
 
-    cuts : (n : ℕ) → Cut g (plain g) s c (after s c (changed n))
-    unfolding points after
+    cuts : (n : ℕ) → AcceptedEffect g (plain g) s c (after s c (changed n))
+    unfolding pointSets after
     cuts n = record {
       sound = record {
         isSound = λ r k. new r k .isSound;
-        doubles = λ r k. less-doubles (s .lists r k) (hitsOn g (entries (c .log)) r k) (v .doubles r k) (hits-doubles g (c .log) d r k);
+        doubles = λ r k. less-doubles (s .lists r k) (hitsOnList g (entries (c .log)) r k) (v .doubles r k) (hits-doubles g (c .log) d r k);
         within = inside-still;
       };
       exactly = λ r k p. new r k .points p;
@@ -113,21 +113,21 @@ module _ (spec : DexelStockSpec) (g : DexelGrid) where
       lent = refl;
     }
 
-    still-valid : (a : Answer) → Valid g (after s c a)
+    still-valid : (a : LogAnswer) → Valid g (after s c a)
     unfolding after
     still-valid (refused k) = v
     still-valid (changed n) = cuts n .sound
 
-    leaves : (a : Answer) → Left g (plain g) s c a (after s c a)
-    unfolding Left after
+    leaves : (a : LogAnswer) → CommitEffect g (plain g) s c a (after s c a)
+    unfolding CommitEffect after
     leaves (refused k) = refl
     leaves (changed n) = cuts n
 
-    committed : Committed spec g (plain g) s c (answer s c) (after s c (answer s c))
+    committed : CommitStep spec g (plain g) s c (answer s c) (after s c (answer s c))
     unfolding answer
     committed = record {
-      answers = judged-unsound spec g (s .lent) (¬ Valid g s) (λ n. n v) (points g (plain g) s) (s .generation) c (answer s c)
-          (judged spec g (s .lent) (points g (plain g) s) (s .lists) listed (s .generation) c
+      answers = judged-unsound spec g (s .lent) (¬ Valid g s) (λ n. n v) (pointSets g (plain g) s) (s .generation) c (answer s c)
+          (judged spec g (s .lent) (pointSets g (plain g) s) (s .lists) listed (s .generation) c
           (record { of-lists = v .doubles; of-hits = hits-doubles g (c .log) d }));
       leaves = leaves (answer s c);
     }

@@ -1,4 +1,4 @@
--- The sound list of (l less hits) has one pair for each distinct number among the los of l and the his of the hits that is in l and in no hit.
+-- The sound list of (l less hits) has one pair for each countDistinct number memberEq the los of l and the his of the hits that is in l and in no hit.
 use mathlib.Core.Path.{_≡_, refl, sym, ap, ap₂, _∙_}
 use mathlib.Core.Bool.{Bool, true, false, cond, not, _&&_, _||_, false≢true}
 use mathlib.Core.List.{List, [], _∷_, _++_}
@@ -11,20 +11,19 @@ use Rattle.doubles.specs.Doubles.{Number}
 use Rattle.doubles.proofs.Bools.{or-cases, or-left, or-right, and-left, and-right, both, by-cases, clash, not-true}
 use Rattle.doubles.proofs.Order.{lt-number, le-number, le-refl, le-trans, le-total, lt→le, not-lt→le, not-le→lt, le-lt-trans, lt-le-trans, lt→not-le, le→not-lt, lt-trans, eq→le, eq→ge, eq-refl, eq-sym, eq-trans, lt-eq-left, le-eq-right, le-cases}
 use Rattle.spans.specs.Spans.{within, holds, rising, sound, ListOf}
-use Rattle.spans.proofs.Ends.{All, Above}
-use Rattle.spans.proofs.Ends.{all-map, rising-tail, rising-above, rising-cons}
+use Rattle.spans.proofs.Ends.{All, Above, all-map, rising-tail, rising-above, rising-cons}
 use Rattle.spans.proofs.Sets.{sound-rising}
-use Rattle.log_model.specs.Counts.{losOf, hisOf, among, distinct, startsLeft}
+use Rattle.log_model.specs.Counts.{losOf, hisOf, memberEq, countDistinct, startsLeft}
 
--- ---- counting distinct numbers
+-- ---- counting countDistinct numbers
 
 -- equal numbers stand in the same lists
-pub among-eq : (x y : Float) (l : List Float) → eq x y ≡ true → among x l ≡ true → among y l ≡ true
-unfolding among
+pub among-eq : (x y : Float) (l : List Float) → eq x y ≡ true → memberEq x l ≡ true → memberEq y l ≡ true
+unfolding memberEq
 among-eq x y [] e h = h
-among-eq x y (z ∷ l) e h = elim (or-cases (eq x z) (among x l) h) [
-  | inl u ↦ or-left (eq y z) (among y l) (eq-trans y x z (eq-sym x y e) u)
-  | inr u ↦ or-right (eq y z) (among y l) (among-eq x y l e u)
+among-eq x y (z ∷ l) e h = elim (or-cases (eq x z) (memberEq x l) h) [
+  | inl u ↦ or-left (eq y z) (memberEq y l) (eq-trans y x z (eq-sym x y e) u)
+  | inr u ↦ or-right (eq y z) (memberEq y l) (among-eq x y l e u)
 ]
 
 -- the list without the numbers that are equal to x
@@ -32,51 +31,51 @@ pub remove : Float → List Float → List Float
 remove x [] = []
 remove x (y ∷ l) = cond (eq x y) (remove x l) (y ∷ remove x l)
 
-remove-none : (x : Float) (l : List Float) → among x l ≡ false → remove x l ≡ l
-unfolding remove among
+remove-none : (x : Float) (l : List Float) → memberEq x l ≡ false → remove x l ≡ l
+unfolding remove memberEq
 remove-none x [] h = refl
 remove-none x (y ∷ l) h = go (eq x y) refl (remove-none x l)
   where
-    go : (b : Bool) → eq x y ≡ b → (among x l ≡ false → remove x l ≡ l) → cond b (remove x l) (y ∷ remove x l) ≡ y ∷ l
-    go true e f = absurd (clash (eq x y || among x l) (or-left (eq x y) (among x l) e) h)
-    go false e f = ap (λ (m : List Float). y ∷ m) (f (sym (ap (λ (b : Bool). b || among x l) e) ∙ h))
+    go : (b : Bool) → eq x y ≡ b → (memberEq x l ≡ false → remove x l ≡ l) → cond b (remove x l) (y ∷ remove x l) ≡ y ∷ l
+    go true e f = absurd (clash (eq x y || memberEq x l) (or-left (eq x y) (memberEq x l) e) h)
+    go false e f = ap (λ (m : List Float). y ∷ m) (f (sym (ap (λ (b : Bool). b || memberEq x l) e) ∙ h))
 
-pub removed : (x : Float) (l : List Float) → among x (remove x l) ≡ false
-unfolding remove among
+pub removed : (x : Float) (l : List Float) → memberEq x (remove x l) ≡ false
+unfolding remove memberEq
 removed x [] = refl
 removed x (y ∷ l) = go (eq x y) refl (removed x l)
   where
-    go : (b : Bool) → eq x y ≡ b → among x (remove x l) ≡ false → among x (cond b (remove x l) (y ∷ remove x l)) ≡ false
+    go : (b : Bool) → eq x y ≡ b → memberEq x (remove x l) ≡ false → memberEq x (cond b (remove x l) (y ∷ remove x l)) ≡ false
     go true e f = f
     go false e f = rw e f
 
-pub remove-other : (x z : Float) (l : List Float) → eq z x ≡ false → among z (remove x l) ≡ among z l
-unfolding remove among
+pub remove-other : (x z : Float) (l : List Float) → eq z x ≡ false → memberEq z (remove x l) ≡ memberEq z l
+unfolding remove memberEq
 remove-other x z [] n = refl
 remove-other x z (y ∷ l) n = go (eq x y) refl (remove-other x z l n)
   where
     apart : eq x y ≡ true → eq z y ≡ false
     apart e = elim (by-cases (eq z y)) [ inl u ↦ absurd (clash (eq z x) (eq-trans z y x u (eq-sym x y e)) n) | inr u ↦ u ]
 
-    go : (b : Bool) → eq x y ≡ b → among z (remove x l) ≡ among z l → among z (cond b (remove x l) (y ∷ remove x l)) ≡ (eq z y || among z l)
-    go true e f = f ∙ ap (λ (b : Bool). b || among z l) (sym (apart e))
+    go : (b : Bool) → eq x y ≡ b → memberEq z (remove x l) ≡ memberEq z l → memberEq z (cond b (remove x l) (y ∷ remove x l)) ≡ (eq z y || memberEq z l)
+    go true e f = f ∙ ap (λ (b : Bool). b || memberEq z l) (sym (apart e))
     go false e f = ap (_||_ (eq z y)) f
 
 module _ (test : Float → Bool) (number : (x : Float) → test x ≡ true → Number x) (same : (x y : Float) → eq x y ≡ true → test x ≡ test y) where
-  pub distinct-remove : (x : Float) (l : List Float) → test x ≡ true → among x l ≡ true → distinct test l ≡ suc (distinct test (remove x l))
-  unfolding remove among distinct
+  pub distinct-remove : (x : Float) (l : List Float) → test x ≡ true → memberEq x l ≡ true → countDistinct test l ≡ suc (countDistinct test (remove x l))
+  unfolding remove memberEq countDistinct
   distinct-remove x [] t h = absurd (false≢true h)
   distinct-remove x (y ∷ l) t h = go (eq x y) refl (distinct-remove x l t)
     where
-      none : among y l ≡ false → eq x y ≡ true → among x l ≡ false
-      none a e = elim (by-cases (among x l)) [ inl u ↦ absurd (clash (among y l) (among-eq x y l e u) a) | inr u ↦ u ]
+      none : memberEq y l ≡ false → eq x y ≡ true → memberEq x l ≡ false
+      none a e = elim (by-cases (memberEq x l)) [ inl u ↦ absurd (clash (memberEq y l) (among-eq x y l e u) a) | inr u ↦ u ]
 
-      here : (b : Bool) → among y l ≡ b → eq x y ≡ true → (among x l ≡ true → distinct test l ≡ suc (distinct test (remove x l)))
-          → cond (test y && not b) (suc (distinct test l)) (distinct test l) ≡ suc (distinct test (remove x l))
-      here true a e f = ap (λ (c : Bool). cond (c && false) (suc (distinct test l)) (distinct test l)) (sym (same x y e) ∙ t) ∙ f (among-eq y x l (eq-sym x y e) a)
+      here : (b : Bool) → memberEq y l ≡ b → eq x y ≡ true → (memberEq x l ≡ true → countDistinct test l ≡ suc (countDistinct test (remove x l)))
+          → cond (test y && not b) (suc (countDistinct test l)) (countDistinct test l) ≡ suc (countDistinct test (remove x l))
+      here true a e f = ap (λ (c : Bool). cond (c && false) (suc (countDistinct test l)) (countDistinct test l)) (sym (same x y e) ∙ t) ∙ f (among-eq y x l (eq-sym x y e) a)
       here false a e f =
-          ap (λ (c : Bool). cond (c && true) (suc (distinct test l)) (distinct test l)) (sym (same x y e) ∙ t)
-          ∙ ap (λ (m : List Float). suc (distinct test m)) (sym (remove-none x l (none a e)))
+          ap (λ (c : Bool). cond (c && true) (suc (countDistinct test l)) (countDistinct test l)) (sym (same x y e) ∙ t)
+          ∙ ap (λ (m : List Float). suc (countDistinct test m)) (sym (remove-none x l (none a e)))
 
       one-more : (b : Bool) (n m : ℕ) → n ≡ suc m → cond b (suc n) n ≡ suc (cond b (suc m) m)
       one-more true n m e = ap suc e
@@ -85,25 +84,25 @@ module _ (test : Float → Bool) (number : (x : Float) → test x ≡ true → N
       swapped : eq x y ≡ false → eq y x ≡ false
       swapped e = elim (by-cases (eq y x)) [ inl u ↦ absurd (clash (eq x y) (eq-sym y x u) e) | inr u ↦ u ]
 
-      go : (b : Bool) → eq x y ≡ b → (among x l ≡ true → distinct test l ≡ suc (distinct test (remove x l)))
-          → cond (test y && not (among y l)) (suc (distinct test l)) (distinct test l) ≡ suc (distinct test (cond b (remove x l) (y ∷ remove x l)))
-      go true e f = here (among y l) refl e f
+      go : (b : Bool) → eq x y ≡ b → (memberEq x l ≡ true → countDistinct test l ≡ suc (countDistinct test (remove x l)))
+          → cond (test y && not (memberEq y l)) (suc (countDistinct test l)) (countDistinct test l) ≡ suc (countDistinct test (cond b (remove x l) (y ∷ remove x l)))
+      go true e f = here (memberEq y l) refl e f
       go false e f =
-          one-more (test y && not (among y l)) (distinct test l) (distinct test (remove x l)) (f (sym (ap (λ (b : Bool). b || among x l) e) ∙ h))
-          ∙ ap (λ (b : Bool). suc (cond (test y && not b) (suc (distinct test (remove x l))) (distinct test (remove x l)))) (sym (remove-other x y l (swapped e)))
+          one-more (test y && not (memberEq y l)) (countDistinct test l) (countDistinct test (remove x l)) (f (sym (ap (λ (b : Bool). b || memberEq x l) e) ∙ h))
+          ∙ ap (λ (b : Bool). suc (cond (test y && not b) (suc (countDistinct test (remove x l))) (countDistinct test (remove x l)))) (sym (remove-other x y l (swapped e)))
 
-  pub none-left : (l : List Float) → ((z : Float) → among z l ≡ true → test z ≡ true → ⊥) → distinct test l ≡ 0
-  unfolding among distinct
+  pub none-left : (l : List Float) → ((z : Float) → memberEq z l ≡ true → test z ≡ true → ⊥) → countDistinct test l ≡ 0
+  unfolding memberEq countDistinct
   none-left [] f = refl
   none-left (y ∷ l) f = elim (by-cases (test y)) [
-    | inl t ↦ absurd (f y (or-left (eq y y) (among y l) (eq-refl y (number y t))) t)
-    | inr t ↦ rw t (none-left l (λ z a. f z (or-right (eq z y) (among z l) a)))
+    | inl t ↦ absurd (f y (or-left (eq y y) (memberEq y l) (eq-refl y (number y t))) t)
+    | inr t ↦ rw t (none-left l (λ z a. f z (or-right (eq z y) (memberEq z l) a)))
   ]
 
-  -- a rising list with the same numbers that pass the test has as many as there are distinct ones
-  distinct-count : (a l : List Float) → rising a ≡ true → All (λ x. test x ≡ true) a → All (λ x. among x l ≡ true) a
-      → ((z : Float) → among z l ≡ true → test z ≡ true → among z a ≡ true) → distinct test l ≡ length a
-  unfolding among
+  -- a rising list with the same numbers that pass the test has as many as there are countDistinct ones
+  distinct-count : (a l : List Float) → rising a ≡ true → All (λ x. test x ≡ true) a → All (λ x. memberEq x l ≡ true) a
+      → ((z : Float) → memberEq z l ≡ true → test z ≡ true → memberEq z a ≡ true) → countDistinct test l ≡ length a
+  unfolding memberEq
   distinct-count [] l r t i f = none-left l (λ z u v. false≢true (f z u v))
   distinct-count (x ∷ a) l r t i f =
       distinct-remove x l (t .0) (i .0)
@@ -112,14 +111,14 @@ module _ (test : Float → Bool) (number : (x : Float) → test x ≡ true → N
       apart : (z : Float) → lt x z ≡ true → eq z x ≡ false
       apart z h = elim (by-cases (eq z x)) [ inl e ↦ absurd (clash (le z x) (eq→le z x e) (lt→not-le x z h)) | inr e ↦ e ]
 
-      still : (b : List Float) → Above x b → All (λ z. among z l ≡ true) b → All (λ z. among z (remove x l) ≡ true) b
+      still : (b : List Float) → Above x b → All (λ z. memberEq z l ≡ true) b → All (λ z. memberEq z (remove x l) ≡ true) b
       still [] u v = tt
       still (z ∷ b) u v = (remove-other x z l (apart z (u .0)) ∙ v .0, still b (u .1) (v .1))
 
-      back : (z : Float) → among z (remove x l) ≡ true → test z ≡ true → among z a ≡ true
+      back : (z : Float) → memberEq z (remove x l) ≡ true → test z ≡ true → memberEq z a ≡ true
       back z u v = elim (by-cases (eq z x)) [
-        | inl e ↦ absurd (clash (among x (remove x l)) (among-eq z x (remove x l) e u) (removed x l))
-        | inr e ↦ elim (or-cases (eq z x) (among z a) (f z (sym (remove-other x z l e) ∙ u) v)) [
+        | inl e ↦ absurd (clash (memberEq x (remove x l)) (among-eq z x (remove x l) e u) (removed x l))
+        | inr e ↦ elim (or-cases (eq z x) (memberEq z a) (f z (sym (remove-other x z l e) ∙ u) v)) [
           | inl d ↦ absurd (clash (eq z x) d e)
           | inr d ↦ d
         ]
@@ -213,28 +212,28 @@ los-held (lo ∷ hi ∷ l) r =
 
 -- a held point is a lo, or some of what is just below it is held too
 lo-or-inside : (l : List Float) (x : Float) → holds l x ≡ true
-    → (among x (losOf l) ≡ true) ⊎ ((a : Float) × (lt a x ≡ true) × ((p : Float) → le a p ≡ true → lt p x ≡ true → holds l p ≡ true))
-unfolding holds losOf among
+    → (memberEq x (losOf l) ≡ true) ⊎ ((a : Float) × (lt a x ≡ true) × ((p : Float) → le a p ≡ true → lt p x ≡ true → holds l p ≡ true))
+unfolding holds losOf memberEq
 lo-or-inside [] x h = absurd (false≢true h)
 lo-or-inside (lo ∷ []) x h = absurd (false≢true h)
 lo-or-inside (lo ∷ hi ∷ l) x h = elim (or-cases (within lo hi x) (holds l x) h) [
   | inl u ↦ elim (le-cases lo x (and-left (le lo x) (lt x hi) u)) [
     | inl k ↦ inr (lo, k, λ p a b. or-left (within lo hi p) (holds l p) (both (le lo p) (lt p hi) a (lt-trans p x hi b (and-right (le lo x) (lt x hi) u))))
-    | inr k ↦ inl (or-left (eq x lo) (among x (losOf l)) (eq-sym lo x k))
+    | inr k ↦ inl (or-left (eq x lo) (memberEq x (losOf l)) (eq-sym lo x k))
   ]
   | inr u ↦ elim (lo-or-inside l x u) [
-    | inl k ↦ inl (or-right (eq x lo) (among x (losOf l)) k)
+    | inl k ↦ inl (or-right (eq x lo) (memberEq x (losOf l)) k)
     | inr (a, k, f) ↦ inr (a, k, λ p b c. or-right (within lo hi p) (holds l p) (f p b c))
   ]
 ]
 
 -- what is just below a lo is not held
-start-gap : (l : List Float) → rising l ≡ true → (x a : Float) → among x (losOf l) ≡ true → lt a x ≡ true
+start-gap : (l : List Float) → rising l ≡ true → (x a : Float) → memberEq x (losOf l) ≡ true → lt a x ≡ true
     → ((p : Float) → le a p ≡ true → lt p x ≡ true → holds l p ≡ true) → ⊥
-unfolding losOf among holds
+unfolding losOf memberEq holds
 start-gap [] r x a h k f = false≢true h
 start-gap (lo ∷ []) r x a h k f = false≢true h
-start-gap (lo ∷ hi ∷ l) r x a h k f = elim (or-cases (eq x lo) (among x (losOf l)) h) [
+start-gap (lo ∷ hi ∷ l) r x a h k f = elim (or-cases (eq x lo) (memberEq x (losOf l)) h) [
   | inl e ↦
       let low : lt a lo ≡ true = lt-le-trans a x lo k (eq→le x lo e) in
       clash (le lo a) (first a (f a (le-refl a (lt-number a x k .0)) k)) (lt→not-le a lo low)
@@ -258,18 +257,18 @@ start-gap (lo ∷ hi ∷ l) r x a h k f = elim (or-cases (eq x lo) (among x (los
       | inr u ↦ lt→le lo p (from-first lo l p (rising-above lo (hi ∷ l) r .1) u)
     ]
 
-    below : (x : Float) (m : List Float) → among x (losOf m) ≡ true → Above hi m → lt hi x ≡ true
+    below : (x : Float) (m : List Float) → memberEq x (losOf m) ≡ true → Above hi m → lt hi x ≡ true
     below x [] t a = absurd (false≢true t)
     below x (y ∷ []) t a = absurd (false≢true t)
-    below x (y ∷ z ∷ m) t a = elim (or-cases (eq x y) (among x (losOf m)) t) [
+    below x (y ∷ z ∷ m) t a = elim (or-cases (eq x y) (memberEq x (losOf m)) t) [
       | inl e ↦ lt-le-trans hi y x (a .0) (eq→ge x y e)
       | inr i ↦ below x m i (a .1 .1)
     ]
 
 -- some of what is just below the hi of a hit is in the hit
-end-gap : (hits : List Float) (x a : Float) → among x (hisOf hits) ≡ true → lt a x ≡ true
+end-gap : (hits : List Float) (x a : Float) → memberEq x (hisOf hits) ≡ true → lt a x ≡ true
     → ((p : Float) → le a p ≡ true → lt p x ≡ true → holds hits p ≡ false) → ⊥
-unfolding hisOf among holds
+unfolding hisOf memberEq holds
 end-gap [] x a h k f = false≢true h
 end-gap (lo ∷ []) x a h k f = false≢true h
 end-gap (lo ∷ hi ∷ hits) x a h k f = go (lt lo hi) refl (λ i. end-gap hits x a i k later)
@@ -285,20 +284,20 @@ end-gap (lo ∷ hi ∷ hits) x a h k f = go (lt lo hi) refl (λ i. end-gap hits 
         let (q, b, c, d) = highest a lo x k (lt-le-trans lo hi x h (eq→ge x hi e)) in
         clash (within lo hi q || holds hits q) (or-left (within lo hi q) (holds hits q) (both (le lo q) (lt q hi) c (lt-le-trans q x hi d (eq→le x hi e)))) (f q b d)
 
-    go : (b : Bool) → lt lo hi ≡ b → (among x (hisOf hits) ≡ true → ⊥) → ⊥
-    go true t more = elim (or-cases (eq x hi) (among x (hisOf hits)) (rw t at h)) [ inl e ↦ here t e | inr i ↦ more i ]
+    go : (b : Bool) → lt lo hi ≡ b → (memberEq x (hisOf hits) ≡ true → ⊥) → ⊥
+    go true t more = elim (or-cases (eq x hi) (memberEq x (hisOf hits)) (rw t at h)) [ inl e ↦ here t e | inr i ↦ more i ]
     go false t more = more (rw t at h)
 
 -- where hits hold all that is just below a, and not a, then a is the hi of one
 covered-end : (hits : List Float) (q a : Float) → lt q a ≡ true → ((p : Float) → le q p ≡ true → lt p a ≡ true → holds hits p ≡ true)
-    → holds hits a ≡ false → among a (hisOf hits) ≡ true
-unfolding hisOf among holds
+    → holds hits a ≡ false → memberEq a (hisOf hits) ≡ true
+unfolding hisOf memberEq holds
 covered-end [] q a k f n = absurd (false≢true (f q (le-refl q (lt-number q a k .0)) k))
 covered-end (lo ∷ []) q a k f n = absurd (false≢true (f q (le-refl q (lt-number q a k .0)) k))
 covered-end (lo ∷ hi ∷ hits) q a k f n = go (lt lo hi) refl (λ z j g. covered-end hits z a j g not-later)
   where
     Later : Type 0
-    Later = (z : Float) → lt z a ≡ true → ((p : Float) → le z p ≡ true → lt p a ≡ true → holds hits p ≡ true) → among a (hisOf hits) ≡ true
+    Later = (z : Float) → lt z a ≡ true → ((p : Float) → le z p ≡ true → lt p a ≡ true → holds hits p ≡ true) → memberEq a (hisOf hits) ≡ true
 
     not-here : within lo hi a ≡ false
     not-here = elim (by-cases (within lo hi a)) [ inl u ↦ absurd (clash (within lo hi a || holds hits a) (or-left (within lo hi a) (holds hits a) u) n) | inr u ↦ u ]
@@ -308,23 +307,23 @@ covered-end (lo ∷ hi ∷ hits) q a k f n = go (lt lo hi) refl (λ z j g. cover
 
     -- the later hits hold what is just below a, from some q on
     later : Later → (q : Float) → lt q a ≡ true → ((p : Float) → le q p ≡ true → lt p a ≡ true → holds (lo ∷ hi ∷ hits) p ≡ true)
-        → ((p : Float) → le q p ≡ true → lt p a ≡ true → within lo hi p ≡ false) → among a (hisOf hits) ≡ true
+        → ((p : Float) → le q p ≡ true → lt p a ≡ true → within lo hi p ≡ false) → memberEq a (hisOf hits) ≡ true
     later more q k f g = more q k (λ p b c. rest-of lo hi hits p (g p b c) (f p b c))
 
     -- a is no number of the pair, so it is past it or below it
-    placed : Later → lt lo hi ≡ true → among a (hi ∷ hisOf hits) ≡ true
+    placed : Later → lt lo hi ≡ true → memberEq a (hi ∷ hisOf hits) ≡ true
     placed more h = elim (by-cases (le lo a)) [
       | inr u ↦
-          or-right (eq a hi) (among a (hisOf hits))
+          or-right (eq a hi) (memberEq a (hisOf hits))
           (later more q k f (λ p b c. under lo hi p (lt-trans p a lo c (not-le→lt lo a (lt-number lo hi h .0) (lt-number q a k .1) u))))
       | inl u ↦
           let past : le hi a ≡ true = not-lt→le a hi (lt-number q a k .1) (lt-number lo hi h .1) (no-lt u) in
           elim (le-cases hi a past) [
             | inl v ↦
                 let (z, b, c, d) = highest q hi a k v in
-                or-right (eq a hi) (among a (hisOf hits))
+                or-right (eq a hi) (memberEq a (hisOf hits))
                 (later more z d (λ p x y. f p (le-trans q z p b x) y) (λ p x y. outside lo hi p (le-trans hi z p c x)))
-            | inr v ↦ or-left (eq a hi) (among a (hisOf hits)) (eq-sym hi a v)
+            | inr v ↦ or-left (eq a hi) (memberEq a (hisOf hits)) (eq-sym hi a v)
           ]
     ]
       where
@@ -337,7 +336,7 @@ covered-end (lo ∷ hi ∷ hits) q a k f n = go (lt lo hi) refl (λ z j g. cover
       | inr u ↦ u
     ]
 
-    go : (b : Bool) → lt lo hi ≡ b → Later → among a (cond b (hi ∷ hisOf hits) (hisOf hits)) ≡ true
+    go : (b : Bool) → lt lo hi ≡ b → Later → memberEq a (cond b (hi ∷ hisOf hits) (hisOf hits)) ≡ true
     go true h more = placed more h
     go false h more = later more q k f (λ p b c. none h p)
 
@@ -369,22 +368,22 @@ fresh-los (lo ∷ hi ∷ m) r = (first, rest (losOf m) (above-los hi m hi-up) (f
 
 -- ---- THE LAW
 
-among-left : (x : Float) (a b : List Float) → among x a ≡ true → among x (a ++ b) ≡ true
-unfolding among
+among-left : (x : Float) (a b : List Float) → memberEq x a ≡ true → memberEq x (a ++ b) ≡ true
+unfolding memberEq
 among-left x [] b h = absurd (false≢true h)
-among-left x (y ∷ a) b h = elim (or-cases (eq x y) (among x a) h) [ inl u ↦ or-left (eq x y) (among x (a ++ b)) u | inr u ↦ or-right (eq x y) (among x (a ++ b)) (among-left x a b u) ]
+among-left x (y ∷ a) b h = elim (or-cases (eq x y) (memberEq x a) h) [ inl u ↦ or-left (eq x y) (memberEq x (a ++ b)) u | inr u ↦ or-right (eq x y) (memberEq x (a ++ b)) (among-left x a b u) ]
 
-among-right : (x : Float) (a b : List Float) → among x b ≡ true → among x (a ++ b) ≡ true
-unfolding among
+among-right : (x : Float) (a b : List Float) → memberEq x b ≡ true → memberEq x (a ++ b) ≡ true
+unfolding memberEq
 among-right x [] b h = h
-among-right x (y ∷ a) b h = or-right (eq x y) (among x (a ++ b)) (among-right x a b h)
+among-right x (y ∷ a) b h = or-right (eq x y) (memberEq x (a ++ b)) (among-right x a b h)
 
-among-cases : (x : Float) (a b : List Float) → among x (a ++ b) ≡ true → (among x a ≡ true) ⊎ (among x b ≡ true)
-unfolding among
+among-cases : (x : Float) (a b : List Float) → memberEq x (a ++ b) ≡ true → (memberEq x a ≡ true) ⊎ (memberEq x b ≡ true)
+unfolding memberEq
 among-cases x [] b h = inr h
-among-cases x (y ∷ a) b h = elim (or-cases (eq x y) (among x (a ++ b)) h) [
-  | inl u ↦ inl (or-left (eq x y) (among x a) u)
-  | inr u ↦ elim (among-cases x a b u) [ inl v ↦ inl (or-right (eq x y) (among x a) v) | inr v ↦ inr v ]
+among-cases x (y ∷ a) b h = elim (or-cases (eq x y) (memberEq x (a ++ b)) h) [
+  | inl u ↦ inl (or-left (eq x y) (memberEq x a) u)
+  | inr u ↦ elim (among-cases x a b u) [ inl v ↦ inl (or-right (eq x y) (memberEq x a) v) | inr v ↦ inr v ]
 ]
 
 module _ (l hits m : List Float) (sound-l : sound l ≡ true) (list : ListOf (λ p. holds l p && not (holds hits p)) m) where
@@ -395,7 +394,7 @@ module _ (l hits m : List Float) (sound-l : sound l ≡ true) (list : ListOf (λ
   in-no-hit p t = not-true (holds hits p) (and-right (holds l p) (not (holds hits p)) (sym (list .points p) ∙ t))
 
   -- a start that is left is a lo of the new list
-  left-start : (x : Float) → among x (losOf l ++ hisOf hits) ≡ true → holds m x ≡ true → among x (losOf m) ≡ true
+  left-start : (x : Float) → memberEq x (losOf l ++ hisOf hits) ≡ true → holds m x ≡ true → memberEq x (losOf m) ≡ true
   left-start x h t = elim (lo-or-inside m x t) [
     | inl u ↦ u
     | inr (a, k, f) ↦ elim (among-cases x (losOf l) (hisOf hits) h) [
@@ -405,7 +404,7 @@ module _ (l hits m : List Float) (sound-l : sound l ≡ true) (list : ListOf (λ
   ]
 
   -- a lo of the new list is such a start
-  is-start : (a : Float) → holds m a ≡ true → Fresh m a → among a (losOf l ++ hisOf hits) ≡ true
+  is-start : (a : Float) → holds m a ≡ true → Fresh m a → memberEq a (losOf l ++ hisOf hits) ≡ true
   unfolding Fresh
   is-start a t g = elim (lo-or-inside l a (in-list a t)) [
     | inl u ↦ among-left a (losOf l) (hisOf hits) u
@@ -421,7 +420,7 @@ module _ (l hits m : List Float) (sound-l : sound l ≡ true) (list : ListOf (λ
         | inr u ↦ absurd (clash (holds m p) (list .points p ∙ both (holds l p) (not (holds hits p)) x (ap not u)) y)
       ]
 
-  starts : (b : List Float) → All (λ x. holds m x ≡ true) b → All (Fresh m) b → All (λ x. among x (losOf l ++ hisOf hits) ≡ true) b
+  starts : (b : List Float) → All (λ x. holds m x ≡ true) b → All (Fresh m) b → All (λ x. memberEq x (losOf l ++ hisOf hits) ≡ true) b
   starts [] u v = tt
   starts (a ∷ b) u v = (is-start a (u .0) (v .0), starts b (u .1) (v .1))
 

@@ -14,7 +14,7 @@ use Rattle.grid.specs.Rays.{rayCount}
 use Rattle.grid.specs.declared.DexelStockSpec.{DexelStockSpec}
 use Rattle.grid.specs.declared.DexelGrid.{DexelGrid}
 use Rattle.log_model.specs.Logs.{Ray, Kind, possible, certain, Commit}
-use Rattle.log_model.specs.Model.{Sets, Count, none, counted, skipped, sumOver, pairs, Intervals, Lent, Answer, changed, refused, causes, Judged, Model, step, Modelled}
+use Rattle.log_model.specs.Model.{Sets, Count, none, counted, skipped, sumOver, pairTotal, IntervalTotal, Capacity, LogAnswer, changed, refused, logCommitCauses, AnswerDue, Model, modelStep, ModelAnswers}
 
 -- the one sound list of a set, as numbers
 pub one-list : (s : Float → Bool) (l m : List Float) → ListOf s l → ListOf s m → equal l m ≡ true
@@ -31,30 +31,30 @@ count-unique {g} {P} (counted {i = i} h x t) (skipped h′ x′ t′) = absurd (
 count-unique {g} {P} (skipped {i = i} h x t) (counted h′ x′ t′) = absurd (x (same-ray g P i h′ h x′))
 count-unique (skipped h x t) (skipped h′ x′ t′) = count-unique t t′
 
--- equal lists have as many pairs in all
-pub pairs-same : (g : DexelGrid) (f h : Ray g → Kind → List Float) → ((r : Ray g) (k : Kind) → equal (f r k) (h r k) ≡ true) → pairs g f ≡ pairs g h
-unfolding pairs
+-- equal lists have as many pairTotal in all
+pub pairs-same : (g : DexelGrid) (f h : Ray g → Kind → List Float) → ((r : Ray g) (k : Kind) → equal (f r k) (h r k) ≡ true) → pairTotal g f ≡ pairTotal g h
+unfolding pairTotal
 pairs-same g f h s =
     ap (sumOver g)
     (fun-ext λ r. ap₂ (λ (a b : ℕ). a / 2 + b / 2) (equal-length (f r possible) (h r possible) (s r possible)) (equal-length (f r certain) (h r certain) (s r certain)))
 
-pub intervals-unique : (g : DexelGrid) (s : Sets g) {n m : ℕ} → Intervals g s n → Intervals g s m → n ≡ m
+pub intervals-unique : (g : DexelGrid) (s : Sets g) {n m : ℕ} → IntervalTotal g s n → IntervalTotal g s m → n ≡ m
 intervals-unique g s a b =
     a .number ∙ pairs-same g (a .lists) (b .lists) (λ r k. one-list (s r k) (a .lists r k) (b .lists r k) (a .each r k) (b .each r k))
     ∙ sym (b .number)
 
--- two sound lists of doubles with the same points have as many pairs
+-- two sound lists of doubles with the same points have as many pairTotal
 pub points-pairs : (a b : List Float) → All Double a → All Double b → sound a ≡ true → sound b ≡ true
     → ((p : Float) → Point p → holds a p ≡ holds b p) → length a / 2 ≡ length b / 2
 points-pairs a b da db sa sb h = ap (λ (n : ℕ). n / 2) (equal-length a b (same-points a b da db sa sb h))
 
 -- so the number of intervals of lists of doubles is settled by the points alone: other sound lists of doubles with these points have as
--- many pairs
-pub intervals-points : (g : DexelGrid) (s : Sets g) {n : ℕ} (a : Intervals g s n) → ((r : Ray g) (k : Kind) → All Double (a .lists r k))
+-- many pairTotal
+pub intervals-points : (g : DexelGrid) (s : Sets g) {n : ℕ} (a : IntervalTotal g s n) → ((r : Ray g) (k : Kind) → All Double (a .lists r k))
     → (lists : Ray g → Kind → List Float) → ((r : Ray g) (k : Kind) → All Double (lists r k))
     → ((r : Ray g) (k : Kind) → sound (lists r k) ≡ true)
-    → ((r : Ray g) (k : Kind) (p : Float) → Point p → holds (lists r k) p ≡ s r k p) → n ≡ pairs g lists
-unfolding pairs
+    → ((r : Ray g) (k : Kind) (p : Float) → Point p → holds (lists r k) p ≡ s r k p) → n ≡ pairTotal g lists
+unfolding pairTotal
 intervals-points g s a da lists dl sl h =
     a .number ∙ ap (sumOver g) (fun-ext λ r. ap₂ _+_ (same r possible) (same r certain))
   where
@@ -70,17 +70,17 @@ not-either : {A U : Type 0} → ¬ (A ⊎ ⊥) → ¬ U → A ⊎ U → ⊥
 not-either n u (inl a) = n (inl a)
 not-either n u (inr b) = u b
 
-module _ (spec : DexelStockSpec) (g : DexelGrid) (b : Lent) where
-  pub judged-unique : (U : Type 0) (s : Sets g) (n : ℕ) (c : Commit) (v w : Answer) → Judged spec g b U s n c v → Judged spec g b U s n c w → v ≡ w
-  unfolding Judged
-  judged-unique U s n c (refused k) (refused j) x y = ap refused (due-unique (causes spec g b U s n c) k j x y)
-  judged-unique U s n c (refused k) (changed j) x y = absurd (none-due (causes spec g b U s n c) k (y .0) x)
-  judged-unique U s n c (changed k) (refused j) x y = absurd (none-due (causes spec g b U s n c) j (x .0) y)
+module _ (spec : DexelStockSpec) (g : DexelGrid) (b : Capacity) where
+  pub judged-unique : (U : Type 0) (s : Sets g) (n : ℕ) (c : Commit) (v w : LogAnswer) → AnswerDue spec g b U s n c v → AnswerDue spec g b U s n c w → v ≡ w
+  unfolding AnswerDue
+  judged-unique U s n c (refused k) (refused j) x y = ap refused (due-unique (logCommitCauses spec g b U s n c) k j x y)
+  judged-unique U s n c (refused k) (changed j) x y = absurd (none-due (logCommitCauses spec g b U s n c) k (y .0) x)
+  judged-unique U s n c (changed k) (refused j) x y = absurd (none-due (logCommitCauses spec g b U s n c) j (x .0) y)
   judged-unique U s n c (changed k) (changed j) x y = ap changed (count-unique (x .1) (y .1))
 
   -- the model gives one list of answers
-  pub modelled-unique : (m : Model g) (cs : List Commit) (vs ws : List Answer) → Modelled spec g b m cs vs → Modelled spec g b m cs ws → vs ≡ ws
-  unfolding Modelled
+  pub modelled-unique : (m : Model g) (cs : List Commit) (vs ws : List LogAnswer) → ModelAnswers spec g b m cs vs → ModelAnswers spec g b m cs ws → vs ≡ ws
+  unfolding ModelAnswers
   modelled-unique m [] [] [] x y = refl
   modelled-unique m [] [] (w ∷ ws) x y = absurd y
   modelled-unique m [] (v ∷ vs) ws x y = absurd x
@@ -88,12 +88,12 @@ module _ (spec : DexelStockSpec) (g : DexelGrid) (b : Lent) where
   modelled-unique m (c ∷ cs) (v ∷ vs) [] x y = absurd y
   modelled-unique m (c ∷ cs) (v ∷ vs) (w ∷ ws) x y =
       let e : v ≡ w = judged-unique ⊥ (m .sets) (m .generation) c v w (x .0) (y .0) in
-      ap₂ (λ (a : Answer) (l : List Answer). a ∷ l) e
-      (modelled-unique (step g m c v) cs vs ws (x .1) (subst (λ (a : Answer). Modelled spec g b (step g m c a) cs ws) (sym e) (y .1)))
+      ap₂ (λ (a : LogAnswer) (l : List LogAnswer). a ∷ l) e
+      (modelled-unique (modelStep g m c v) cs vs ws (x .1) (subst (λ (a : LogAnswer). ModelAnswers spec g b (modelStep g m c a) cs ws) (sym e) (y .1)))
 
   -- on a sound store the order is the model's
-  pub judged-sound : (U : Type 0) → ¬ U → (s : Sets g) (n : ℕ) (c : Commit) (v : Answer) → Judged spec g b U s n c v → Judged spec g b ⊥ s n c v
-  unfolding Judged
+  pub judged-sound : (U : Type 0) → ¬ U → (s : Sets g) (n : ℕ) (c : Commit) (v : LogAnswer) → AnswerDue spec g b U s n c v → AnswerDue spec g b ⊥ s n c v
+  unfolding AnswerDue
   judged-sound U u s n c (refused k) (inl x) = inl x
   judged-sound U u s n c (refused k) (inr (x, inl (inl y, e))) = inr (x, inl (inl y, e))
   judged-sound U u s n c (refused k) (inr (x, inl (inr y, e))) = absurd (u y)
@@ -101,8 +101,8 @@ module _ (spec : DexelStockSpec) (g : DexelGrid) (b : Lent) where
   judged-sound U u s n c (changed k) ((x, (y, d)), e) = ((x, ((λ z. y (only-part z)), d)), e)
 
   -- and the model's order is that of a sound store
-  pub judged-unsound : (U : Type 0) → ¬ U → (s : Sets g) (n : ℕ) (c : Commit) (v : Answer) → Judged spec g b ⊥ s n c v → Judged spec g b U s n c v
-  unfolding Judged
+  pub judged-unsound : (U : Type 0) → ¬ U → (s : Sets g) (n : ℕ) (c : Commit) (v : LogAnswer) → AnswerDue spec g b ⊥ s n c v → AnswerDue spec g b U s n c v
+  unfolding AnswerDue
   judged-unsound U u s n c (refused k) (inl x) = inl x
   judged-unsound U u s n c (refused k) (inr (x, inl (inl y, e))) = inr (x, inl (inl y, e))
   judged-unsound U u s n c (refused k) (inr (x, inl (inr y, e))) = absurd y

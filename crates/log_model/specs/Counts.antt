@@ -6,7 +6,7 @@ use Prim.Native.Nat.{ℕ, suc, _+_}
 use lib.Ieee.{Float, lt, eq}
 use Rattle.spans.specs.Spans.{holds}
 use Rattle.grid.specs.declared.DexelGrid.{DexelGrid}
-use Rattle.log_model.specs.Logs.{Ray, Kind, possible, certain, Entry, outer, inner, pairsOn}
+use Rattle.log_model.specs.Logs.{Ray, Kind, possible, certain, Entry, outer, inner, hitsOnRay}
 use Rattle.log_model.specs.Model.{sumTo, sumOver}
 
 -- a pair of the list has a point in [lo, hi), where lo < hi
@@ -16,11 +16,11 @@ meets lo hi (a ∷ []) = false
 meets lo hi (a ∷ b ∷ l) = (lt lo b && lt a hi) || meets lo hi l
 
 -- a hit, which is a pair with lo < hi, has a point of the list
-unfoldable pub hitBy : List Float → List Float → Bool
+unfoldable pub isHitBy : List Float → List Float → Bool
 unfolding meets
-hitBy l [] = false
-hitBy l (lo ∷ []) = false
-hitBy l (lo ∷ hi ∷ hits) = (lt lo hi && meets lo hi l) || hitBy l hits
+isHitBy l [] = false
+isHitBy l (lo ∷ []) = false
+isHitBy l (lo ∷ hi ∷ hits) = (lt lo hi && meets lo hi l) || isHitBy l hits
 
 -- the los of a list, and the his of hits
 unfoldable pub losOf : List Float → List Float
@@ -35,40 +35,40 @@ hisOf (lo ∷ []) = []
 hisOf (lo ∷ hi ∷ l) = cond (lt lo hi) (hi ∷ hisOf l) (hisOf l)
 
 -- x is equal, as a number, to one of the list
-unfoldable pub among : Float → List Float → Bool
-among x [] = false
-among x (y ∷ l) = eq x y || among x l
+unfoldable pub memberEq : Float → List Float → Bool
+memberEq x [] = false
+memberEq x (y ∷ l) = eq x y || memberEq x l
 
--- how many distinct numbers of the list pass the test
-unfoldable pub distinct : (Float → Bool) → List Float → ℕ
-unfolding among
-distinct test [] = 0
-distinct test (x ∷ l) = cond (test x && not (among x l)) (suc (distinct test l)) (distinct test l)
+-- how many countDistinct numbers of the list pass the test
+unfoldable pub countDistinct : (Float → Bool) → List Float → ℕ
+unfolding memberEq
+countDistinct test [] = 0
+countDistinct test (x ∷ l) = cond (test x && not (memberEq x l)) (suc (countDistinct test l)) (countDistinct test l)
 
 -- where the pairs of (l less hits) start: at a lo of l or a hi of a hit, in l and in no hit
 unfoldable pub startsLeft : List Float → List Float → ℕ
-unfolding distinct losOf hisOf holds
-startsLeft l hits = distinct (λ x. holds l x && not (holds hits x)) (losOf l ++ hisOf hits)
+unfolding countDistinct losOf hisOf holds
+startsLeft l hits = countDistinct (λ x. holds l x && not (holds hits x)) (losOf l ++ hisOf hits)
 
 -- ---- the same for all rays, with the lists of a sound store
 
 -- the pairs whose points a log takes from a list
-unfoldable pub hitsOn : (g : DexelGrid) → List Entry → Ray g → Kind → List Float
-unfolding pairsOn
-hitsOn g es r possible = pairsOn g es r inner
-hitsOn g es r certain = pairsOn g es r outer ++ pairsOn g es r inner
+unfoldable pub hitsOnList : (g : DexelGrid) → List Entry → Ray g → Kind → List Float
+unfolding hitsOnRay
+hitsOnList g es r possible = hitsOnRay g es r inner
+hitsOnList g es r certain = hitsOnRay g es r outer ++ hitsOnRay g es r inner
 
 -- a list of the ray would change
-unfoldable pub changesRay : (g : DexelGrid) → (Ray g → Kind → List Float) → List Entry → Ray g → Bool
-unfolding hitBy hitsOn
-changesRay g lists es r = hitBy (lists r possible) (hitsOn g es r possible) || hitBy (lists r certain) (hitsOn g es r certain)
+unfoldable pub isRayChanged : (g : DexelGrid) → (Ray g → Kind → List Float) → List Entry → Ray g → Bool
+unfolding isHitBy hitsOnList
+isRayChanged g lists es r = isHitBy (lists r possible) (hitsOnList g es r possible) || isHitBy (lists r certain) (hitsOnList g es r certain)
 
 -- how many rays would change
-unfoldable pub raysChanged : (g : DexelGrid) → (Ray g → Kind → List Float) → List Entry → ℕ
-unfolding changesRay sumTo
-raysChanged g lists es = sumOver g (λ r. cond (changesRay g lists es r) 1 0)
+unfoldable pub changedRayCount : (g : DexelGrid) → (Ray g → Kind → List Float) → List Entry → ℕ
+unfolding isRayChanged sumTo
+changedRayCount g lists es = sumOver g (λ r. cond (isRayChanged g lists es r) 1 0)
 
 -- how many pairs all lists would then have
-unfoldable pub pairsLeft : (g : DexelGrid) → (Ray g → Kind → List Float) → List Entry → ℕ
-unfolding startsLeft hitsOn sumTo
-pairsLeft g lists es = sumOver g (λ r. startsLeft (lists r possible) (hitsOn g es r possible) + startsLeft (lists r certain) (hitsOn g es r certain))
+unfoldable pub pairsAfter : (g : DexelGrid) → (Ray g → Kind → List Float) → List Entry → ℕ
+unfolding startsLeft hitsOnList sumTo
+pairsAfter g lists es = sumOver g (λ r. startsLeft (lists r possible) (hitsOnList g es r possible) + startsLeft (lists r certain) (hitsOnList g es r certain))

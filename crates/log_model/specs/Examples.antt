@@ -1,6 +1,6 @@
 -- A worked run of logs on the lent store, every number of it given; `run-right` in proofs/Examples.antt claims all that `RunRight` says.
--- The blank is the box from 0 to 10 in one cell, so with one ray along each axis, and has room for eight records. On its uncut store come three logs:
--- one that cuts the ray along axis 1, one with no ray allowed where it would change one, and one whose inner hit sticks out of its outer hit.
+-- The blank is the exampleBox from 0 to 10 in one cell, so with one ray along each axis, and has room for eight records. On its uncut store come three logs:
+-- one that cuts the ray along axis 1, one with no ray allowed where it would change one, and one whose inner exampleHit sticks out of its outer exampleHit.
 use mathlib.Core.Path.{_≡_}
 use mathlib.Core.Bool.{true}
 use mathlib.Core.List.{List, [], _∷_}
@@ -12,12 +12,12 @@ use Rattle.spans.specs.Spans.{equal}
 use Rattle.grid_from_spec.specs.Grid.{gridOf}
 use Rattle.grid.specs.declared.DexelStockSpec.{DexelStockSpec}
 use Rattle.grid.specs.declared.DexelGrid.{DexelGrid}
-use Rattle.grid.specs.declared.Gridded.the-variants.{Accepted}
+use Rattle.grid.specs.declared.GridAnswer.the-variants.{Accepted}
 use Rattle.store.specs.Updates.{cells}
 use Rattle.stock.specs.Stock.{Stock}
 use Rattle.stock_fill.specs.Uncut.{uncut, uncutTally}
 use Rattle.log_model.specs.Logs.{Ray, Kind, possible, certain, Commit}
-use Rattle.log_model.specs.Model.{Answer, changed, refused}
+use Rattle.log_model.specs.Model.{LogAnswer, changed, refused}
 use Rattle.log_model.specs.Runs.{Run}
 use Rattle.log_model.specs.Lent.{listIn, lentStore}
 
@@ -25,9 +25,9 @@ use Rattle.log_model.specs.Lent.{listIn, lentStore}
 abbrev pub num : ℕ → Float
 num n = ofInt binary64 (pos n)
 
--- the box with room for n records, and its grid
-abbrev pub box : ℕ → DexelStockSpec
-box n = record {
+-- the exampleBox with room for n records, and its exampleGrid
+abbrev pub exampleBox : ℕ → DexelStockSpec
+exampleBox n = record {
   version = 1;
   «min_mm» = record { x = num 0; y = num 0; z = num 0 };
   «max_mm» = record { x = num 10; y = num 10; z = num 10 };
@@ -36,12 +36,12 @@ box n = record {
   «max_intervals» = n;
 }
 
-abbrev pub grid : DexelGrid
-grid = record { c0 = 1; c1 = 1; c2 = 1; s0 = num 10; s1 = num 10; s2 = num 10 }
+abbrev pub exampleGrid : DexelGrid
+exampleGrid = record { c0 = 1; c1 = 1; c2 = 1; s0 = num 10; s1 = num 10; s2 = num 10 }
 
 -- the uncut store: records 1 to 6 in ray order, possible first, and two free ones
-abbrev pub filled : Stock
-filled = record {
+abbrev pub exampleStock : Stock
+exampleStock = record {
   cells = record {
     spans = num 0 ∷ num 10 ∷ num 0 ∷ num 10 ∷ num 0 ∷ num 10 ∷ num 0 ∷ num 10 ∷ num 0 ∷ num 10 ∷ num 0 ∷ num 10 ∷ num 0 ∷ num 0 ∷ num 0 ∷ num 0 ∷ [];
     links = 0 ∷ 1 ∷ 0 ∷ 2 ∷ 0 ∷ 3 ∷ 0 ∷ 4 ∷ 0 ∷ 5 ∷ 0 ∷ 6 ∷ 0 ∷ 0 ∷ 0 ∷ 0 ∷ [];
@@ -52,49 +52,49 @@ filled = record {
 }
 
 -- a log of one entry: outer 1 to 4, inner 2 to 3
-abbrev pub hit : Float → Float → List Float
-hit axis index = axis ∷ index ∷ num 1 ∷ num 4 ∷ num 2 ∷ num 3 ∷ []
+abbrev pub exampleHit : Float → Float → List Float
+exampleHit axis index = axis ∷ index ∷ num 1 ∷ num 4 ∷ num 2 ∷ num 3 ∷ []
 
--- index, allowance and work pairs of a commit
-abbrev pub commit : ℕ → ℕ → ℕ → Commit
-commit index allowance work = record { log = hit (num 1) (num index); allowance = allowance; work = work }
+-- index, allowance and work pairs of a exampleCommit
+abbrev pub exampleCommit : ℕ → ℕ → ℕ → Commit
+exampleCommit index allowance work = record { log = exampleHit (num 1) (num index); allowance = allowance; work = work }
 
 -- no ray is allowed, and the ray along axis 0 would change
 abbrev pub notAllowed : Commit
-notAllowed = record { log = hit (num 0) (num 0); allowance = 0; work = 66 }
+notAllowed = record { log = exampleHit (num 0) (num 0); allowance = 0; work = 66 }
 
 -- outer 9 to 10, inner 4 to 10
 abbrev pub innerWider : Commit
 innerWider = record { log = num 1 ∷ num 0 ∷ num 9 ∷ num 10 ∷ num 4 ∷ num 10 ∷ []; allowance = 1; work = 66 }
 
 abbrev pub threeLogs : List Commit
-threeLogs = commit 0 1 66 ∷ notAllowed ∷ innerWider ∷ []
+threeLogs = exampleCommit 0 1 66 ∷ notAllowed ∷ innerWider ∷ []
 
-abbrev pub threeAnswers : List Answer
+abbrev pub threeAnswers : List LogAnswer
 threeAnswers = changed 1 ∷ refused 9 ∷ changed 1 ∷ []
 
 -- the lists at the end: the ray along axis 1 has 0 to 2 and 3 to 4 for possible, 0 to 1 for certain, and the other rays are full
-abbrev pub listAfter : ℕ → Kind → List Float
-listAfter zero k = num 0 ∷ num 10 ∷ []
-listAfter (suc zero) possible = num 0 ∷ num 2 ∷ num 3 ∷ num 4 ∷ []
-listAfter (suc zero) certain = num 0 ∷ num 1 ∷ []
-listAfter (suc (suc n)) k = num 0 ∷ num 10 ∷ []
+abbrev pub exampleListAfter : ℕ → Kind → List Float
+exampleListAfter zero k = num 0 ∷ num 10 ∷ []
+exampleListAfter (suc zero) possible = num 0 ∷ num 2 ∷ num 3 ∷ num 4 ∷ []
+exampleListAfter (suc zero) certain = num 0 ∷ num 1 ∷ []
+exampleListAfter (suc (suc n)) k = num 0 ∷ num 10 ∷ []
 
 -- a stock as the run leaves it: generation 2, seven intervals, and these lists
 pub record AtEnd (t : Stock) : Type 0 where
-  pub lists : (r : Ray grid) (k : Kind) → equal (listIn (box 8) t (r .0) k) (listAfter (r .0) k) ≡ true
+  pub lists : (r : Ray exampleGrid) (k : Kind) → equal (listIn (exampleBox 8) t (r .0) k) (exampleListAfter (r .0) k) ≡ true
   pub generation : t .generation ≡ 2
   pub intervals : t .intervals ≡ 7
 
 -- THE WORKED RUN
 pub record RunRight : Type 0 where
-  pub accepted : gridOf (box 8) (109 ∷ 109 ∷ []) ≡ Accepted grid
+  pub accepted : gridOf (exampleBox 8) (109 ∷ 109 ∷ []) ≡ Accepted exampleGrid
   -- the fill lays the first stock in cells that held 7
-  pub fills : uncut (box 8) grid (cells (replicate 16 (num 7)) (replicate 16 7) (replicate 6 7)) ≡ filled .cells
-  pub fills-record : uncutTally grid ≡ record { generation = filled .generation; intervals = filled .intervals }
+  pub fills : uncut (exampleBox 8) exampleGrid (cells (replicate 16 (num 7)) (replicate 16 7) (replicate 6 7)) ≡ exampleStock .cells
+  pub fills-record : uncutTally exampleGrid ≡ record { generation = exampleStock .generation; intervals = exampleStock .intervals }
   -- there is a run
   pub end : Stock
-  pub ran : Run (box 8) grid (lentStore (box 8) grid) filled threeLogs threeAnswers end
+  pub ran : Run (exampleBox 8) exampleGrid (lentStore (exampleBox 8) exampleGrid) exampleStock threeLogs threeAnswers end
   -- and every run gives these answers and ends so
-  pub answers : (vs : List Answer) (t : Stock) → Run (box 8) grid (lentStore (box 8) grid) filled threeLogs vs t → vs ≡ threeAnswers
-  pub ends : (vs : List Answer) (t : Stock) → Run (box 8) grid (lentStore (box 8) grid) filled threeLogs vs t → AtEnd t
+  pub answers : (vs : List LogAnswer) (t : Stock) → Run (exampleBox 8) exampleGrid (lentStore (exampleBox 8) exampleGrid) exampleStock threeLogs vs t → vs ≡ threeAnswers
+  pub ends : (vs : List LogAnswer) (t : Stock) → Run (exampleBox 8) exampleGrid (lentStore (exampleBox 8) exampleGrid) exampleStock threeLogs vs t → AtEnd t

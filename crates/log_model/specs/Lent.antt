@@ -6,14 +6,14 @@ use lib.ListN.{length}
 use lib.Ieee.{Float}
 use Rattle.grid.specs.declared.DexelStockSpec.{DexelStockSpec}
 use Rattle.grid.specs.declared.DexelGrid.{DexelGrid}
-use Rattle.grid.specs.declared.Gridded.{Gridded}
-use Rattle.grid.specs.declared.Gridded.the-variants.{Accepted, Refused}
+use Rattle.grid.specs.declared.GridAnswer.{GridAnswer}
+use Rattle.grid.specs.declared.GridAnswer.the-variants.{Accepted, Refused}
 use Rattle.store.specs.Store.{listOf}
-use Rattle.store.specs.Updates.{Cells, held}
+use Rattle.store.specs.Updates.{Cells, storeList}
 use Rattle.stock.specs.Stock.{Stock, SoundStock}
 use Rattle.log_model.specs.Logs.{Ray, Kind, possible, certain, Commit}
-use Rattle.log_model.specs.Model.{Answer, refused}
-use Rattle.log_model.specs.Runs.{Reading, Committed}
+use Rattle.log_model.specs.Model.{LogAnswer, refused}
+use Rattle.log_model.specs.Runs.{StoreView, CommitStep}
 
 -- the lists of the store count through the rays, possible first
 unfoldable pub listNumber : ℕ → Kind → ℕ
@@ -27,10 +27,10 @@ listIn spec s r k = listOf (spec .«max_intervals») (s .cells .spans) (s .cells
 
 -- the same of all rays, from the cells alone
 abbrev pub listsIn : DexelStockSpec → (g : DexelGrid) → Cells → Ray g → Kind → List Float
-listsIn spec g c r k = held (spec .«max_intervals») c (listNumber (r .0) k)
+listsIn spec g c r k = storeList (spec .«max_intervals») c (listNumber (r .0) k)
 
 -- the reading that the log commit's contract cites
-abbrev pub lentStore : DexelStockSpec → (g : DexelGrid) → Reading g
+abbrev pub lentStore : DexelStockSpec → (g : DexelGrid) → StoreView g
 lentStore spec g = record {
   Store = Stock;
   lists = λ s r k. listIn spec s (r .0) k;
@@ -41,6 +41,6 @@ lentStore spec g = record {
 }
 
 -- A log commit on the lent store, whatever the description is. The answer of `grid` stands first: its causes 1 to 4 come before all others.
-unfoldable pub LogCommit : Gridded → DexelStockSpec → Stock → Commit → Answer → Stock → Type 0
-LogCommit (Refused k) spec s c a t = (a ≡ refused k) × (t ≡ s)
-LogCommit (Accepted g) spec s c a t = Committed spec g (lentStore spec g) s c a t
+unfoldable pub CommitOnAnyGrid : GridAnswer → DexelStockSpec → Stock → Commit → LogAnswer → Stock → Type 0
+CommitOnAnyGrid (Refused k) spec s c a t = (a ≡ refused k) × (t ≡ s)
+CommitOnAnyGrid (Accepted g) spec s c a t = CommitStep spec g (lentStore spec g) s c a t

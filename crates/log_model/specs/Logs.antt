@@ -70,20 +70,20 @@ isWhole x = eq x (ofInt binary64 (pos (toUnsigned 64 x)))
 abbrev pub wholeOf : Float → ℕ
 wholeOf x = toUnsigned 64 x
 
--- the entry names a ray: its axis is 0, 1 or 2, and its index a whole number below the number of rays along that axis
-unfoldable pub namesOne : DexelGrid → Entry → Bool
+-- the entry namesRay a ray: its axis is 0, 1 or 2, and its index a whole number below the number of rays along that axis
+unfoldable pub namesSomeRay : DexelGrid → Entry → Bool
 unfolding isWhole raysAlong
-namesOne g e = isWhole (e .axis) && (ltb (wholeOf (e .axis)) 3 && (isWhole (e .index) && ltb (wholeOf (e .index)) (raysAlong g (worldAxis (wholeOf (e .axis))))))
+namesSomeRay g e = isWhole (e .axis) && (ltb (wholeOf (e .axis)) 3 && (isWhole (e .index) && ltb (wholeOf (e .index)) (raysAlong g (worldAxis (wholeOf (e .axis))))))
 
 -- the number of that ray
-unfoldable pub rayOf : DexelGrid → Entry → ℕ
+unfoldable pub entryRay : DexelGrid → Entry → ℕ
 unfolding rayNumber
-rayOf g e = rayNumber g (worldAxis (wholeOf (e .axis))) (wholeOf (e .index))
+entryRay g e = rayNumber g (worldAxis (wholeOf (e .axis))) (wholeOf (e .index))
 
--- the entry names the ray r
-unfoldable pub names : (g : DexelGrid) → Entry → Ray g → Bool
-unfolding namesOne rayOf
-names g e r = namesOne g e && eqb (rayOf g e) (r .0)
+-- the entry namesRay the ray r
+unfoldable pub namesRay : (g : DexelGrid) → Entry → Ray g → Bool
+unfolding namesSomeRay entryRay
+namesRay g e r = namesSomeRay g e && eqb (entryRay g e) (r .0)
 
 -- ---- the points that a log takes
 
@@ -92,52 +92,52 @@ pub data HitKind : Type 0 where
   outer inner : HitKind
 
 -- the two ends of an entry's pair
-unfoldable pub loOf : HitKind → Entry → Float
-loOf outer e = e .outerLo
-loOf inner e = e .innerLo
+unfoldable pub hitLo : HitKind → Entry → Float
+hitLo outer e = e .outerLo
+hitLo inner e = e .innerLo
 
-unfoldable pub hiOf : HitKind → Entry → Float
-hiOf outer e = e .outerHi
-hiOf inner e = e .innerHi
+unfoldable pub hitHi : HitKind → Entry → Float
+hitHi outer e = e .outerHi
+hitHi inner e = e .innerHi
 
 -- the outer or the inner pairs of the entries that name the ray r, as a flat list. Pairs without lo < hi hold no point.
-unfoldable pub pairsOn : (g : DexelGrid) → List Entry → Ray g → HitKind → List Float
-unfolding names loOf hiOf
-pairsOn g [] r w = []
-pairsOn g (e ∷ es) r w = cond (names g e r) (loOf w e ∷ hiOf w e ∷ pairsOn g es r w) (pairsOn g es r w)
+unfoldable pub hitsOnRay : (g : DexelGrid) → List Entry → Ray g → HitKind → List Float
+unfolding namesRay hitLo hitHi
+hitsOnRay g [] r w = []
+hitsOnRay g (e ∷ es) r w = cond (namesRay g e r) (hitLo w e ∷ hitHi w e ∷ hitsOnRay g es r w) (hitsOnRay g es r w)
 
 -- a log takes the points of its inner hits from possible, those of its outer and inner hits from certain
-unfoldable pub taken : (g : DexelGrid) → List Entry → Ray g → Kind → Float → Bool
-unfolding pairsOn holds
-taken g es r possible p = holds (pairsOn g es r inner) p
-taken g es r certain p = holds (pairsOn g es r outer) p || holds (pairsOn g es r inner) p
+unfoldable pub removed : (g : DexelGrid) → List Entry → Ray g → Kind → Float → Bool
+unfolding hitsOnRay holds
+removed g es r possible p = holds (hitsOnRay g es r inner) p
+removed g es r certain p = holds (hitsOnRay g es r outer) p || holds (hitsOnRay g es r inner) p
 
 -- ---- hits, for the claims about a whole list of logs
 
--- document 01's hit: an entry's outer or inner pair with lo < hi, on the ray that the entry names, in one of the logs
+-- document 01's hit: an entry's outer or inner pair with lo < hi, on the ray that the entry namesRay, in one of the logs
 pub record Hit (g : DexelGrid) (logs : List (List Float)) (r : Ray g) (w : HitKind) : Type 0 where
   pub log : List Float
   pub entry : Entry
   pub in-logs : List·Memᴰ log logs
   pub in-log : List·Memᴰ entry (entries log)
-  pub on-ray : names g entry r ≡ true
-  pub proper : lt (loOf w entry) (hiOf w entry) ≡ true
+  pub on-ray : namesRay g entry r ≡ true
+  pub proper : lt (hitLo w entry) (hitHi w entry) ≡ true
 
 -- p lies in a hit of one of the logs
-unfoldable pub Lies : (g : DexelGrid) → List (List Float) → Ray g → HitKind → Float → Type 0
-unfolding loOf hiOf
-Lies g logs r w p = (h : Hit g logs r w) × (within (loOf w (h .entry)) (hiOf w (h .entry)) p ≡ true)
+unfoldable pub InHit : (g : DexelGrid) → List (List Float) → Ray g → HitKind → Float → Type 0
+unfolding hitLo hitHi
+InHit g logs r w p = (h : Hit g logs r w) × (within (hitLo w (h .entry)) (hitHi w (h .entry)) p ≡ true)
 
 -- each hit of the first logs stands in the second, by ray, kind and ends as numbers
-unfoldable pub Among : (g : DexelGrid) → List (List Float) → List (List Float) → Type 0
-unfolding loOf hiOf
-Among g ls ms = (r : Ray g) (w : HitKind) (h : Hit g ls r w)
-    → (i : Hit g ms r w) × (eq (loOf w (h .entry)) (loOf w (i .entry)) ≡ true) × (eq (hiOf w (h .entry)) (hiOf w (i .entry)) ≡ true)
+unfoldable pub HitsIncluded : (g : DexelGrid) → List (List Float) → List (List Float) → Type 0
+unfolding hitLo hitHi
+HitsIncluded g ls ms = (r : Ray g) (w : HitKind) (h : Hit g ls r w)
+    → (i : Hit g ms r w) × (eq (hitLo w (h .entry)) (hitLo w (i .entry)) ≡ true) × (eq (hitHi w (h .entry)) (hitHi w (i .entry)) ≡ true)
 
 -- document 01's "alike in hits", of the accepted logs of two lists of commits
 unfoldable pub Alike : (g : DexelGrid) → List (List Float) → List (List Float) → Type 0
-unfolding Among
-Alike g ls ms = Among g ls ms × Among g ms ls
+unfolding HitsIncluded
+Alike g ls ms = HitsIncluded g ls ms × HitsIncluded g ms ls
 
 -- ---- commits
 

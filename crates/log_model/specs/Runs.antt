@@ -9,91 +9,91 @@ use lib.Ieee.{Float}
 use Rattle.spans.specs.Spans.{All, Double, Point, holds, sound, equal, ListOf}
 use Rattle.grid.specs.declared.DexelStockSpec.{DexelStockSpec}
 use Rattle.grid.specs.declared.DexelGrid.{DexelGrid}
-use Rattle.log_model.specs.Logs.{Ray, Kind, possible, certain, outer, inner, Lies, Alike, entries, Commit}
-use Rattle.log_model.specs.Model.{Sets, without, pairs, Lent, Answer, changed, refused, Judged, Model, Modelled, ended, accepted}
+use Rattle.log_model.specs.Logs.{Ray, Kind, possible, certain, outer, inner, InHit, Alike, entries, Commit}
+use Rattle.log_model.specs.Model.{Sets, setsAfter, pairTotal, Capacity, LogAnswer, changed, refused, AnswerDue, Model, ModelAnswers, modelAfter, acceptedLogs}
 
 -- How a store is read: its lists, the two numbers of the small record, what it lends and whether it is sound
-pub record Reading (g : DexelGrid) : Type 1 where
+pub record StoreView (g : DexelGrid) : Type 1 where
   pub Store : Type 0
   pub lists : Store → Ray g → Kind → List Float
   pub intervals : Store → ℕ
   pub generation : Store → ℕ
-  pub lent : Store → Lent
+  pub lent : Store → Capacity
   pub Sound : Store → Type 0
 
 -- what a run needs of the stores that are read as sound
-pub record Lawful (g : DexelGrid) (R : Reading g) : Type 0 where
+pub record SoundView (g : DexelGrid) (R : StoreView g) : Type 0 where
   pub sound-list : (s : R .Store) → R .Sound s → (r : Ray g) (k : Kind) → sound (R .lists s r k) ≡ true
   pub within : (s : R .Store) → R .Sound s → (r : Ray g) (p : Float) → holds (R .lists s r certain) p ≡ true → holds (R .lists s r possible) p ≡ true
-  pub all-pairs : (s : R .Store) → R .Sound s → R .intervals s ≡ pairs g (R .lists s)
+  pub all-pairs : (s : R .Store) → R .Sound s → R .intervals s ≡ pairTotal g (R .lists s)
 
 -- the sets that a store's lists hold
-unfoldable pub points : (g : DexelGrid) (R : Reading g) → R .Store → Sets g
+unfoldable pub pointSets : (g : DexelGrid) (R : StoreView g) → R .Store → Sets g
 unfolding holds
-points g R s r k p = holds (R .lists s r k) p
+pointSets g R s r k p = holds (R .lists s r k) p
 
--- what an accepted log leaves of the store s
-pub record Cut (g : DexelGrid) (R : Reading g) (s : R .Store) (c : Commit) (t : R .Store) : Type 0 where
+-- what an acceptedLogs log leaves of the store s
+pub record AcceptedEffect (g : DexelGrid) (R : StoreView g) (s : R .Store) (c : Commit) (t : R .Store) : Type 0 where
   pub sound : R .Sound t
-  pub exactly : (r : Ray g) (k : Kind) (p : Float) → points g R t r k p ≡ without g (points g R s) (entries (c .log)) r k p
+  pub exactly : (r : Ray g) (k : Kind) (p : Float) → pointSets g R t r k p ≡ setsAfter g (pointSets g R s) (entries (c .log)) r k p
   pub generation : R .generation t ≡ suc (R .generation s)
   pub lent : R .lent t ≡ R .lent s
 
 -- a refused commit leaves the store as it was
-unfoldable pub Left : (g : DexelGrid) (R : Reading g) → R .Store → Commit → Answer → R .Store → Type 0
-Left g R s c (refused k) t = t ≡ s
-Left g R s c (changed n) t = Cut g R s c t
+unfoldable pub CommitEffect : (g : DexelGrid) (R : StoreView g) → R .Store → Commit → LogAnswer → R .Store → Type 0
+CommitEffect g R s c (refused k) t = t ≡ s
+CommitEffect g R s c (changed n) t = AcceptedEffect g R s c t
 
 -- ONE LOG COMMIT, from the store s to the store t with the answer a: what the entry's contract promises, whatever s is
-pub record Committed (spec : DexelStockSpec) (g : DexelGrid) (R : Reading g) (s : R .Store) (c : Commit) (a : Answer) (t : R .Store) : Type 0 where
-  pub answers : Judged spec g (R .lent s) (¬ R .Sound s) (points g R s) (R .generation s) c a
-  pub leaves : Left g R s c a t
+pub record CommitStep (spec : DexelStockSpec) (g : DexelGrid) (R : StoreView g) (s : R .Store) (c : Commit) (a : LogAnswer) (t : R .Store) : Type 0 where
+  pub answers : AnswerDue spec g (R .lent s) (¬ R .Sound s) (pointSets g R s) (R .generation s) c a
+  pub leaves : CommitEffect g R s c a t
 
 -- A RUN OF LOGS: each commit on the store as the one before left it
-pub data Run (spec : DexelStockSpec) (g : DexelGrid) (R : Reading g) : R .Store → List Commit → List Answer → R .Store → Type 0 where
+pub data Run (spec : DexelStockSpec) (g : DexelGrid) (R : StoreView g) : R .Store → List Commit → List LogAnswer → R .Store → Type 0 where
   done : {s : R .Store} → Run spec g R s [] [] s
-  next : {s t u : R .Store} {c : Commit} {a : Answer} {cs : List Commit} {vs : List Answer}
-      → Committed spec g R s c a t → Run spec g R t cs vs u → Run spec g R s (c ∷ cs) (a ∷ vs) u
+  next : {s t u : R .Store} {c : Commit} {a : LogAnswer} {cs : List Commit} {vs : List LogAnswer}
+      → CommitStep spec g R s c a t → Run spec g R t cs vs u → Run spec g R s (c ∷ cs) (a ∷ vs) u
 
 -- the model's start: the sets and the generation of the first stock
-unfoldable pub start : (g : DexelGrid) (R : Reading g) → R .Store → Model g
-unfolding points
-start g R s = record { sets = points g R s; generation = R .generation s }
+unfoldable pub modelStart : (g : DexelGrid) (R : StoreView g) → R .Store → Model g
+unfolding pointSets
+modelStart g R s = record { sets = pointSets g R s; generation = R .generation s }
 
 -- DEMAND 3, of a run from the sound store s with the commits cs and the answers vs to the store t
-pub record Settled (spec : DexelStockSpec) (g : DexelGrid) (R : Reading g) (s : R .Store) (cs : List Commit) (vs : List Answer) (t : R .Store) : Type 0 where
-  -- the answers, accepted and refused, are the model's, and the model has no others
-  pub answers : Modelled spec g (R .lent s) (start g R s) cs vs
-  pub no-others : (bs : List Answer) → Modelled spec g (R .lent s) (start g R s) cs bs → bs ≡ vs
+pub record RunMeetsModel (spec : DexelStockSpec) (g : DexelGrid) (R : StoreView g) (s : R .Store) (cs : List Commit) (vs : List LogAnswer) (t : R .Store) : Type 0 where
+  -- the answers, acceptedLogs and refused, are the model's, and the model has no others
+  pub answers : ModelAnswers spec g (R .lent s) (modelStart g R s) cs vs
+  pub no-others : (bs : List LogAnswer) → ModelAnswers spec g (R .lent s) (modelStart g R s) cs bs → bs ≡ vs
   -- each list is the one sound list of the model's set
-  pub listed : (r : Ray g) (k : Kind) → ListOf (ended g (start g R s) cs vs .sets r k) (R .lists t r k)
-  -- and no other list of doubles is sound and has its points
+  pub listed : (r : Ray g) (k : Kind) → ListOf (modelAfter g (modelStart g R s) cs vs .sets r k) (R .lists t r k)
+  -- and no other list of doubles is sound and has its pointSets
   pub only-list : (r : Ray g) (k : Kind) (l : List Float) → All Double l → All Double (R .lists t r k) → sound l ≡ true
-      → ((p : Float) → Point p → holds l p ≡ ended g (start g R s) cs vs .sets r k p) → equal l (R .lists t r k) ≡ true
-  -- the interval total is the number of all their pairs, the generation the model's
-  pub all-pairs : R .intervals t ≡ pairs g (R .lists t)
-  pub model-generation : R .generation t ≡ ended g (start g R s) cs vs .generation
-  -- the same without the model: the generation grows by one for each accepted log
-  pub generation : R .generation t ≡ R .generation s + length (accepted cs vs)
-  -- possible holds exactly the points it first held that lie in no inner hit of an accepted log
+      → ((p : Float) → Point p → holds l p ≡ modelAfter g (modelStart g R s) cs vs .sets r k p) → equal l (R .lists t r k) ≡ true
+  -- the interval total is the number of all their pairTotal, the generation the model's
+  pub all-pairs : R .intervals t ≡ pairTotal g (R .lists t)
+  pub model-generation : R .generation t ≡ modelAfter g (modelStart g R s) cs vs .generation
+  -- the same setsAfter the model: the generation grows by one for each acceptedLogs log
+  pub generation : R .generation t ≡ R .generation s + length (acceptedLogs cs vs)
+  -- possible holds exactly the pointSets it first held that lie in no inner hit of an acceptedLogs log
   pub possible-is : (r : Ray g) (p : Float)
-      → (holds (R .lists t r possible) p ≡ true) ↔ ((holds (R .lists s r possible) p ≡ true) × (¬ Lies g (accepted cs vs) r inner p))
-  -- certain holds exactly the points it first held that lie in no outer and no inner hit of an accepted log
+      → (holds (R .lists t r possible) p ≡ true) ↔ ((holds (R .lists s r possible) p ≡ true) × (¬ InHit g (acceptedLogs cs vs) r inner p))
+  -- certain holds exactly the pointSets it first held that lie in no outer and no inner hit of an acceptedLogs log
   pub certain-is : (r : Ray g) (p : Float)
       → (holds (R .lists t r certain) p ≡ true)
-      ↔ ((holds (R .lists s r certain) p ≡ true) × (¬ Lies g (accepted cs vs) r outer p) × (¬ Lies g (accepted cs vs) r inner p))
+      ↔ ((holds (R .lists s r certain) p ≡ true) × (¬ InHit g (acceptedLogs cs vs) r outer p) × (¬ InHit g (acceptedLogs cs vs) r inner p))
   -- certain lies within possible, and no list gains a point
   pub certain-within : (r : Ray g) (p : Float) → holds (R .lists t r certain) p ≡ true → holds (R .lists t r possible) p ≡ true
   pub nothing-gains : (r : Ray g) (k : Kind) (p : Float) → holds (R .lists t r k) p ≡ true → holds (R .lists s r k) p ≡ true
   pub sound : R .Sound t
 
 -- two stores with equal lists and interval totals
-pub record Agree (g : DexelGrid) (R : Reading g) (t u : R .Store) : Type 0 where
+pub record StoresAgree (g : DexelGrid) (R : StoreView g) (t u : R .Store) : Type 0 where
   pub same-lists : (r : Ray g) (k : Kind) → equal (R .lists t r k) (R .lists u r k) ≡ true
   pub same-total : R .intervals t ≡ R .intervals u
 
--- DEMAND 3, whole: of every run from a sound store, and of every two that are alike in the hits of their accepted logs
-pub record Demand3 (spec : DexelStockSpec) (g : DexelGrid) (R : Reading g) : Type 0 where
-  pub settles : (s t : R .Store) (cs : List Commit) (vs : List Answer) → R .Sound s → Run spec g R s cs vs t → Settled spec g R s cs vs t
-  pub agrees : (s t u : R .Store) (cs ds : List Commit) (vs ws : List Answer) → R .Sound s → Run spec g R s cs vs t → Run spec g R s ds ws u
-      → Alike g (accepted cs vs) (accepted ds ws) → Agree g R t u
+-- DEMAND 3, whole: of every run from a sound store, and of every two that are alike in the hits of their acceptedLogs logs
+pub record RunCorrect (spec : DexelStockSpec) (g : DexelGrid) (R : StoreView g) : Type 0 where
+  pub settles : (s t : R .Store) (cs : List Commit) (vs : List LogAnswer) → R .Sound s → Run spec g R s cs vs t → RunMeetsModel spec g R s cs vs t
+  pub agrees : (s t u : R .Store) (cs ds : List Commit) (vs ws : List LogAnswer) → R .Sound s → Run spec g R s cs vs t → Run spec g R s ds ws u
+      → Alike g (acceptedLogs cs vs) (acceptedLogs ds ws) → StoresAgree g R t u

@@ -11,7 +11,7 @@ use lib.Ieee.{Float, lt, le}
 use Rattle.doubles.proofs.Bools.{and-left, and-right, both, clash}
 use Rattle.doubles.proofs.Order.{le-refl, le-trans, lt→le, lt-le-trans, le-number, lt-irrefl}
 use Rattle.spans.specs.Spans.{within, holds, NormalOf}
-use Rattle.spans.specs.Steps.{Filled}
+use Rattle.spans.specs.Steps.{FilledFront}
 use Rattle.spans.proofs.Sets.{sound-mod}
 use Rattle.store_lists.specs.Reading.{Readable}
 use Rattle.log_keys.specs.Keys.{Stretch, pairsPast}
@@ -107,7 +107,7 @@ module _ {low u front : Float} {hits cells : List Float} {h : HeldHits} (g : Gat
         from x a = le-trans low (h .end) x (ends-above up) a
 
 -- the sound list that is made of it
-pub roomy-front : (cells after : List Float) (k m : ℕ) → WholePairs cells k → Filled (NormalOf (take k cells)) cells k after m → WholePairs after m
+pub roomy-front : (cells after : List Float) (k m : ℕ) → WholePairs cells k → FilledFront (NormalOf (take k cells)) cells k after m → WholePairs after m
 roomy-front cells after k m r w = record {
   room = fit;
   whole = omega (arith, length-take-le m after fit, sound-mod (take m after) (w .list .list .isSound));
@@ -123,7 +123,7 @@ module _ {n : ℕ} {spans : List Float} {links : List ℕ} (b u front : Float) (
 
   pub reaches-on : (now cells after : List Float) (low : Float) (h : HeldHits) (m : ℕ) (t t′ : Rest)
       → StretchLoop n spans links b u front hits before r now low t → GatherPost low u front hits now cells h
-      → Filled (NormalOf (take (h .count) cells)) cells (h .count) after m
+      → FilledFront (NormalOf (take (h .count) cells)) cells (h .count) after m
       → TakeHeldPost n spans links low (h .end) (h .front) (take m after) t t′
       → StretchLoop n spans links b u front hits before r after (h .end) t′
   reaches-on now cells after low h m t t′ at g w takes = record {

@@ -13,21 +13,20 @@ use Rattle.spans.specs.Spans.{holds, sound, equal, ListOf}
 use Rattle.spans.proofs.Sets.{sound-mod}
 use Rattle.grid.specs.Rays.{rayCount}
 use Rattle.grid.specs.declared.DexelGrid.{DexelGrid}
-use Rattle.store.specs.Updates.{Update, update, Ascending, listAfter}
-use Rattle.store.specs.Updates.{none as no-more, next}
+use Rattle.store.specs.Updates.{Update, update, Ascending, listAfter, none as no-more, next}
 use Rattle.store.proofs.Updating.{after-below, after-here, after-other}
 use Rattle.span_overlay.specs.Overlay.{lessOf}
 use Rattle.span_overlay.proofs.Less.{less-list}
 use Rattle.ray_subtract.specs.Taking.{eitherHit, spared}
 use Rattle.ray_subtract.proofs.Sparing.{less-both-list}
-use Rattle.log_model.specs.Logs.{Ray, Kind, possible, certain, Entry, taken}
+use Rattle.log_model.specs.Logs.{Ray, Kind, possible, certain, Entry, removed}
 use Rattle.log_model.proofs.Doubles.{Doubles}
-use Rattle.log_model.specs.Model.{without, Changes, Count, counted, skipped}
-use Rattle.log_model.specs.Counts.{hitBy, hitsOn, changesRay}
+use Rattle.log_model.specs.Model.{setsAfter, RayChanges, Count, counted, skipped}
+use Rattle.log_model.specs.Counts.{isHitBy, hitsOnList, isRayChanged}
 use Rattle.log_model.specs.Lent.{listNumber}
 use Rattle.log_model.proofs.Meets.{moves-hit}
 use Rattle.log_model.proofs.Decided.{without-hits, changes-by, stays, not-left, not-right}
-use Rattle.log_updates.specs.Merges.{setsOf, LeftOf, ExactOf, Merges, none, same, new}
+use Rattle.log_updates.specs.Merges.{listSets, ListAfterLog, MergedByLog, MergeUpdates, none, same, new}
 
 -- a ray is its number
 pub moved : (g : DexelGrid) (P : Ray g → Type 0) (i j : ℕ) (h : i < rayCount g) → i ≡ j → (k : j < rayCount g) → P (i, h) → P (j, k)
@@ -66,34 +65,34 @@ left-by : (s t : Float → Bool) (m : List Float) → ((p : Float) → t p ≡ s
 left-by s t m e x = record { isSound = x .isSound; points = λ p. x .points p ∙ e p }
 
 module _ (g : DexelGrid) (lists : Ray g → Kind → List Float) (es : List Entry) (r : Ray g) (p c : List Float)
-    (x : ExactOf g lists es r p c) where
-  pub exact-possible : sound (lists r possible) ≡ true → LeftOf g lists es r possible p
-  unfolding without taken
+    (x : MergedByLog g lists es r p c) where
+  pub exact-possible : sound (lists r possible) ≡ true → ListAfterLog g lists es r possible p
+  unfolding setsAfter removed
   exact-possible s = rw (x .possibleIs)
-      (left-by (without g (setsOf g lists) es r possible) (spared (lists r possible) (holds (x .innerNormal)))
+      (left-by (setsAfter g (listSets g lists) es r possible) (spared (lists r possible) (holds (x .innerNormal)))
       (lessOf (lists r possible) (x .innerNormal))
       (λ q. ap (λ (b : Bool). holds (lists r possible) q && not b) (x .innerIs .list .points q))
       (less-list (lists r possible) (x .innerNormal) s (x .innerIs .list .isSound)))
 
-  pub exact-certain : sound (lists r certain) ≡ true → LeftOf g lists es r certain c
-  unfolding without taken
+  pub exact-certain : sound (lists r certain) ≡ true → ListAfterLog g lists es r certain c
+  unfolding setsAfter removed
   exact-certain s = rw (x .certainIs)
-      (left-by (without g (setsOf g lists) es r certain) (spared (lists r certain) (eitherHit (x .outerNormal) (x .innerNormal)))
+      (left-by (setsAfter g (listSets g lists) es r certain) (spared (lists r certain) (eitherHit (x .outerNormal) (x .innerNormal)))
       (lessOf (lessOf (lists r certain) (x .outerNormal)) (x .innerNormal))
       (λ q. ap₂ (λ (a b : Bool). holds (lists r certain) q && not (a || b)) (x .outerIs .list .points q) (x .innerIs .list .points q))
       (less-both-list (lists r certain) (x .outerNormal) (x .innerNormal) s (x .outerIs .list .isSound) (x .innerIs .list .isSound)))
 
   -- a boundary of the list moves exactly when a hit has a point of it
-  moves-by : (k : Kind) (l : List Float) → sound (lists r k) ≡ true → LeftOf g lists es r k l
-      → not (equal (lists r k) l) ≡ hitBy (lists r k) (hitsOn g es r k)
-  moves-by k l s y = moves-hit (lists r k) (hitsOn g es r k) l s
-      (left-by (λ q. holds (lists r k) q && not (holds (hitsOn g es r k) q)) (without g (setsOf g lists) es r k) l
-      (λ q. without-hits g r (setsOf g lists) es k q) y)
+  moves-by : (k : Kind) (l : List Float) → sound (lists r k) ≡ true → ListAfterLog g lists es r k l
+      → not (equal (lists r k) l) ≡ isHitBy (lists r k) (hitsOnList g es r k)
+  moves-by k l s y = moves-hit (lists r k) (hitsOnList g es r k) l s
+      (left-by (λ q. holds (lists r k) q && not (holds (hitsOnList g es r k) q)) (setsAfter g (listSets g lists) es r k) l
+      (λ q. without-hits g r (listSets g lists) es k q) y)
 
   -- so the ray changes exactly when a boundary of one of its lists moves
   pub exact-changes : sound (lists r possible) ≡ true → sound (lists r certain) ≡ true
-      → not (equal (lists r possible) p && equal (lists r certain) c) ≡ changesRay g lists es r
-  unfolding changesRay
+      → not (equal (lists r possible) p && equal (lists r certain) c) ≡ isRayChanged g lists es r
+  unfolding isRayChanged
   exact-changes sp sc =
       either-not (equal (lists r possible) p) (equal (lists r certain) c)
       ∙ ap₂ _||_ (moves-by possible p sp (exact-possible sp)) (moves-by certain c sc (exact-certain sc))
@@ -105,7 +104,7 @@ module _ (g : DexelGrid) (lists : Ray g → Kind → List Float) (es : List Entr
 module _ (g : DexelGrid) (lists : Ray g → Kind → List Float) (es : List Entry)
     (each : (r : Ray g) (k : Kind) → ListOf (holds (lists r k)) (lists r k)) where
   -- the updates are of whole pairs and in the order of the lists
-  pub merges-ascend : {ray m : ℕ} {us : List Update} → Merges g lists es ray us m → Ascending (2 * rayCount g) (2 * ray) us
+  pub merges-ascend : {ray m : ℕ} {us : List Update} → MergeUpdates g lists es ray us m → Ascending (2 * rayCount g) (2 * ray) us
   merges-ascend (none e) = no-more
   merges-ascend (same {ray = ray} h e t) = lower (merges-ascend t)
     where
@@ -121,14 +120,14 @@ module _ (g : DexelGrid) (lists : Ray g → Kind → List Float) (es : List Entr
       numbers ray = omega arith
 
   -- the rays that change are counted
-  pub merges-count : {ray m a : ℕ} {us : List Update} → Merges g lists es ray us m → Count g (Changes g (λ r k. holds (lists r k)) es) ray a → Count g (Changes g (λ r k. holds (lists r k)) es) (rayCount g) (a + m)
-  merges-count {m = m} {a = a} (none {ray = ray} e) t = subst (λ (x : ℕ). Count g (Changes g (λ r k. holds (lists r k)) es) (rayCount g) x) (sum a) (subst (λ (x : ℕ). Count g (Changes g (λ r k. holds (lists r k)) es) x a) e t)
+  pub merges-count : {ray m a : ℕ} {us : List Update} → MergeUpdates g lists es ray us m → Count g (RayChanges g (λ r k. holds (lists r k)) es) ray a → Count g (RayChanges g (λ r k. holds (lists r k)) es) (rayCount g) (a + m)
+  merges-count {m = m} {a = a} (none {ray = ray} e) t = subst (λ (x : ℕ). Count g (RayChanges g (λ r k. holds (lists r k)) es) (rayCount g) x) (sum a) (subst (λ (x : ℕ). Count g (RayChanges g (λ r k. holds (lists r k)) es) x a) e t)
     where
       sum : (a : ℕ) → a ≡ a + 0
       sum a = omega arith
   merges-count (same {ray = ray} h e u) t = merges-count u (skipped h e t)
   merges-count {a = a} (new {ray = ray} {m = m} h e x u) t = subst
-      (λ (x : ℕ). Count g (Changes g (λ r k. holds (lists r k)) es) (rayCount g) x) (sum a m) (merges-count u (counted h e t))
+      (λ (x : ℕ). Count g (RayChanges g (λ r k. holds (lists r k)) es) (rayCount g) x) (sum a m) (merges-count u (counted h e t))
     where
       sum : (a m : ℕ) → suc a + m ≡ a + suc m
       sum a m = omega arith
@@ -136,45 +135,45 @@ module _ (g : DexelGrid) (lists : Ray g → Kind → List Float) (es : List Entr
   -- where the ends of the lists and of the hits are doubles
   module _ (d : Doubles g lists es) where
     -- a ray that does not change keeps the sound lists of its sets
-    pub kept-left : (r : Ray g) → ¬ Changes g (λ r k. holds (lists r k)) es r → (k : Kind) → LeftOf g lists es r k (lists r k)
-    unfolding changesRay
+    pub kept-left : (r : Ray g) → ¬ RayChanges g (λ r k. holds (lists r k)) es r → (k : Kind) → ListAfterLog g lists es r k (lists r k)
+    unfolding isRayChanged
     kept-left r n k = record { isSound = each r k .isSound; points = λ p. sym (stays g (λ r k. holds (lists r k)) lists each es r k .1 (unhit k) p) }
       where
-        e : changesRay g lists es r ≡ false
-        e = elim (by-cases (changesRay g lists es r)) [
+        e : isRayChanged g lists es r ≡ false
+        e = elim (by-cases (isRayChanged g lists es r)) [
           | inl y ↦ absurd (n (changes-by g (λ r k. holds (lists r k)) lists each es d r .0 y))
           | inr y ↦ y
         ]
 
-        unhit : (k : Kind) → hitBy (lists r k) (hitsOn g es r k) ≡ false
-        unhit possible = not-left (hitBy (lists r possible) (hitsOn g es r possible)) (hitBy (lists r certain) (hitsOn g es r certain)) e
-        unhit certain = not-right (hitBy (lists r possible) (hitsOn g es r possible)) (hitBy (lists r certain) (hitsOn g es r certain)) e
+        unhit : (k : Kind) → isHitBy (lists r k) (hitsOnList g es r k) ≡ false
+        unhit possible = not-left (isHitBy (lists r possible) (hitsOnList g es r possible)) (isHitBy (lists r certain) (hitsOnList g es r certain)) e
+        unhit certain = not-right (isHitBy (lists r possible) (hitsOnList g es r possible)) (isHitBy (lists r certain) (hitsOnList g es r certain)) e
 
     -- each list after the updates is the sound list of what the log leaves
-    pub merges-leave : {ray m : ℕ} {us : List Update} → Merges g lists es ray us m → (r : ℕ) (l : r < rayCount g) → ray ≤ r → (k : Kind) → LeftOf g lists es (r, l) k (listAfter us (listNumber r k) (lists (r, l) k))
+    pub merges-leave : {ray m : ℕ} {us : List Update} → MergeUpdates g lists es ray us m → (r : ℕ) (l : r < rayCount g) → ray ≤ r → (k : Kind) → ListAfterLog g lists es (r, l) k (listAfter us (listNumber r k) (lists (r, l) k))
     merges-leave (none e) r l h k = absurd (omega arith)
     merges-leave (same {ray = ray} {us = us} i e t) r l h k = at (ℕ-discrete ray r) (λ (h : suc ray ≤ r). merges-leave t r l h k)
       where
-        at : Dec (ray ≡ r) → (suc ray ≤ r → LeftOf g lists es (r, l) k (listAfter us (listNumber r k) (lists (r, l) k))) → LeftOf g lists es (r, l) k (listAfter us (listNumber r k) (lists (r, l) k))
-        at (yes d) rec = moved g (λ x. LeftOf g lists es x k (listAfter us (listNumber (x .0) k) (lists x k))) ray r i d l
-            (subst (LeftOf g lists es (ray, i) k) (sym (after-below (merges-ascend t) (listNumber ray k) (lists (ray, i) k) (number-below ray k))) (kept-left (ray, i) e k))
+        at : Dec (ray ≡ r) → (suc ray ≤ r → ListAfterLog g lists es (r, l) k (listAfter us (listNumber r k) (lists (r, l) k))) → ListAfterLog g lists es (r, l) k (listAfter us (listNumber r k) (lists (r, l) k))
+        at (yes d) rec = moved g (λ x. ListAfterLog g lists es x k (listAfter us (listNumber (x .0) k) (lists x k))) ray r i d l
+            (subst (ListAfterLog g lists es (ray, i) k) (sym (after-below (merges-ascend t) (listNumber ray k) (lists (ray, i) k) (number-below ray k))) (kept-left (ray, i) e k))
         at (no d) rec = rec (above ray r h d)
     merges-leave (new {ray = ray} {p = p} {c = c} {us = us} i e x t) r l h k = at (ℕ-discrete ray r)
         (λ (h : suc ray ≤ r). merges-leave t r l h k)
       where
-        here : (k : Kind) → LeftOf g lists es (ray, i) k (listAfter (update (2 * ray) p ∷ update (2 * ray + 1) c ∷ us) (listNumber ray k) (lists (ray, i) k))
-        here possible = subst (LeftOf g lists es (ray, i) possible)
+        here : (k : Kind) → ListAfterLog g lists es (ray, i) k (listAfter (update (2 * ray) p ∷ update (2 * ray + 1) c ∷ us) (listNumber ray k) (lists (ray, i) k))
+        here possible = subst (ListAfterLog g lists es (ray, i) possible)
             (sym (after-here (update (2 * ray) p) (update (2 * ray + 1) c ∷ us) (listNumber ray possible) (lists (ray, i) possible)
             (number-possible ray)))
             (exact-possible g lists es (ray, i) p c x (each (ray, i) possible .isSound))
-        here certain = subst (LeftOf g lists es (ray, i) certain)
+        here certain = subst (ListAfterLog g lists es (ray, i) certain)
             (sym (after-other (update (2 * ray) p) (update (2 * ray + 1) c ∷ us) (listNumber ray certain) (lists (ray, i) certain) (λ z. two-numbers ray z)
             ∙ after-here (update (2 * ray + 1) c) us (listNumber ray certain) (lists (ray, i) certain) (number-certain ray)))
             (exact-certain g lists es (ray, i) p c x (each (ray, i) certain .isSound))
 
-        at : Dec (ray ≡ r) → (suc ray ≤ r → LeftOf g lists es (r, l) k (listAfter us (listNumber r k) (lists (r, l) k))) → LeftOf g lists es (r, l) k (listAfter (update (2 * ray) p ∷ update (2 * ray + 1) c ∷ us) (listNumber r k) (lists (r, l) k))
-        at (yes d) rec = moved g (λ x. LeftOf g lists es x k (listAfter (update (2 * ray) p ∷ update (2 * ray + 1) c ∷ us) (listNumber (x .0) k) (lists x k))) ray r i d l (here k)
-        at (no d) rec = subst (LeftOf g lists es (r, l) k)
+        at : Dec (ray ≡ r) → (suc ray ≤ r → ListAfterLog g lists es (r, l) k (listAfter us (listNumber r k) (lists (r, l) k))) → ListAfterLog g lists es (r, l) k (listAfter (update (2 * ray) p ∷ update (2 * ray + 1) c ∷ us) (listNumber r k) (lists (r, l) k))
+        at (yes d) rec = moved g (λ x. ListAfterLog g lists es x k (listAfter (update (2 * ray) p ∷ update (2 * ray + 1) c ∷ us) (listNumber (x .0) k) (lists x k))) ray r i d l (here k)
+        at (no d) rec = subst (ListAfterLog g lists es (r, l) k)
             (sym (after-other (update (2 * ray) p) (update (2 * ray + 1) c ∷ us) (listNumber r k) (lists (r, l) k) (λ z. other-possible ray r k (above ray r h d) z)
             ∙ after-other (update (2 * ray + 1) c) us (listNumber r k) (lists (r, l) k) (λ z. other-certain ray r k (above ray r h d) z)))
             (rec (above ray r h d))

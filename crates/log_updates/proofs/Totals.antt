@@ -1,4 +1,4 @@
--- The interval total after the updates is the number of pairs that the log leaves.
+-- The interval total after the updates is the number of pairTotal that the log leaves.
 use mathlib.Core.Path.{_≡_, refl, sym, ap, ap₂, _∙_, subst}
 use mathlib.Core.Bool.{not, _&&_}
 use mathlib.Core.List.{List, [], _∷_}
@@ -16,15 +16,15 @@ use Rattle.store.specs.Store.{placesOf}
 use Rattle.store.specs.Updates.{Update, update, pairsFreed, pairsLaid}
 use Rattle.stock.specs.Stock.{Stock, SoundStock}
 use Rattle.log_model.specs.Logs.{Ray, Kind, possible, certain, Entry}
-use Rattle.log_model.specs.Model.{without, sumTo, sumOver, pairs}
-use Rattle.log_model.specs.Counts.{startsLeft, hitsOn, pairsLeft}
+use Rattle.log_model.specs.Model.{setsAfter, sumTo, sumOver, pairTotal}
+use Rattle.log_model.specs.Counts.{startsLeft, hitsOnList, pairsAfter}
 use Rattle.log_model.specs.Lent.{listIn}
 use Rattle.log_model.proofs.Decided.{without-hits}
 use Rattle.log_model.proofs.Doubles.{Doubles}
 use Rattle.log_model.proofs.Less.{same-list}
 use Rattle.log_model.proofs.Starts.{pairs-left}
 use Rattle.log_model.proofs.Lent.{list-places, lent-laws}
-use Rattle.log_updates.specs.Merges.{LeftOf, Merges, none, same, new}
+use Rattle.log_updates.specs.Merges.{ListAfterLog, MergeUpdates, none, same, new}
 use Rattle.log_updates.proofs.Asked.{number-possible, number-certain, exact-possible, exact-certain, kept-left}
 
 -- a sum over rays goes by their number
@@ -57,28 +57,28 @@ module _ (spec : DexelStockSpec) (g : DexelGrid) (s : Stock) (sound : SoundStock
   pub each : (r : Ray g) (k : Kind) → ListOf (holds (listIn spec s (r .0) k)) (listIn spec s (r .0) k)
   each r k = record { isSound = lent-laws spec g .sound-list s sound r k; points = λ p. refl }
 
-  -- the pairs that a ray has, and those that it will have
+  -- the pairTotal that a ray has, and those that it will have
   old : Ray g → ℕ
   old r = length (listIn spec s (r .0) possible) / 2 + length (listIn spec s (r .0) certain) / 2
 
   left : Ray g → ℕ
-  left r = startsLeft (listIn spec s (r .0) possible) (hitsOn g es r possible) + startsLeft (listIn spec s (r .0) certain) (hitsOn g es r certain)
+  left r = startsLeft (listIn spec s (r .0) possible) (hitsOnList g es r possible) + startsLeft (listIn spec s (r .0) certain) (hitsOnList g es r certain)
 
   old-is : (r : Ray g) (x y : ℕ) → length (listIn spec s (r .0) possible) / 2 ≡ x → length (listIn spec s (r .0) certain) / 2 ≡ y → old r ≡ x + y
   unfolding old
   old-is r x y e f = ap₂ (λ (a b : ℕ). a + b) e f
 
-  left-is : (r : Ray g) (x y : ℕ) → x ≡ startsLeft (listIn spec s (r .0) possible) (hitsOn g es r possible) → y ≡ startsLeft (listIn spec s (r .0) certain) (hitsOn g es r certain) → left r ≡ x + y
+  left-is : (r : Ray g) (x y : ℕ) → x ≡ startsLeft (listIn spec s (r .0) possible) (hitsOnList g es r possible) → y ≡ startsLeft (listIn spec s (r .0) certain) (hitsOnList g es r certain) → left r ≡ x + y
   unfolding left
   left-is r x y e f = ap₂ (λ (a b : ℕ). a + b) (sym e) (sym f)
 
-  pub one-pairs : (r : Ray g) (k : Kind) (l : List Float) → LeftOf g (λ r k. listIn spec s (r .0) k) es r k l → length l / 2 ≡ startsLeft (listIn spec s (r .0) k) (hitsOn g es r k)
-  one-pairs r k l a = pairs-left (listIn spec s (r .0) k) (hitsOn g es r k) l (each r k .isSound)
-      (same-list (without g (λ r k. holds (listIn spec s (r .0) k)) es r k) (λ p. holds (listIn spec s (r .0) k) p && not (holds (hitsOn g es r k) p)) l
+  pub one-pairs : (r : Ray g) (k : Kind) (l : List Float) → ListAfterLog g (λ r k. listIn spec s (r .0) k) es r k l → length l / 2 ≡ startsLeft (listIn spec s (r .0) k) (hitsOnList g es r k)
+  one-pairs r k l a = pairs-left (listIn spec s (r .0) k) (hitsOnList g es r k) l (each r k .isSound)
+      (same-list (setsAfter g (λ r k. holds (listIn spec s (r .0) k)) es r k) (λ p. holds (listIn spec s (r .0) k) p && not (holds (hitsOnList g es r k) p)) l
       (λ p. without-hits g r (λ r k. holds (listIn spec s (r .0) k)) es k p) a)
 
   module _ (d : Doubles g (λ r k. listIn spec s (r .0) k) es) where
-    totals : {ray m : ℕ} {us : List Update} → Merges g (λ r k. listIn spec s (r .0) k) es ray us m → (h : ray ≤ rayCount g)
+    totals : {ray m : ℕ} {us : List Update} → MergeUpdates g (λ r k. listIn spec s (r .0) k) es ray us m → (h : ray ≤ rayCount g)
         → sumOver g left + sumTo g old ray h + pairsFreed (spec .«max_intervals») (s .cells) us ≡ sumTo g left ray h + sumOver g old + pairsLaid us
     totals (none {ray = ray} e) h =
         omega (arith, sum-at g left ray (rayCount g) h e (le-refl (rayCount g)), sum-at g old ray (rayCount g) h e (le-refl (rayCount g)), freed-nothing (spec .«max_intervals») s, laid-nothing)
@@ -107,9 +107,9 @@ module _ (spec : DexelStockSpec) (g : DexelGrid) (s : Stock) (sound : SoundStock
         omega (arith, totals t i, sum-next g left ray h i, sum-next g old ray h i, laid, freed, freed-next-two (spec .«max_intervals») s (update (2 * ray) p) (update (2 * ray + 1) c) us, laid-next-two (update (2 * ray) p) (update (2 * ray + 1) c) us)
 
     -- THE LAW OF THE TOTAL
-    pub total-left : {m : ℕ} {us : List Update} → Merges g (λ r k. listIn spec s (r .0) k) es 0 us m → pairsFreed (spec .«max_intervals») (s .cells) us ≤ s .intervals
-        → s .intervals - pairsFreed (spec .«max_intervals») (s .cells) us + pairsLaid us ≡ pairsLeft g (λ r k. listIn spec s (r .0) k) es
-    unfolding pairsLeft pairs left old sumTo
+    pub total-left : {m : ℕ} {us : List Update} → MergeUpdates g (λ r k. listIn spec s (r .0) k) es 0 us m → pairsFreed (spec .«max_intervals») (s .cells) us ≤ s .intervals
+        → s .intervals - pairsFreed (spec .«max_intervals») (s .cells) us + pairsLaid us ≡ pairsAfter g (λ r k. listIn spec s (r .0) k) es
+    unfolding pairsAfter pairTotal left old sumTo
     total-left {us = us} t less =
         let sum = totals t (omega arith) in
         let now : s .intervals ≡ sumOver g old = lent-laws spec g .all-pairs s sound in

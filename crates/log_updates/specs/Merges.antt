@@ -9,40 +9,40 @@ use Rattle.grid.specs.declared.DexelStockSpec.{DexelStockSpec}
 use Rattle.grid.specs.declared.DexelGrid.{DexelGrid}
 use Rattle.store.specs.Updates.{Update, update, applied, pairsFreed, pairsLaid}
 use Rattle.stock.specs.Stock.{Stock}
-use Rattle.ray_subtract.specs.Taking.{Exact}
-use Rattle.log_model.specs.Logs.{Ray, Kind, possible, certain, Entry, outer, inner, pairsOn}
-use Rattle.log_model.specs.Model.{Sets, without, Changes}
+use Rattle.ray_subtract.specs.Taking.{MergedExactly}
+use Rattle.log_model.specs.Logs.{Ray, Kind, possible, certain, Entry, outer, inner, hitsOnRay}
+use Rattle.log_model.specs.Model.{Sets, setsAfter, RayChanges}
 use Rattle.log_model.specs.Lent.{listIn}
 
 -- the sets of these lists
-abbrev pub setsOf : (g : DexelGrid) → (Ray g → Kind → List Float) → Sets g
-setsOf g lists r k = holds (lists r k)
+abbrev pub listSets : (g : DexelGrid) → (Ray g → Kind → List Float) → Sets g
+listSets g lists r k = holds (lists r k)
 
 -- l is the sound list of what the log leaves of a list of the ray
-abbrev pub LeftOf : (g : DexelGrid) → (Ray g → Kind → List Float) → List Entry → Ray g → Kind → List Float → Type 0
-LeftOf g lists es r k l = ListOf (without g (setsOf g lists) es r k) l
+abbrev pub ListAfterLog : (g : DexelGrid) → (Ray g → Kind → List Float) → List Entry → Ray g → Kind → List Float → Type 0
+ListAfterLog g lists es r k l = ListOf (setsAfter g (listSets g lists) es r k) l
 
 -- p and c are both lists of the ray after the log, end by end. They are the sound lists of what it leaves: `exact-possible` and
 -- `exact-certain` in proofs.
-abbrev pub ExactOf : (g : DexelGrid) → (Ray g → Kind → List Float) → List Entry → Ray g → (p c : List Float) → Type 0
-ExactOf g lists es r p c = Exact (lists r possible) (lists r certain) (pairsOn g es r outer) (pairsOn g es r inner) p c
+abbrev pub MergedByLog : (g : DexelGrid) → (Ray g → Kind → List Float) → List Entry → Ray g → (p c : List Float) → Type 0
+MergedByLog g lists es r p c = MergedExactly (lists r possible) (lists r certain) (hitsOnRay g es r outer) (hitsOnRay g es r inner) p c
 
 -- the updates of the rays from `ray` to the last one, in order, and how many of these rays change
-pub data Merges (g : DexelGrid) (lists : Ray g → Kind → List Float) (es : List Entry) : (ray : ℕ) → List Update → (changed : ℕ) → Type 0 where
-  none : {ray : ℕ} → ray ≡ rayCount g → Merges g lists es ray [] 0
-  same : {ray m : ℕ} {us : List Update} (h : ray < rayCount g) → ¬ Changes g (setsOf g lists) es (ray, h) → Merges g lists es (suc ray) us m → Merges g lists es ray us m
-  new : {ray m : ℕ} {p c : List Float} {us : List Update} (h : ray < rayCount g) → Changes g (setsOf g lists) es (ray, h)
-      → ExactOf g lists es (ray, h) p c → Merges g lists es (suc ray) us m
-      → Merges g lists es ray (update (2 * ray) p ∷ update (2 * ray + 1) c ∷ us) (suc m)
+pub data MergeUpdates (g : DexelGrid) (lists : Ray g → Kind → List Float) (es : List Entry) : (ray : ℕ) → List Update → (changed : ℕ) → Type 0 where
+  none : {ray : ℕ} → ray ≡ rayCount g → MergeUpdates g lists es ray [] 0
+  same : {ray m : ℕ} {us : List Update} (h : ray < rayCount g) → ¬ RayChanges g (listSets g lists) es (ray, h) → MergeUpdates g lists es (suc ray) us m → MergeUpdates g lists es ray us m
+  new : {ray m : ℕ} {p c : List Float} {us : List Update} (h : ray < rayCount g) → RayChanges g (listSets g lists) es (ray, h)
+      → MergedByLog g lists es (ray, h) p c → MergeUpdates g lists es (suc ray) us m
+      → MergeUpdates g lists es ray (update (2 * ray) p ∷ update (2 * ray + 1) c ∷ us) (suc m)
 
 -- the stock after an accepted log with these updates: freed first, all of them, then laid in order
-abbrev pub cutStock : DexelStockSpec → Stock → List Update → Stock
-cutStock spec s us = record {
+abbrev pub committedStock : DexelStockSpec → Stock → List Update → Stock
+committedStock spec s us = record {
   cells = applied (spec .«max_intervals») (s .cells) us;
   generation = suc (s .generation);
   intervals = s .intervals - pairsFreed (spec .«max_intervals») (s .cells) us + pairsLaid us;
 }
 
 -- the lists of a stock, as a log finds them
-abbrev pub listsOf : DexelStockSpec → (g : DexelGrid) → Stock → Ray g → Kind → List Float
-listsOf spec g s r k = listIn spec s (r .0) k
+abbrev pub stockLists : DexelStockSpec → (g : DexelGrid) → Stock → Ray g → Kind → List Float
+stockLists spec g s r k = listIn spec s (r .0) k

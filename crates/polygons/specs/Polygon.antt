@@ -53,12 +53,12 @@ widenAll e (p ∷ r) = widenAll (widen e p) r
 abbrev pub empty : Extent
 empty = record { lo = inf false; hi = inf true; any = false }
 
-unfoldable pub stripOf : Extent → Strip
-stripOf e = cond (e .any) (Hit (e .lo) (e .hi)) Miss
+unfoldable pub extentStrip : Extent → Strip
+extentStrip e = cond (e .any) (Hit (e .lo) (e .hi)) Miss
 
 -- clipped from below at y0, then from above at y1
 unfoldable pub polygonStrip : Point → Point → Point → Point → Float → Float → Strip
-polygonStrip p q r s y0 y1 = stripOf (widenAll empty (clip false y1 (clip true y0 (p ∷ q ∷ r ∷ s ∷ []))))
+polygonStrip p q r s y0 y1 = extentStrip (widenAll empty (clip false y1 (clip true y0 (p ∷ q ∷ r ∷ s ∷ []))))
 
 -- the corners that a buffer holds
 abbrev pub corners : Points → List Point

@@ -11,7 +11,7 @@ use lib.Dec.{leb, eqb}
 use lib.ListN.{length, getD, length-append}
 use lib.Ieee.{Float, binary64, ofBits}
 use Rattle.doubles.proofs.Bools.{and-false, both}
-use Rattle.ray_input.specs.Format.{space, newline, letterB, letterP, letterC, letterO, letterI, isLetter, eachBelow, isNumber, bitsAt, isLine, lines, letterOf, count, pairAt, pairs, few, total, readable}
+use Rattle.ray_input.specs.Format.{space, newline, letterB, letterP, letterC, letterO, letterI, isLetter, eachBelow, isNumber, bitsAt, isLine, lines, letterOf, count, pairAt, textPairs, few, total, readable}
 
 module _ (test : ℕ → Bool) where
   pub each-none : eachBelow test 0 ≡ true
@@ -66,19 +66,19 @@ count-mono c s k (suc n) h = elim (decLt k (suc n)) [
     same : (k n : ℕ) → k ≤ suc n → (k < suc n → ⊥) → k ≡ suc n
     same k n h g = omega arith
 
-pub pairs-none : (c : ℕ) (s : List ℕ) → [] ≡ pairs c s 0
-unfolding pairs
+pub pairs-none : (c : ℕ) (s : List ℕ) → [] ≡ textPairs c s 0
+unfolding textPairs
 pairs-none c s = refl
 
-pub pairs-more : (c : ℕ) (s : List ℕ) (k : ℕ) → pairs c s k ++ pairAt c s (36 * k) ≡ pairs c s (k + 1)
-unfolding pairs
+pub pairs-more : (c : ℕ) (s : List ℕ) (k : ℕ) → textPairs c s k ++ pairAt c s (36 * k) ≡ textPairs c s (k + 1)
+unfolding textPairs
 pairs-more c s k = rw (add-one k)
 
-pub pairs-length : (c : ℕ) (s : List ℕ) (k : ℕ) → length (pairs c s k) ≡ 2 * count c s k
-unfolding pairs count
+pub pairs-length : (c : ℕ) (s : List ℕ) (k : ℕ) → length (textPairs c s k) ≡ 2 * count c s k
+unfolding textPairs count
 pairs-length c s zero = refl
 pairs-length c s (suc k) =
-    length-append (pairs c s k) (pairAt c s (36 * k)) ∙ omega (arith, pairs-length c s k, two (eqb (letterOf s k) c) (ofBits binary64 (bitsAt s (36 * k + 2))) (ofBits binary64 (bitsAt s (36 * k + 19))))
+    length-append (textPairs c s k) (pairAt c s (36 * k)) ∙ omega (arith, pairs-length c s k, two (eqb (letterOf s k) c) (ofBits binary64 (bitsAt s (36 * k + 2))) (ofBits binary64 (bitsAt s (36 * k + 19))))
   where
     two : (b : Bool) (x y : Float) → length (cond b (x ∷ y ∷ []) []) ≡ 2 * cond b 1 0
     two true x y = refl

@@ -4,7 +4,7 @@ ghost use mathlib.Core.List.{[], _∷_};
 ghost use Prim.Native.Nat.{_+_, _*_, _≤_};
 ghost use lib.ListN.{length, getD};
 ghost use lib.Ieee.{binary64, ofBits};
-ghost use Rattle.ray_input.specs.Format.{isNumber, bitsAt, isLetter, isLine, lines, count, pairAt, pairs, few, readable};
+ghost use Rattle.ray_input.specs.Format.{isNumber, bitsAt, isLetter, isLine, lines, count, pairAt, textPairs, few, readable};
 ghost use Rattle.ray_input.specs.Steps.{Appended};
 use hex_text::Word;
 
@@ -168,7 +168,7 @@ fn put_line_of(s: &[u8], at: usize, c: u8, out: &mut [f64], m: usize) -> usize
 // Puts the pairs of the first n lines that have the letter c at the front of `out`, and answers how many ends they have.
 pub fn collect(s: &[u8], n: usize, c: u8, out: &mut [f64]) -> usize
     requires { ⌜ (36 * n ≤ length (now s)) × (2 * count c (now s) n ≤ length (now out)) ⌝ }
-    ensures { λ r. ⌜ Appended (now (out .entry)) 0 (pairs c (now (s .entry)) n) (now (out .exit)) r ⌝ }
+    ensures { λ r. ⌜ Appended (now (out .entry)) 0 (textPairs c (now (s .entry)) n) (now (out .exit)) r ⌝ }
 {
     let mut m = 0;
     let mut k = 0;

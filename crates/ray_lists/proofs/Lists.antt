@@ -7,8 +7,8 @@ use borrow.Author.Tests.{lt-leb}
 use lib.ListN.{length}
 use lib.Ieee.{Float}
 use Rattle.doubles.proofs.Bools.{and-false}
-use Rattle.ray_subtract.specs.Taking.{handed}
-use Rattle.ray_subtract.specs.declared.Part.{Part}
+use Rattle.ray_subtract.specs.Taking.{handedBack}
+use Rattle.ray_subtract.specs.declared.MergedList.{MergedList}
 
-pub handed-short : (p : Part) (before work : List Float) (at : ℕ) → length work < at + 2 * p .pairs → before ≡ handed p before work at
+pub handed-short : (p : MergedList) (before work : List Float) (at : ℕ) → length work < at + 2 * p .pairs → before ≡ handedBack p before work at
 handed-short p before work at h = rw (lt-leb (at + 2 * p .pairs) (length work) h, and-false (p .moved) false refl)

@@ -13,24 +13,23 @@ use Rattle.refusal.specs.Refusal.{Due, NoneDue}
 use Rattle.doubles.proofs.Bools.{and-left, and-right, or-neither, both, not-true}
 use Rattle.spans.specs.Spans.{holds, Within}
 use Rattle.ray_validity.specs.Ray.{ValidRay}
-use Rattle.ray_subtract.specs.Taking.{eitherHit, cellsOf, handed, Spared, Exact}
-use Rattle.ray_merge.specs.Merge.{Mergeable, workPairs, MergeAnswer}
-use Rattle.ray_subtract.specs.Steps.{part, newList, Ready, Merging, Placed, Normal, Given, Lists}
+use Rattle.ray_subtract.specs.Taking.{eitherHit, newCells, handedBack, ListAfterHits, MergedExactly}
+use Rattle.ray_merge.specs.Merge.{MergePre, workPairs, MergePost}
+use Rattle.ray_subtract.specs.Steps.{cellsFrom, newList, MergeWithinPre, MergeWithinPost, PlacedAt, NormalizedAt, MergeInputs, MergeListsPost}
 use Rattle.span_overlay.specs.Overlay.{lessOf}
 use Rattle.span_overlay.proofs.Less.{less-list}
-use Rattle.ray_subtract.specs.declared.Part.{Part}
-use Rattle.ray_subtract.specs.declared.Parts.{Parts}
-use Rattle.ray_merge.specs.declared.Merged.the-variants.{Refused}
-use Rattle.ray_merge.specs.declared.Merged.the-variants.{Lists as Answered}
+use Rattle.ray_subtract.specs.declared.MergedList.{MergedList}
+use Rattle.ray_subtract.specs.declared.MergedLists.{MergedLists}
+use Rattle.ray_merge.specs.declared.MergeAnswer.the-variants.{Refused, Lists as Answered}
 use Rattle.ray_merge.proofs.Rays.{bounded-within}
 use Rattle.ray_subtract.proofs.Places.{part-kept, handed-still, handed-new}
 use Rattle.ray_subtract.proofs.Sparing.{becomes-spared, less-both-list}
 
 -- ---- the lists are brought into the work buffer
-module _ (possible certain outer inner w w₁ w₂ w₃ w₄ : List Float) (at no ni : ℕ) (given : Given possible certain outer inner w)
+module _ (possible certain outer inner w w₁ w₂ w₃ w₄ : List Float) (at no ni : ℕ) (given : MergeInputs possible certain outer inner w)
     (place : at ≡ length possible + length certain + length outer + 2 * length inner)
-    (p : Placed possible at w w₁) (c : Placed certain (at + length possible) w₁ w₂)
-    (o : Normal outer (at + length possible + length certain) w₂ w₃ no) (i : Normal inner (at + length possible + length certain + no) w₃ w₄ ni) where
+    (p : PlacedAt possible at w w₁) (c : PlacedAt certain (at + length possible) w₁ w₂)
+    (o : NormalizedAt outer (at + length possible + length certain) w₂ w₃ no) (i : NormalizedAt inner (at + length possible + length certain + no) w₃ w₄ ni) where
   room : at + length possible + length certain + length outer + length inner ≤ length w
   room = omega (arith, given .room)
 
@@ -38,25 +37,25 @@ module _ (possible certain outer inner w w₁ w₂ w₃ w₄ : List Float) (at n
   sizes = (p .size, c .size ∙ p .size, o .size ∙ c .size ∙ p .size, i .size ∙ o .size ∙ c .size ∙ p .size)
 
   -- what stands in front of a list stays when it is placed
-  past-certain : (k n : ℕ) → k + n ≤ at + length possible → part k n w₂ ≡ part k n w₁
+  past-certain : (k n : ℕ) → k + n ≤ at + length possible → cellsFrom k n w₂ ≡ cellsFrom k n w₁
   past-certain k n h = part-kept (at + length possible) k n w₁ w₂ h (omega (arith, sizes .0, room)) (c .size) (c .front)
 
-  past-outer : (k n : ℕ) → k + n ≤ at + length possible + length certain → part k n w₃ ≡ part k n w₂
+  past-outer : (k n : ℕ) → k + n ≤ at + length possible + length certain → cellsFrom k n w₃ ≡ cellsFrom k n w₂
   past-outer k n h = part-kept (at + length possible + length certain) k n w₂ w₃ h (omega (arith, sizes .1, room)) (o .size) (o .front)
 
-  past-inner : (k n : ℕ) → k + n ≤ at + length possible + length certain + no → part k n w₄ ≡ part k n w₃
+  past-inner : (k n : ℕ) → k + n ≤ at + length possible + length certain + no → cellsFrom k n w₄ ≡ cellsFrom k n w₃
   past-inner k n h = part-kept (at + length possible + length certain + no) k n w₃ w₄ h (omega (arith, sizes .2, room, o .most)) (i .size) (i .front)
 
-  possible-at : part at (length possible) w₄ ≡ possible
+  possible-at : cellsFrom at (length possible) w₄ ≡ possible
   possible-at = past-inner at (length possible) (omega arith) ∙ past-outer at (length possible) (omega arith) ∙ past-certain at (length possible) (omega arith) ∙ p .cells
 
-  certain-at : part (at + length possible) (length certain) w₄ ≡ certain
+  certain-at : cellsFrom (at + length possible) (length certain) w₄ ≡ certain
   certain-at = past-inner (at + length possible) (length certain) (omega arith) ∙ past-outer (at + length possible) (length certain) (omega arith) ∙ c .cells
 
-  outer-at : part (at + length possible + length certain) no w₄ ≡ part (at + length possible + length certain) no w₃
+  outer-at : cellsFrom (at + length possible + length certain) no w₄ ≡ cellsFrom (at + length possible + length certain) no w₃
   outer-at = past-inner (at + length possible + length certain) no (omega arith)
 
-  pub ready : Ready at (length possible) (length certain) no ni w₄
+  pub ready : MergeWithinPre at (length possible) (length certain) no ni w₄
   ready = record {
     room = omega (arith, o .most, i .most);
     possible = record { room = omega (arith, sizes .3, room); isSound = rw possible-at (given .possibleSound) };
@@ -67,16 +66,16 @@ module _ (possible certain outer inner w w₁ w₂ w₃ w₄ : List Float) (at n
 
   -- the lists that normalising makes of the hits
   abbrev outers : List Float
-  outers = part (at + length possible + length certain) no w₃
+  outers = cellsFrom (at + length possible + length certain) no w₃
 
   abbrev inners : List Float
-  inners = part (at + length possible + length certain + no) ni w₄
+  inners = cellsFrom (at + length possible + length certain + no) ni w₄
 
-  pub lists : (after : List Float) (r : Parts) → Merging at (length possible) (length certain) no ni w₄ after r
-      → Lists possible certain outer inner w after r
+  pub lists : (after : List Float) (r : MergedLists) → MergeWithinPost at (length possible) (length certain) no ni w₄ after r
+      → MergeListsPost possible certain outer inner w after r
   lists after r m =
       let possible-is : newList (r .possible) possible 0 after ≡ lessOf possible inners = rw possible-at at (m .possibleIs) in
-      let certain-is : newList (r .certain) certain (cellsOf (r .possible)) after ≡ lessOf (lessOf certain outers) inners =
+      let certain-is : newList (r .certain) certain (newCells (r .possible)) after ≡ lessOf (lessOf certain outers) inners =
       rw (certain-at, outer-at) at (m .certainIs) in
       record {
         size = m .between .size ∙ sizes .3;
@@ -112,20 +111,20 @@ module _ (w after : List Float) (n : ℕ) (fit : n ≤ length w) (cleared : afte
       ap (drop n) cleared ∙ drop-at (take n w) (replicate (length w - n) plusZero) n (length-take-le n w fit)
       ∙ ap (λ (k : ℕ). replicate (k - n) plusZero) (sym same-size)
 
-  handed-is : (r : Part) (a : List Float) (k : ℕ) → k + cellsOf r ≤ n → newList r a k w ≡ handed r a after k
+  handed-is : (r : MergedList) (a : List Float) (k : ℕ) → k + newCells r ≤ n → newList r a k w ≡ handedBack r a after k
   handed-is r a k h = go (r .moved) refl
     where
-      go : (b : Bool) → r .moved ≡ b → newList r a k w ≡ handed r a after k
+      go : (b : Bool) → r .moved ≡ b → newList r a k w ≡ handedBack r a after k
       go true e =
-          let cells : cellsOf r ≡ 2 * r .pairs = rw e in
+          let cells : newCells r ≡ 2 * r .pairs = rw e in
           let inside : k + 2 * r .pairs ≤ n = omega arith in
-          ap (λ (b : Bool). cond b (part k (2 * r .pairs) w) a) e ∙ sym (part-kept n k (2 * r .pairs) w after inside fit same-size same-front)
+          ap (λ (b : Bool). cond b (cellsFrom k (2 * r .pairs) w) a) e ∙ sym (part-kept n k (2 * r .pairs) w after inside fit same-size same-front)
           ∙ handed-new r a after k e (omega (arith, same-size))
-      go false e = ap (λ (b : Bool). cond b (part k (2 * r .pairs) w) a) e ∙ handed-still r a after k e
+      go false e = ap (λ (b : Bool). cond b (cellsFrom k (2 * r .pairs) w) a) e ∙ handed-still r a after k e
 
 -- the ray is valid after the merge
-module _ (lo hi : Float) (possible certain outer inner p′ c′ : List Float) (p c : Part) (v : ValidRay lo hi possible certain)
-    (s : Spared possible (holds inner) p p′) (t : Spared certain (eitherHit outer inner) c c′) where
+module _ (lo hi : Float) (possible certain outer inner p′ c′ : List Float) (p c : MergedList) (v : ValidRay lo hi possible certain)
+    (s : ListAfterHits possible (holds inner) p p′) (t : ListAfterHits certain (eitherHit outer inner) c c′) where
   within-possible : Within possible p′
   within-possible x h = and-left (holds possible x) (not (holds inner x)) (sym (s .list .points x) ∙ h)
 
@@ -146,34 +145,34 @@ module _ (lo hi : Float) (possible certain outer inner p′ c′ : List Float) (
 
 -- ---- the answers
 module _ (lo hi : Float) (possible certain outer inner before : List Float) where
-  pub refuse-short : length before / 2 < workPairs possible certain outer inner → MergeAnswer lo hi possible certain outer inner before before (Refused 12)
+  pub refuse-short : length before / 2 < workPairs possible certain outer inner → MergePost lo hi possible certain outer inner before before (Refused 12)
   unfolding Due
   refuse-short h = (inl (h, refl), refl)
 
-  pub refuse-bad : ¬ (length before / 2 < workPairs possible certain outer inner) → ¬ Mergeable lo hi possible certain outer inner
-      → MergeAnswer lo hi possible certain outer inner before before (Refused 11)
+  pub refuse-bad : ¬ (length before / 2 < workPairs possible certain outer inner) → ¬ MergePre lo hi possible certain outer inner
+      → MergePost lo hi possible certain outer inner before before (Refused 11)
   unfolding Due
   refuse-bad h k = (inr (h, inl (k, refl)), refl)
 
-  pub accept : (w after : List Float) (r : Parts) (n : ℕ) → ¬ (length before / 2 < workPairs possible certain outer inner) → Mergeable lo hi possible certain outer inner
-      → Lists possible certain outer inner before w r → n ≡ cellsOf (r .possible) + cellsOf (r .certain) → after ≡ take n w ++ replicate (length w - n) plusZero
-      → MergeAnswer lo hi possible certain outer inner before after (Answered (r .possible) (r .certain))
+  pub accept : (w after : List Float) (r : MergedLists) (n : ℕ) → ¬ (length before / 2 < workPairs possible certain outer inner) → MergePre lo hi possible certain outer inner
+      → MergeListsPost possible certain outer inner before w r → n ≡ newCells (r .possible) + newCells (r .certain) → after ≡ take n w ++ replicate (length w - n) plusZero
+      → MergePost lo hi possible certain outer inner before after (Answered (r .possible) (r .certain))
   unfolding NoneDue
   accept w after r n h m l e cleared =
       let fit : n ≤ length w = omega (arith, l .room, l .size) in
       let same = handed-is w after n fit cleared in
       let first = same (r .possible) possible 0 (omega arith) in
-      let second = same (r .certain) certain (cellsOf (r .possible)) (omega arith) in
-      let p = subst (Spared possible (holds inner) (r .possible)) first (l .possibleLeft) in
-      let c = subst (Spared certain (eitherHit outer inner) (r .certain)) second (l .certainLeft) in (
+      let second = same (r .certain) certain (newCells (r .possible)) (omega arith) in
+      let p = subst (ListAfterHits possible (holds inner) (r .possible)) first (l .possibleLeft) in
+      let c = subst (ListAfterHits certain (eitherHit outer inner) (r .certain)) second (l .certainLeft) in (
         (h, ((λ k. k m), tt)),
         record {
           room = omega (arith, same-size w after n fit cleared);
           possibleLeft = p;
           certainLeft = c;
-          exact = subst₂ (Exact possible certain outer inner) first second (l .exact);
-          valid = still-valid lo hi possible certain outer inner (handed (r .possible) possible after 0)
-              (handed (r .certain) certain after (cellsOf (r .possible))) (r .possible) (r .certain) (m .ray) p c;
+          exact = subst₂ (MergedExactly possible certain outer inner) first second (l .exact);
+          valid = still-valid lo hi possible certain outer inner (handedBack (r .possible) possible after 0)
+              (handedBack (r .certain) certain after (newCells (r .possible))) (r .possible) (r .certain) (m .ray) p c;
           rest = subst (λ (k : ℕ). drop k after ≡ replicate (length after - k) plusZero) e (rest-zero w after n fit cleared);
         },
       )

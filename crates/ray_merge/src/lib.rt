@@ -2,21 +2,21 @@
 ghost use mathlib.Core.Path.{_≡_};
 ghost use Prim.Native.Nat.{_+_, _-_, _*_, _/_, _%_, _≤_, _<_};
 ghost use lib.ListN.{length};
-ghost use Rattle.ray_merge.specs.Merge.{MergeAnswer};
-ghost use Rattle.ray_subtract.specs.Steps.{Placed, Normal, Given, Lists};
-use ray_subtract::Part;
-use ray_subtract::Parts;
+ghost use Rattle.ray_merge.specs.Merge.{MergePost};
+ghost use Rattle.ray_subtract.specs.Steps.{PlacedAt, NormalizedAt, MergeInputs, MergeListsPost};
+use ray_subtract::MergedList;
+use ray_subtract::MergedLists;
 
 // Possible and certain, or why the call is refused.
-pub enum Merged {
-    Lists(Part, Part),
+pub enum MergeAnswer {
+    Lists(MergedList, MergedList),
     Refused(u32),
 }
 
 // Copies a list to cell `at`.
 fn place(s: &[f64], w: &mut [f64], at: usize)
     requires { ⌜ at + length (now s) ≤ length (now w) ⌝ }
-    ensures { λ _. ⌜ Placed (now (s .entry)) at (now (w .entry)) (now (w .exit)) ⌝ }
+    ensures { λ _. ⌜ PlacedAt (now (s .entry)) at (now (w .entry)) (now (w .exit)) ⌝ }
 {
     spans::copy_to(s, &mut w[at..], 0);
 }
@@ -24,7 +24,7 @@ fn place(s: &[f64], w: &mut [f64], at: usize)
 // Writes the sound list of arbitrary pairs to cell `at`.
 fn place_normalized(s: &[f64], w: &mut [f64], at: usize) -> usize
     requires { ⌜ (length (now s) % 2 ≡ 0) × (at + length (now s) ≤ length (now w)) ⌝ }
-    ensures { λ r. ⌜ Normal (now (s .entry)) at (now (w .entry)) (now (w .exit)) r ⌝ }
+    ensures { λ r. ⌜ NormalizedAt (now (s .entry)) at (now (w .entry)) (now (w .exit)) r ⌝ }
 {
     span_normalize::normalize_into(s, &mut w[at..])
 }
@@ -36,9 +36,9 @@ fn merge_lists(
     outer: &[f64],
     inner: &[f64],
     work: &mut [f64],
-) -> Parts
-    requires { ⌜ Given (now possible) (now certain) (now outer) (now inner) (now work) ⌝ }
-    ensures { λ r. ⌜ Lists (now (possible .entry)) (now (certain .entry)) (now (outer .entry)) (now (inner .entry)) (now (work .entry)) (now (work .exit)) r ⌝ }
+) -> MergedLists
+    requires { ⌜ MergeInputs (now possible) (now certain) (now outer) (now inner) (now work) ⌝ }
+    ensures { λ r. ⌜ MergeListsPost (now (possible .entry)) (now (certain .entry)) (now (outer .entry)) (now (inner .entry)) (now (work .entry)) (now (work .exit)) r ⌝ }
 {
     let np = possible.len();
     let nc = certain.len();
@@ -65,27 +65,27 @@ pub fn merge(
     outer: &[f64],
     inner: &[f64],
     work: &mut [f64],
-) -> Merged
-    ensures { λ r. ⌜ MergeAnswer lo hi (now (possible .entry)) (now (certain .entry)) (now (outer .entry)) (now (inner .entry))
+) -> MergeAnswer
+    ensures { λ r. ⌜ MergePost lo hi (now (possible .entry)) (now (certain .entry)) (now (outer .entry)) (now (inner .entry))
         (now (work .entry)) (now (work .exit)) r ⌝ }
 {
     if work.len() / 2
         < 4 * (possible.len() / 2 + certain.len() / 2) + 8 * (outer.len() / 2 + inner.len() / 2)
     {
-        return Merged::Refused(12);
+        return MergeAnswer::Refused(12);
     }
     if outer.len() % 2 != 0 {
-        return Merged::Refused(11);
+        return MergeAnswer::Refused(11);
     }
     if inner.len() % 2 != 0 {
-        return Merged::Refused(11);
+        return MergeAnswer::Refused(11);
     }
     if !ray_check::valid_ray(possible, certain, lo, hi) {
-        return Merged::Refused(11);
+        return MergeAnswer::Refused(11);
     }
     let parts = merge_lists(possible, certain, outer, inner, work);
     let p = parts.possible;
     let c = parts.certain;
     spans::clear_from(work, ray_subtract::cells(p) + ray_subtract::cells(c));
-    Merged::Lists(p, c)
+    MergeAnswer::Lists(p, c)
 }

@@ -13,9 +13,9 @@ use Rattle.spans.proofs.Sets.{sound-mod, equal-holds, same-set}
 use Rattle.span_overlay.specs.Overlay.{lessOf}
 use Rattle.span_overlay.proofs.Less.{less-list, less-apart, less-moves}
 use Rattle.span_cover.specs.Covering.{Meets}
-use Rattle.ray_subtract.specs.Taking.{eitherHit, spared, cellsOf, Spared}
-use Rattle.ray_subtract.specs.Steps.{part, Lies, WrittenAt, lessHits, Becomes, newList, Reduced, Ready, Merging}
-use Rattle.ray_subtract.specs.declared.Part.{Part}
+use Rattle.ray_subtract.specs.Taking.{eitherHit, spared, newCells, ListAfterHits}
+use Rattle.ray_subtract.specs.Steps.{cellsFrom, SoundListAt, WrittenAt, lessHits, Becomes, newList, ReducePost, MergeWithinPre, MergeWithinPost}
+use Rattle.ray_subtract.specs.declared.MergedList.{MergedList}
 use Rattle.ray_subtract.proofs.Places.{part-length, part-past, part-front, between-both, between-same, lies-past}
 
 -- ---- whether a boundary moves
@@ -85,7 +85,7 @@ module _ (a o i : List Float) (sa : sound a ≡ true) (so : sound o ≡ true) (s
 module _ {a list : List Float} (sa : sound a ≡ true) (sl : sound list ≡ true) {to end limit : ℕ}
     (t : Bool) (told : t ≡ not (equal a list)) where
   pub reduced-still : {w : List Float} {n : ℕ} → not t ≡ true → length a ≡ n → (equal a list ≡ true → list ≡ a)
-      → Reduced a list to end limit w w (record { moved = false; pairs = n / 2 })
+      → ReducePost a list to end limit w w (record { moved = false; pairs = n / 2 })
   reduced-still {w} h e stays =
       let x : list ≡ a = stays (not-false (equal a list) (found-not t (not (equal a list)) told h)) in
       record {
@@ -96,7 +96,7 @@ module _ {a list : List Float} (sa : sound a ≡ true) (sl : sound list ≡ true
       }
 
   pub reduced-moved : {before after : List Float} {r : ℕ} → not t ≡ false → to + limit ≤ length before
-      → WrittenAt list to end limit before after r → Reduced a list to end limit before after (record { moved = true; pairs = r / 2 })
+      → WrittenAt list to end limit before after r → ReducePost a list to end limit before after (record { moved = true; pairs = r / 2 })
   reduced-moved {before} {after} {r} h f x =
       let long : length list ≡ r = ap length (sym (x .ends)) ∙ part-length to r after (omega (arith, x .most, x .between .size)) in
       let even : r % 2 ≡ 0 = subst (λ (n : ℕ). n % 2 ≡ 0) long (sound-mod list sl) in
@@ -104,13 +104,13 @@ module _ {a list : List Float} (sa : sound a ≡ true) (sl : sound list ≡ true
       record {
         between = x .between;
         most = omega (arith, x .most);
-        is = ap (λ (k : ℕ). part to k after) twice ∙ x .ends;
+        is = ap (λ (k : ℕ). cellsFrom to k after) twice ∙ x .ends;
         becomes = record { moves = sym (not-false t h) ∙ told; pairs = long ∙ sym twice };
       }
 
 -- what becomes of a list, by the points that are hit
-pub becomes-spared : {a list l : List Float} {hit hit′ : Float → Bool} {r : Part} → ListOf (spared a hit) list
-    → ((p : Float) → hit p ≡ hit′ p) → Becomes a list r → l ≡ list → Spared a hit′ r l
+pub becomes-spared : {a list l : List Float} {hit hit′ : Float → Bool} {r : MergedList} → ListOf (spared a hit) list
+    → ((p : Float) → hit p ≡ hit′ p) → Becomes a list r → l ≡ list → ListAfterHits a hit′ r l
 becomes-spared {a} left same b e = rw e (record {
   moves = b .moves;
   list = record { isSound = left .isSound; points = λ p. left .points p ∙ ap (λ (x : Bool). holds a p && not x) (same p) };
@@ -118,17 +118,17 @@ becomes-spared {a} left same b e = rw e (record {
 })
 
 -- less the outer hits, then less the inner ones
-module _ {w w₁ : List Float} {t c nc no ni m : ℕ} (to : ℕ) (in-c : Lies c nc w) (in-o : Lies (c + nc) no w) (in-i : Lies (c + nc + no) ni w)
+module _ {w w₁ : List Float} {t c nc no ni m : ℕ} (to : ℕ) (in-c : SoundListAt c nc w) (in-o : SoundListAt (c + nc) no w) (in-i : SoundListAt (c + nc + no) ni w)
     (apart : to + ni ≤ t) (room : t + nc + no ≤ c)
-    (first : WrittenAt (lessOf (part c nc w) (part (c + nc) no w)) t (t + nc + no) (nc + no) w w₁ m) where
-  inner-kept : part (c + nc + no) ni w₁ ≡ part (c + nc + no) ni w
+    (first : WrittenAt (lessOf (cellsFrom c nc w) (cellsFrom (c + nc) no w)) t (t + nc + no) (nc + no) w w₁ m) where
+  inner-kept : cellsFrom (c + nc + no) ni w₁ ≡ cellsFrom (c + nc + no) ni w
   inner-kept = part-past t (t + nc + no) w w₁ (first .between) (c + nc + no) ni (in-i .room) (omega arith)
 
-  pub second-lies : Lies t m w₁ × Lies (c + nc + no) ni w₁ × (to + ni ≤ t) × (to + m ≤ c + nc + no)
+  pub second-lies : SoundListAt t m w₁ × SoundListAt (c + nc + no) ni w₁ × (to + ni ≤ t) × (to + m ≤ c + nc + no)
   second-lies = (
     record {
       room = omega (arith, in-i .room, first .between .size, first .most);
-      isSound = rw (first .ends) (less-list (part c nc w) (part (c + nc) no w) (in-c .isSound) (in-o .isSound) .isSound);
+      isSound = rw (first .ends) (less-list (cellsFrom c nc w) (cellsFrom (c + nc) no w) (in-c .isSound) (in-o .isSound) .isSound);
     },
     lies-past t (t + nc + no) w w₁ (first .between) (c + nc + no) ni (omega arith) in-i,
     apart,
@@ -136,7 +136,7 @@ module _ {w w₁ : List Float} {t c nc no ni m : ℕ} (to : ℕ) (in-c : Lies c 
   )
 
   pub both-written : {w₂ : List Float} {r : ℕ}
-      → WrittenAt (lessOf (part t m w₁) (part (c + nc + no) ni w₁)) to (to + m + ni) (m + ni) w₁ w₂ r
+      → WrittenAt (lessOf (cellsFrom t m w₁) (cellsFrom (c + nc + no) ni w₁)) to (to + m + ni) (m + ni) w₁ w₂ r
       → WrittenAt (lessHits c nc no ni w) to (t + nc + no) (nc + no + ni) w w₂ r
   both-written {w₂} second = record {
     between = between-both t (t + nc + no) to (to + m + ni) to (t + nc + no) w w₁ w₂ (first .between) (second .between)
@@ -147,21 +147,21 @@ module _ {w w₁ : List Float} {t c nc no ni m : ℕ} (to : ℕ) (in-c : Lies c 
 
 -- ---- both lists of a ray
 -- a list that stays where it was written
-list-kept : (r : Part) (a : List Float) (to : ℕ) (w w′ : List Float)
-    → (r .moved ≡ true → part to (2 * r .pairs) w′ ≡ part to (2 * r .pairs) w) → newList r a to w ≡ newList r a to w′
+list-kept : (r : MergedList) (a : List Float) (to : ℕ) (w w′ : List Float)
+    → (r .moved ≡ true → cellsFrom to (2 * r .pairs) w′ ≡ cellsFrom to (2 * r .pairs) w) → newList r a to w ≡ newList r a to w′
 list-kept r a to w w′ f = go (r .moved) refl
   where
     go : (b : Bool) → r .moved ≡ b → newList r a to w ≡ newList r a to w′
     go true e = rw e (sym (f e))
     go false e = rw e
 
-module _ {at np nc no ni : ℕ} {w w₁ : List Float} {p : Part} (ready : Ready at np nc no ni w)
-    (first : Reduced (part at np w) (lessOf (part at np w) (part (at + np + nc + no) ni w)) 0 (np + ni) (np + ni) w w₁ p) where
-  still : (k n : ℕ) → at ≤ k → k + n ≤ length w → part k n w₁ ≡ part k n w
+module _ {at np nc no ni : ℕ} {w w₁ : List Float} {p : MergedList} (ready : MergeWithinPre at np nc no ni w)
+    (first : ReducePost (cellsFrom at np w) (lessOf (cellsFrom at np w) (cellsFrom (at + np + nc + no) ni w)) 0 (np + ni) (np + ni) w w₁ p) where
+  still : (k n : ℕ) → at ≤ k → k + n ≤ length w → cellsFrom k n w₁ ≡ cellsFrom k n w
   still k n h fit = part-past 0 (np + ni) w w₁ (first .between) k n fit (omega (arith, ready .room))
 
-  pub both-lie : {used : ℕ} → used ≡ cellsOf p
-      → Lies (at + np) nc w₁ × Lies (at + np + nc) no w₁ × Lies (at + np + nc + no) ni w₁ × (used + ni ≤ np + 2 * ni)
+  pub both-lie : {used : ℕ} → used ≡ newCells p
+      → SoundListAt (at + np) nc w₁ × SoundListAt (at + np + nc) no w₁ × SoundListAt (at + np + nc + no) ni w₁ × (used + ni ≤ np + 2 * ni)
       × (np + 2 * ni + nc + no ≤ at + np)
   both-lie e = (
     lies-past 0 (np + ni) w w₁ (first .between) (at + np) nc (omega (arith, ready .room)) (ready .certain),
@@ -171,11 +171,11 @@ module _ {at np nc no ni : ℕ} {w w₁ : List Float} {p : Part} (ready : Ready 
     omega (arith, ready .room),
   )
 
-  pub merging : {used : ℕ} {w₂ : List Float} {q : Part} → used ≡ cellsOf p
-      → Reduced (part (at + np) nc w₁) (lessHits (at + np) nc no ni w₁) used (np + 2 * ni + nc + no) (nc + no + ni) w₁ w₂ q
-      → Merging at np nc no ni w w₂ (record { possible = p; certain = q })
+  pub merging : {used : ℕ} {w₂ : List Float} {q : MergedList} → used ≡ newCells p
+      → ReducePost (cellsFrom (at + np) nc w₁) (lessHits (at + np) nc no ni w₁) used (np + 2 * ni + nc + no) (nc + no + ni) w₁ w₂ q
+      → MergeWithinPost at np nc no ni w w₂ (record { possible = p; certain = q })
   merging {used} {w₂} {q} e last =
-      let second : Reduced (part (at + np) nc w) (lessHits (at + np) nc no ni w) used (np + 2 * ni + nc + no) (nc + no + ni) w₁ w₂ q =
+      let second : ReducePost (cellsFrom (at + np) nc w) (lessHits (at + np) nc no ni w) used (np + 2 * ni + nc + no) (nc + no + ni) w₁ w₂ q =
       rw (
         still (at + np) nc (omega arith) (ready .certain .room),
         still (at + np + nc) no (omega arith) (ready .outer .room),
@@ -185,14 +185,14 @@ module _ {at np nc no ni : ℕ} {w w₁ : List Float} {p : Part} (ready : Ready 
         between = between-both 0 (np + ni) used (np + 2 * ni + nc + no) 0 at w w₁ w₂ (first .between) (second .between)
             (omega arith) (omega arith) (omega (arith, ready .room)) (omega (arith, ready .room));
         room = omega (arith, first .most, second .most, ready .room);
-        possibleIs = sym (list-kept p (part at np w) 0 w₁ w₂ (λ h.
+        possibleIs = sym (list-kept p (cellsFrom at np w) 0 w₁ w₂ (λ h.
             part-front used (np + 2 * ni + nc + no) w₁ w₂ (second .between) 0 (2 * p .pairs) (fits h) (inside h))) ∙ first .is;
-        certainIs = ap (λ (k : ℕ). newList q (part (at + np) nc w) k w₂) (sym e) ∙ second .is;
+        certainIs = ap (λ (k : ℕ). newList q (cellsFrom (at + np) nc w) k w₂) (sym e) ∙ second .is;
         possibleBecomes = first .becomes;
         certainBecomes = second .becomes;
       }
     where
-      moved-cells : p .moved ≡ true → cellsOf p ≡ 2 * p .pairs
+      moved-cells : p .moved ≡ true → newCells p ≡ 2 * p .pairs
       moved-cells h = rw h
 
       inside : p .moved ≡ true → 0 + 2 * p .pairs ≤ used

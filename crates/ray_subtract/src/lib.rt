@@ -4,27 +4,27 @@ ghost use mathlib.Core.Bool.{not};
 ghost use Prim.Native.Nat.{_+_, _-_, _*_, _/_, _^_, _≤_, _<_};
 ghost use lib.ListN.{length};
 ghost use Rattle.spans.specs.Spans.{equal};
-ghost use Rattle.ray_subtract.specs.Taking.{cellsOf};
+ghost use Rattle.ray_subtract.specs.Taking.{newCells};
 ghost use Rattle.span_overlay.specs.Overlay.{lessOf};
-ghost use Rattle.span_overlay.specs.Steps.{Ready as CutReady};
-ghost use Rattle.ray_subtract.specs.Steps.{part, Lies, CutAt, WrittenAt, lessHits, Reduced, Ready, Merging};
+ghost use Rattle.span_overlay.specs.Steps.{OverlayCutPre as CutReady};
+ghost use Rattle.ray_subtract.specs.Steps.{cellsFrom, SoundListAt, CutAt, WrittenAt, lessHits, ReducePost, MergeWithinPre, MergeWithinPost};
 use spans::Place;
 
 // One list after a merge: whether it moved, and how many pairs it has.
-pub struct Part {
+pub struct MergedList {
     pub moved: bool,
     pub pairs: usize,
 }
 
-pub struct Parts {
-    pub possible: Part,
-    pub certain: Part,
+pub struct MergedLists {
+    pub possible: MergedList,
+    pub certain: MergedList,
 }
 
 // Whether the list of n cells at a shares a point with that of m cells at b, and so loses it where the second is taken away.
 pub fn share_point(w: &[f64], a: usize, n: usize, b: usize, m: usize) -> bool
-    requires { ⌜ Lies a n (now w) × Lies b m (now w) ⌝ }
-    ensures { λ r. ⌜ r ≡ not (equal (part a n (now (w .entry))) (lessOf (part a n (now (w .entry))) (part b m (now (w .entry))))) ⌝ }
+    requires { ⌜ SoundListAt a n (now w) × SoundListAt b m (now w) ⌝ }
+    ensures { λ r. ⌜ r ≡ not (equal (cellsFrom a n (now (w .entry))) (lessOf (cellsFrom a n (now (w .entry))) (cellsFrom b m (now (w .entry))))) ⌝ }
 {
     let e = a + n;
     let f = b + m;
@@ -33,7 +33,7 @@ pub fn share_point(w: &[f64], a: usize, n: usize, b: usize, m: usize) -> bool
 
 // Puts what the list of m cells at `at` leaves of the pair [from, hi] past the first n cells. Nothing is written that is still to be read.
 fn cut_at(w: &mut [f64], at: usize, m: usize, n: usize, from: f64, hi: f64) -> Place
-    requires { ⌜ (at + m ≤ length (now w)) × (n ≤ at) × CutReady (part at m (now w)) from hi (now w) n ⌝ }
+    requires { ⌜ (at + m ≤ length (now w)) × (n ≤ at) × CutReady (cellsFrom at m (now w)) from hi (now w) n ⌝ }
     ensures { λ r. ⌜ CutAt at m from hi (now (w .entry)) n (now (w .exit)) r ⌝ }
 {
     let mut lo = from;
@@ -58,8 +58,8 @@ fn cut_at(w: &mut [f64], at: usize, m: usize, n: usize, from: f64, hi: f64) -> P
 
 // Writes the list of n cells at a less that of m cells at b to the start of w.
 pub fn subtract_at(w: &mut [f64], a: usize, n: usize, b: usize, m: usize) -> usize
-    requires { ⌜ Lies a n (now w) × Lies b m (now w) × (m ≤ a) × (n ≤ b) ⌝ }
-    ensures { λ r. ⌜ WrittenAt (lessOf (part a n (now (w .entry))) (part b m (now (w .entry)))) 0 (n + m) (n + m)
+    requires { ⌜ SoundListAt a n (now w) × SoundListAt b m (now w) × (m ≤ a) × (n ≤ b) ⌝ }
+    ensures { λ r. ⌜ WrittenAt (lessOf (cellsFrom a n (now (w .entry))) (cellsFrom b m (now (w .entry)))) 0 (n + m) (n + m)
         (now (w .entry)) (now (w .exit)) r ⌝ }
 {
     let mut i = 0;
@@ -78,17 +78,17 @@ pub fn subtract_at(w: &mut [f64], a: usize, n: usize, b: usize, m: usize) -> usi
 
 // The same, to cell `to` of w.
 fn subtract_to(w: &mut [f64], to: usize, a: usize, n: usize, b: usize, m: usize) -> usize
-    requires { ⌜ Lies a n (now w) × Lies b m (now w) × (to + m ≤ a) × (to + n ≤ b) ⌝ }
-    ensures { λ r. ⌜ WrittenAt (lessOf (part a n (now (w .entry))) (part b m (now (w .entry)))) to (to + n + m) (n + m)
+    requires { ⌜ SoundListAt a n (now w) × SoundListAt b m (now w) × (to + m ≤ a) × (to + n ≤ b) ⌝ }
+    ensures { λ r. ⌜ WrittenAt (lessOf (cellsFrom a n (now (w .entry))) (cellsFrom b m (now (w .entry)))) to (to + n + m) (n + m)
         (now (w .entry)) (now (w .exit)) r ⌝ }
 {
     subtract_at(&mut w[to..], a - to, n, b - to, m)
 }
 
 // The cells that a list takes in the work buffer.
-pub fn cells(p: Part) -> usize
-    requires { ⌜ cellsOf p < 2 ^ 64 ⌝ }
-    ensures { λ r. ⌜ r ≡ cellsOf p ⌝ }
+pub fn cells(p: MergedList) -> usize
+    requires { ⌜ newCells p < 2 ^ 64 ⌝ }
+    ensures { λ r. ⌜ r ≡ newCells p ⌝ }
 {
     if p.moved {
         return 2 * p.pairs;
@@ -97,19 +97,19 @@ pub fn cells(p: Part) -> usize
 }
 
 // Possible less the inner hits.
-fn take_inner(w: &mut [f64], a: usize, n: usize, b: usize, m: usize) -> Part
-    requires { ⌜ Lies a n (now w) × Lies b m (now w) × (m ≤ a) × (n ≤ b) ⌝ }
-    ensures { λ r. ⌜ Reduced (part a n (now (w .entry))) (lessOf (part a n (now (w .entry))) (part b m (now (w .entry)))) 0 (n + m) (n + m)
+fn take_inner(w: &mut [f64], a: usize, n: usize, b: usize, m: usize) -> MergedList
+    requires { ⌜ SoundListAt a n (now w) × SoundListAt b m (now w) × (m ≤ a) × (n ≤ b) ⌝ }
+    ensures { λ r. ⌜ ReducePost (cellsFrom a n (now (w .entry))) (lessOf (cellsFrom a n (now (w .entry))) (cellsFrom b m (now (w .entry)))) 0 (n + m) (n + m)
         (now (w .entry)) (now (w .exit)) r ⌝ }
 {
     if !share_point(w, a, n, b, m) {
-        return Part {
+        return MergedList {
             moved: false,
             pairs: n / 2,
         };
     }
     let r = subtract_at(w, a, n, b, m);
-    Part {
+    MergedList {
         moved: true,
         pairs: r / 2,
     }
@@ -117,8 +117,8 @@ fn take_inner(w: &mut [f64], a: usize, n: usize, b: usize, m: usize) -> Part
 
 // Whether some point of certain, nc cells at c, lies in an outer or an inner hit; those stand behind it.
 pub fn is_hit(w: &[f64], c: usize, nc: usize, no: usize, ni: usize) -> bool
-    requires { ⌜ Lies c nc (now w) × Lies (c + nc) no (now w) × Lies (c + nc + no) ni (now w) ⌝ }
-    ensures { λ r. ⌜ r ≡ not (equal (part c nc (now (w .entry))) (lessHits c nc no ni (now (w .entry)))) ⌝ }
+    requires { ⌜ SoundListAt c nc (now w) × SoundListAt (c + nc) no (now w) × SoundListAt (c + nc + no) ni (now w) ⌝ }
+    ensures { λ r. ⌜ r ≡ not (equal (cellsFrom c nc (now (w .entry))) (lessHits c nc no ni (now (w .entry)))) ⌝ }
 {
     let o = c + nc;
     if share_point(w, c, nc, o, no) {
@@ -137,7 +137,7 @@ pub fn subtract_both(
     no: usize,
     ni: usize,
 ) -> usize
-    requires { ⌜ Lies c nc (now w) × Lies (c + nc) no (now w) × Lies (c + nc + no) ni (now w) × (to + ni ≤ t) × (t + nc + no ≤ c) ⌝ }
+    requires { ⌜ SoundListAt c nc (now w) × SoundListAt (c + nc) no (now w) × SoundListAt (c + nc + no) ni (now w) × (to + ni ≤ t) × (t + nc + no ≤ c) ⌝ }
     ensures { λ r. ⌜ WrittenAt (lessHits c nc no ni (now (w .entry))) to (t + nc + no) (nc + no + ni) (now (w .entry)) (now (w .exit)) r ⌝ }
 {
     let o = c + nc;
@@ -147,28 +147,43 @@ pub fn subtract_both(
 }
 
 // Certain less the outer and the inner hits, to cell `to`, by way of cell t.
-fn take_both(w: &mut [f64], to: usize, t: usize, c: usize, nc: usize, no: usize, ni: usize) -> Part
-    requires { ⌜ Lies c nc (now w) × Lies (c + nc) no (now w) × Lies (c + nc + no) ni (now w) × (to + ni ≤ t) × (t + nc + no ≤ c) ⌝ }
-    ensures { λ r. ⌜ Reduced (part c nc (now (w .entry))) (lessHits c nc no ni (now (w .entry))) to (t + nc + no) (nc + no + ni)
+fn take_both(
+    w: &mut [f64],
+    to: usize,
+    t: usize,
+    c: usize,
+    nc: usize,
+    no: usize,
+    ni: usize,
+) -> MergedList
+    requires { ⌜ SoundListAt c nc (now w) × SoundListAt (c + nc) no (now w) × SoundListAt (c + nc + no) ni (now w) × (to + ni ≤ t) × (t + nc + no ≤ c) ⌝ }
+    ensures { λ r. ⌜ ReducePost (cellsFrom c nc (now (w .entry))) (lessHits c nc no ni (now (w .entry))) to (t + nc + no) (nc + no + ni)
         (now (w .entry)) (now (w .exit)) r ⌝ }
 {
     if !is_hit(w, c, nc, no, ni) {
-        return Part {
+        return MergedList {
             moved: false,
             pairs: nc / 2,
         };
     }
     let r = subtract_both(w, to, t, c, nc, no, ni);
-    Part {
+    MergedList {
         moved: true,
         pairs: r / 2,
     }
 }
 
 // The merge of a ray whose lists and normalized hits stand in the buffer that the new lists go to.
-pub fn merge_within(w: &mut [f64], at: usize, np: usize, nc: usize, no: usize, ni: usize) -> Parts
-    requires { ⌜ Ready at np nc no ni (now w) ⌝ }
-    ensures { λ r. ⌜ Merging at np nc no ni (now (w .entry)) (now (w .exit)) r ⌝ }
+pub fn merge_within(
+    w: &mut [f64],
+    at: usize,
+    np: usize,
+    nc: usize,
+    no: usize,
+    ni: usize,
+) -> MergedLists
+    requires { ⌜ MergeWithinPre at np nc no ni (now w) ⌝ }
+    ensures { λ r. ⌜ MergeWithinPost at np nc no ni (now (w .entry)) (now (w .exit)) r ⌝ }
 {
     let c = at + np;
     let o = c + nc;
@@ -176,5 +191,5 @@ pub fn merge_within(w: &mut [f64], at: usize, np: usize, nc: usize, no: usize, n
     let possible = take_inner(w, at, np, i, ni);
     let used = cells(possible);
     let certain = take_both(w, used, np + 2 * ni, c, nc, no, ni);
-    Parts { possible, certain }
+    MergedLists { possible, certain }
 }

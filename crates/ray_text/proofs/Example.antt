@@ -7,7 +7,7 @@ use mathlib.Core.Logic.{inl, inr}
 use Prim.Native.Nat.{ℕ}
 use lib.Ieee.{Float, binary64, ofBits, toBits, lt, le, eq}
 use Rattle.refusal.specs.Refusal.{Due}
-use Rattle.hex_text.specs.Hex.{digitOf, hexAt}
+use Rattle.hex_text.specs.Hex.{hexDigit, hexAt}
 use Rattle.doubles.proofs.Bools.{and-left, and-right, clash}
 use Rattle.doubles.proofs.Order.{lt-irrefl, lt-eq-right}
 use Rattle.spans.specs.Spans.{All, rising, sound, equal, NormalOf}
@@ -16,10 +16,10 @@ use Rattle.spans.proofs.Sets.{same-set, sound-rising}
 use Rattle.spans.proofs.Normal.{retained-sound}
 use Rattle.span_overlay.specs.Overlay.{cutBy, lessOf}
 use Rattle.ray_validity.specs.Ray.{bounded, ValidRay}
-use Rattle.ray_input.specs.Format.{eachBelow, isLine, count, few, pairs, readable}
+use Rattle.ray_input.specs.Format.{eachBelow, isLine, count, few, textPairs, readable}
 use Rattle.ray_input.specs.Steps.{Appended}
 use Rattle.ray_output.specs.Output.{hex, lineText, linesText, endText, answerText}
-use Rattle.ray_text.specs.Run.{loOf, hiOf, possibleIn, certainIn, outerIn, innerIn, runCauses, Written, Result, refused, written}
+use Rattle.ray_text.specs.Run.{boundLo, boundHi, textPossible, textCertain, textOuter, textInner, runCauses, Written, Result, refused, written}
 use Rattle.ray_text.specs.Example.{exampleInput, exampleOutput, ExamplePrinted}
 
 -- ---- a sound list is normalised to itself
@@ -80,34 +80,34 @@ abbrev ten : Float
 ten = ofBits binary64 0x4024000000000000
 
 readable-input : readable exampleInput ≡ true
-unfolding readable exampleInput eachBelow isLine hexAt digitOf count few
+unfolding readable exampleInput eachBelow isLine hexAt hexDigit count few
 readable-input = refl
 
-possible-input : possibleIn exampleInput ≡ zero· ∷ ten ∷ []
-unfolding exampleInput pairs hexAt digitOf
+possible-input : textPossible exampleInput ≡ zero· ∷ ten ∷ []
+unfolding exampleInput textPairs hexAt hexDigit
 possible-input = refl
 
-certain-input : certainIn exampleInput ≡ zero· ∷ ten ∷ []
-unfolding exampleInput pairs hexAt digitOf
+certain-input : textCertain exampleInput ≡ zero· ∷ ten ∷ []
+unfolding exampleInput textPairs hexAt hexDigit
 certain-input = refl
 
-outer-input : outerIn exampleInput ≡ one ∷ four ∷ []
-unfolding exampleInput pairs hexAt digitOf
+outer-input : textOuter exampleInput ≡ one ∷ four ∷ []
+unfolding exampleInput textPairs hexAt hexDigit
 outer-input = refl
 
-inner-input : innerIn exampleInput ≡ two ∷ three ∷ []
-unfolding exampleInput pairs hexAt digitOf
+inner-input : textInner exampleInput ≡ two ∷ three ∷ []
+unfolding exampleInput textPairs hexAt hexDigit
 inner-input = refl
 
-hits-sound : (sound (outerIn exampleInput) ≡ true) × (sound (innerIn exampleInput) ≡ true)
+hits-sound : (sound (textOuter exampleInput) ≡ true) × (sound (textInner exampleInput) ≡ true)
 unfolding sound rising lt ofBits
 hits-sound = rw (outer-input, inner-input) (refl, refl)
 
-bounds-input : (loOf exampleInput ≡ zero·) × (hiOf exampleInput ≡ ten)
-unfolding exampleInput hexAt digitOf
+bounds-input : (boundLo exampleInput ≡ zero·) × (boundHi exampleInput ≡ ten)
+unfolding exampleInput hexAt hexDigit
 bounds-input = (refl, refl)
 
-valid-input : ValidRay (loOf exampleInput) (hiOf exampleInput) (possibleIn exampleInput) (certainIn exampleInput)
+valid-input : ValidRay (boundLo exampleInput) (boundHi exampleInput) (textPossible exampleInput) (textCertain exampleInput)
 unfolding sound rising bounded lt le ofBits
 valid-input = rw (bounds-input .0, bounds-input .1, possible-input, certain-input) (record {
   possible-sound = refl;
@@ -142,21 +142,21 @@ module _ (text : List ℕ) where
   not-refused k (inr (n, inl d)) = d .0 valid-input
   not-refused k (inr (n, inr d)) = d .1
 
-  written-text : Written (loOf exampleInput) (hiOf exampleInput) (possibleIn exampleInput) (certainIn exampleInput)
-      (outerIn exampleInput) (innerIn exampleInput) text → text ≡ exampleOutput
+  written-text : Written (boundLo exampleInput) (boundHi exampleInput) (textPossible exampleInput) (textCertain exampleInput)
+      (textOuter exampleInput) (textInner exampleInput) text → text ≡ exampleOutput
   written-text w =
       let o : w .exact .outerNormal ≡ one ∷ four ∷ [] =
-      normal-self (outerIn exampleInput) (w .exact .outerNormal) (hits-sound .0) (w .exact .outerIs) ∙ outer-input in
+      normal-self (textOuter exampleInput) (w .exact .outerNormal) (hits-sound .0) (w .exact .outerIs) ∙ outer-input in
       let i : w .exact .innerNormal ≡ two ∷ three ∷ [] =
-      normal-self (innerIn exampleInput) (w .exact .innerNormal) (hits-sound .1) (w .exact .innerIs) ∙ inner-input in
+      normal-self (textInner exampleInput) (w .exact .innerNormal) (hits-sound .1) (w .exact .innerIs) ∙ inner-input in
       let p : w .possibleAfter ≡ zero· ∷ two ∷ three ∷ ten ∷ [] = w .exact .possibleIs ∙ ap₂ lessOf possible-input i ∙ new-possible in
       let c : w .certainAfter ≡ zero· ∷ one ∷ four ∷ ten ∷ [] =
       w .exact .certainIs ∙ ap₂ lessOf (ap₂ lessOf certain-input o) i ∙ new-certain in
       let m : w .p ≡ true = w .possibleLeft .moves ∙ ap₂ (λ (a b : List Float). not (equal a b)) possible-input p ∙ possible-moves in
       w .printed ∙ rw (p, c, m) printed-text
 
-  result-text : Result (runCauses exampleInput) (loOf exampleInput) (hiOf exampleInput) (possibleIn exampleInput) (certainIn exampleInput)
-      (outerIn exampleInput) (innerIn exampleInput) text → text ≡ exampleOutput
+  result-text : Result (runCauses exampleInput) (boundLo exampleInput) (boundHi exampleInput) (textPossible exampleInput) (textCertain exampleInput)
+      (textOuter exampleInput) (textInner exampleInput) text → text ≡ exampleOutput
   result-text (refused k d e) = absurd (not-refused k d)
   result-text (written n w) = written-text w
 

@@ -11,12 +11,12 @@ use lib.ListN.{length, take, drop}
 use lib.Ieee.{Float}
 use Rattle.refusal.specs.Refusal.{Due, NoneDue}
 use Rattle.spans.specs.Spans.{holds}
-use Rattle.ray_subtract.specs.Taking.{eitherHit, cellsOf, handed, Spared}
-use Rattle.ray_merge.specs.Merge.{Left, mergeCauses}
-use Rattle.ray_subtract.specs.declared.Part.{Part}
-use Rattle.ray_input.specs.Format.{letterB, letterP, letterC, letterO, letterI, lines, letterOf, count, pairs, few, total, readable}
+use Rattle.ray_subtract.specs.Taking.{eitherHit, newCells, handedBack, ListAfterHits}
+use Rattle.ray_merge.specs.Merge.{MergeEffect, mergeCauses}
+use Rattle.ray_subtract.specs.declared.MergedList.{MergedList}
+use Rattle.ray_input.specs.Format.{letterB, letterP, letterC, letterO, letterI, lines, letterOf, count, textPairs, few, total, readable}
 use Rattle.ray_output.specs.Output.{linesText, endText, refusedText}
-use Rattle.ray_text.specs.Run.{loOf, hiOf, possibleIn, certainIn, outerIn, innerIn, rayCauses, runCauses, Result, refused, written, Printed, Ran, Small}
+use Rattle.ray_text.specs.Run.{boundLo, boundHi, textPossible, textCertain, textOuter, textInner, rayCauses, runCauses, Result, refused, written, Printed, ProgramRan, Small}
 use Rattle.ray_input.specs.Steps.{Appended}
 use Rattle.doubles.proofs.Bools.{and-left, and-right}
 use Rattle.ray_input.proofs.Reading.{pairs-length}
@@ -65,10 +65,10 @@ module _ (before cells after : List Float) (r : ℕ) (p : Appended before 0 cell
   pub collected-size : r ≡ length (take r after)
   collected-size = p .next ∙ omega (arith, ap length collected)
 
-small-list : (c : ℕ) (s : List ℕ) → count c s (total s) ≤ 64 → (length (pairs c s (total s)) % 2 ≡ 0) × (length (pairs c s (total s)) ≤ 128)
+small-list : (c : ℕ) (s : List ℕ) → count c s (total s) ≤ 64 → (length (textPairs c s (total s)) % 2 ≡ 0) × (length (textPairs c s (total s)) ≤ 128)
 small-list c s h = (omega (arith, pairs-length c s (total s)), omega (arith, pairs-length c s (total s)))
 
-pub small : (s : List ℕ) → Reads s → (p c o i : List Float) → p ≡ possibleIn s → c ≡ certainIn s → o ≡ outerIn s → i ≡ innerIn s → Small p c o i
+pub small : (s : List ℕ) → Reads s → (p c o i : List Float) → p ≡ textPossible s → c ≡ textCertain s → o ≡ textOuter s → i ≡ textInner s → Small p c o i
 small s r p c o i ep ec eo ei = rw (ep, ec, eo, ei) record {
   outerWhole = small-list letterO s (r .outerFew) .0;
   innerWhole = small-list letterI s (r .innerFew) .0;
@@ -92,21 +92,21 @@ module _ (lo hi : Float) (possible certain outer inner : List Float) (few· : Sm
   none-due-ray n = ((λ v. n .1 .0 (λ m. v (m .ray))), tt)
 
   -- how long the lists are
-  list-most : (p : Part) (a : List Float) (w : List Float) (k : ℕ) (hit : Float → Bool) → length a ≤ 128 → Spared a hit p (handed p a w k) → length (handed p a w k) ≤ cellsOf p + 128
+  list-most : (p : MergedList) (a : List Float) (w : List Float) (k : ℕ) (hit : Float → Bool) → length a ≤ 128 → ListAfterHits a hit p (handedBack p a w k) → length (handedBack p a w k) ≤ newCells p + 128
   list-most p a w k hit h s = go (p .moved) refl
     where
-      go : (b : Bool) → p .moved ≡ b → length (handed p a w k) ≤ cellsOf p + 128
-      go true e = let cells : cellsOf p ≡ 2 * p .pairs = rw e in omega (arith, s .pairs)
+      go : (b : Bool) → p .moved ≡ b → length (handedBack p a w k) ≤ newCells p + 128
+      go true e = let cells : newCells p ≡ 2 * p .pairs = rw e in omega (arith, s .pairs)
       go false e =
-          let same : handed p a w k ≡ a = ap (λ (b : Bool). cond (b && leb (k + 2 * p .pairs) (length w)) (take (2 * p .pairs) (drop k w)) a) e in
+          let same : handedBack p a w k ≡ a = ap (λ (b : Bool). cond (b && leb (k + 2 * p .pairs) (length w)) (take (2 * p .pairs) (drop k w)) a) e in
           omega (arith, ap length same)
 
-  module _ (p c : Part) (work : List Float) (size : length work ≡ 3072) (left : Left lo hi possible certain outer inner p c work) where
+  module _ (p c : MergedList) (work : List Float) (size : length work ≡ 3072) (left : MergeEffect lo hi possible certain outer inner p c work) where
     abbrev possibleNew : List Float
-    possibleNew = handed p possible work 0
+    possibleNew = handedBack p possible work 0
 
     abbrev certainNew : List Float
-    certainNew = handed c certain work (cellsOf p)
+    certainNew = handedBack c certain work (newCells p)
 
     pub even-lists : (length possibleNew % 2 ≡ 0) × (length certainNew % 2 ≡ 0) × (18 * length possibleNew + 18 * length certainNew + 8 ≤ 65536)
     even-lists = (
@@ -115,7 +115,7 @@ module _ (lo hi : Float) (possible certain outer inner : List Float) (few· : Sm
       omega (
         arith,
         list-most p possible work 0 (holds inner) (few· .possibleMost) (left .possibleLeft),
-        list-most c certain work (cellsOf p) (eitherHit outer inner) (few· .certainMost) (left .certainLeft),
+        list-most c certain work (newCells p) (eitherHit outer inner) (few· .certainMost) (left .certainLeft),
         left .room,
       ),
     )
@@ -123,7 +123,7 @@ module _ (lo hi : Float) (possible certain outer inner : List Float) (few· : Sm
     pub lines-long : (length (linesText letterP possibleNew) ≡ 18 * length possibleNew) × (length (linesText letterC certainNew) ≡ 18 * length certainNew)
     lines-long = (lines-length letterP possibleNew (even-lists .0), lines-length letterC certainNew (even-lists .1))
 
-    kept : (q : Part) (a : List Float) (w : List Float) (k : ℕ) → q .moved ≡ false → handed q a w k ≡ a
+    kept : (q : MergedList) (a : List Float) (w : List Float) (k : ℕ) → q .moved ≡ false → handedBack q a w k ≡ a
     kept q a w k e = ap (λ (b : Bool). cond (b && leb (k + 2 * q .pairs) (length w)) (take (2 * q .pairs) (drop k w)) a) e
 
     pub writes : (out out₁ out₂ out₃ : List ℕ) (n m r : ℕ) → NoneDue (mergeCauses lo hi possible certain outer inner 3072)
@@ -137,7 +137,7 @@ module _ (lo hi : Float) (possible certain outer inner : List Float) (few· : Sm
         possibleAfter = possibleNew;
         certainAfter = certainNew;
         possibleLeft = record { moves = left .possibleLeft .moves; same = kept p possible work 0; left = left .possibleLeft .list };
-        certainLeft = record { moves = left .certainLeft .moves; same = kept c certain work (cellsOf p); left = left .certainLeft .list };
+        certainLeft = record { moves = left .certainLeft .moves; same = kept c certain work (newCells p); left = left .certainLeft .list };
         exact = left .exact;
         valid = left .valid;
         printed = refl;
@@ -152,19 +152,19 @@ module _ (lo hi : Float) (possible certain outer inner : List Float) (few· : Sm
 
 -- ---- the whole program
 module _ (s out after : List ℕ) (r : ℕ) where
-  pub run-refused : readable s ≡ false → Appended out 0 (refusedText 18) after r → Ran s out after r
+  pub run-refused : readable s ≡ false → Appended out 0 (refusedText 18) after r → ProgramRan s out after r
   unfolding Due
   run-refused h a = record { text = refusedText 18; result = refused 18 (inl (h, refl)) refl; put = a }
 
   pub run-merged : readable s ≡ true
-      → Printed (rayCauses (loOf s) (hiOf s) (possibleIn s) (certainIn s)) (loOf s) (hiOf s) (possibleIn s) (certainIn s) (outerIn s) (innerIn s) out after r → Ran s out after r
+      → Printed (rayCauses (boundLo s) (boundHi s) (textPossible s) (textCertain s)) (boundLo s) (boundHi s) (textPossible s) (textCertain s) (textOuter s) (textInner s) out after r → ProgramRan s out after r
   unfolding Due NoneDue
   run-merged h p = record { text = p .text; result = later (p .result); put = p .put }
     where
       readable· : ¬ (readable s ≡ false)
       readable· k = true≢false (sym h ∙ k)
 
-      later : Result (rayCauses (loOf s) (hiOf s) (possibleIn s) (certainIn s)) (loOf s) (hiOf s) (possibleIn s) (certainIn s) (outerIn s) (innerIn s) (p .text)
-          → Result (runCauses s) (loOf s) (hiOf s) (possibleIn s) (certainIn s) (outerIn s) (innerIn s) (p .text)
+      later : Result (rayCauses (boundLo s) (boundHi s) (textPossible s) (textCertain s)) (boundLo s) (boundHi s) (textPossible s) (textCertain s) (textOuter s) (textInner s) (p .text)
+          → Result (runCauses s) (boundLo s) (boundHi s) (textPossible s) (textCertain s) (textOuter s) (textInner s) (p .text)
       later (refused k d e) = refused k (inr (readable·, d)) e
       later (written n w) = written (readable·, n) w

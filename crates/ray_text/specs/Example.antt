@@ -4,7 +4,7 @@ use Prim.Native.Nat.{ℕ}
 use Prim.Native.Char.{code}
 use Prim.Native.String.{String, [] as none, _∷_ as _then_}
 use Rattle.ray_input.specs.Steps.{Appended}
-use Rattle.ray_text.specs.Run.{Ran}
+use Rattle.ray_text.specs.Run.{ProgramRan}
 
 -- the codes of the characters, which are the bytes of an ASCII text
 unfoldable pub bytes : String → List ℕ
@@ -31,4 +31,4 @@ exampleOutput =
 
 -- whatever the contract of `run` allows for that input stands at the front of the buffer as that output
 abbrev pub ExamplePrinted : Type 0
-ExamplePrinted = (before after : List ℕ) (r : ℕ) → Ran exampleInput before after r → Appended before 0 exampleOutput after r
+ExamplePrinted = (before after : List ℕ) (r : ℕ) → ProgramRan exampleInput before after r → Appended before 0 exampleOutput after r

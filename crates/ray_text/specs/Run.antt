@@ -8,32 +8,32 @@ use lib.Ieee.{Float, binary64, ofBits}
 use Rattle.refusal.specs.Refusal.{Cause, cause, Due, NoneDue}
 use Rattle.spans.specs.Spans.{holds, equal, ListOf}
 use Rattle.ray_validity.specs.Ray.{ValidRay}
-use Rattle.ray_subtract.specs.Taking.{eitherHit, spared, Exact}
-use Rattle.ray_input.specs.Format.{letterP, letterC, letterO, letterI, bitsAt, pairs, total, readable}
+use Rattle.ray_subtract.specs.Taking.{eitherHit, spared, MergedExactly}
+use Rattle.ray_input.specs.Format.{letterP, letterC, letterO, letterI, bitsAt, textPairs, total, readable}
 use Rattle.ray_output.specs.Output.{answerText, refusedText}
 use Rattle.ray_input.specs.Steps.{Appended}
 
 -- the bounds, which the first line gives, the ray's lists and the hits
-abbrev pub loOf : List ℕ → Float
-loOf s = ofBits binary64 (bitsAt s 2)
+abbrev pub boundLo : List ℕ → Float
+boundLo s = ofBits binary64 (bitsAt s 2)
 
-abbrev pub hiOf : List ℕ → Float
-hiOf s = ofBits binary64 (bitsAt s 19)
+abbrev pub boundHi : List ℕ → Float
+boundHi s = ofBits binary64 (bitsAt s 19)
 
-abbrev pub possibleIn : List ℕ → List Float
-possibleIn s = pairs letterP s (total s)
+abbrev pub textPossible : List ℕ → List Float
+textPossible s = textPairs letterP s (total s)
 
-abbrev pub certainIn : List ℕ → List Float
-certainIn s = pairs letterC s (total s)
+abbrev pub textCertain : List ℕ → List Float
+textCertain s = textPairs letterC s (total s)
 
-abbrev pub outerIn : List ℕ → List Float
-outerIn s = pairs letterO s (total s)
+abbrev pub textOuter : List ℕ → List Float
+textOuter s = textPairs letterO s (total s)
 
-abbrev pub innerIn : List ℕ → List Float
-innerIn s = pairs letterI s (total s)
+abbrev pub textInner : List ℕ → List Float
+textInner s = textPairs letterI s (total s)
 
 -- a list after the merge: whether a boundary moved, the list as it was read where none did, and the points, those that lie in no hit
-pub record After (list : List Float) (hit : Float → Bool) (moved : Bool) (after : List Float) : Type 0 where
+pub record ListPrinted (list : List Float) (hit : Float → Bool) (moved : Bool) (after : List Float) : Type 0 where
   pub moves : moved ≡ not (equal list after)
   pub same : moved ≡ false → after ≡ list
   pub left : ListOf (spared list hit) after
@@ -44,9 +44,9 @@ pub record Written (lo hi : Float) (possible certain outer inner : List Float) (
   pub c : Bool
   pub possibleAfter : List Float
   pub certainAfter : List Float
-  pub possibleLeft : After possible (holds inner) p possibleAfter
-  pub certainLeft : After certain (eitherHit outer inner) c certainAfter
-  pub exact : Exact possible certain outer inner possibleAfter certainAfter
+  pub possibleLeft : ListPrinted possible (holds inner) p possibleAfter
+  pub certainLeft : ListPrinted certain (eitherHit outer inner) c certainAfter
+  pub exact : MergedExactly possible certain outer inner possibleAfter certainAfter
   pub valid : ValidRay lo hi possibleAfter certainAfter
   pub printed : text ≡ answerText possibleAfter certainAfter (p || c)
 
@@ -55,7 +55,7 @@ abbrev pub rayCauses : Float → Float → List Float → List Float → List Ca
 rayCauses lo hi possible certain = cause 11 (¬ ValidRay lo hi possible certain) ∷ []
 
 abbrev pub runCauses : List ℕ → List Cause
-runCauses s = cause 18 (readable s ≡ false) ∷ rayCauses (loOf s) (hiOf s) (possibleIn s) (certainIn s)
+runCauses s = cause 18 (readable s ≡ false) ∷ rayCauses (boundLo s) (boundHi s) (textPossible s) (textCertain s)
 
 -- the text for causes: the refusal that is due, or else what is written of the merge
 pub data Result (causes : List Cause) (lo hi : Float) (possible certain outer inner : List Float) (text : List ℕ) : Type 0 where
@@ -68,10 +68,10 @@ pub record Printed (causes : List Cause) (lo hi : Float) (possible certain outer
   pub result : Result causes lo hi possible certain outer inner text
   pub put : Appended before 0 text after r
 
-abbrev pub Ran : List ℕ → List ℕ → List ℕ → ℕ → Type 0
-Ran s before after r = Printed (runCauses s) (loOf s) (hiOf s) (possibleIn s) (certainIn s) (outerIn s) (innerIn s) before after r
+abbrev pub ProgramRan : List ℕ → List ℕ → List ℕ → ℕ → Type 0
+ProgramRan s before after r = Printed (runCauses s) (boundLo s) (boundHi s) (textPossible s) (textCertain s) (textOuter s) (textInner s) before after r
 
--- what is asked of the lists that are merged and printed: whole pairs of hits, and as many as the buffers hold
+-- what is asked of the lists that are merged and printed: whole textPairs of hits, and as many as the buffers hold
 pub record Small (possible certain outer inner : List Float) : Type 0 where
   pub outerWhole : length outer % 2 ≡ 0
   pub innerWhole : length inner % 2 ≡ 0

@@ -4,8 +4,8 @@ ghost use mathlib.Core.Bool.{true};
 ghost use Prim.Native.Nat.{_≤_};
 ghost use lib.ListN.{length};
 ghost use Rattle.ray_input.specs.Format.{readable};
-ghost use Rattle.ray_text.specs.Run.{Ran, Printed, rayCauses, Small};
-use ray_merge::Merged;
+ghost use Rattle.ray_text.specs.Run.{ProgramRan, Printed, rayCauses, Small};
+use ray_merge::MergeAnswer;
 
 // Merges the hits into a ray, and prints both lists or the refusal.
 fn print_merged(
@@ -24,8 +24,8 @@ fn print_merged(
     let mut work = [0.0; 3072];
     let answer = ray_merge::merge(possible, certain, lo, hi, outer, inner, &mut work);
     match answer {
-        Merged::Refused(k) => ray_output::put_refused(out, k),
-        Merged::Lists(p, c) => {
+        MergeAnswer::Refused(k) => ray_output::put_refused(out, k),
+        MergeAnswer::Lists(p, c) => {
             let n = ray_output::put_lines(
                 out,
                 0,
@@ -46,7 +46,7 @@ fn print_merged(
 // Merges the ray of a readable text.
 fn run_readable(s: &[u8], out: &mut [u8]) -> usize
     requires { ⌜ (readable (now s) ≡ true) × (65536 ≤ length (now out)) ⌝ }
-    ensures { λ r. ⌜ Ran (now (s .entry)) (now (out .entry)) (now (out .exit)) r ⌝ }
+    ensures { λ r. ⌜ ProgramRan (now (s .entry)) (now (out .entry)) (now (out .exit)) r ⌝ }
 {
     let n = s.len() / 36;
     let mut possible = [0.0; 128];
@@ -70,7 +70,7 @@ fn run_readable(s: &[u8], out: &mut [u8]) -> usize
 
 // The program on slices: what it writes for an input stands at the front of `out`, and the answer is its length.
 pub fn run(s: &[u8], out: &mut [u8; 65536]) -> usize
-    ensures { λ r. ⌜ Ran (now (s .entry)) (now (out .entry)) (now (out .exit)) r ⌝ }
+    ensures { λ r. ⌜ ProgramRan (now (s .entry)) (now (out .entry)) (now (out .exit)) r ⌝ }
 {
     if !ray_input::is_readable(s) {
         return ray_output::put_refused(out, 18);

@@ -3,8 +3,8 @@
 // A case is a head of ten bytes, the input and the output that it must give. The head has the two lengths in four hexadecimal digits each, with a
 // space between them and a newline behind. It writes how many cases agree and differ, how many can't be read, and the
 // number of the first that differs.
-use vector_replay::Outcome;
-use vector_replay::Tally;
+use vector_replay::RowCounts;
+use vector_replay::RowOutcome;
 
 // The most bytes of an input or an output.
 const MOST: usize = 16384;
@@ -27,21 +27,21 @@ fn gives(s: &[u8], wanted: &[u8]) -> bool {
 }
 
 // Runs an input of n bytes, and compares with the m bytes that follow.
-fn ran(n: usize, m: usize) -> Outcome {
+fn ran(n: usize, m: usize) -> RowOutcome {
     let mut input = [0u8; MOST];
     if !read_text(&mut input, n) {
-        return Outcome::Unread;
+        return RowOutcome::Unread;
     }
     let mut wanted = [0u8; MOST];
     if !read_text(&mut wanted, m) {
-        return Outcome::Unread;
+        return RowOutcome::Unread;
     }
     let s = vector_words::first_bytes(&input, n);
     vector_replay::told(0, 1, gives(s, vector_words::first_bytes(&wanted, m)))
 }
 
 // Where the head can't be read, a length is more than the most.
-fn compared(head: &[u8]) -> Outcome {
+fn compared(head: &[u8]) -> RowOutcome {
     let n = vector_replay::value_or(hex_text::hex_at(head, 0, 4), 65536);
     let m = vector_replay::value_or(hex_text::hex_at(head, 5, 4), 65536);
     ran(n as usize, m as usize)
@@ -49,7 +49,7 @@ fn compared(head: &[u8]) -> Outcome {
 
 // What follows a case that can't be read is not looked at.
 // The turns are counted down, since a proved loop has to end and nothing says that the input does.
-fn counted() -> Tally {
+fn counted() -> RowCounts {
     let mut t = vector_replay::start();
     let mut turns = u64::MAX;
     while turns > 0 {

@@ -10,10 +10,10 @@ use lib.Ieee.{Float}
 use Rattle.doubles.specs.Constants.{plusZero}
 use Rattle.refusal.specs.Refusal.{Due, NoneDue}
 use Rattle.spans.specs.Spans.{sound}
-use Rattle.spans.specs.Results.{Answer, listCauses}
-use Rattle.spans.specs.Steps.{Filled}
-use Rattle.spans.specs.declared.Listed.the-variants.{Pairs, Refused}
-use Rattle.span_combine.specs.Combining.{Checked, combineCauses}
+use Rattle.spans.specs.Results.{ListPost, listCauses}
+use Rattle.spans.specs.Steps.{FilledFront}
+use Rattle.spans.specs.declared.ListAnswer.the-variants.{Pairs, Refused}
+use Rattle.span_combine.specs.Combining.{CombineCheckPost, combineCauses}
 use Rattle.doubles.proofs.Bools.{and-false, by-cases}
 use Rattle.spans.proofs.Answers.{laid}
 use Rattle.spans.proofs.Sets.{sound-mod}
@@ -28,8 +28,8 @@ good-lists a b room h =
     (sa, sb, omega (arith, sound-mod a sa, sound-mod b sb))
 
 -- with the number k that was found before anything is written
-module _ (a b before : List Float) (k : ℕ) (c : Checked (combineCauses a b (length before)) k) where
-  pub refuse-checked : (P : List Float → Type 0) → (k ≡ 0 → ⊥) → Answer P (combineCauses a b (length before)) before before (Refused k)
+module _ (a b before : List Float) (k : ℕ) (c : CombineCheckPost (combineCauses a b (length before)) k) where
+  pub refuse-checked : (P : List Float → Type 0) → (k ≡ 0 → ⊥) → ListPost P (combineCauses a b (length before)) before before (Refused k)
   refuse-checked P h = (c .1 h, refl)
 
   module _ (e : k ≡ 0) where
@@ -37,25 +37,25 @@ module _ (a b before : List Float) (k : ℕ) (c : Checked (combineCauses a b (le
     checked-lists = good-lists a b (length before) (c .0 e)
 
     -- the list that was filled in, and zero past it
-    module _ (list mid : List Float) (n : ℕ) (f : Filled (λ l. l ≡ list) before (length a + length b) mid n) where
+    module _ (list mid : List Float) (n : ℕ) (f : FilledFront (λ l. l ≡ list) before (length a + length b) mid n) where
       pub filled-fits : n ≤ length mid
       filled-fits = omega (arith, checked-lists .2, f .most, f .size)
 
       pub accept-filled : (P : List Float → Type 0) → sound list ≡ true → P list → (after : List Float)
           → after ≡ take n mid ++ replicate (length mid - n) plusZero
-          → Answer P (combineCauses a b (length before)) before after (Pairs (n / 2))
+          → ListPost P (combineCauses a b (length before)) before after (Pairs (n / 2))
       accept-filled P s l after z = (c .0 e, laid P mid after n filled-fits (rw (f .list) s) (rw (f .list) l) z)
 
 -- the number of a refusal, found before anything is written
 module _ (short bad : Type 0) where
-  pub checked-short : short → Checked (listCauses short bad) 12
+  pub checked-short : short → CombineCheckPost (listCauses short bad) 12
   unfolding Due
   checked-short h = (λ e. absurd (omega arith), λ _. inl (h, refl))
 
-  pub checked-bad : ¬ short → bad → Checked (listCauses short bad) 11
+  pub checked-bad : ¬ short → bad → CombineCheckPost (listCauses short bad) 11
   unfolding Due
   checked-bad h k = (λ e. absurd (omega arith), λ _. inr (h, inl (k, refl)))
 
-  pub checked-none : ¬ short → ¬ bad → Checked (listCauses short bad) 0
+  pub checked-none : ¬ short → ¬ bad → CombineCheckPost (listCauses short bad) 0
   unfolding NoneDue
   checked-none h k = (λ _. (h, (k, tt)), λ e. absurd (e refl))

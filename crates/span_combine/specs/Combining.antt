@@ -15,8 +15,8 @@ abbrev pub combineCauses : List Float → List Float → ℕ → List Cause
 combineCauses a b room = listCauses (room / 2 < length a / 2 + length b / 2) ((sound a && sound b) ≡ false)
 
 -- 0 where no cause is present, else the number that is due
-abbrev pub Checked : List Cause → ℕ → Type 0
-Checked causes r = (r ≡ 0 → NoneDue causes) × ((r ≡ 0 → ⊥) → Due causes r)
+abbrev pub CombineCheckPost : List Cause → ℕ → Type 0
+CombineCheckPost causes r = (r ≡ 0 → NoneDue causes) × ((r ≡ 0 → ⊥) → Due causes r)
 
 -- the sound list of a less b, end by end: which zero stands at an end is settled too
 pub record LessOf (a b l : List Float) : Type 0 where

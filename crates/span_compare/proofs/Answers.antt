@@ -13,17 +13,17 @@ use Rattle.doubles.proofs.Order.{le-number}
 use Rattle.spans.specs.Spans.{Double, EndOfEither, within, holds, sound}
 use Rattle.span_cover.specs.Covering.{Covers, Meets}
 use Rattle.spans.proofs.Answers.{bad-first, bad-second, good-both}
-use Rattle.span_compare.specs.Verdicts.{Verdict, compareCauses, Contains, Overlaps}
-use Rattle.span_compare.specs.declared.Told.the-variants.{Yes, No, Refused}
+use Rattle.span_compare.specs.Verdicts.{ComparePost, compareCauses, Contains, Overlaps}
+use Rattle.span_compare.specs.declared.BoolAnswer.the-variants.{Yes, No, Refused}
 
 -- r and s are the tests of the two lists
 module _ (a b : List Float) (tells : Bool → Type 0) (r : Bool) (er : r ≡ sound a) where
-  pub refuse-first : not r ≡ true → Verdict (compareCauses a b) tells (Refused 11)
+  pub refuse-first : not r ≡ true → ComparePost (compareCauses a b) tells (Refused 11)
   unfolding Due
   refuse-first h = inl (bad-first r (sound a) (sound b) er h, refl)
 
   module _ (s : Bool) (es : s ≡ sound b) where
-    pub refuse-second : not s ≡ true → Verdict (compareCauses a b) tells (Refused 11)
+    pub refuse-second : not s ≡ true → ComparePost (compareCauses a b) tells (Refused 11)
     unfolding Due
     refuse-second h = inl (bad-second s (sound a) (sound b) es h, refl)
 
@@ -35,10 +35,10 @@ module _ (a b : List Float) (tells : Bool → Type 0) (r : Bool) (er : r ≡ sou
       unfolding NoneDue
       none = (good-both (sound a) (sound b) (both-sound .0) (both-sound .1), tt)
 
-      pub say-yes : (t : Bool) → t ≡ true → tells t → Verdict (compareCauses a b) tells Yes
+      pub say-yes : (t : Bool) → t ≡ true → tells t → ComparePost (compareCauses a b) tells Yes
       say-yes t e f = (none, subst tells e f)
 
-      pub say-no : (t : Bool) → t ≡ false → tells t → Verdict (compareCauses a b) tells No
+      pub say-no : (t : Bool) → t ≡ false → tells t → ComparePost (compareCauses a b) tells No
       say-no t e f = (none, subst tells e f)
 
 -- ---- an end of a list of doubles is a double

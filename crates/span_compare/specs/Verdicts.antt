@@ -5,18 +5,18 @@ use mathlib.Core.List.{List, [], _∷_}
 use lib.Ieee.{Float}
 use Rattle.refusal.specs.Refusal.{Cause, cause, Due, NoneDue}
 use Rattle.spans.specs.Spans.{sound, Within, Outside, Share, Apart}
-use Rattle.span_compare.specs.declared.Told.{Told}
-use Rattle.span_compare.specs.declared.Told.the-variants.{Yes, No, Refused}
+use Rattle.span_compare.specs.declared.BoolAnswer.{BoolAnswer}
+use Rattle.span_compare.specs.declared.BoolAnswer.the-variants.{Yes, No, Refused}
 
 -- the causes of both comparisons: 11 a list is not sound
 abbrev pub compareCauses : List Float → List Float → List Cause
 compareCauses a b = cause 11 ((sound a && sound b) ≡ false) ∷ []
 
 -- a refused call gives the number that is due; an accepted one, with no cause, says what was found
-abbrev pub Verdict : List Cause → (Bool → Type 0) → Told → Type 0
-Verdict causes found Yes = NoneDue causes × found true
-Verdict causes found No = NoneDue causes × found false
-Verdict causes found (Refused k) = Due causes k
+abbrev pub ComparePost : List Cause → (Bool → Type 0) → BoolAnswer → Type 0
+ComparePost causes found Yes = NoneDue causes × found true
+ComparePost causes found No = NoneDue causes × found false
+ComparePost causes found (Refused k) = Due causes k
 
 -- whether the outer list has each point of the inner one, with the reason: if not, some point is in the inner alone
 abbrev pub Contains : List Float → List Float → Bool → Type 0

@@ -1,42 +1,42 @@
 // Two span lists compared: whether one has all points of the other, and whether they have one in common.
-ghost use Rattle.span_compare.specs.Verdicts.{Verdict, compareCauses, Contains, Overlaps};
+ghost use Rattle.span_compare.specs.Verdicts.{ComparePost, compareCauses, Contains, Overlaps};
 use spans::is_sound;
 
 // Whether something holds of two lists, or why the call is refused.
-pub enum Told {
+pub enum BoolAnswer {
     Yes,
     No,
     Refused(u32),
 }
 
 // Whether each point of inner is in outer. 11: a list is not sound.
-pub fn contains(outer: &[f64], inner: &[f64]) -> Told
-    ensures { λ r. ⌜ Verdict (compareCauses (now (outer .entry)) (now (inner .entry))) (Contains (now (outer .entry)) (now (inner .entry))) r ⌝ }
+pub fn contains(outer: &[f64], inner: &[f64]) -> BoolAnswer
+    ensures { λ r. ⌜ ComparePost (compareCauses (now (outer .entry)) (now (inner .entry))) (Contains (now (outer .entry)) (now (inner .entry))) r ⌝ }
 {
     if !is_sound(outer) {
-        return Told::Refused(11);
+        return BoolAnswer::Refused(11);
     }
     if !is_sound(inner) {
-        return Told::Refused(11);
+        return BoolAnswer::Refused(11);
     }
     if span_cover::covers(outer, inner) {
-        return Told::Yes;
+        return BoolAnswer::Yes;
     }
-    Told::No
+    BoolAnswer::No
 }
 
 // Whether some point is in both lists. 11: a list is not sound.
-pub fn overlaps(a: &[f64], b: &[f64]) -> Told
-    ensures { λ r. ⌜ Verdict (compareCauses (now (a .entry)) (now (b .entry))) (Overlaps (now (a .entry)) (now (b .entry))) r ⌝ }
+pub fn overlaps(a: &[f64], b: &[f64]) -> BoolAnswer
+    ensures { λ r. ⌜ ComparePost (compareCauses (now (a .entry)) (now (b .entry))) (Overlaps (now (a .entry)) (now (b .entry))) r ⌝ }
 {
     if !is_sound(a) {
-        return Told::Refused(11);
+        return BoolAnswer::Refused(11);
     }
     if !is_sound(b) {
-        return Told::Refused(11);
+        return BoolAnswer::Refused(11);
     }
     if span_cover::meets(a, b) {
-        return Told::Yes;
+        return BoolAnswer::Yes;
     }
-    Told::No
+    BoolAnswer::No
 }

@@ -12,9 +12,9 @@ use Rattle.spans.specs.Spans.{holds, retained}
 use Rattle.spans.proofs.Points.{retained-holds}
 use Rattle.doubles.proofs.Bools.{by-cases}
 use Rattle.span_hits.specs.declared.Found.{Found}
-use Rattle.span_hits.specs.declared.Hit.{Hit}
-use Rattle.span_hits.specs.declared.Hit.the-variants.{Pair, End}
-use Rattle.span_hits.specs.Hits.{hitOf, foundAs, Handed, none, more}
+use Rattle.span_hits.specs.declared.NextHit.{NextHit}
+use Rattle.span_hits.specs.declared.NextHit.the-variants.{Pair, End}
+use Rattle.span_hits.specs.Hits.{nextHit, foundAs, HitsHanded, none, more}
 
 -- a pair is no end
 differ : (n m : ℕ) (lo hi : Float) → foundAs End n ≡ foundAs (Pair lo hi) m → ⊥
@@ -37,8 +37,8 @@ record Hits (r : List Float) (n m : ℕ) (lo hi : Float) : Type 0 where
   inside : m ≤ n + length r
   goes : retained r ≡ lo ∷ hi ∷ retained (drop (m - n) r)
 
-hit : (r : List Float) (n m : ℕ) (lo hi : Float) → hitOf n r ≡ foundAs (Pair lo hi) m → Hits r n m lo hi
-unfolding hitOf retained
+hit : (r : List Float) (n m : ℕ) (lo hi : Float) → nextHit n r ≡ foundAs (Pair lo hi) m → Hits r n m lo hi
+unfolding nextHit retained
 hit [] n m lo hi h = absurd (differ n m lo hi h)
 hit (x ∷ []) n m lo hi h = absurd (differ n m lo hi h)
 hit (x ∷ y ∷ r) n m lo hi h = elim (by-cases (lt x y)) [
@@ -53,8 +53,8 @@ hit (x ∷ y ∷ r) n m lo hi h = elim (by-cases (lt x y)) [
 ]
 
 -- none left: nothing is retained
-ended : (r : List Float) (n m : ℕ) → hitOf n r ≡ foundAs End m → retained r ≡ []
-unfolding hitOf retained
+ended : (r : List Float) (n m : ℕ) → nextHit n r ≡ foundAs End m → retained r ≡ []
+unfolding nextHit retained
 ended [] n m h = refl
 ended (x ∷ []) n m h = refl
 ended (x ∷ y ∷ r) n m h = elim (by-cases (lt x y)) [
@@ -69,7 +69,7 @@ pub record HitAt (l : List Float) (n m : ℕ) (lo hi : Float) : Type 0 where
   pub inside : m ≤ n + (length l - n)
   pub goes : retained (drop n l) ≡ lo ∷ hi ∷ retained (drop m l)
 
-hit-at : (l : List Float) (n m : ℕ) (lo hi : Float) → hitOf n (drop n l) ≡ foundAs (Pair lo hi) m → HitAt l n m lo hi
+hit-at : (l : List Float) (n m : ℕ) (lo hi : Float) → nextHit n (drop n l) ≡ foundAs (Pair lo hi) m → HitAt l n m lo hi
 hit-at l n m lo hi h =
     let s = hit (drop n l) n m lo hi h in
     record {
@@ -84,37 +84,37 @@ hit-at l n m lo hi h =
     back n m h = omega arith
 
 -- what `hit_from` answers, by its case
-module _ (l : List Float) (n : ℕ) (f : Found) (e : f ≡ hitOf n (drop n l)) where
+module _ (l : List Float) (n : ℕ) (f : Found) (e : f ≡ nextHit n (drop n l)) where
   pub found-pair : (lo hi : Float) → f .hit ≡ Pair lo hi → HitAt l n (f .at) lo hi
-  found-pair lo hi h = hit-at l n (f .at) lo hi (sym e ∙ ap (λ (x : Hit). foundAs x (f .at)) h)
+  found-pair lo hi h = hit-at l n (f .at) lo hi (sym e ∙ ap (λ (x : NextHit). foundAs x (f .at)) h)
 
   pub found-end : f .hit ≡ End → retained (drop n l) ≡ []
-  found-end h = ended (drop n l) n (f .at) (sym e ∙ ap (λ (x : Hit). foundAs x (f .at)) h)
+  found-end h = ended (drop n l) n (f .at) (sym e ∙ ap (λ (x : NextHit). foundAs x (f .at)) h)
 
-pub handed-retained : {l : List Float} {n : ℕ} {out : List Float} → Handed l n out → out ≡ retained (drop n l)
+pub handed-retained : {l : List Float} {n : ℕ} {out : List Float} → HitsHanded l n out → out ≡ retained (drop n l)
 handed-retained {l} (none {n} {m} e) = sym (ended (drop n l) n m e)
 handed-retained {l} (more {n} {m} {lo} {hi} {rest} e h) =
     sym (hit-at l n m lo hi e .goes ∙ ap (λ (k : List Float). lo ∷ hi ∷ k) (sym (handed-retained h)))
 
 -- a reader at the start hands out the pairs that are not dropped
-pub handed-all : {l out : List Float} → Handed l 0 out → out ≡ retained l
+pub handed-all : {l out : List Float} → HitsHanded l 0 out → out ≡ retained l
 handed-all h = handed-retained h
 
 -- so no point is lost
-pub handed-holds : {l out : List Float} → Handed l 0 out → (p : Float) → holds out p ≡ holds l p
+pub handed-holds : {l out : List Float} → HitsHanded l 0 out → (p : Float) → holds out p ≡ holds l p
 handed-holds {l} h p = ap (λ (k : List Float). holds k p) (handed-all h) ∙ retained-holds l p
 
 -- and it comes to an end
-all-next : (l : List Float) (k n : ℕ) → length l - n < suc k → ((m : ℕ) → length l - m < k → Handed l m (retained (drop m l)))
-    → (x : Hit) (m : ℕ) → hitOf n (drop n l) ≡ foundAs x m → Handed l n (retained (drop n l))
-all-next l k n h again End m e = subst (Handed l n) (sym (ended (drop n l) n m e)) (none e)
+all-next : (l : List Float) (k n : ℕ) → length l - n < suc k → ((m : ℕ) → length l - m < k → HitsHanded l m (retained (drop m l)))
+    → (x : NextHit) (m : ℕ) → nextHit n (drop n l) ≡ foundAs x m → HitsHanded l n (retained (drop n l))
+all-next l k n h again End m e = subst (HitsHanded l n) (sym (ended (drop n l) n m e)) (none e)
 all-next l k n h again (Pair lo hi) m e =
     let s = hit-at l n m lo hi e in
-    subst (Handed l n) (sym (s .goes)) (more e (again m (omega (arith, s .past, s .inside))))
+    subst (HitsHanded l n) (sym (s .goes)) (more e (again m (omega (arith, s .past, s .inside))))
 
-all-from : (l : List Float) (k n : ℕ) → length l - n < k → Handed l n (retained (drop n l))
+all-from : (l : List Float) (k n : ℕ) → length l - n < k → HitsHanded l n (retained (drop n l))
 all-from l zero n h = absurd (omega arith)
-all-from l (suc k) n h = all-next l k n h (λ m g. all-from l k m g) (hitOf n (drop n l) .hit) (hitOf n (drop n l) .at) refl
+all-from l (suc k) n h = all-next l k n h (λ m g. all-from l k m g) (nextHit n (drop n l) .hit) (nextHit n (drop n l) .at) refl
 
-pub hands-all : (l : List Float) → Handed l 0 (retained l)
+pub hands-all : (l : List Float) → HitsHanded l 0 (retained l)
 hands-all l = all-from l (suc (length l)) 0 (omega arith)

@@ -7,20 +7,20 @@ use native.Mathlib.Omega.{arith}
 use lib.ListN.{length, getD, drop, length-drop}
 use lib.Ieee.{Float, nan, lt}
 use Rattle.spans.proofs.Points.{drop-pair}
-use Rattle.span_hits.specs.declared.Hit.the-variants.{Pair, End}
-use Rattle.span_hits.specs.Hits.{hitOf, foundAs}
+use Rattle.span_hits.specs.declared.NextHit.the-variants.{Pair, End}
+use Rattle.span_hits.specs.Hits.{nextHit, foundAs}
 
 -- two cells are left at place n
 pub hit-step : (s : List Float) (n : ℕ) → 1 < length s - n
-    → hitOf n (drop n s) ≡ cond (lt (getD s n nan) (getD s (n + 1) nan)) (foundAs (Pair (getD s n nan) (getD s (n + 1) nan)) (n + 2)) (hitOf (n + 2) (drop (n + 2) s))
-unfolding hitOf
-hit-step s n h = ap (hitOf n) (drop-pair s n (omega arith))
+    → nextHit n (drop n s) ≡ cond (lt (getD s n nan) (getD s (n + 1) nan)) (foundAs (Pair (getD s n nan) (getD s (n + 1) nan)) (n + 2)) (nextHit (n + 2) (drop (n + 2) s))
+unfolding nextHit
+hit-step s n h = ap (nextHit n) (drop-pair s n (omega arith))
 
-short : (s : List Float) (n : ℕ) → length s ≤ 1 → hitOf n s ≡ foundAs End n
-unfolding hitOf
+short : (s : List Float) (n : ℕ) → length s ≤ 1 → nextHit n s ≡ foundAs End n
+unfolding nextHit
 short [] n h = refl
 short (x ∷ []) n h = refl
 short (x ∷ y ∷ s) n h = absurd (omega arith)
 
-pub hit-end : (s : List Float) (n : ℕ) → length s - n ≤ 1 → hitOf n (drop n s) ≡ foundAs End n
+pub hit-end : (s : List Float) (n : ℕ) → length s - n ≤ 1 → nextHit n (drop n s) ≡ foundAs End n
 hit-end s n h = short (drop n s) n (simp length-drop (omega arith))

@@ -2,8 +2,7 @@
 ghost use mathlib.Core.Path.{_≡_};
 ghost use Prim.Native.Nat.{_-_};
 ghost use lib.ListN.{drop};
-ghost use Rattle.span_hits.specs.Hits.{hitOf, foundAs};
-
+ghost use Rattle.span_hits.specs.Hits.{nextHit, foundAs};
 // The list that is lent, and the place of the next pair.
 pub struct HitReader<'a> {
     pub hits: &'a [f64],
@@ -11,14 +10,14 @@ pub struct HitReader<'a> {
 }
 
 // A pair, or none left.
-pub enum Hit {
+pub enum NextHit {
     Pair(f64, f64),
     End,
 }
 
 // A hit, and the place past it.
 pub struct Found {
-    pub hit: Hit,
+    pub hit: NextHit,
     pub at: usize,
 }
 
@@ -31,7 +30,7 @@ fn left(n: usize, at: usize) -> usize
 
 // The first pair from place `from` on with lo < hi. A last double that is no pair is passed over.
 pub fn hit_from(hits: &[f64], from: usize) -> Found
-    ensures { λ r. ⌜ r ≡ hitOf from (drop from (now (hits .entry))) ⌝ }
+    ensures { λ r. ⌜ r ≡ nextHit from (drop from (now (hits .entry))) ⌝ }
 {
     let mut at = from;
     while 1 < left(hits.len(), at) {
@@ -40,12 +39,15 @@ pub fn hit_from(hits: &[f64], from: usize) -> Found
         at += 2;
         if lo < hi {
             return Found {
-                hit: Hit::Pair(lo, hi),
+                hit: NextHit::Pair(lo, hi),
                 at,
             };
         }
     }
-    Found { hit: Hit::End, at }
+    Found {
+        hit: NextHit::End,
+        at,
+    }
 }
 
 // A reader at the start of a list.
@@ -56,9 +58,9 @@ pub fn new<'a>(hits: &'a [f64]) -> HitReader<'a>
 }
 
 // The next pair that is not dropped; the place moves past it.
-pub fn next<'s, 'a>(r: &'s mut HitReader<'a>) -> Hit
+pub fn next<'s, 'a>(r: &'s mut HitReader<'a>) -> NextHit
     ensures { λ h. ⌜ (now (r .exit) .hits ≡ now (r .entry) .hits)
-        × (foundAs h (now (r .exit) .at) ≡ hitOf (now (r .entry) .at) (drop (now (r .entry) .at) (now (now (r .entry) .hits)))) ⌝ }
+        × (foundAs h (now (r .exit) .at) ≡ nextHit (now (r .entry) .at) (drop (now (r .entry) .at) (now (now (r .entry) .hits)))) ⌝ }
 {
     let found = hit_from(r.hits, r.at);
     r.at = found.at;

@@ -12,8 +12,8 @@ use lib.ListN.{length, getD, take, drop, set, take-append-drop, length-drop, len
 use lib.Seq.{length-take-le, getD-take, getD-drop, getD-set-same, getD-set-other, take-suc, take-suc-set, take-set-le}
 use lib.Ieee.{Float, nan, lt, le}
 use Rattle.spans.specs.Spans.{within, holds, rising, sound}
-use Rattle.spans.specs.Steps.{Put, pairIf}
-use Rattle.span_insert.specs.Steps.{Counted, Spliced, Joined, endIf, joinAt}
+use Rattle.spans.specs.Steps.{PutPairPost, pairIf}
+use Rattle.span_insert.specs.Steps.{EndsCounted, SplicePost, InsertPost, endIf, joinAt}
 use Rattle.doubles.specs.Doubles.{Number}
 use Rattle.doubles.proofs.Bools.{and-left, and-right, and-true, and-false, both, by-cases, clash}
 use Rattle.doubles.proofs.Order.{lt-number, le-number, lt-not-le, lt→le, not-lt→le, not-le→lt, le-lt-trans, lt-trans, lt-le-trans, le-refl, le-trans}
@@ -137,7 +137,7 @@ module _ (l : List Float) (lo hi : Float) (i j : ℕ) (up : rising l ≡ true) (
 
 -- ---- the places that the searches find
 module _ (b : List Float) (n : ℕ) (lo hi : Float) (i j : ℕ) (n-fits : n ≤ length b) (is-sound : sound (take n b) ≡ true)
-    (up-pair : lt lo hi ≡ true) (to-hi : Counted (λ e. le e hi) b n j) (to-lo : Counted (λ e. lt e lo) b n i) where
+    (up-pair : lt lo hi ≡ true) (to-hi : EndsCounted (λ e. le e hi) b n j) (to-lo : EndsCounted (λ e. lt e lo) b n i) where
   size : length (take n b) ≡ n
   size = length-take-le n b n-fits
 
@@ -233,7 +233,7 @@ join-all P l i j lo hi h a b =
 
 -- ---- the step: what `insert` leaves
 pub insert-done : (b b′ : List Float) (n : ℕ) (lo hi : Float) (i j r : ℕ) → n ≤ length b → sound (take n b) ≡ true → lt lo hi ≡ true
-    → Counted (λ e. lt e lo) b n i → Counted (λ e. le e hi) b n j → Spliced b n i j lo hi b′ r → Joined b n lo hi b′ r
+    → EndsCounted (λ e. lt e lo) b n i → EndsCounted (λ e. le e hi) b n j → SplicePost b n i j lo hi b′ r → InsertPost b n lo hi b′ r
 insert-done b b′ n lo hi i j r fit s up ci cj m = record {
   size = m .size;
   most = m .most;
@@ -246,7 +246,7 @@ insert-done b b′ n lo hi i j r fit s up ci cj m = record {
 
 -- all ends are below lo: the pair comes last
 pub insert-last : (b b′ : List Float) (n : ℕ) (lo hi : Float) (r : ℕ) → n ≤ length b → sound (take n b) ≡ true
-    → (0 < n → lt (getD b (n - 1) nan) lo ≡ true) → Put b n lo hi b′ r → Joined b n lo hi b′ r
+    → (0 < n → lt (getD b (n - 1) nan) lo ≡ true) → PutPairPost b n lo hi b′ r → InsertPost b n lo hi b′ r
 insert-last b b′ n lo hi r fit s last m = record {
   size = m .size;
   most = m .most;
@@ -256,7 +256,7 @@ insert-last b b′ n lo hi r fit s last m = record {
   rest = m .rest;
 }
 
-pub insert-none : (b : List Float) (n : ℕ) (lo hi : Float) → sound (take n b) ≡ true → ((p : Float) → within lo hi p ≡ true → holds (take n b) p ≡ true) → Joined b n lo hi b n
+pub insert-none : (b : List Float) (n : ℕ) (lo hi : Float) → sound (take n b) ≡ true → ((p : Float) → within lo hi p ≡ true → holds (take n b) p ≡ true) → InsertPost b n lo hi b n
 insert-none b n lo hi s inside = record {
   size = refl;
   most = omega arith;
@@ -304,14 +304,14 @@ module _ (b : List Float) (n : ℕ) (lo hi : Float) (fit : n ≤ length b) (s : 
       ap (λ (k : ℕ). holds (take k b) p) two ∙ holds-more b (n - 2) p whole (omega (arith, two))
       ∙ ap (λ (k : ℕ). holds (take (n - 2) b) p || within x (getD b k nan) p) one
 
-  pub insert-inside : lt y hi ≡ false → Joined b n lo hi b n
+  pub insert-inside : lt y hi ≡ false → InsertPost b n lo hi b n
   insert-inside h = insert-none b n lo hi s (λ p w. last-apart p ∙ rw (inside p w) (or-true (holds (take (n - 2) b) p)))
     where
       inside : (p : Float) → within lo hi p ≡ true → within x y p ≡ true
       inside p w = both (le x p) (lt p y) (le-trans x lo p low (and-left (le lo p) (lt p hi) w))
           (lt-le-trans p hi y (and-right (le lo p) (lt p hi) w) (not-lt→le y hi (lt-number x y rises .1) (lt-number p hi (and-right (le lo p) (lt p hi) w) .1) h))
 
-  pub insert-extends : n + 2 ≤ length b → lt y hi ≡ true → Joined b n lo hi (set b (n - 1) hi) n
+  pub insert-extends : n + 2 ≤ length b → lt y hi ≡ true → InsertPost b n lo hi (set b (n - 1) hi) n
   insert-extends room h = record {
     size = length-set b (n - 1) hi;
     most = omega arith;

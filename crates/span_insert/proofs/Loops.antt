@@ -10,7 +10,7 @@ use lib.ListN.{length, getD, take, drop, set, length-set, length-append, length-
 use lib.Seq.{getD-set-same, getD-set-other, getD-take, getD-drop, ext-getD, length-take-le, take-take, take-add, take-at, drop-at, sets, sets-eq, length-sets}
 use lib.Ieee.{Float, nan}
 use Rattle.spans.specs.Steps.{SameFrom}
-use Rattle.span_insert.specs.Steps.{Moved, Spliced, endIf}
+use Rattle.span_insert.specs.Steps.{CellsMoved, SplicePost, endIf}
 
 -- ---- a search from the high end
 -- the ends from i to n fail the test
@@ -70,7 +70,7 @@ down-step b₀ from to count k b d r h s =
     same : (k q : ℕ) → (q < k → ⊥) → q < k + 1 → k ≡ q
     same k q a g = omega arith
 
-pub down-done : (b₀ : List Float) (from to count k : ℕ) (b : List Float) → count ≤ k → Down b₀ from to count k b → Moved b₀ from to count b
+pub down-done : (b₀ : List Float) (from to count k : ℕ) (b : List Float) → count ≤ k → Down b₀ from to count k b → CellsMoved b₀ from to count b
 down-done b₀ from to count k b h s = record {
   size = s .size;
   front = λ q g f. s .front q f;
@@ -116,7 +116,7 @@ up-step b₀ from to count k b d r h s =
     same : (k q : ℕ) → (k < q → ⊥) → k ≤ q → k ≡ q
     same k q a g = omega arith
 
-pub up-done : (b₀ : List Float) (from to count k : ℕ) (b : List Float) → k ≤ 0 → from ≤ to → Up b₀ from to count k b → Moved b₀ from to count b
+pub up-done : (b₀ : List Float) (from to count k : ℕ) (b : List Float) → k ≤ 0 → from ≤ to → Up b₀ from to count k b → CellsMoved b₀ from to count b
 up-done b₀ from to count k b h d s = record {
   size = s .size;
   front = λ q g f. s .unread q (omega arith);
@@ -126,7 +126,7 @@ up-done b₀ from to count k b h d s = record {
 
 -- ---- a run of ends in front of cells that were moved
 pub spliced : (b b₁ : List Float) (n i j w : ℕ) (mid : List Float) → i ≤ j → j ≤ n → n ≤ length b → w ≡ i + length mid
-    → w + (n - j) ≤ length b → Moved b j w (n - j) b₁
+    → w + (n - j) ≤ length b → CellsMoved b j w (n - j) b₁
     → take (w + (n - j)) (sets b₁ i mid) ≡ take i (take n b) ++ (mid ++ drop j (take n b))
 spliced b b₁ n i j w mid ij jn nb e fit m =
     let t = n - j in
@@ -160,7 +160,7 @@ sets-past b (x ∷ l) i q h = sets-past (set b i x) l (suc i) q (omega arith) �
 -- x and y say whether the places i and j have an even number of ends in front of them
 pub splice-done : (b b₁ : List Float) (n i j w : ℕ) (lo hi : Float) (x y : Bool) → i ≤ j → j ≤ n → n + 2 ≤ length b
     → eqb (i % 2) 0 ≡ x → eqb (j % 2) 0 ≡ y → w ≡ i + length (endIf x lo ++ endIf y hi) → w ≤ i + 2
-    → Moved b j w (n - j) b₁ → Spliced b n i j lo hi (sets b₁ i (endIf x lo ++ endIf y hi)) (w + (n - j))
+    → CellsMoved b j w (n - j) b₁ → SplicePost b n i j lo hi (sets b₁ i (endIf x lo ++ endIf y hi)) (w + (n - j))
 splice-done b b₁ n i j w lo hi x y ij jn nb ex ey e small m = record {
   size = length-sets b₁ i (endIf x lo ++ endIf y hi) ∙ m .size;
   most = omega arith;

@@ -10,13 +10,13 @@ use Rattle.spans.specs.Spans.{NormalOf}
 use Rattle.spans.specs.Steps.{SameFrom}
 
 -- of the first n ends, those from r on fail the test, and the one before r passes it
-pub record Counted (test : Float → Bool) (l : List Float) (n r : ℕ) : Type 0 where
+pub record EndsCounted (test : Float → Bool) (l : List Float) (n r : ℕ) : Type 0 where
   pub most : r ≤ n
   pub past : (k : ℕ) → r ≤ k → k < n → test (getD l k nan) ≡ false
   pub last : 0 < r → test (getD l (r - 1) nan) ≡ true
 
 -- the cells from `from` to `from + count` stand at `to`; those in front of both places are as before, and so are those past the new place
-pub record Moved (before : List Float) (from to count : ℕ) (after : List Float) : Type 0 where
+pub record CellsMoved (before : List Float) (from to count : ℕ) (after : List Float) : Type 0 where
   pub size : length after ≡ length before
   pub front : (k : ℕ) → k < from → k < to → getD after k nan ≡ getD before k nan
   pub cells : (k : ℕ) → k < count → getD after (to + k) nan ≡ getD before (from + k) nan
@@ -32,14 +32,14 @@ endIf false x = []
 abbrev pub joinAt : List Float → ℕ → ℕ → Float → Float → List Float
 joinAt l i j lo hi = take i l ++ (endIf (eqb (i % 2) 0) lo ++ (endIf (eqb (j % 2) 0) hi ++ drop j l))
 
-pub record Spliced (before : List Float) (n i j : ℕ) (lo hi : Float) (after : List Float) (r : ℕ) : Type 0 where
+pub record SplicePost (before : List Float) (n i j : ℕ) (lo hi : Float) (after : List Float) (r : ℕ) : Type 0 where
   pub size : length after ≡ length before
   pub most : r ≤ n + 2
   pub ends : take r after ≡ joinAt (take n before) i j lo hi
   pub rest : SameFrom (n + 2) before after
 
 -- the first r ends are what normalising makes of the first n, a sound list, and the pair
-pub record Joined (before : List Float) (n : ℕ) (lo hi : Float) (after : List Float) (r : ℕ) : Type 0 where
+pub record InsertPost (before : List Float) (n : ℕ) (lo hi : Float) (after : List Float) (r : ℕ) : Type 0 where
   pub size : length after ≡ length before
   pub most : r ≤ n + 2
   pub list : NormalOf (take n before ++ (lo ∷ hi ∷ [])) (take r after)

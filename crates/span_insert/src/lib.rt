@@ -5,12 +5,11 @@ ghost use lib.ListN.{length, take};
 ghost use mathlib.Core.Bool.{true};
 ghost use lib.Ieee.{lt, le};
 ghost use Rattle.spans.specs.Spans.{sound};
-ghost use Rattle.span_insert.specs.Steps.{Counted, Moved, Spliced, Joined};
-
+ghost use Rattle.span_insert.specs.Steps.{EndsCounted, CellsMoved, SplicePost, InsertPost};
 // How many of the first n ends are at most x, in a rising list. Searched from the high end.
 fn count_up_to(s: &[f64], n: usize, x: f64) -> usize
     requires { ⌜ n ≤ length (now s) ⌝ }
-    ensures { λ r. ⌜ Counted (λ e. le e x) (now (s .entry)) n r ⌝ }
+    ensures { λ r. ⌜ EndsCounted (λ e. le e x) (now (s .entry)) n r ⌝ }
 {
     let mut i = n;
     while 0 < i {
@@ -25,7 +24,7 @@ fn count_up_to(s: &[f64], n: usize, x: f64) -> usize
 // How many of the first n ends are below x, in a rising list. Searched from the high end.
 fn count_below(s: &[f64], n: usize, x: f64) -> usize
     requires { ⌜ n ≤ length (now s) ⌝ }
-    ensures { λ r. ⌜ Counted (λ e. lt e x) (now (s .entry)) n r ⌝ }
+    ensures { λ r. ⌜ EndsCounted (λ e. lt e x) (now (s .entry)) n r ⌝ }
 {
     let mut i = n;
     while 0 < i {
@@ -40,7 +39,7 @@ fn count_below(s: &[f64], n: usize, x: f64) -> usize
 // Moves count cells down, from `from` to `to`.
 fn move_down(b: &mut [f64], from: usize, to: usize, count: usize)
     requires { ⌜ (to ≤ from) × (from + count ≤ length (now b)) ⌝ }
-    ensures { λ _. ⌜ Moved (now (b .entry)) from to count (now (b .exit)) ⌝ }
+    ensures { λ _. ⌜ CellsMoved (now (b .entry)) from to count (now (b .exit)) ⌝ }
 {
     let mut k = 0;
     while k < count {
@@ -52,7 +51,7 @@ fn move_down(b: &mut [f64], from: usize, to: usize, count: usize)
 // Moves count cells up, from `from` to `to`.
 fn move_up(b: &mut [f64], from: usize, to: usize, count: usize)
     requires { ⌜ (from ≤ to) × (to + count ≤ length (now b)) ⌝ }
-    ensures { λ _. ⌜ Moved (now (b .entry)) from to count (now (b .exit)) ⌝ }
+    ensures { λ _. ⌜ CellsMoved (now (b .entry)) from to count (now (b .exit)) ⌝ }
 {
     let mut k = count;
     while 0 < k {
@@ -63,7 +62,7 @@ fn move_up(b: &mut [f64], from: usize, to: usize, count: usize)
 
 fn relocate(b: &mut [f64], from: usize, to: usize, count: usize)
     requires { ⌜ (from + count ≤ length (now b)) × (to + count ≤ length (now b)) ⌝ }
-    ensures { λ _. ⌜ Moved (now (b .entry)) from to count (now (b .exit)) ⌝ }
+    ensures { λ _. ⌜ CellsMoved (now (b .entry)) from to count (now (b .exit)) ⌝ }
 {
     if to <= from {
         move_down(b, from, to, count);
@@ -75,7 +74,7 @@ fn relocate(b: &mut [f64], from: usize, to: usize, count: usize)
 // Replaces the ends from place i to place j by lo and hi, each where an even number of ends stands in front of its place.
 fn splice(b: &mut [f64], n: usize, i: usize, j: usize, lo: f64, hi: f64) -> usize
     requires { ⌜ (i ≤ j) × (j ≤ n) × (n + 2 ≤ length (now b)) ⌝ }
-    ensures { λ r. ⌜ Spliced (now (b .entry)) n i j lo hi (now (b .exit)) r ⌝ }
+    ensures { λ r. ⌜ SplicePost (now (b .entry)) n i j lo hi (now (b .exit)) r ⌝ }
 {
     let tail = n - j;
     if i % 2 == 0 {
@@ -102,7 +101,7 @@ fn splice(b: &mut [f64], n: usize, i: usize, j: usize, lo: f64, hi: f64) -> usiz
 // lo < hi is dropped.
 pub fn insert(b: &mut [f64], n: usize, lo: f64, hi: f64) -> usize
     requires { ⌜ (n + 2 ≤ length (now b)) × (sound (take n (now b)) ≡ true) ⌝ }
-    ensures { λ r. ⌜ Joined (now (b .entry)) n lo hi (now (b .exit)) r ⌝ }
+    ensures { λ r. ⌜ InsertPost (now (b .entry)) n lo hi (now (b .exit)) r ⌝ }
 {
     if n == 0 {
         return spans::put_pair(b, n, lo, hi);

@@ -7,10 +7,10 @@ use lib.ListN.{length, getD, take, drop, length-drop, drop-of-length-le}
 use lib.Seq.{length-take-le}
 use lib.Ieee.{Float, nan}
 use Rattle.spans.specs.Spans.{retained, NormalOf}
-use Rattle.spans.specs.Steps.{SameFrom, Put, Filled}
-use Rattle.span_insert.specs.Steps.{Joined}
+use Rattle.spans.specs.Steps.{SameFrom, PutPairPost, FilledFront}
+use Rattle.span_insert.specs.Steps.{InsertPost}
 use Rattle.span_hits.proofs.Reading.{HitAt}
-use Rattle.span_join.specs.Steps.{Begun, BegunBack, Front}
+use Rattle.span_join.specs.Steps.{JoinedFromFront, JoinedFromBack, ListInFront}
 use Rattle.spans.proofs.Points.{take-pair, drop-pair}
 use Rattle.spans.proofs.Normal.{normal-none, normal-then, normal-swap}
 use Rattle.spans.proofs.Sets.{sound-mod}
@@ -27,7 +27,7 @@ pub joining-start : (b : List Float) → Joining b 0 0 b
 joining-start b = record { size = refl; whole = omega arith; room = omega arith; list = normal-none; same = λ q h. refl }
 
 pub joining-step : (b₀ b b′ : List Float) (n k r : ℕ) → k + 2 ≤ length b₀ → Joining b₀ n k b
-    → Joined b n (getD b k nan) (getD b (k + 1) nan) b′ r → Joining b₀ r (k + 2) b′
+    → InsertPost b n (getD b k nan) (getD b (k + 1) nan) b′ r → Joining b₀ r (k + 2) b′
 joining-step b₀ b b′ n k r fit s m = record {
   size = m .size ∙ s .size;
   whole = omega (arith, s .whole);
@@ -38,7 +38,7 @@ joining-step b₀ b b′ n k r fit s m = record {
   same = λ q h. m .rest q (omega (arith, s .room)) ∙ s .same q (omega arith);
 }
 
-pub joining-done : (b₀ b : List Float) (m n k : ℕ) → k ≤ m → m ≤ k → Joining b₀ n k b → Filled (NormalOf (take m b₀)) b₀ m b n
+pub joining-done : (b₀ b : List Float) (m n k : ℕ) → k ≤ m → m ≤ k → Joining b₀ n k b → FilledFront (NormalOf (take m b₀)) b₀ m b n
 joining-done b₀ b m n k h g s = record {
   size = s .size;
   most = omega (arith, s .room);
@@ -59,7 +59,7 @@ pub gather-start : (spans b : List Float) (at : ℕ) → Gathered spans b at at 
 gather-start spans b at = record { size = refl; most = omega arith; room = omega arith; ends = refl }
 
 pub gather-step : (spans b₀ b b′ : List Float) (at n k m r : ℕ) (lo hi : Float) → Gathered spans b₀ at n k b → HitAt spans k m lo hi
-    → Put b n lo hi b′ r → Gathered spans b₀ at r m b′
+    → PutPairPost b n lo hi b′ r → Gathered spans b₀ at r m b′
 gather-step spans b₀ b b′ at n k m r lo hi s f p = record {
   size = p .size ∙ s .size;
   most = omega (arith, f .inside, s .most);
@@ -71,7 +71,7 @@ gather-step spans b₀ b b′ at n k m r lo hi s f p = record {
 
 -- none is left from place k on
 pub gather-done : (spans b₀ b : List Float) (at n k : ℕ) → at + length spans ≤ length b₀ → Gathered spans b₀ at n k b
-    → retained (drop k spans) ≡ [] → Front (take at b₀ ++ retained spans) b₀ b n
+    → retained (drop k spans) ≡ [] → ListInFront (take at b₀ ++ retained spans) b₀ b n
 gather-done spans b₀ b at n k fit s none =
     let e : take n b ≡ take at b₀ ++ retained spans = sym (append-nil (take n b)) ∙ ap (_++_ (take n b)) (sym none) ∙ s .ends in
     record {
@@ -81,23 +81,23 @@ gather-done spans b₀ b at n k fit s none =
     }
 
 pub gather-all : (spans b₀ b : List Float) (at n k : ℕ) → at + length spans ≤ length b₀ → length spans ≤ k → Gathered spans b₀ at n k b
-    → Front (take at b₀ ++ retained spans) b₀ b n
+    → ListInFront (take at b₀ ++ retained spans) b₀ b n
 unfolding retained
 gather-all spans b₀ b at n k fit h s = gather-done spans b₀ b at n k fit s (ap retained (drop-of-length-le spans {i = k} h))
 
 -- the sound list at the start of the buffer has whole pairs
-pub filled-even : (pairs b₀ b : List Float) (limit n : ℕ) → limit ≤ length b₀ → Filled (NormalOf pairs) b₀ limit b n → n % 2 ≡ 0
+pub filled-even : (pairs b₀ b : List Float) (limit n : ℕ) → limit ≤ length b₀ → FilledFront (NormalOf pairs) b₀ limit b n → n % 2 ≡ 0
 filled-even pairs b₀ b limit n fit s =
     omega (arith, sound-mod (take n b) (s .list .list .isSound), length-take-le n b (omega (arith, s .most, s .size)))
 
 -- no pairs yet
-filled-none : (b : List Float) → Filled (NormalOf []) b 0 b 0
+filled-none : (b : List Float) → FilledFront (NormalOf []) b 0 b 0
 filled-none b = record { size = refl; most = omega arith; list = normal-none }
 
 -- one pair more, worked into the list at the start of the buffer
 filled-step : (pairs b₀ b b′ : List Float) (limit limit′ n r : ℕ) (lo hi : Float) → length pairs % 2 ≡ 0
-    → Filled (NormalOf pairs) b₀ limit b n → Joined b n lo hi b′ r → limit + 2 ≤ limit′
-    → Filled (NormalOf (pairs ++ (lo ∷ hi ∷ []))) b₀ limit′ b′ r
+    → FilledFront (NormalOf pairs) b₀ limit b n → InsertPost b n lo hi b′ r → limit + 2 ≤ limit′
+    → FilledFront (NormalOf (pairs ++ (lo ∷ hi ∷ []))) b₀ limit′ b′ r
 filled-step pairs b₀ b b′ limit limit′ n r lo hi even s m fit = record {
   size = m .size ∙ s .size;
   most = omega (arith, s .most, m .most);
@@ -105,11 +105,11 @@ filled-step pairs b₀ b b′ limit limit′ n r lo hi even s m fit = record {
 }
 
 -- ---- pairs joined as they are read, in their order
-pub begun-start : (spans b : List Float) → Begun spans b b (record { passed = 0; end = 0 })
+pub begun-start : (spans b : List Float) → JoinedFromFront spans b b (record { passed = 0; end = 0 })
 begun-start spans b = record { passedMost = omega arith; passedEven = omega arith; filled = filled-none b }
 
-pub begun-step : (spans b₀ b b′ : List Float) (n k r : ℕ) → k + 2 ≤ length spans → Begun spans b₀ b (record { passed = k; end = n })
-    → Joined b n (getD spans k nan) (getD spans (k + 1) nan) b′ r → Begun spans b₀ b′ (record { passed = k + 2; end = r })
+pub begun-step : (spans b₀ b b′ : List Float) (n k r : ℕ) → k + 2 ≤ length spans → JoinedFromFront spans b₀ b (record { passed = k; end = n })
+    → InsertPost b n (getD spans k nan) (getD spans (k + 1) nan) b′ r → JoinedFromFront spans b₀ b′ (record { passed = k + 2; end = r })
 begun-step spans b₀ b b′ n k r fit s m = record {
   passedMost = fit;
   passedEven = omega (arith, s .passedEven);
@@ -118,7 +118,7 @@ begun-step spans b₀ b b′ n k r fit s m = record {
 }
 
 -- ---- the same from the last pair back
-pub back-start : (spans b : List Float) → length spans % 2 ≡ 0 → BegunBack spans b b (record { passed = length spans; end = 0 })
+pub back-start : (spans b : List Float) → length spans % 2 ≡ 0 → JoinedFromBack spans b b (record { passed = length spans; end = 0 })
 back-start spans b even = record {
   passedMost = omega arith;
   passedEven = even;
@@ -129,8 +129,8 @@ back-start spans b even = record {
     none k = omega arith
 
 pub back-step : (spans b₀ b b′ : List Float) (n k r : ℕ) → length spans % 2 ≡ 0 → 0 < k
-    → BegunBack spans b₀ b (record { passed = k; end = n }) → Joined b n (getD spans (k - 2) nan) (getD spans (k - 1) nan) b′ r
-    → BegunBack spans b₀ b′ (record { passed = k - 2; end = r })
+    → JoinedFromBack spans b₀ b (record { passed = k; end = n }) → InsertPost b n (getD spans (k - 2) nan) (getD spans (k - 1) nan) b′ r
+    → JoinedFromBack spans b₀ b′ (record { passed = k - 2; end = r })
 back-step spans b₀ b b′ n k r even pos s m =
     let pair = getD spans (k - 2) nan ∷ getD spans (k - 1) nan ∷ [] in
     let whole : length (drop k spans) % 2 ≡ 0 = omega (arith, length-drop k spans, s .passedMost, s .passedEven) in

@@ -4,15 +4,15 @@ ghost use Prim.Native.Nat.{_+_, _%_, _≤_};
 ghost use mathlib.Core.List.{_++_};
 ghost use lib.ListN.{length, take};
 ghost use Rattle.spans.specs.Spans.{retained, NormalOf};
-ghost use Rattle.spans.specs.Steps.{Filled};
-ghost use Rattle.span_join.specs.Steps.{Begun, BegunBack, Front};
-use span_hits::Hit;
+ghost use Rattle.spans.specs.Steps.{FilledFront};
+ghost use Rattle.span_join.specs.Steps.{JoinedFromFront, JoinedFromBack, ListInFront};
+use span_hits::NextHit;
 use spans::Place;
 
 // Copies the pairs with lo < hi past the first n cells of `out`, in order.
 pub fn gather(spans: &[f64], out: &mut [f64], n: usize) -> usize
     requires { ⌜ n + length (now spans) ≤ length (now out) ⌝ }
-    ensures { λ r. ⌜ Front (take n (now (out .entry)) ++ retained (now (spans .entry))) (now (out .entry)) (now (out .exit)) r ⌝ }
+    ensures { λ r. ⌜ ListInFront (take n (now (out .entry)) ++ retained (now (spans .entry))) (now (out .entry)) (now (out .exit)) r ⌝ }
 {
     let mut m = n;
     let mut k = 0;
@@ -20,11 +20,11 @@ pub fn gather(spans: &[f64], out: &mut [f64], n: usize) -> usize
         let found = span_hits::hit_from(spans, k);
         let hit = found.hit;
         match hit {
-            Hit::Pair(lo, hi) => {
+            NextHit::Pair(lo, hi) => {
                 m = spans::put_pair(out, m, lo, hi);
                 k = found.at;
             }
-            Hit::End => {
+            NextHit::End => {
                 return m;
             }
         }
@@ -35,7 +35,7 @@ pub fn gather(spans: &[f64], out: &mut [f64], n: usize) -> usize
 // Works the pairs of the first m cells one by one into the sound list of those in front of them, which stands at the start.
 pub fn join_all(b: &mut [f64], m: usize) -> usize
     requires { ⌜ (m % 2 ≡ 0) × (m ≤ length (now b)) ⌝ }
-    ensures { λ r. ⌜ Filled (NormalOf (take m (now (b .entry)))) (now (b .entry)) m (now (b .exit)) r ⌝ }
+    ensures { λ r. ⌜ FilledFront (NormalOf (take m (now (b .entry)))) (now (b .entry)) m (now (b .exit)) r ⌝ }
 {
     let mut n = 0;
     let mut k = 0;
@@ -64,7 +64,7 @@ fn falls(b: &[f64], n: usize, lo: f64, hi: f64) -> bool
 // Joins the pairs in their order until one begins below the last pair so far. `passed` is the place of that pair.
 pub fn join_rising(spans: &[f64], out: &mut [f64]) -> Place
     requires { ⌜ (length (now spans) % 2 ≡ 0) × (length (now spans) ≤ length (now out)) ⌝ }
-    ensures { λ r. ⌜ Begun (now (spans .entry)) (now (out .entry)) (now (out .exit)) r ⌝ }
+    ensures { λ r. ⌜ JoinedFromFront (now (spans .entry)) (now (out .entry)) (now (out .exit)) r ⌝ }
 {
     let mut n = 0;
     let mut k = 0;
@@ -83,7 +83,7 @@ pub fn join_rising(spans: &[f64], out: &mut [f64]) -> Place
 // The same from the last pair back. `passed` is the place past that pair.
 pub fn join_falling(spans: &[f64], out: &mut [f64]) -> Place
     requires { ⌜ (length (now spans) % 2 ≡ 0) × (length (now spans) ≤ length (now out)) ⌝ }
-    ensures { λ r. ⌜ BegunBack (now (spans .entry)) (now (out .entry)) (now (out .exit)) r ⌝ }
+    ensures { λ r. ⌜ JoinedFromBack (now (spans .entry)) (now (out .entry)) (now (out .exit)) r ⌝ }
 {
     let mut n = 0;
     let mut k = spans.len();

@@ -10,8 +10,8 @@ use lib.Seq.{length-take-le, drop-at, take-all, take-append-le}
 use borrow.Rule.Slice.PartMut.{putMid, postOf}
 use lib.Ieee.{Float}
 use Rattle.spans.specs.Spans.{within, holds, retained, NormalOf}
-use Rattle.spans.specs.Steps.{Filled, pairIf}
-use Rattle.span_join.specs.Steps.{Begun, BegunBack, Front}
+use Rattle.spans.specs.Steps.{FilledFront, pairIf}
+use Rattle.span_join.specs.Steps.{JoinedFromFront, JoinedFromBack, ListInFront}
 use Rattle.pair_moves.specs.Pairs.{Rearranged, same, keep, swap, then, SamePairs}
 use Rattle.spans.proofs.Normal.{retained-cons, retained-most, normal-same, normal-retained, normal-then, normal-swap}
 
@@ -46,7 +46,7 @@ end-rearranged (then r s) e h = end-rearranged r e (end-rearranged s e h)
 
 -- the pairs sorted in a part of the buffer and joined there
 pub sorted-front : (before sorted back after : List Float) (m r : ℕ) → SamePairs (take m before) sorted → take m back ≡ sorted → length back ≡ length before
-    → Filled (NormalOf (take m back)) back m after r → Filled (NormalOf (take m before)) before m after r
+    → FilledFront (NormalOf (take m back)) back m after r → FilledFront (NormalOf (take m before)) before m after r
 sorted-front before sorted back after m r s e n f = record {
   size = f .size ∙ n;
   most = f .most;
@@ -60,12 +60,12 @@ part-back w ys at k r h g =
     ap (take r) (drop-at (take at w) (ys ++ postOf at k w) at (length-take-le at w h)) ∙ take-append-le r ys (postOf at k w) g
 
 -- the number of ends when the pairs stand past the first n
-pub gathered-count : (spans before front : List Float) (n m : ℕ) → n ≤ length before → Front (take n before ++ retained spans) before front m → m ≡ n + length (retained spans)
+pub gathered-count : (spans before front : List Float) (n m : ℕ) → n ≤ length before → ListInFront (take n before ++ retained spans) before front m → m ≡ n + length (retained spans)
 gathered-count spans before front n m fit g = omega (arith, g .count, length-append (take n before) (retained spans), length-take-le n before fit)
 
 -- the pairs gathered past the first n ends, then made their sound list
-pub joined-more : (spans before front after : List Float) (n m r : ℕ) → n % 2 ≡ 0 → n ≤ length before → Front (take n before ++ retained spans) before front m
-    → Filled (NormalOf (take m front)) front m after r → Filled (NormalOf (take n before ++ spans)) before (n + length spans) after r
+pub joined-more : (spans before front after : List Float) (n m r : ℕ) → n % 2 ≡ 0 → n ≤ length before → ListInFront (take n before ++ retained spans) before front m
+    → FilledFront (NormalOf (take m front)) front m after r → FilledFront (NormalOf (take n before ++ spans)) before (n + length spans) after r
 joined-more spans before front after n m r even fit g f = record {
   size = f .size ∙ g .size;
   most = omega (arith, f .most, gathered-count spans before front n m fit g, retained-most spans);
@@ -74,16 +74,16 @@ joined-more spans before front after n m r even fit g f = record {
 }
 
 -- ---- pairs joined as they are read: all of them, or the others worked in after
-pub begun-all : (spans b₀ b : List Float) (n k : ℕ) → length spans ≤ k → Begun spans b₀ b (record { passed = k; end = n })
-    → Filled (NormalOf spans) b₀ (length spans) b n
+pub begun-all : (spans b₀ b : List Float) (n k : ℕ) → length spans ≤ k → JoinedFromFront spans b₀ b (record { passed = k; end = n })
+    → FilledFront (NormalOf spans) b₀ (length spans) b n
 begun-all spans b₀ b n k h s = record {
   size = s .filled .size;
   most = omega (arith, s .filled .most, s .passedMost);
   list = subst (λ (l : List Float). NormalOf l (take n b)) (take-all k spans h) (s .filled .list);
 }
 
-pub begun-more : (spans rest b₀ b b′ : List Float) (n k r : ℕ) → rest ≡ drop k spans → Begun spans b₀ b (record { passed = k; end = n })
-    → Filled (NormalOf (take n b ++ rest)) b (n + length rest) b′ r → Filled (NormalOf spans) b₀ (length spans) b′ r
+pub begun-more : (spans rest b₀ b b′ : List Float) (n k r : ℕ) → rest ≡ drop k spans → JoinedFromFront spans b₀ b (record { passed = k; end = n })
+    → FilledFront (NormalOf (take n b ++ rest)) b (n + length rest) b′ r → FilledFront (NormalOf spans) b₀ (length spans) b′ r
 begun-more spans rest b₀ b b′ n k r e s f = record {
   size = f .size ∙ s .filled .size;
   most = omega (arith, f .most, s .filled .most, s .passedMost, ap length e, length-drop k spans);
@@ -93,7 +93,7 @@ begun-more spans rest b₀ b b′ n k r e s f = record {
 }
 
 pub back-all : (spans b₀ b₁ b : List Float) (n k : ℕ) → length b₁ ≡ length b₀ → k ≡ 0
-    → BegunBack spans b₁ b (record { passed = k; end = n }) → Filled (NormalOf spans) b₀ (length spans) b n
+    → JoinedFromBack spans b₁ b (record { passed = k; end = n }) → FilledFront (NormalOf spans) b₀ (length spans) b n
 back-all spans b₀ b₁ b n k z e s = record {
   size = s .filled .size ∙ z;
   most = omega (arith, s .filled .most);
@@ -101,9 +101,9 @@ back-all spans b₀ b₁ b n k z e s = record {
 }
 
 pub back-more : (spans b₀ b₁ b b′ : List Float) (n k r : ℕ) → length spans % 2 ≡ 0 → length b₁ ≡ length b₀
-    → BegunBack spans b₁ b (record { passed = k; end = n })
-    → Filled (NormalOf (take n b ++ take k spans)) b (n + length (take k spans)) b′ r
-    → Filled (NormalOf spans) b₀ (length spans) b′ r
+    → JoinedFromBack spans b₁ b (record { passed = k; end = n })
+    → FilledFront (NormalOf (take n b ++ take k spans)) b (n + length (take k spans)) b′ r
+    → FilledFront (NormalOf spans) b₀ (length spans) b′ r
 back-more spans b₀ b₁ b b′ n k r even z s f =
     let front : length (take k spans) % 2 ≡ 0 = rw (length-take-le k spans (s .passedMost)) (s .passedEven) in
     let back : length (drop k spans) % 2 ≡ 0 = omega (arith, length-drop k spans, s .passedMost, s .passedEven) in

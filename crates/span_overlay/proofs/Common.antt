@@ -8,7 +8,7 @@ use native.Mathlib.Omega.{arith}
 use lib.ListN.{length, getD, take, drop, drop-of-length-le}
 use lib.Ieee.{Float, nan, lt}
 use Rattle.spans.specs.Spans.{sound}
-use Rattle.spans.specs.Steps.{Put, Filled, pairIf}
+use Rattle.spans.specs.Steps.{PutPairPost, FilledFront, pairIf}
 use Rattle.span_overlay.specs.Overlay.{sharedBy, commonOf}
 use Rattle.doubles.specs.Doubles.{Number, largerOf, smallerOf}
 use Rattle.doubles.proofs.Order.{not-lt→le, le-lt-trans, lt-trans}
@@ -38,7 +38,7 @@ share-start a b before = record {
 }
 
 pub share-done : (a b before : List Float) (i j n : ℕ) (out : List Float) → (length a ≤ i) ⊎ (length b ≤ j) → Sharing a b before i j n out
-    → Filled (λ l. l ≡ commonOf a b) before (length a + length b) out n
+    → FilledFront (λ l. l ≡ commonOf a b) before (length a + length b) out n
 unfolding commonOf
 share-done a b before i j n out h s = record {
   size = s .size;
@@ -55,7 +55,7 @@ share-done a b before i j n out h s = record {
 
 module _ (a b before : List Float) (i j n : ℕ) (out out′ : List Float) (r : ℕ) (sa : sound a ≡ true) (sb : sound b ≡ true)
     (s : Sharing a b before i j n out) (h : i < length a) (g : j < length b)
-    (m : Put out n (largerOf (getD a i nan) (getD b j nan)) (smallerOf (getD a (i + 1) nan) (getD b (j + 1) nan)) out′ r) where
+    (m : PutPairPost out n (largerOf (getD a i nan) (getD b j nan)) (smallerOf (getD a (i + 1) nan) (getD b (j + 1) nan)) out′ r) where
   a-fits : i + 2 ≤ length a
   a-fits = omega (arith, sound-mod a sa, s .iWhole)
 

@@ -9,9 +9,9 @@ use lib.ListN.{length, getD, take, drop, length-drop, drop-of-length-le}
 use lib.Seq.{take-add}
 use lib.Ieee.{Float, nan, lt, le}
 use Rattle.spans.specs.Spans.{sound}
-use Rattle.spans.specs.Steps.{Put, Filled, pairIf}
+use Rattle.spans.specs.Steps.{PutPairPost, FilledFront, pairIf}
 use Rattle.span_overlay.specs.Overlay.{higherOf, lowerOf, cutBy, lessOf}
-use Rattle.span_overlay.specs.Steps.{Ready, Cut}
+use Rattle.span_overlay.specs.Steps.{OverlayCutPre, OverlayCutPost}
 use Rattle.spans.specs.declared.Place.{Place}
 use Rattle.doubles.specs.Doubles.{Number}
 use Rattle.doubles.proofs.Order.{lt-number, lt→le, le→not-lt, not-le→lt, le-trans}
@@ -30,7 +30,7 @@ pub record Cutting (rest : List Float) (from hi : Float) (before : List Float) (
   pub passed : UpTo hi (take j rest)
   pub ends : take end out ++ cutBy lo hi (drop j rest) ≡ take n before ++ cutBy from hi rest
 
-pub cut-start : (rest : List Float) (from hi : Float) (before : List Float) (n : ℕ) → Ready rest from hi before n → Cutting rest from hi before n from 0 n before
+pub cut-start : (rest : List Float) (from hi : Float) (before : List Float) (n : ℕ) → OverlayCutPre rest from hi before n → Cutting rest from hi before n from 0 n before
 cut-start rest from hi before n s = record {
   size = refl;
   whole = omega arith;
@@ -42,7 +42,7 @@ cut-start rest from hi before n s = record {
 }
 
 module _ (rest : List Float) (from hi : Float) (before : List Float) (n : ℕ) (lo : Float) (j end : ℕ) (out out′ : List Float) (r : ℕ)
-    (ready : Ready rest from hi before n) (s : Cutting rest from hi before n lo j end out) where
+    (ready : OverlayCutPre rest from hi before n) (s : Cutting rest from hi before n lo j end out) where
   nlo : Number lo
   nlo = lt-number lo hi (s .under) .0
 
@@ -50,10 +50,10 @@ module _ (rest : List Float) (from hi : Float) (before : List Float) (n : ℕ) (
   nhi = lt-number lo hi (s .under) .1
 
   -- the pair [lo, x) is put, and the rest is m
-  put-ends : (x : Float) (m : List Float) → Put out end lo x out′ r → cutBy lo hi (drop j rest) ≡ pairIf lo x ++ m → take r out′ ++ m ≡ take n before ++ cutBy from hi rest
+  put-ends : (x : Float) (m : List Float) → PutPairPost out end lo x out′ r → cutBy lo hi (drop j rest) ≡ pairIf lo x ++ m → take r out′ ++ m ≡ take n before ++ cutBy from hi rest
   put-ends x m p e = ap (λ (l : List Float). l ++ m) (p .ends) ∙ append-assoc (take end out) (pairIf lo x) m ∙ ap (λ (l : List Float). take end out ++ l) (sym e) ∙ s .ends
 
-  put-all-ends : (x : Float) → Put out end lo x out′ r → cutBy lo hi (drop j rest) ≡ pairIf lo x ++ [] → take r out′ ≡ take n before ++ cutBy from hi rest
+  put-all-ends : (x : Float) → PutPairPost out end lo x out′ r → cutBy lo hi (drop j rest) ≡ pairIf lo x ++ [] → take r out′ ≡ take n before ++ cutBy from hi rest
   put-all-ends x p e = sym (append-nil (take r out′)) ∙ put-ends x [] p e
 
   -- the pair at place j, where there is one
@@ -85,7 +85,7 @@ module _ (rest : List Float) (from hi : Float) (before : List Float) (n : ℕ) (
     none-left h = cut-none hi nhi (higherOf lo y) (drop (j + 2) rest) (higher-both Number lo y nlo ny) tail-numbers (le-trans hi y (higherOf lo y) h (higher-second lo y nlo ny))
 
   -- the end of the list or an end from hi on comes next: the rest of the pair stays
-  pub cut-last : Put out end lo hi out′ r → (j < length rest → le hi (getD rest j nan) ≡ true) → Cut rest from hi before n out′ (record { passed = j; end = r })
+  pub cut-last : PutPairPost out end lo hi out′ r → (j < length rest → le hi (getD rest j nan) ≡ true) → OverlayCutPost rest from hi before n out′ (record { passed = j; end = r })
   unfolding cutBy
   cut-last m next = record {
     size = m .size ∙ s .size;
@@ -104,12 +104,12 @@ module _ (rest : List Float) (from hi : Float) (before : List Float) (n : ℕ) (
           (none-left f (le-trans hi (x f) (y f) (next f) (lt→le (x f) (y f) (pair-rises rest j (ready .restSound) (pair-fits f)))))
 
   -- the pair at place j starts below hi
-  module _ (fit : j < length rest) (below-hi : le hi (getD rest j nan) ≡ false) (m : Put out end lo (getD rest j nan) out′ r) where
+  module _ (fit : j < length rest) (below-hi : le hi (getD rest j nan) ≡ false) (m : PutPairPost out end lo (getD rest j nan) out′ r) where
     starts : cutBy lo hi (drop j rest) ≡ pairIf lo (x fit) ++ cutBy (higherOf lo (y fit)) hi (drop (j + 2) rest)
     starts = first fit ∙ ap (λ (z : Float). pairIf lo z ++ cutBy (higherOf lo (y fit)) hi (drop (j + 2) rest)) (rw (not-le→lt hi (x fit) nhi (nx fit) below-hi) refl)
 
     -- it reaches hi
-    pub cut-end : le hi (getD rest (j + 1) nan) ≡ true → Cut rest from hi before n out′ (record { passed = j; end = r })
+    pub cut-end : le hi (getD rest (j + 1) nan) ≡ true → OverlayCutPost rest from hi before n out′ (record { passed = j; end = r })
     cut-end h = record {
       size = m .size ∙ s .size;
       passedMost = s .jMost;
@@ -160,7 +160,7 @@ less-start a b before = record {
 }
 
 pub less-done : (a b before : List Float) (i j n : ℕ) (out : List Float) → length a ≤ i → Lessening a b before i j n out
-    → Filled (λ l. l ≡ lessOf a b) before (length a + length b) out n
+    → FilledFront (λ l. l ≡ lessOf a b) before (length a + length b) out n
 unfolding lessOf
 less-done a b before i j n out h s = record {
   size = s .size;
@@ -181,14 +181,14 @@ module _ (a b before : List Float) (i j n : ℕ) (out : List Float) (sa : sound 
   pair-in : i + 2 ≤ length a
   pair-in = omega (arith, sound-mod a sa, s .iWhole)
 
-  pub less-ready : Ready (drop j b) (getD a i nan) (getD a (i + 1) nan) out n
+  pub less-ready : OverlayCutPre (drop j b) (getD a i nan) (getD a (i + 1) nan) out n
   less-ready = record {
     restSound = drop-sound b j nan (s .jMost) sb (s .jWhole);
     pair = pair-rises a i sa pair-in;
     room = omega (arith, length-drop j b, s .jMost, s .most, pair-in, s .size);
   }
 
-  pub less-step : (out′ : List Float) (r : Place) → Cut (drop j b) (getD a i nan) (getD a (i + 1) nan) out n out′ r
+  pub less-step : (out′ : List Float) (r : Place) → OverlayCutPost (drop j b) (getD a i nan) (getD a (i + 1) nan) out n out′ r
       → Lessening a b before (i + 2) (j + r .passed) (r .end) out′
   unfolding lessOf
   less-step out′ r c =

@@ -11,13 +11,13 @@ use Rattle.spans.specs.declared.Place.{Place}
 use Rattle.span_overlay.specs.Overlay.{cutBy}
 
 -- what `cut_pair` asks: a pair, and room for what is left of it past the first n ends
-pub record Ready (rest : List Float) (from hi : Float) (before : List Float) (n : ℕ) : Type 0 where
+pub record OverlayCutPre (rest : List Float) (from hi : Float) (before : List Float) (n : ℕ) : Type 0 where
   pub restSound : sound rest ≡ true
   pub pair : lt from hi ≡ true
   pub room : n + length rest + 2 ≤ length before
 
 -- what the list leaves of the pair stands past the first n ends; the ends of the list that are passed are at most hi
-pub record Cut (rest : List Float) (from hi : Float) (before : List Float) (n : ℕ) (after : List Float) (r : Place) : Type 0 where
+pub record OverlayCutPost (rest : List Float) (from hi : Float) (before : List Float) (n : ℕ) (after : List Float) (r : Place) : Type 0 where
   pub size : length after ≡ length before
   pub passedMost : r .passed ≤ length rest
   pub passedEven : r .passed % 2 ≡ 0

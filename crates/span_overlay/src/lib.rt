@@ -4,9 +4,9 @@ ghost use mathlib.Core.Bool.{true};
 ghost use Prim.Native.Nat.{_+_, _≤_};
 ghost use lib.ListN.{length};
 ghost use Rattle.spans.specs.Spans.{sound};
-ghost use Rattle.spans.specs.Steps.{Filled};
+ghost use Rattle.spans.specs.Steps.{FilledFront};
 ghost use Rattle.span_overlay.specs.Overlay.{higherOf, lessOf, commonOf};
-ghost use Rattle.span_overlay.specs.Steps.{Ready, Cut};
+ghost use Rattle.span_overlay.specs.Steps.{OverlayCutPre, OverlayCutPost};
 use spans::Place;
 
 // The first end, or the second where that is higher.
@@ -21,8 +21,8 @@ pub fn higher(x: f64, y: f64) -> f64
 
 // Puts what the sound list `rest` leaves of the pair [from, hi] past the first n ends.
 fn cut_pair(rest: &[f64], out: &mut [f64], n: usize, from: f64, hi: f64) -> Place
-    requires { ⌜ Ready (now rest) from hi (now out) n ⌝ }
-    ensures { λ r. ⌜ Cut (now (rest .entry)) from hi (now (out .entry)) n (now (out .exit)) r ⌝ }
+    requires { ⌜ OverlayCutPre (now rest) from hi (now out) n ⌝ }
+    ensures { λ r. ⌜ OverlayCutPost (now (rest .entry)) from hi (now (out .entry)) n (now (out .exit)) r ⌝ }
 {
     let mut lo = from;
     let mut end = n;
@@ -47,7 +47,7 @@ fn cut_pair(rest: &[f64], out: &mut [f64], n: usize, from: f64, hi: f64) -> Plac
 // Fills the front of `out` with a less b.
 pub fn subtract_into(a: &[f64], b: &[f64], out: &mut [f64]) -> usize
     requires { ⌜ (sound (now a) ≡ true) × (sound (now b) ≡ true) × (length (now a) + length (now b) ≤ length (now out)) ⌝ }
-    ensures { λ r. ⌜ Filled (λ l. l ≡ lessOf (now (a .entry)) (now (b .entry))) (now (out .entry))
+    ensures { λ r. ⌜ FilledFront (λ l. l ≡ lessOf (now (a .entry)) (now (b .entry))) (now (out .entry))
         (length (now (a .entry)) + length (now (b .entry))) (now (out .exit)) r ⌝ }
 {
     let mut i = 0;
@@ -65,7 +65,7 @@ pub fn subtract_into(a: &[f64], b: &[f64], out: &mut [f64]) -> usize
 // Fills the front of `out` with what a and b have in common.
 pub fn intersect_into(a: &[f64], b: &[f64], out: &mut [f64]) -> usize
     requires { ⌜ (sound (now a) ≡ true) × (sound (now b) ≡ true) × (length (now a) + length (now b) ≤ length (now out)) ⌝ }
-    ensures { λ r. ⌜ Filled (λ l. l ≡ commonOf (now (a .entry)) (now (b .entry))) (now (out .entry))
+    ensures { λ r. ⌜ FilledFront (λ l. l ≡ commonOf (now (a .entry)) (now (b .entry))) (now (out .entry))
         (length (now (a .entry)) + length (now (b .entry))) (now (out .exit)) r ⌝ }
 {
     let mut i = 0;

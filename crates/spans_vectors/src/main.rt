@@ -5,10 +5,10 @@
 // other cells of a buffer are compared bit for bit.
 // For each function it writes how many rows agree and how many differ, then how many can't be read, and the number of the first row that
 // differs.
-use span_compare::Told;
-use spans::Listed;
-use vector_replay::Outcome;
-use vector_replay::Tally;
+use span_compare::BoolAnswer;
+use spans::ListAnswer;
+use vector_replay::RowCounts;
+use vector_replay::RowOutcome;
 
 // A refusal's number or 0, and the number of pairs, or 1 for yes.
 struct Reply {
@@ -16,30 +16,30 @@ struct Reply {
     count: u64,
 }
 
-fn listed(l: Listed) -> Reply {
+fn listed(l: ListAnswer) -> Reply {
     match l {
-        Listed::Pairs(n) => Reply {
+        ListAnswer::Pairs(n) => Reply {
             refused: 0,
             count: n as u64,
         },
-        Listed::Refused(k) => Reply {
+        ListAnswer::Refused(k) => Reply {
             refused: k as u64,
             count: 0,
         },
     }
 }
 
-fn told(t: Told) -> Reply {
+fn told(t: BoolAnswer) -> Reply {
     match t {
-        Told::Yes => Reply {
+        BoolAnswer::Yes => Reply {
             refused: 0,
             count: 1,
         },
-        Told::No => Reply {
+        BoolAnswer::No => Reply {
             refused: 0,
             count: 0,
         },
-        Told::Refused(k) => Reply {
+        BoolAnswer::Refused(k) => Reply {
             refused: k as u64,
             count: 0,
         },
@@ -100,16 +100,16 @@ fn agrees(w: &[u64; 35]) -> bool {
     vector_words::cells_agree(&out, w, 20, ends_of(w[0], r), 15)
 }
 
-fn compared(text: &[u8]) -> Outcome {
+fn compared(text: &[u8]) -> RowOutcome {
     let mut w = [0; 35];
     if !vector_replay::read_words(text, 0, &mut w) {
-        return Outcome::Unread;
+        return RowOutcome::Unread;
     }
     vector_replay::told(w[0], 5, agrees(&w))
 }
 
 // The turns are counted down, since a proved loop has to end and nothing says that the input does.
-fn counted() -> Tally {
+fn counted() -> RowCounts {
     let mut t = vector_replay::start();
     let mut turns = u64::MAX;
     while turns > 0 {

@@ -7,7 +7,7 @@ use Rattle.grid_from_spec.specs.Grid.{gridOf}
 use Rattle.grid_from_spec.specs.Causes.{gridCauses, gridIn, ByCauses}
 use Rattle.grid.specs.declared.DexelStockSpec.{DexelStockSpec}
 use Rattle.grid.specs.declared.DexelGrid.{DexelGrid}
-use Rattle.grid.specs.declared.Gridded.the-variants.{Accepted as Griddable, Refused as NoGrid}
+use Rattle.grid.specs.declared.GridAnswer.the-variants.{Accepted as Griddable, Refused as NoGrid}
 use Rattle.grid_from_spec.proofs.Causes.{grid-by-causes}
 
 -- ---- a description that `grid` accepts, and one that it refuses

@@ -14,7 +14,7 @@ use Rattle.grid.specs.Rays.{rayCount}
 use Rattle.grid.specs.declared.DexelStockSpec.{DexelStockSpec}
 use Rattle.grid.specs.declared.DexelGrid.{DexelGrid}
 use Rattle.store.specs.Updates.{Cells, Room}
-use Rattle.stock.specs.Stock.{short}
+use Rattle.stock.specs.Stock.{isShort}
 
 pub due-first : (cs ds : List Cause) (k : ℕ) → Due cs k → Due (cs ++ ds) k
 unfolding Due
@@ -37,25 +37,25 @@ or-here a b h = ap (λ (x : Bool). x || b) h
 
 -- ---- 12
 module _ (spec : DexelStockSpec) (g : DexelGrid) (c : Cells) where
-  pub short-spans : length (c .spans) / 2 < spec .«max_intervals» → true ≡ short spec g c
-  unfolding short
+  pub short-spans : length (c .spans) / 2 < spec .«max_intervals» → true ≡ isShort spec g c
+  unfolding isShort
   short-spans h = sym (or-left _ _ (lt-ltb (length (c .spans) / 2) (spec .«max_intervals») h))
 
-  pub short-links : length (c .links) / 2 < spec .«max_intervals» → true ≡ short spec g c
-  unfolding short
+  pub short-links : length (c .links) / 2 < spec .«max_intervals» → true ≡ isShort spec g c
+  unfolding isShort
   short-links h =
       sym (or-right (ltb (length (c .spans) / 2) (spec .«max_intervals»)) (ltb (length (c .links) / 2) (spec .«max_intervals») || ltb (length (c .heads)) (2 * rayCount g))
       (or-left (ltb (length (c .links) / 2) (spec .«max_intervals»)) (ltb (length (c .heads)) (2 * rayCount g)) (lt-ltb (length (c .links) / 2) (spec .«max_intervals») h)))
 
-  pub short-heads : spec .«max_intervals» ≤ length (c .spans) / 2 → spec .«max_intervals» ≤ length (c .links) / 2 → (rays : ℕ) → rays ≡ rayCount g → ltb (length (c .heads)) (2 * rays) ≡ short spec g c
-  unfolding short
+  pub short-heads : spec .«max_intervals» ≤ length (c .spans) / 2 → spec .«max_intervals» ≤ length (c .links) / 2 → (rays : ℕ) → rays ≡ rayCount g → ltb (length (c .heads)) (2 * rays) ≡ isShort spec g c
+  unfolding isShort
   short-heads hs hl rays e =
       ap (λ (r : ℕ). ltb (length (c .heads)) (2 * r)) e
       ∙ sym (or-here (ltb (length (c .links) / 2) (spec .«max_intervals»)) (ltb (length (c .heads)) (2 * rayCount g)) (le-ltb (length (c .links) / 2) (spec .«max_intervals») hl))
       ∙ sym (or-here (ltb (length (c .spans) / 2) (spec .«max_intervals»)) (ltb (length (c .links) / 2) (spec .«max_intervals») || ltb (length (c .heads)) (2 * rayCount g)) (le-ltb (length (c .spans) / 2) (spec .«max_intervals») hs))
 
-  pub room-of : short spec g c ≡ false → Room (spec .«max_intervals») (2 * rayCount g) c
-  unfolding short
+  pub room-of : isShort spec g c ≡ false → Room (spec .«max_intervals») (2 * rayCount g) c
+  unfolding isShort
   room-of h =
       let a = or-neither (ltb (length (c .spans) / 2) (spec .«max_intervals»)) (ltb (length (c .links) / 2) (spec .«max_intervals») || ltb (length (c .heads)) (2 * rayCount g)) h in
       let b = or-neither (ltb (length (c .links) / 2) (spec .«max_intervals»)) (ltb (length (c .heads)) (2 * rayCount g)) (a .1) in

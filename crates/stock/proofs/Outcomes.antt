@@ -11,8 +11,8 @@ use Rattle.stock.specs.declared.Tally.{Tally}
 use Rattle.stock.specs.declared.Outcome.{Outcome}
 use Rattle.stock.proofs.Tally as T
 use Rattle.stock.proofs.Tally.Laws as T′
-use Rattle.stock.proofs.Committed as R
-use Rattle.stock.proofs.Committed.Laws as R′
+use Rattle.stock.proofs.CommitAnswer as R
+use Rattle.stock.proofs.CommitAnswer.Laws as R′
 
 -- the record that an outcome leaves, and its machine value
 abbrev pub left : Outcome → Tally

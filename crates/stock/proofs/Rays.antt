@@ -9,52 +9,52 @@ use Rattle.grid.specs.Rays.{rayCount, boundsOf}
 use Rattle.grid.specs.declared.DexelStockSpec.{DexelStockSpec}
 use Rattle.grid.specs.declared.DexelGrid.{DexelGrid}
 use Rattle.grid.specs.declared.RayBounds.{RayBounds}
-use Rattle.store.specs.Updates.{Cells, Room, SoundStore}
+use Rattle.store.specs.Updates.{Cells, Room, CellsChainsSound}
 use Rattle.ray_validity.specs.Ray.{ValidRay}
 use Rattle.store_lists.specs.Reading.{Readable}
 use Rattle.store_lists.proofs.Steps.{readable}
-use Rattle.stock.specs.Stock.{possibleIn, certainIn, ValidAt, ValidTo, SoundCells, Tells, Chained}
+use Rattle.stock.specs.Stock.{possibleIn, certainIn, ValidAt, ValidTo, SoundCells, Decides, ChainsInRoom}
 
 -- a test that fails, of what P brings with it
-pub tells-bad : (P Q : Type 0) (r : Bool) → Tells Q r → not r ≡ true → (P → Q) → Tells P false
+pub tells-bad : (P Q : Type 0) (r : Bool) → Decides Q r → not r ≡ true → (P → Q) → Decides P false
 tells-bad P Q r t h f = ((λ e. absurd (clash false e refl)), (λ p. absurd (clash r (t .1 (f p)) (not-true r h))))
 
 -- a test that passes
-pub tells-good : (Q : Type 0) (r : Bool) → Tells Q r → not r ≡ false → Q
+pub tells-good : (Q : Type 0) (r : Bool) → Decides Q r → not r ≡ false → Q
 tells-good Q r t h = t .0 (not-false r h)
 
 module _ (spec : DexelStockSpec) (g : DexelGrid) (c : Cells) where
   -- each list can be read off its chain
-  pub list-readable : Chained spec g c → (j : ℕ) → j < 2 * rayCount g → Readable (spec .«max_intervals») (c .spans) (c .links) (getD (c .heads) j 0)
+  pub list-readable : ChainsInRoom spec g c → (j : ℕ) → j < 2 * rayCount g → Readable (spec .«max_intervals») (c .spans) (c .links) (getD (c .heads) j 0)
   list-readable ch j h = readable (ch .store) (ch .room .in-spans) (ch .room .in-links) j h
 
-  pub valid-within : (ray : ℕ) (b : RayBounds) (r : Bool) → b ≡ boundsOf spec g ray → Tells (ValidRay (b .lo) (b .hi) (possibleIn spec c ray) (certainIn spec c ray)) r → Tells (ValidAt spec g c ray) r
-  valid-within ray b r e t = subst (λ (x : RayBounds). Tells (ValidRay (x .lo) (x .hi) (possibleIn spec c ray) (certainIn spec c ray)) r) e t
+  pub valid-within : (ray : ℕ) (b : RayBounds) (r : Bool) → b ≡ boundsOf spec g ray → Decides (ValidRay (b .lo) (b .hi) (possibleIn spec c ray) (certainIn spec c ray)) r → Decides (ValidAt spec g c ray) r
+  valid-within ray b r e t = subst (λ (x : RayBounds). Decides (ValidRay (x .lo) (x .hi) (possibleIn spec c ray) (certainIn spec c ray)) r) e t
 
-  pub ray-bad : (ray n : ℕ) (r : Bool) → ray < n → Tells (ValidAt spec g c ray) r → not r ≡ true → Tells (ValidTo spec g c n) false
+  pub ray-bad : (ray n : ℕ) (r : Bool) → ray < n → Decides (ValidAt spec g c ray) r → not r ≡ true → Decides (ValidTo spec g c n) false
   ray-bad ray n r h t bad = tells-bad (ValidTo spec g c n) (ValidAt spec g c ray) r t bad (λ all. all ray h)
 
-  pub ray-good : (ray : ℕ) (r : Bool) → Tells (ValidAt spec g c ray) r → not r ≡ false → ValidTo spec g c ray → ValidTo spec g c (ray + 1)
+  pub ray-good : (ray : ℕ) (r : Bool) → Decides (ValidAt spec g c ray) r → not r ≡ false → ValidTo spec g c ray → ValidTo spec g c (ray + 1)
   ray-good ray r t good all = below-more (ValidAt spec g c) ray all (tells-good (ValidAt spec g c ray) r t good)
 
-  pub rays-good : (ray n : ℕ) → ray ≡ n → ValidTo spec g c ray → Tells (ValidTo spec g c n) true
+  pub rays-good : (ray n : ℕ) → ray ≡ n → ValidTo spec g c ray → Decides (ValidTo spec g c n) true
   rays-good ray n e all = ((λ t. subst (ValidTo spec g c) e all), (λ p. refl))
 
   -- ---- the check of a stock
-  pub lists-counted : (total m : ℕ) (r : Bool) → m ≡ rayCount g → Tells (SoundStore (spec .«max_intervals») (2 * m) total c) r → Tells (SoundStore (spec .«max_intervals») (2 * rayCount g) total c) r
-  lists-counted total m r e t = subst (λ (k : ℕ). Tells (SoundStore (spec .«max_intervals») (2 * k) total c) r) e t
+  pub lists-counted : (total m : ℕ) (r : Bool) → m ≡ rayCount g → Decides (CellsChainsSound (spec .«max_intervals») (2 * m) total c) r → Decides (CellsChainsSound (spec .«max_intervals») (2 * rayCount g) total c) r
+  lists-counted total m r e t = subst (λ (k : ℕ). Decides (CellsChainsSound (spec .«max_intervals») (2 * k) total c) r) e t
 
-  pub store-bad : (total : ℕ) (r : Bool) → Tells (SoundStore (spec .«max_intervals») (2 * rayCount g) total c) r → not r ≡ true → Tells (SoundCells spec g c total) false
-  store-bad total r t bad = tells-bad (SoundCells spec g c total) (SoundStore (spec .«max_intervals») (2 * rayCount g) total c) r t bad (λ s. s .store)
+  pub store-bad : (total : ℕ) (r : Bool) → Decides (CellsChainsSound (spec .«max_intervals») (2 * rayCount g) total c) r → not r ≡ true → Decides (SoundCells spec g c total) false
+  store-bad total r t bad = tells-bad (SoundCells spec g c total) (CellsChainsSound (spec .«max_intervals») (2 * rayCount g) total c) r t bad (λ s. s .store)
 
-  pub chained-of : (total : ℕ) (r : Bool) → Room (spec .«max_intervals») (2 * rayCount g) c → Tells (SoundStore (spec .«max_intervals») (2 * rayCount g) total c) r → not r ≡ false → Chained spec g c
-  chained-of total r room t good = record { room = room; total = total; store = tells-good (SoundStore (spec .«max_intervals») (2 * rayCount g) total c) r t good }
+  pub chained-of : (total : ℕ) (r : Bool) → Room (spec .«max_intervals») (2 * rayCount g) c → Decides (CellsChainsSound (spec .«max_intervals») (2 * rayCount g) total c) r → not r ≡ false → ChainsInRoom spec g c
+  chained-of total r room t good = record { room = room; total = total; store = tells-good (CellsChainsSound (spec .«max_intervals») (2 * rayCount g) total c) r t good }
 
-  pub stock-tells : (total : ℕ) (r s : Bool) → Tells (SoundStore (spec .«max_intervals») (2 * rayCount g) total c) r → not r ≡ false → Tells (ValidTo spec g c (rayCount g)) s → Tells (SoundCells spec g c total) s
+  pub stock-tells : (total : ℕ) (r s : Bool) → Decides (CellsChainsSound (spec .«max_intervals») (2 * rayCount g) total c) r → not r ≡ false → Decides (ValidTo spec g c (rayCount g)) s → Decides (SoundCells spec g c total) s
   stock-tells total r s t good v = (
-    (λ e. record { store = tells-good (SoundStore (spec .«max_intervals») (2 * rayCount g) total c) r t good; valid = v .0 e }),
+    (λ e. record { store = tells-good (CellsChainsSound (spec .«max_intervals») (2 * rayCount g) total c) r t good; valid = v .0 e }),
     (λ p. v .1 (p .valid)),
   )
 
-  pub sound-chained : (total : ℕ) → Room (spec .«max_intervals») (2 * rayCount g) c → SoundCells spec g c total → Chained spec g c
+  pub sound-chained : (total : ℕ) → Room (spec .«max_intervals») (2 * rayCount g) c → SoundCells spec g c total → ChainsInRoom spec g c
   sound-chained total room s = record { room = room; total = total; store = s .store }

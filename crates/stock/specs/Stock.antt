@@ -9,7 +9,7 @@ use lib.ListN.{length}
 use Rattle.grid.specs.Rays.{rayCount, boundsOf}
 use Rattle.grid.specs.declared.DexelStockSpec.{DexelStockSpec}
 use Rattle.grid.specs.declared.DexelGrid.{DexelGrid}
-use Rattle.store.specs.Updates.{Cells, Room, SoundStore, held}
+use Rattle.store.specs.Updates.{Cells, Room, CellsChainsSound, storeList}
 use Rattle.ray_validity.specs.Ray.{ValidRay}
 
 -- Document 01's store and small record. With a description that `grid` accepts they are a stock.
@@ -20,10 +20,10 @@ pub record Stock : Type 0 where
 
 -- the lists of a ray: those of the store count through the rays, possible first
 abbrev pub possibleIn : DexelStockSpec → Cells → ℕ → List Float
-possibleIn spec c ray = held (spec .«max_intervals») c (2 * ray)
+possibleIn spec c ray = storeList (spec .«max_intervals») c (2 * ray)
 
 abbrev pub certainIn : DexelStockSpec → Cells → ℕ → List Float
-certainIn spec c ray = held (spec .«max_intervals») c (2 * ray + 1)
+certainIn spec c ray = storeList (spec .«max_intervals») c (2 * ray + 1)
 
 -- a ray of the store is valid within the box's bounds along it
 abbrev pub ValidAt : DexelStockSpec → DexelGrid → Cells → ℕ → Type 0
@@ -35,7 +35,7 @@ ValidTo spec g c n = (ray : ℕ) → ray < n → ValidAt spec g c ray
 
 -- document 01's sound store: chains and free records, the interval total, and each ray valid within the box's bounds along it
 pub record SoundCells (spec : DexelStockSpec) (g : DexelGrid) (c : Cells) (intervals : ℕ) : Type 0 where
-  pub store : SoundStore (spec .«max_intervals») (2 * rayCount g) intervals c
+  pub store : CellsChainsSound (spec .«max_intervals») (2 * rayCount g) intervals c
   pub valid : ValidTo spec g c (rayCount g)
 
 -- a stock is sound when its store is
@@ -43,15 +43,15 @@ abbrev pub SoundStock : DexelStockSpec → DexelGrid → Stock → Type 0
 SoundStock spec g s = SoundCells spec g (s .cells) (s .intervals)
 
 -- the answer of a test of P
-abbrev pub Tells : Type 0 → Bool → Type 0
-Tells P r = (r ≡ true → P) × (P → r ≡ true)
+abbrev pub Decides : Type 0 → Bool → Type 0
+Decides P r = (r ≡ true → P) × (P → r ≡ true)
 
 -- 12: fewer whole records than `max_intervals`, or fewer heads than two per ray
-unfoldable pub short : DexelStockSpec → DexelGrid → Cells → Bool
-short spec g c = ltb (length (c .spans) / 2) (spec .«max_intervals») || (ltb (length (c .links) / 2) (spec .«max_intervals») || ltb (length (c .heads)) (2 * rayCount g))
+unfoldable pub isShort : DexelStockSpec → DexelGrid → Cells → Bool
+isShort spec g c = ltb (length (c .spans) / 2) (spec .«max_intervals») || (ltb (length (c .links) / 2) (spec .«max_intervals») || ltb (length (c .heads)) (2 * rayCount g))
 
 -- the store has room and is sound, but for the validity of its rays
-pub record Chained (spec : DexelStockSpec) (g : DexelGrid) (c : Cells) : Type 0 where
+pub record ChainsInRoom (spec : DexelStockSpec) (g : DexelGrid) (c : Cells) : Type 0 where
   pub room : Room (spec .«max_intervals») (2 * rayCount g) c
   pub total : ℕ
-  pub store : SoundStore (spec .«max_intervals») (2 * rayCount g) total c
+  pub store : CellsChainsSound (spec .«max_intervals») (2 * rayCount g) total c

@@ -3,8 +3,8 @@ ghost use mathlib.Core.Path.{_≡_};
 ghost use Prim.Native.Nat.{_*_, _<_};
 ghost use Rattle.grid.specs.Rays.{rayCount};
 ghost use Rattle.grid_from_spec.specs.Causes.{GridFacts};
-ghost use Rattle.store.specs.Updates.{cells, Room, SoundStore};
-ghost use Rattle.stock.specs.Stock.{Tells, ValidAt, ValidTo, Chained, SoundCells, short};
+ghost use Rattle.store.specs.Updates.{cells, Room, CellsChainsSound};
+ghost use Rattle.stock.specs.Stock.{Decides, ValidAt, ValidTo, ChainsInRoom, SoundCells, isShort};
 use grid::DexelGrid;
 use grid::DexelStockSpec;
 
@@ -15,14 +15,14 @@ pub struct Tally {
 }
 
 // The answer of both commits: how many rays changed, or why the call is refused.
-pub enum Committed {
+pub enum CommitAnswer {
     Changed(u64),
     Refused(u32),
 }
 
 // A commit's answer, and what the small record is to hold after it: its old values where the commit is refused.
 pub struct Outcome {
-    pub answer: Committed,
+    pub answer: CommitAnswer,
     pub generation: u64,
     pub intervals: u64,
 }
@@ -36,8 +36,8 @@ fn check_ray(
     heads: &[u64],
     ray: u64,
 ) -> bool
-    requires { ⌜ Chained spec g (cells (now spans) (now links) (now heads)) × (ray < rayCount g) ⌝ }
-    ensures { λ r. ⌜ Tells (ValidAt spec g (cells (now (spans .entry)) (now (links .entry)) (now (heads .entry))) ray) r ⌝ }
+    requires { ⌜ ChainsInRoom spec g (cells (now spans) (now links) (now heads)) × (ray < rayCount g) ⌝ }
+    ensures { λ r. ⌜ Decides (ValidAt spec g (cells (now (spans .entry)) (now (links .entry)) (now (heads .entry))) ray) r ⌝ }
 {
     let n = spec.max_intervals as usize;
     let j = 2 * (ray as usize);
@@ -61,8 +61,8 @@ fn check_rays(
     links: &[u64],
     heads: &[u64],
 ) -> bool
-    requires { ⌜ Chained spec g (cells (now spans) (now links) (now heads)) ⌝ }
-    ensures { λ r. ⌜ Tells (ValidTo spec g (cells (now (spans .entry)) (now (links .entry)) (now (heads .entry))) (rayCount g)) r ⌝ }
+    requires { ⌜ ChainsInRoom spec g (cells (now spans) (now links) (now heads)) ⌝ }
+    ensures { λ r. ⌜ Decides (ValidTo spec g (cells (now (spans .entry)) (now (links .entry)) (now (heads .entry))) (rayCount g)) r ⌝ }
 {
     let rays = grid_rays::total_rays(g);
     let mut ray: u64 = 0;
@@ -85,7 +85,7 @@ pub fn is_chained(
     intervals: u64,
 ) -> bool
     requires { ⌜ Room (spec .«max_intervals») (2 * rayCount g) (cells (now spans) (now links) (now heads)) ⌝ }
-    ensures { λ r. ⌜ Tells (SoundStore (spec .«max_intervals») (2 * rayCount g) intervals (cells (now (spans .entry)) (now (links .entry)) (now (heads .entry)))) r ⌝ }
+    ensures { λ r. ⌜ Decides (CellsChainsSound (spec .«max_intervals») (2 * rayCount g) intervals (cells (now (spans .entry)) (now (links .entry)) (now (heads .entry)))) r ⌝ }
 {
     let n = spec.max_intervals as usize;
     let m = 2 * (grid_rays::total_rays(g) as usize);
@@ -102,7 +102,7 @@ pub fn check_stock(
     intervals: u64,
 ) -> bool
     requires { ⌜ Room (spec .«max_intervals») (2 * rayCount g) (cells (now spans) (now links) (now heads)) ⌝ }
-    ensures { λ r. ⌜ Tells (SoundCells spec g (cells (now (spans .entry)) (now (links .entry)) (now (heads .entry))) intervals) r ⌝ }
+    ensures { λ r. ⌜ Decides (SoundCells spec g (cells (now (spans .entry)) (now (links .entry)) (now (heads .entry))) intervals) r ⌝ }
 {
     if !is_chained(spec, g, spans, links, heads, intervals) {
         return false;
@@ -119,7 +119,7 @@ pub fn is_short(
     heads: &[u64],
 ) -> bool
     requires { ⌜ GridFacts spec g ⌝ }
-    ensures { λ r. ⌜ r ≡ short spec g (cells (now (spans .entry)) (now (links .entry)) (now (heads .entry))) ⌝ }
+    ensures { λ r. ⌜ r ≡ isShort spec g (cells (now (spans .entry)) (now (links .entry)) (now (heads .entry))) ⌝ }
 {
     let n = spec.max_intervals as usize;
     if spans.len() / 2 < n {

@@ -22,8 +22,8 @@ use Rattle.grid.specs.Rays.{rayCount, rayAxis, boundsOf}
 use Rattle.grid_from_spec.specs.Causes.{GridFacts}
 use Rattle.grid.specs.declared.DexelStockSpec.{DexelStockSpec}
 use Rattle.grid.specs.declared.DexelGrid.{DexelGrid}
-use Rattle.store.specs.Store.{loAt, hiAt, ownerAt, usedAt, Chain, ends, more, placesOf, chained, endsAt, Sound}
-use Rattle.store.specs.Updates.{Cells, Room, Kept, held}
+use Rattle.store.specs.Store.{loAt, hiAt, ownerAt, usedAt, RecordChain, ends, more, placesOf, chained, endsAt, ChainsSound}
+use Rattle.store.specs.Updates.{Cells, Room, CellsPastKept, storeList}
 use Rattle.store.proofs.Records.{Written, written-same, put-other, put-here, Within, within-none, within-then, within-put, free-used}
 use Rattle.store.proofs.Chains.{chain-places}
 use Rattle.store.proofs.Replacing.{mem-to}
@@ -107,16 +107,16 @@ module _ (spec : DexelStockSpec) (g : DexelGrid) (before : Cells) (facts : GridF
   owner-is : (j : ℕ) → j < 2 * rayCount g → ownerAt (uncut spec g before .links) j ≡ suc j
   owner-is j h = at j (omega (arith, facts .budget)) .owner ∙ ap (λ (r : UncutRecord). r .owner) (listed j h) ∙ add-one j
 
-  chain-one : (j : ℕ) → j < 2 * rayCount g → Chain (uncut spec g before .links) (spec .«max_intervals») (suc j) (getD (uncut spec g before .heads) j 0) (j ∷ [])
+  chain-one : (j : ℕ) → j < 2 * rayCount g → RecordChain (uncut spec g before .links) (spec .«max_intervals») (suc j) (getD (uncut spec g before .heads) j 0) (j ∷ [])
   chain-one j h =
-      subst (λ (k : ℕ). Chain (uncut spec g before .links) (spec .«max_intervals») (suc j) k (j ∷ [])) (sym (head-at (before .heads) (2 * rayCount g) j h (room .in-heads)))
+      subst (λ (k : ℕ). RecordChain (uncut spec g before .links) (spec .«max_intervals») (suc j) k (j ∷ [])) (sym (head-at (before .heads) (2 * rayCount g) j h (room .in-heads)))
       (more (omega (arith, facts .budget)) (owner-is j h)
-      (subst (λ (k : ℕ). Chain (uncut spec g before .links) (spec .«max_intervals») (suc j) k []) (sym (at j (omega (arith, facts .budget)) .next)) ends))
+      (subst (λ (k : ℕ). RecordChain (uncut spec g before .links) (spec .«max_intervals») (suc j) k []) (sym (at j (omega (arith, facts .budget)) .next)) ends))
 
   pub place-is : (j : ℕ) → j < 2 * rayCount g → placesOf (spec .«max_intervals») (uncut spec g before .links) (uncut spec g before .heads) j ≡ j ∷ []
   place-is j h = sym (chain-places (uncut spec g before .links) (spec .«max_intervals») (suc j) (getD (uncut spec g before .heads) j 0) (j ∷ []) (chain-one j h))
 
-  pub uncut-list : (j : ℕ) → j < 2 * rayCount g → held (spec .«max_intervals») (uncut spec g before) j ≡ boundsOf spec g (j / 2) .lo ∷ boundsOf spec g (j / 2) .hi ∷ []
+  pub uncut-list : (j : ℕ) → j < 2 * rayCount g → storeList (spec .«max_intervals») (uncut spec g before) j ≡ boundsOf spec g (j / 2) .lo ∷ boundsOf spec g (j / 2) .hi ∷ []
   uncut-list j h =
       let w = at j (omega (arith, facts .budget)) in
       pair-of (uncut spec g before .spans) (placesOf (spec .«max_intervals») (uncut spec g before .links) (uncut spec g before .heads) j) j (place-is j h)
@@ -142,9 +142,9 @@ module _ (spec : DexelStockSpec) (g : DexelGrid) (before : Cells) (facts : GridF
           absurd (clash (usedAt (uncut spec g before .spans) (uncut spec g before .links) i) u
           (free-used (subst (λ (r : UncutRecord). Written (uncut spec g before .spans) (uncut spec g before .links) i (r .lo) (r .hi) 0 (r .owner)) (sym (record-free spec g i (ltb-false i (2 * rayCount g) e))) (at i h))))
 
-  store : Sound (spec .«max_intervals») (2 * rayCount g) (2 * rayCount g) (uncut spec g before .spans) (uncut spec g before .links) (uncut spec g before .heads)
+  store : ChainsSound (spec .«max_intervals») (2 * rayCount g) (2 * rayCount g) (uncut spec g before .spans) (uncut spec g before .links) (uncut spec g before .heads)
   store = record {
-    chains = λ j h. subst (Chain (uncut spec g before .links) (spec .«max_intervals») (suc j) (getD (uncut spec g before .heads) j 0)) (sym (place-is j h)) (chain-one j h);
+    chains = λ j h. subst (RecordChain (uncut spec g before .links) (spec .«max_intervals») (suc j) (getD (uncut spec g before .heads) j 0)) (sym (place-is j h)) (chain-one j h);
     others = λ i h u. let l : i < 2 * rayCount g = in-use i h u in
         mem-to (spec .«max_intervals») (uncut spec g before .links) (uncut spec g before .heads) (2 * rayCount g) 0 i i (omega arith) (omega arith) (subst (List·Memᴰ i) (sym (place-is i l)) (List·Memᴰ·head refl));
     counts = sym (one-each (spec .«max_intervals») (uncut spec g before .links) (uncut spec g before .heads) (2 * rayCount g) 0 (λ i lo hi. place-is i (omega arith)));
@@ -163,7 +163,7 @@ module _ (spec : DexelStockSpec) (g : DexelGrid) (before : Cells) (facts : GridF
         (full-valid (boundsOf spec g ray .lo) (boundsOf spec g ray .hi) (in-box ray)));
   }
 
-  pub uncut-kept : Kept (spec .«max_intervals») (2 * rayCount g) before (uncut spec g before)
+  pub uncut-kept : CellsPastKept (spec .«max_intervals») (2 * rayCount g) before (uncut spec g before)
   uncut-kept = let w = uncut-within spec g (before .spans) (before .links) (spec .«max_intervals») (spec .«max_intervals») (omega arith) in
       record {
         spans-size = w .spans-size;

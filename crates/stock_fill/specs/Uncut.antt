@@ -14,11 +14,11 @@ use Rattle.grid.specs.declared.DexelStockSpec.{DexelStockSpec}
 use Rattle.grid.specs.declared.DexelGrid.{DexelGrid}
 use Rattle.store.specs.Store.{putSpan, putLink}
 use Rattle.store.specs.Updates.{Cells, cells}
-use Rattle.stock.specs.Stock.{short}
+use Rattle.stock.specs.Stock.{isShort}
 use Rattle.stock.specs.declared.Tally.{Tally}
 use Rattle.stock_fill.specs.declared.UncutRecord.{UncutRecord}
-use Rattle.stock_fill.specs.declared.Filled.{Filled}
-use Rattle.stock_fill.specs.declared.Filled.the-variants.{Accepted, Refused}
+use Rattle.stock_fill.specs.declared.FillAnswer.{FillAnswer}
+use Rattle.stock_fill.specs.declared.FillAnswer.the-variants.{Accepted, Refused}
 
 -- the record at place i: list i has it alone, with the ends of the box along the ray, and no next; past the lists records are free
 unfoldable pub recordAt : DexelStockSpec → DexelGrid → ℕ → UncutRecord
@@ -52,12 +52,12 @@ uncutTally g = record { generation = 0; intervals = 2 * rayCount g }
 
 -- 12, once `grid` accepts
 abbrev pub roomCauses : DexelStockSpec → DexelGrid → Cells → List Cause
-roomCauses spec g c = cause 12 (short spec g c ≡ true) ∷ []
+roomCauses spec g c = cause 12 (isShort spec g c ≡ true) ∷ []
 
 -- a refused call gives the number that is due and leaves the cells as they were; an accepted one, with no cause, lays the uncut store of the grid
-abbrev pub Fills : List Cause → DexelStockSpec → DexelGrid → Cells → Cells → Filled → Type 0
-Fills causes spec g before after (Refused k) = Due causes k × (after ≡ before)
-Fills causes spec g before after (Accepted t) = NoneDue causes × (t ≡ uncutTally g) × (after ≡ uncut spec g before)
+abbrev pub FillPost : List Cause → DexelStockSpec → DexelGrid → Cells → Cells → FillAnswer → Type 0
+FillPost causes spec g before after (Refused k) = Due causes k × (after ≡ before)
+FillPost causes spec g before after (Accepted t) = NoneDue causes × (t ≡ uncutTally g) × (after ≡ uncut spec g before)
 
 -- document 01's order for the fill: 1, 2, 3, 4, 12
 abbrev pub fillCauses : DexelStockSpec → (units : List ℕ) → Cells → List Cause

@@ -5,10 +5,10 @@ ghost use lib.ListN.{length};
 ghost use Rattle.grid.specs.Rays.{rayCount};
 ghost use Rattle.grid_from_spec.specs.Causes.{GridFacts, gridIn};
 ghost use Rattle.store.specs.Updates.{cells};
-ghost use Rattle.stock_fill.specs.Uncut.{recordAt, uncutSpans, uncutLinks, uncutHeads, Fills, roomCauses, fillCauses};
+ghost use Rattle.stock_fill.specs.Uncut.{recordAt, uncutSpans, uncutLinks, uncutHeads, FillPost, roomCauses, fillCauses};
 use grid::DexelGrid;
 use grid::DexelStockSpec;
-use grid::Gridded;
+use grid::GridAnswer;
 use stock::Tally;
 
 // A record of the uncut store. None has a next.
@@ -71,7 +71,7 @@ fn fill_heads(heads: &mut [u64], m: usize)
 }
 
 // The small record of the stock that is laid, or why the call is refused.
-pub enum Filled {
+pub enum FillAnswer {
     Accepted(Tally),
     Refused(u32),
 }
@@ -83,19 +83,19 @@ fn fill_grid(
     spans: &mut [f64],
     links: &mut [u64],
     heads: &mut [u64],
-) -> Filled
+) -> FillAnswer
     requires { ⌜ GridFacts spec g ⌝ }
-    ensures { λ r. ⌜ Fills (roomCauses spec g (cells (now (spans .entry)) (now (links .entry)) (now (heads .entry)))) spec g
+    ensures { λ r. ⌜ FillPost (roomCauses spec g (cells (now (spans .entry)) (now (links .entry)) (now (heads .entry)))) spec g
         (cells (now (spans .entry)) (now (links .entry)) (now (heads .entry))) (cells (now (spans .exit)) (now (links .exit)) (now (heads .exit))) r ⌝ }
 {
     if stock::is_short(spec, g, spans, links, heads) {
-        return Filled::Refused(12);
+        return FillAnswer::Refused(12);
     }
     let n = spec.max_intervals as usize;
     let m = 2 * (grid_rays::total_rays(g) as usize);
     fill_records(spec, g, spans, links, n, m);
     fill_heads(heads, m);
-    Filled::Accepted(Tally {
+    FillAnswer::Accepted(Tally {
         generation: 0,
         intervals: m as u64,
     })
@@ -108,12 +108,12 @@ pub fn fill(
     spans: &mut [f64],
     links: &mut [u64],
     heads: &mut [u64],
-) -> Filled
-    ensures { λ r. ⌜ Fills (fillCauses spec (now (units .entry)) (cells (now (spans .entry)) (now (links .entry)) (now (heads .entry)))) spec (gridIn spec)
+) -> FillAnswer
+    ensures { λ r. ⌜ FillPost (fillCauses spec (now (units .entry)) (cells (now (spans .entry)) (now (links .entry)) (now (heads .entry)))) spec (gridIn spec)
         (cells (now (spans .entry)) (now (links .entry)) (now (heads .entry))) (cells (now (spans .exit)) (now (links .exit)) (now (heads .exit))) r ⌝ }
 {
     match grid_from_spec::grid(spec, units) {
-        Gridded::Accepted(g) => fill_grid(spec, g, spans, links, heads),
-        Gridded::Refused(k) => Filled::Refused(k),
+        GridAnswer::Accepted(g) => fill_grid(spec, g, spans, links, heads),
+        GridAnswer::Refused(k) => FillAnswer::Refused(k),
     }
 }

@@ -4,16 +4,16 @@
 // records them, says what they are. Ends of merged lists and volumes are compared as numbers, all other cells bit for bit; every cell of a buffer
 // is 7 before the call.
 // For each function it writes how many rows agree and how many differ, then how many can't be read, and the number of the first row that differs.
-use ray_merge::Merged;
-use ray_subtract::Part;
-use stock_fill::Filled;
+use ray_merge::MergeAnswer;
+use ray_subtract::MergedList;
+use stock_fill::FillAnswer;
 use stock_volume::DexelVolume;
-use stock_volume::Measured;
-use vector_replay::Outcome;
-use vector_replay::Tally;
+use stock_volume::VolumeAnswer;
+use vector_replay::RowCounts;
+use vector_replay::RowOutcome;
 
 // Words 1 to 5: the cells of possible, certain, outer, inner and the work buffer; 6, 7: the bounds; the lists from 8, 14, 20 and 26 on.
-fn merge_on(w: &[u64; 87], work: &mut [f64]) -> Merged {
+fn merge_on(w: &[u64; 87], work: &mut [f64]) -> MergeAnswer {
     let mut p = [0.0; 6];
     vector_words::doubles_at(w, 8, &mut p);
     let mut c = [0.0; 6];
@@ -33,7 +33,7 @@ fn merge_on(w: &[u64; 87], work: &mut [f64]) -> Merged {
     )
 }
 
-fn part_agrees(p: Part, moved: u64, pairs: u64) -> bool {
+fn part_agrees(p: MergedList, moved: u64, pairs: u64) -> bool {
     if p.pairs as u64 != pairs {
         return false;
     }
@@ -48,7 +48,7 @@ fn merge_agrees(w: &[u64; 87]) -> bool {
     let mut work = [7.0; 160];
     let m = merge_on(w, &mut work);
     match m {
-        Merged::Lists(p, c) => {
+        MergeAnswer::Lists(p, c) => {
             if w[32] != 0 {
                 return false;
             }
@@ -60,7 +60,7 @@ fn merge_agrees(w: &[u64; 87]) -> bool {
             }
             vector_words::cells_agree(&work, w, 37, 24, w[5] as usize)
         }
-        Merged::Refused(k) => {
+        MergeAnswer::Refused(k) => {
             if k as u64 != w[32] {
                 return false;
             }
@@ -103,7 +103,7 @@ fn fill_agrees(w: &[u64; 87]) -> bool {
         vector_words::first_numbers_mut(&mut heads, w[14] as usize),
     );
     match f {
-        Filled::Accepted(t) => {
+        FillAnswer::Accepted(t) => {
             if w[16] != 0 {
                 return false;
             }
@@ -123,7 +123,7 @@ fn fill_agrees(w: &[u64; 87]) -> bool {
                 w[14] as usize,
             )
         }
-        Filled::Refused(k) => {
+        FillAnswer::Refused(k) => {
             if k as u64 != w[16] {
                 return false;
             }
@@ -133,7 +133,7 @@ fn fill_agrees(w: &[u64; 87]) -> bool {
 }
 
 // Word 15: the interval total that goes in.
-fn measured(w: &[u64; 87]) -> Measured {
+fn measured(w: &[u64; 87]) -> VolumeAnswer {
     let mut spans = [0.0; 24];
     vector_words::doubles_at(w, 29, &mut spans);
     let mut links = [0; 24];
@@ -171,13 +171,13 @@ fn ten_agree(w: &[u64; 87], v: DexelVolume) -> bool {
 fn volume_agrees(w: &[u64; 87]) -> bool {
     let m = measured(w);
     match m {
-        Measured::Accepted(v) => {
+        VolumeAnswer::Accepted(v) => {
             if w[16] != 0 {
                 return false;
             }
             ten_agree(w, v)
         }
-        Measured::Refused(k) => k as u64 == w[16],
+        VolumeAnswer::Refused(k) => k as u64 == w[16],
     }
 }
 
@@ -192,16 +192,16 @@ fn agrees(w: &[u64; 87]) -> bool {
     volume_agrees(w)
 }
 
-fn compared(text: &[u8]) -> Outcome {
+fn compared(text: &[u8]) -> RowOutcome {
     let mut w = [0; 87];
     if !vector_replay::read_words(text, 0, &mut w) {
-        return Outcome::Unread;
+        return RowOutcome::Unread;
     }
     vector_replay::told(w[0], 3, agrees(&w))
 }
 
 // The turns are counted down, since a proved loop has to end and nothing says that the input does.
-fn counted() -> Tally {
+fn counted() -> RowCounts {
     let mut t = vector_replay::start();
     let mut turns = u64::MAX;
     while turns > 0 {

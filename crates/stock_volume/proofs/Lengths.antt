@@ -15,10 +15,10 @@ use Rattle.grid.specs.declared.DexelStockSpec.{DexelStockSpec}
 use Rattle.grid.specs.declared.DexelGrid.{DexelGrid}
 use Rattle.grid.specs.declared.RayBounds.{RayBounds}
 use Rattle.store.specs.Updates.{Cells}
-use Rattle.store_rays.specs.Lengths.{lengthFrom, Measures as RayMeasures}
+use Rattle.store_rays.specs.Lengths.{lengthFrom, RaySumsPost as RayMeasures}
 use Rattle.store_rays.specs.declared.RaySums.{RaySums}
 use Rattle.stock.specs.Stock.{possibleIn, certainIn, ValidTo}
-use Rattle.stock_volume.specs.Volume.{areaOf, addRay, volumeTo, volumeAlong, AddsRay, AddsAlong}
+use Rattle.stock_volume.specs.Volume.{areaOf, addRay, volumeTo, volumeAlong, AddVolumePost, AxisVolumePost}
 use Rattle.stock_volume.specs.declared.AxisSums.{AxisSums}
 use Rattle.stock.proofs.Rays.{valid-within, ray-good}
 use Rattle.stock_volume.specs.declared.AxisVolume.{AxisVolume}
@@ -59,25 +59,25 @@ volume-end spec g c a area first count k v p q r s e =
 -- ---- the answers of `add_ray` and `axis_volume`
 module _ (spec : DexelStockSpec) (g : DexelGrid) (c : Cells) where
   pub ray-added : (area : Float) (ray : ℕ) (v : AxisVolume) (b : RayBounds) (m : RaySums) → b ≡ boundsOf spec g ray → RayMeasures (b .lo) (b .hi) (possibleIn spec c ray) (certainIn spec c ray) m
-      → AddsRay spec g c area ray v (record { valid = m .valid; volume = vol (add binary64 (v .certain) (mul binary64 (m .certain) area)) (add binary64 (v .possible) (mul binary64 (m .possible) area)) })
+      → AddVolumePost spec g c area ray v (record { valid = m .valid; volume = vol (add binary64 (v .certain) (mul binary64 (m .certain) area)) (add binary64 (v .possible) (mul binary64 (m .possible) area)) })
   ray-added area ray v b m e t = record {
     told = valid-within spec g c ray b (m .valid) e (t .is-valid, t .if-valid);
     added = λ z. added spec c area ray v (m .certain) (m .possible) (t .certain-length z) (t .possible-length z);
   }
 
-  pub along-bad : (a : WorldAxis) (area : Float) (ray : ℕ) (v : AxisVolume) (r : AxisSums) (x : AxisVolume) → ray < rayCount g → AddsRay spec g c area ray v r → not (r .valid) ≡ true
-      → AddsAlong spec g c a (record { valid = false; volume = x })
+  pub along-bad : (a : WorldAxis) (area : Float) (ray : ℕ) (v : AxisVolume) (r : AxisSums) (x : AxisVolume) → ray < rayCount g → AddVolumePost spec g c area ray v r → not (r .valid) ≡ true
+      → AxisVolumePost spec g c a (record { valid = false; volume = x })
   along-bad a area ray v r x h t bad = record {
     is-valid = λ z. absurd (clash false z refl);
     if-valid = λ all. absurd (clash (r .valid) (t .told .1 (all ray h)) (not-true (r .valid) bad));
     summed = λ z. absurd (clash false z refl);
   }
 
-  pub along-more : (area : Float) (first k : ℕ) (v : AxisVolume) (r : AxisSums) → AddsRay spec g c area (first + k) v r → not (r .valid) ≡ false → ValidTo spec g c (first + k) → ValidTo spec g c (first + (k + 1))
+  pub along-more : (area : Float) (first k : ℕ) (v : AxisVolume) (r : AxisSums) → AddVolumePost spec g c area (first + k) v r → not (r .valid) ≡ false → ValidTo spec g c (first + k) → ValidTo spec g c (first + (k + 1))
   along-more area first k v r t good all ray h = ray-good spec g c (first + k) (r .valid) (t .told) good all ray (omega arith)
 
   pub along-good : (a : WorldAxis) (area : Float) (first count k : ℕ) (v : AxisVolume) → area ≡ areaOf g a → first ≡ offset g a → count ≡ raysAlong g a → k ≡ count → v ≡ volumeTo spec c area first k → ValidTo spec g c (first + k)
-      → AddsAlong spec g c a (record { valid = true; volume = v })
+      → AxisVolumePost spec g c a (record { valid = true; volume = v })
   along-good a area first count k v p q r s e all = record {
     is-valid = λ z ray h. all ray (omega arith);
     if-valid = λ z. refl;

@@ -16,12 +16,12 @@ use Rattle.grid.specs.declared.DexelStockSpec.{DexelStockSpec}
 use Rattle.grid.specs.declared.DexelGrid.{DexelGrid}
 use Rattle.store.specs.Updates.{Cells}
 use Rattle.store_rays.specs.Lengths.{lengthFrom}
-use Rattle.stock.specs.Stock.{possibleIn, certainIn, ValidAt, ValidTo, SoundCells, Tells, short}
+use Rattle.stock.specs.Stock.{possibleIn, certainIn, ValidAt, ValidTo, SoundCells, Decides, isShort}
 use Rattle.stock_volume.specs.declared.AxisVolume.{AxisVolume}
 use Rattle.stock_volume.specs.declared.AxisSums.{AxisSums}
 use Rattle.stock_volume.specs.declared.DexelVolume.{DexelVolume}
-use Rattle.stock_volume.specs.declared.Measured.{Measured}
-use Rattle.stock_volume.specs.declared.Measured.the-variants.{Accepted, Refused}
+use Rattle.stock_volume.specs.declared.VolumeAnswer.{VolumeAnswer}
+use Rattle.stock_volume.specs.declared.VolumeAnswer.the-variants.{Accepted, Refused}
 
 -- the area of a ray's cell: the product of the steps on the two axes across it
 unfoldable pub areaOf : DexelGrid → WorldAxis → Float
@@ -46,11 +46,11 @@ abbrev pub volumeAlong : DexelStockSpec → DexelGrid → Cells → WorldAxis �
 volumeAlong spec g c a = volumeTo spec c (areaOf g a) (offset g a) (raysAlong g a)
 
 -- what is told of one ray more, and of all rays along an axis where those before are valid: whether they are valid, and if so the sums
-pub record AddsRay (spec : DexelStockSpec) (g : DexelGrid) (c : Cells) (area : Float) (ray : ℕ) (v : AxisVolume) (r : AxisSums) : Type 0 where
-  pub told : Tells (ValidAt spec g c ray) (r .valid)
+pub record AddVolumePost (spec : DexelStockSpec) (g : DexelGrid) (c : Cells) (area : Float) (ray : ℕ) (v : AxisVolume) (r : AxisSums) : Type 0 where
+  pub told : Decides (ValidAt spec g c ray) (r .valid)
   pub added : r .valid ≡ true → r .volume ≡ addRay spec c area ray v
 
-pub record AddsAlong (spec : DexelStockSpec) (g : DexelGrid) (c : Cells) (a : WorldAxis) (r : AxisSums) : Type 0 where
+pub record AxisVolumePost (spec : DexelStockSpec) (g : DexelGrid) (c : Cells) (a : WorldAxis) (r : AxisSums) : Type 0 where
   pub is-valid : r .valid ≡ true → ValidTo spec g c (offset g a + raysAlong g a)
   pub if-valid : ValidTo spec g c (rayCount g) → r .valid ≡ true
   pub summed : r .valid ≡ true → r .volume ≡ volumeAlong spec g c a
@@ -82,18 +82,18 @@ abbrev pub volumeOf : DexelStockSpec → DexelGrid → Cells → DexelVolume
 volumeOf spec g c = boundsBy (boxVolume spec) (volumeAlong spec g c (worldAxis 0)) (volumeAlong spec g c (worldAxis 1)) (volumeAlong spec g c (worldAxis 2))
 
 -- of a store that is sound but for the validity of its rays: 11 where a ray is not valid, and the volume otherwise
-abbrev pub MeasuresRays : DexelStockSpec → DexelGrid → Cells → Measured → Type 0
-MeasuresRays spec g c (Refused k) = (k ≡ 11) × (ValidTo spec g c (rayCount g) → ⊥)
-MeasuresRays spec g c (Accepted w) = ValidTo spec g c (rayCount g) × (w ≡ volumeOf spec g c)
+abbrev pub VolumeRaysPost : DexelStockSpec → DexelGrid → Cells → VolumeAnswer → Type 0
+VolumeRaysPost spec g c (Refused k) = (k ≡ 11) × (ValidTo spec g c (rayCount g) → ⊥)
+VolumeRaysPost spec g c (Accepted w) = ValidTo spec g c (rayCount g) × (w ≡ volumeOf spec g c)
 
 -- 12 and 11, once `grid` accepts
 abbrev pub storeCauses : DexelStockSpec → DexelGrid → Cells → ℕ → List Cause
-storeCauses spec g c intervals = cause 12 (short spec g c ≡ true) ∷ cause 11 (SoundCells spec g c intervals → ⊥) ∷ []
+storeCauses spec g c intervals = cause 12 (isShort spec g c ≡ true) ∷ cause 11 (SoundCells spec g c intervals → ⊥) ∷ []
 
 -- a refused call gives the number that is due; an accepted one, with no cause, has a sound store and gives its volume
-abbrev pub Measures : List Cause → DexelStockSpec → DexelGrid → Cells → (intervals : ℕ) → Measured → Type 0
-Measures causes spec g c intervals (Refused k) = Due causes k
-Measures causes spec g c intervals (Accepted w) = NoneDue causes × SoundCells spec g c intervals × (w ≡ volumeOf spec g c)
+abbrev pub VolumePost : List Cause → DexelStockSpec → DexelGrid → Cells → (intervals : ℕ) → VolumeAnswer → Type 0
+VolumePost causes spec g c intervals (Refused k) = Due causes k
+VolumePost causes spec g c intervals (Accepted w) = NoneDue causes × SoundCells spec g c intervals × (w ≡ volumeOf spec g c)
 
 -- document 01's order for `volume`: 1, 2, 3, 4, 12, 11
 abbrev pub volumeCauses : DexelStockSpec → (units : List ℕ) → Cells → ℕ → List Cause

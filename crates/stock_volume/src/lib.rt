@@ -4,11 +4,11 @@ ghost use Prim.Native.Nat.{_<_};
 ghost use Rattle.grid.specs.Rays.{rayCount, offset};
 ghost use Rattle.grid_from_spec.specs.Causes.{GridFacts, gridIn};
 ghost use Rattle.store.specs.Updates.{cells};
-ghost use Rattle.stock.specs.Stock.{ValidTo, Chained};
-ghost use Rattle.stock_volume.specs.Volume.{AddsRay, AddsAlong, boxVolume, boundsBy, MeasuresRays, Measures, storeCauses, volumeCauses};
+ghost use Rattle.stock.specs.Stock.{ValidTo, ChainsInRoom};
+ghost use Rattle.stock_volume.specs.Volume.{AddVolumePost, AxisVolumePost, boxVolume, boundsBy, VolumeRaysPost, VolumePost, storeCauses, volumeCauses};
 use grid::DexelGrid;
 use grid::DexelStockSpec;
-use grid::Gridded;
+use grid::GridAnswer;
 use grid::WorldAxis;
 
 // What one grid says of the remaining material.
@@ -32,7 +32,7 @@ pub struct DexelVolume {
 }
 
 // The volume, or why the call is refused.
-pub enum Measured {
+pub enum VolumeAnswer {
     Accepted(DexelVolume),
     Refused(u32),
 }
@@ -54,8 +54,8 @@ fn add_ray(
     ray: u64,
     v: AxisVolume,
 ) -> AxisSums
-    requires { ⌜ Chained spec g (cells (now spans) (now links) (now heads)) × (ray < rayCount g) ⌝ }
-    ensures { λ r. ⌜ AddsRay spec g (cells (now (spans .entry)) (now (links .entry)) (now (heads .entry))) area ray v r ⌝ }
+    requires { ⌜ ChainsInRoom spec g (cells (now spans) (now links) (now heads)) × (ray < rayCount g) ⌝ }
+    ensures { λ r. ⌜ AddVolumePost spec g (cells (now (spans .entry)) (now (links .entry)) (now (heads .entry))) area ray v r ⌝ }
 {
     let n = spec.max_intervals as usize;
     let j = 2 * (ray as usize);
@@ -87,8 +87,8 @@ fn axis_volume(
     heads: &[u64],
     axis: WorldAxis,
 ) -> AxisSums
-    requires { ⌜ Chained spec g (cells (now spans) (now links) (now heads)) × ValidTo spec g (cells (now spans) (now links) (now heads)) (offset g axis) ⌝ }
-    ensures { λ r. ⌜ AddsAlong spec g (cells (now (spans .entry)) (now (links .entry)) (now (heads .entry))) axis r ⌝ }
+    requires { ⌜ ChainsInRoom spec g (cells (now spans) (now links) (now heads)) × ValidTo spec g (cells (now spans) (now links) (now heads)) (offset g axis) ⌝ }
+    ensures { λ r. ⌜ AxisVolumePost spec g (cells (now (spans .entry)) (now (links .entry)) (now (heads .entry))) axis r ⌝ }
 {
     let across = grid::cross(axis);
     let area = grid::step_along(g, across.u) * grid::step_along(g, across.v);
@@ -158,24 +158,24 @@ fn measure_rays(
     spans: &[f64],
     links: &[u64],
     heads: &[u64],
-) -> Measured
-    requires { ⌜ Chained spec g (cells (now spans) (now links) (now heads)) ⌝ }
-    ensures { λ r. ⌜ MeasuresRays spec g (cells (now (spans .entry)) (now (links .entry)) (now (heads .entry))) r ⌝ }
+) -> VolumeAnswer
+    requires { ⌜ ChainsInRoom spec g (cells (now spans) (now links) (now heads)) ⌝ }
+    ensures { λ r. ⌜ VolumeRaysPost spec g (cells (now (spans .entry)) (now (links .entry)) (now (heads .entry))) r ⌝ }
 {
     let x = axis_volume(spec, g, spans, links, heads, WorldAxis(0));
     if !x.valid {
-        return Measured::Refused(11);
+        return VolumeAnswer::Refused(11);
     }
     let y = axis_volume(spec, g, spans, links, heads, WorldAxis(1));
     if !y.valid {
-        return Measured::Refused(11);
+        return VolumeAnswer::Refused(11);
     }
     let z = axis_volume(spec, g, spans, links, heads, WorldAxis(2));
     if !z.valid {
-        return Measured::Refused(11);
+        return VolumeAnswer::Refused(11);
     }
     let total = box_volume(spec);
-    Measured::Accepted(bounds_by(total, x.volume, y.volume, z.volume))
+    VolumeAnswer::Accepted(bounds_by(total, x.volume, y.volume, z.volume))
 }
 
 // The volume, over a grid that is accepted. The rays are tested and summed in one pass.
@@ -186,16 +186,16 @@ fn measure(
     links: &[u64],
     heads: &[u64],
     intervals: u64,
-) -> Measured
+) -> VolumeAnswer
     requires { ⌜ GridFacts spec g ⌝ }
-    ensures { λ r. ⌜ Measures (storeCauses spec g (cells (now (spans .entry)) (now (links .entry)) (now (heads .entry))) intervals)
+    ensures { λ r. ⌜ VolumePost (storeCauses spec g (cells (now (spans .entry)) (now (links .entry)) (now (heads .entry))) intervals)
         spec g (cells (now (spans .entry)) (now (links .entry)) (now (heads .entry))) intervals r ⌝ }
 {
     if stock::is_short(spec, g, spans, links, heads) {
-        return Measured::Refused(12);
+        return VolumeAnswer::Refused(12);
     }
     if !stock::is_chained(spec, g, spans, links, heads, intervals) {
-        return Measured::Refused(11);
+        return VolumeAnswer::Refused(11);
     }
     measure_rays(spec, g, spans, links, heads)
 }
@@ -208,12 +208,12 @@ pub fn volume(
     links: &[u64],
     heads: &[u64],
     intervals: u64,
-) -> Measured
-    ensures { λ r. ⌜ Measures (volumeCauses spec (now (units .entry)) (cells (now (spans .entry)) (now (links .entry)) (now (heads .entry))) intervals)
+) -> VolumeAnswer
+    ensures { λ r. ⌜ VolumePost (volumeCauses spec (now (units .entry)) (cells (now (spans .entry)) (now (links .entry)) (now (heads .entry))) intervals)
         spec (gridIn spec) (cells (now (spans .entry)) (now (links .entry)) (now (heads .entry))) intervals r ⌝ }
 {
     match grid_from_spec::grid(spec, units) {
-        Gridded::Accepted(g) => measure(spec, g, spans, links, heads, intervals),
-        Gridded::Refused(k) => Measured::Refused(k),
+        GridAnswer::Accepted(g) => measure(spec, g, spans, links, heads, intervals),
+        GridAnswer::Refused(k) => VolumeAnswer::Refused(k),
     }
 }

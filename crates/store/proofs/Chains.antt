@@ -11,38 +11,38 @@ use Prim.Native.Nat.{ℕ, zero, suc, _+_, _-_, _≤_, _<_}
 use native.Mathlib.Omega.{arith}
 use lib.Ieee.{Float}
 use lib.ListN.{length, getD}
-use Rattle.store.specs.Store.{nextAt, ownerAt, usedAt, places, Chain, ends, more, placesOf, chained}
+use Rattle.store.specs.Store.{nextAt, ownerAt, usedAt, places, RecordChain, ends, more, placesOf, chained}
 use Rattle.store.specs.Walks.{countTo}
 use Rattle.store.proofs.Records.{owned-used}
 use Rattle.store.proofs.Counting.{Distinct, Pass, distinct-append, distinct-le, count-max}
 
 module _ (links : List ℕ) (n o : ℕ) where
-  pub places-of : {k : ℕ} {ps : List ℕ} (f : ℕ) → Chain links n o k ps → length ps ≤ f → places links f k ≡ ps
+  pub places-of : {k : ℕ} {ps : List ℕ} (f : ℕ) → RecordChain links n o k ps → length ps ≤ f → places links f k ≡ ps
   unfolding places
   places-of zero ends h = refl
   places-of (suc f) ends h = refl
   places-of zero (more i<n own c) h = absurd (omega arith)
   places-of (suc f) (more {i} i<n own c) h = ap (λ (l : List ℕ). i ∷ l) (places-of f c (omega arith))
 
-  pub chain-one : {k : ℕ} {ps qs : List ℕ} → Chain links n o k ps → Chain links n o k qs → ps ≡ qs
+  pub chain-one : {k : ℕ} {ps qs : List ℕ} → RecordChain links n o k ps → RecordChain links n o k qs → ps ≡ qs
   chain-one {k} {ps} {qs} c d = sym (places-of (length ps + length qs) c (omega arith)) ∙ places-of (length ps + length qs) d (omega arith)
 
   -- each place in a chain is counted, and of the owner
-  pub chain-owner : {k : ℕ} {ps : List ℕ} → Chain links n o k ps → (x : ℕ) → List·Memᴰ x ps → (x < n) × (ownerAt links x ≡ o)
+  pub chain-owner : {k : ℕ} {ps : List ℕ} → RecordChain links n o k ps → (x : ℕ) → List·Memᴰ x ps → (x < n) × (ownerAt links x ≡ o)
   chain-owner ends x m = absurd (List·Memᴰ·not-nil m)
   chain-owner (more {i} i<n own c) x m =
       ⊎-elim (λ (e : x ≡ i). subst (λ (y : ℕ). (y < n) × (ownerAt links y ≡ o)) (sym e) (i<n, own)) (chain-owner c x) (List·Memᴰ·cases-cons m)
 
   -- from a place in a chain runs a chain that is no longer
-  suffix : {k : ℕ} {ps : List ℕ} → Chain links n o k ps → (x : ℕ) → List·Memᴰ x ps → (qs : List ℕ) × Chain links n o (suc x) qs × (length qs ≤ length ps)
+  suffix : {k : ℕ} {ps : List ℕ} → RecordChain links n o k ps → (x : ℕ) → List·Memᴰ x ps → (qs : List ℕ) × RecordChain links n o (suc x) qs × (length qs ≤ length ps)
   suffix ends x m = absurd (List·Memᴰ·not-nil m)
   suffix (more {i} {ps} i<n own c) x m = at (λ (m′ : List·Memᴰ x ps). suffix c x m′) (List·Memᴰ·cases-cons m)
     where
-      at : (List·Memᴰ x ps → (qs : List ℕ) × Chain links n o (suc x) qs × (length qs ≤ length ps)) → (x ≡ i) ⊎ List·Memᴰ x ps → (qs : List ℕ) × Chain links n o (suc x) qs × (length qs ≤ suc (length ps))
-      at rec (inl e) = (i ∷ ps, subst (λ (y : ℕ). Chain links n o (suc y) (i ∷ ps)) (sym e) (more i<n own c), omega arith)
+      at : (List·Memᴰ x ps → (qs : List ℕ) × RecordChain links n o (suc x) qs × (length qs ≤ length ps)) → (x ≡ i) ⊎ List·Memᴰ x ps → (qs : List ℕ) × RecordChain links n o (suc x) qs × (length qs ≤ suc (length ps))
+      at rec (inl e) = (i ∷ ps, subst (λ (y : ℕ). RecordChain links n o (suc y) (i ∷ ps)) (sym e) (more i<n own c), omega arith)
       at rec (inr m′) = let s = rec m′ in (s .0, s .1, omega (arith, s .2))
 
-  pub chain-distinct : {k : ℕ} {ps : List ℕ} → Chain links n o k ps → Distinct ps
+  pub chain-distinct : {k : ℕ} {ps : List ℕ} → RecordChain links n o k ps → Distinct ps
   unfolding Distinct
   chain-distinct ends = tt
   chain-distinct (more {i} {ps} i<n own c) = (
@@ -55,9 +55,9 @@ module _ (links : List ℕ) (n o : ℕ) where
 module _ (spans : List Float) (links heads : List ℕ) (n : ℕ) where
   -- the chains of the lists from j on, r of them
   abbrev pub Run : ℕ → ℕ → Type 0
-  Run j r = (i : ℕ) → j ≤ i → i < j + r → Chain links n (suc i) (getD heads i 0) (placesOf n links heads i)
+  Run j r = (i : ℕ) → j ≤ i → i < j + r → RecordChain links n (suc i) (getD heads i 0) (placesOf n links heads i)
 
-  pub run-head : (j r : ℕ) → Run j (suc r) → Chain links n (suc j) (getD heads j 0) (placesOf n links heads j)
+  pub run-head : (j r : ℕ) → Run j (suc r) → RecordChain links n (suc j) (getD heads j 0) (placesOf n links heads j)
   run-head j r all = all j (omega arith) (omega arith)
 
   pub run-tail : (j r : ℕ) → Run j (suc r) → Run (suc j) r
@@ -98,30 +98,30 @@ module _ (links : List ℕ) (n o : ℕ) where
     pub counted : k - 1 < n
     pub owner : ownerAt links (k - 1) ≡ o
     pub read : places links n k ≡ (k - 1) ∷ places links n (nextAt links (k - 1))
-    pub next : Chain links n o (nextAt links (k - 1)) (places links n (nextAt links (k - 1)))
+    pub next : RecordChain links n o (nextAt links (k - 1)) (places links n (nextAt links (k - 1)))
 
-  step-of : {k : ℕ} {ps : List ℕ} → Chain links n o k ps → length ps ≤ n → ps ≡ places links n k → (k ≡ 0 → ⊥) → Step k
+  step-of : {k : ℕ} {ps : List ℕ} → RecordChain links n o k ps → length ps ≤ n → ps ≡ places links n k → (k ≡ 0 → ⊥) → Step k
   step-of ends h e ne = absurd (ne refl)
   step-of (more {i} {ps} i<n own c) h e ne =
       let one : suc i - 1 ≡ i = omega arith in
       let same : places links n (nextAt links i) ≡ ps = places-of links n o n c (omega arith) in
-      let made : (i < n) × (ownerAt links i ≡ o) × (places links n (suc i) ≡ i ∷ places links n (nextAt links i)) × Chain links n o (nextAt links i) (places links n (nextAt links i))
-      = (i<n, own, sym e ∙ ap (λ (l : List ℕ). i ∷ l) (sym same), subst (λ (l : List ℕ). Chain links n o (nextAt links i) l) (sym same) c) in
-      let at : (i′ : ℕ) → i′ ≡ i → (i′ < n) × (ownerAt links i′ ≡ o) × (places links n (suc i) ≡ i′ ∷ places links n (nextAt links i′)) × Chain links n o (nextAt links i′) (places links n (nextAt links i′))
-      = λ i′ e′. subst (λ (x : ℕ). (x < n) × (ownerAt links x ≡ o) × (places links n (suc i) ≡ x ∷ places links n (nextAt links x)) × Chain links n o (nextAt links x) (places links n (nextAt links x))) (sym e′) made in
+      let made : (i < n) × (ownerAt links i ≡ o) × (places links n (suc i) ≡ i ∷ places links n (nextAt links i)) × RecordChain links n o (nextAt links i) (places links n (nextAt links i))
+      = (i<n, own, sym e ∙ ap (λ (l : List ℕ). i ∷ l) (sym same), subst (λ (l : List ℕ). RecordChain links n o (nextAt links i) l) (sym same) c) in
+      let at : (i′ : ℕ) → i′ ≡ i → (i′ < n) × (ownerAt links i′ ≡ o) × (places links n (suc i) ≡ i′ ∷ places links n (nextAt links i′)) × RecordChain links n o (nextAt links i′) (places links n (nextAt links i′))
+      = λ i′ e′. subst (λ (x : ℕ). (x < n) × (ownerAt links x ≡ o) × (places links n (suc i) ≡ x ∷ places links n (nextAt links x)) × RecordChain links n o (nextAt links x) (places links n (nextAt links x))) (sym e′) made in
       let r = at (suc i - 1) one in
       record { counted = r .0; owner = r .1; read = r .2; next = r .3 }
 
-  pub chain-step : (k : ℕ) → Chain links n o k (places links n k) → (k ≡ 0 → ⊥) → Step k
+  pub chain-step : (k : ℕ) → RecordChain links n o k (places links n k) → (k ≡ 0 → ⊥) → Step k
   chain-step k c ne = step-of c (places-within links n k) refl ne
 
 -- where a chain is, the places that are come to are it: the walk needs no more fuel than there are records
-pub chain-places : (links : List ℕ) (n o k : ℕ) (ps : List ℕ) → Chain links n o k ps → ps ≡ places links n k
+pub chain-places : (links : List ℕ) (n o k : ℕ) (ps : List ℕ) → RecordChain links n o k ps → ps ≡ places links n k
 chain-places links n o k ps c =
     let short : length ps ≤ countTo (λ i. true) n = distinct-le (λ i. true) n ps (chain-distinct links n o c) (λ x m. (chain-owner links n o c x m .0, refl)) in
     sym (places-of links n o n c (omega (arith, short, count-max (λ i. true) n)))
 
-pub less-step : (links : List ℕ) (n o k : ℕ) → Chain links n o k (places links n k) → (k ≡ 0 → ⊥) → length (places links n (nextAt links (k - 1))) < length (places links n k)
+pub less-step : (links : List ℕ) (n o k : ℕ) → RecordChain links n o k (places links n k) → (k ≡ 0 → ⊥) → length (places links n (nextAt links (k - 1))) < length (places links n k)
 less-step links n o k c ne = omega (arith, ap length (chain-step links n o k c ne .read))
 
 -- an empty list

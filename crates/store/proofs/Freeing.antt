@@ -9,8 +9,8 @@ use lib.Ieee.{Float}
 use lib.ListN.{length, getD, set, length-set}
 use lib.Seq.{getD-set-other, getD-set-same, drop-set-lt}
 use Rattle.doubles.specs.Constants.{plusZero}
-use Rattle.store.specs.Store.{nextAt, places, placesOf, Chain, ends, freeSpan, freeLink, freedSpans, freedLinks}
-use Rattle.store.specs.Updates.{Cells, cells, SoundStore, Room, Kept, Freeable, freedList}
+use Rattle.store.specs.Store.{nextAt, places, placesOf, RecordChain, ends, freeSpan, freeLink, freedSpans, freedLinks}
+use Rattle.store.specs.Updates.{Cells, cells, CellsChainsSound, Room, CellsPastKept, FreeListPre, freedList}
 use Rattle.store.proofs.Counting.{Distinct}
 use Rattle.store.proofs.Records.{Same, same-refl, same-trans, written-same, put-other, put-here, Free, free-used, among, Within, within-none, within-put, within-then}
 use Rattle.store.proofs.Chains.{chain-owner, chain-distinct, chain-places, chain-step}
@@ -43,22 +43,22 @@ freed-within n (i ∷ ps) spans links all =
 
 -- ---- one turn of `free_chain`: the record that the chain comes to is freed, and the chain goes on at its next
 pub record Turn (spans : List Float) (links : List ℕ) (n o k : ℕ) : Type 0 where
-  pub chain : Chain (freeLink links (k - 1)) n o (nextAt links (k - 1)) (places (freeLink links (k - 1)) n (nextAt links (k - 1)))
+  pub chain : RecordChain (freeLink links (k - 1)) n o (nextAt links (k - 1)) (places (freeLink links (k - 1)) n (nextAt links (k - 1)))
   pub spans-left : freedSpans spans (places links n k) ≡ freedSpans (freeSpan spans (k - 1)) (places (freeLink links (k - 1)) n (nextAt links (k - 1)))
   pub links-left : freedLinks links (places links n k) ≡ freedLinks (freeLink links (k - 1)) (places (freeLink links (k - 1)) n (nextAt links (k - 1)))
   pub less : length (places (freeLink links (k - 1)) n (nextAt links (k - 1))) < length (places links n k)
 
-pub turn : (spans : List Float) (links : List ℕ) (n o k : ℕ) → Chain links n o k (places links n k) → (k ≡ 0 → ⊥) → Turn spans links n o k
+pub turn : (spans : List Float) (links : List ℕ) (n o k : ℕ) → RecordChain links n o k (places links n k) → (k ≡ 0 → ⊥) → Turn spans links n o k
 unfolding freedSpans freedLinks Distinct
 turn spans links n o k c ne =
     let s = chain-step links n o k c ne in
     let distinct : Distinct ((k - 1) ∷ places links n (nextAt links (k - 1))) = subst Distinct (s .read) (chain-distinct links n o c) in
-    let kept : Chain (freeLink links (k - 1)) n o (nextAt links (k - 1)) (places links n (nextAt links (k - 1)))
+    let kept : RecordChain (freeLink links (k - 1)) n o (nextAt links (k - 1)) (places links n (nextAt links (k - 1)))
     = chain-kept links (freeLink links (k - 1)) n o (s .next)
     (λ x m. let p = put-other spans links (k - 1) plusZero plusZero 0 0 x (λ (e : x ≡ k - 1). distinct .0 (subst (λ (y : ℕ). List·Memᴰ y (places links n (nextAt links (k - 1)))) e m)) in (p .next, p .owner)) in
     let same : places links n (nextAt links (k - 1)) ≡ places (freeLink links (k - 1)) n (nextAt links (k - 1)) = chain-places (freeLink links (k - 1)) n o _ _ kept in
     record {
-      chain = subst (λ (ps : List ℕ). Chain (freeLink links (k - 1)) n o (nextAt links (k - 1)) ps) same kept;
+      chain = subst (λ (ps : List ℕ). RecordChain (freeLink links (k - 1)) n o (nextAt links (k - 1)) ps) same kept;
       spans-left = ap (freedSpans spans) (s .read) ∙ ap (freedSpans (freeSpan spans (k - 1))) same;
       links-left = ap (freedLinks links) (s .read) ∙ ap (freedLinks (freeLink links (k - 1))) same;
       less = omega (arith, ap length (s .read), ap length same);
@@ -70,7 +70,7 @@ freed-end spans links zero k e = (refl, refl)
 freed-end spans links (suc n) k e = (ap (λ (x : ℕ). freedSpans spans (places links (suc n) x)) e, ap (λ (x : ℕ). freedLinks links (places links (suc n) x)) e)
 
 -- ---- list j of a sound store is freed
-module _ (n m total : ℕ) (c : Cells) (s : SoundStore n m total c) (room : Room n m c) (j : ℕ) (j<m : j < m) where
+module _ (n m total : ℕ) (c : Cells) (s : CellsChainsSound n m total c) (room : Room n m c) (j : ℕ) (j<m : j < m) where
   counted : (x : ℕ) → List·Memᴰ x (placesOf n (c .links) (c .heads) j) → x < n
   counted x m = chain-owner (c .links) n (suc j) (s .chains j j<m) x m .0
 
@@ -78,10 +78,10 @@ module _ (n m total : ℕ) (c : Cells) (s : SoundStore n m total c) (room : Room
   unfolding freedList
   freed-replaces =
       let ps : List ℕ = placesOf n (c .links) (c .heads) j in
-      let none : Chain (freedLinks (c .links) ps) n (suc j) 0 [] = ends in
+      let none : RecordChain (freedLinks (c .links) ps) n (suc j) 0 [] = ends in
       let head-none : getD (set (c .heads) j 0) j 0 ≡ 0 = getD-set-same (c .heads) j 0 0 (omega (arith, room .in-heads)) in
       record {
-        chain = subst (λ (k : ℕ). Chain (freedLinks (c .links) ps) n (suc j) k []) (sym head-none) none;
+        chain = subst (λ (k : ℕ). RecordChain (freedLinks (c .links) ps) n (suc j) k []) (sym head-none) none;
         head = λ i ne. getD-set-other (c .heads) j i 0 0 ne;
         cells = λ x out _. freed-other ps (c .spans) (c .links) x out;
         freed = λ x x<n mx u. absurd (let f = free-used (freed-here ps (c .spans) (c .links) x (omega (arith, room .in-spans)) (omega (arith, room .in-links)) mx) in let z : _≡_ {A = ℕ} 0 1 = cc in omega arith);
@@ -91,7 +91,7 @@ module _ (n m total : ℕ) (c : Cells) (s : SoundStore n m total c) (room : Room
   pub freed-list : Replaced n m total c (freedList n c j) j []
   freed-list = replaced n m total c (freedList n c j) j [] s j<m freed-replaces
 
-  pub freed-kept : Kept n m c (freedList n c j)
+  pub freed-kept : CellsPastKept n m c (freedList n c j)
   unfolding freedList
   freed-kept =
       let w = freed-within n (placesOf n (c .links) (c .heads) j) (c .spans) (c .links) counted in
@@ -105,8 +105,8 @@ module _ (n m total : ℕ) (c : Cells) (s : SoundStore n m total c) (room : Room
       }
 
 -- ---- in the terms of `free_list`
-pub free-chain-of : {n : ℕ} {c : Cells} {j : ℕ} → Freeable n c j → Chain (c .links) n (j + 1) (getD (c .heads) j 0) (placesOf n (c .links) (c .heads) j)
-free-chain-of {n} {c} {j} f = subst (λ (o : ℕ). Chain (c .links) n o (getD (c .heads) j 0) (placesOf n (c .links) (c .heads) j)) (sym (add-one j)) (f .chain)
+pub free-chain-of : {n : ℕ} {c : Cells} {j : ℕ} → FreeListPre n c j → RecordChain (c .links) n (j + 1) (getD (c .heads) j 0) (placesOf n (c .links) (c .heads) j)
+free-chain-of {n} {c} {j} f = subst (λ (o : ℕ). RecordChain (c .links) n o (getD (c .heads) j 0) (placesOf n (c .links) (c .heads) j)) (sym (add-one j)) (f .chain)
 
 pub freed-cells : (n : ℕ) (spans spans′ : List Float) (links links′ heads : List ℕ) (j : ℕ) → spans′ ≡ freedSpans spans (placesOf n links heads j) → links′ ≡ freedLinks links (placesOf n links heads j)
     → cells spans′ links′ (set heads j 0) ≡ freedList n (cells spans links heads) j

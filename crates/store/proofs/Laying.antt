@@ -9,9 +9,9 @@ use native.Mathlib.Omega.{arith}
 use lib.Ieee.{Float, nan}
 use lib.ListN.{length, getD, set, take, drop, length-set, length-drop}
 use lib.Seq.{getD-set-other, getD-set-same, drop-set-lt}
-use Rattle.store.specs.Store.{usedAt, placesOf, Chain, ends, more, endsAt, freeFrom, headOf, filledLinks, filledSpans, putSpan, putLink}
-use Rattle.store.specs.Updates.{Cells, cells, Update, update, part, SoundStore, held, Room, Kept, taken, laidList, Laid}
-use Rattle.store.specs.Fills.{Cursor, Fills}
+use Rattle.store.specs.Store.{usedAt, placesOf, RecordChain, ends, more, endsAt, freeFrom, headOf, filledLinks, filledSpans, putSpan, putLink}
+use Rattle.store.specs.Updates.{Cells, cells, Update, update, pairsFrom, CellsChainsSound, storeList, Room, CellsPastKept, lowestFree, laidList, LayListPost}
+use Rattle.store.specs.Fills.{FreeCursor, FillListPost}
 use Rattle.store.proofs.Counting.{Distinct}
 use Rattle.store.proofs.Records.{Same, same-refl, same-trans, put-other, put-here, written-same, owned-used, Within, within-none, within-put, within-then}
 use Rattle.store.proofs.Chains.{chain-owner}
@@ -34,7 +34,7 @@ filled-within n (i ∷ ps) spans links o pairs all =
     (filled-within n ps (putSpan spans i (getD pairs 0 nan) (getD pairs 1 nan)) (putLink links i (headOf ps) o) o (drop 2 pairs) (λ x m. all x (List·Memᴰ·tail m)))
 
 pub filled-chain : (ps : List ℕ) (spans : List Float) (links : List ℕ) (n o : ℕ) (pairs : List Float) → Distinct ps → ((x : ℕ) → List·Memᴰ x ps → x < n) → 2 * n ≤ length spans → 2 * n ≤ length links
-    → Chain (filledLinks links o ps) n o (headOf ps) ps
+    → RecordChain (filledLinks links o ps) n o (headOf ps) ps
 unfolding filledSpans filledLinks Distinct
 filled-chain [] spans links n o pairs d all hs hl = ends
 filled-chain (i ∷ ps) spans links n o pairs d all hs hl =
@@ -43,7 +43,7 @@ filled-chain (i ∷ ps) spans links n o pairs d all hs hl =
     let links′ : List ℕ = putLink links i (headOf ps) o in
     let here = written-same (filled-other ps spans′ links′ o (drop 2 pairs) i (d .0)) (put-here spans links i (getD pairs 0 nan) (getD pairs 1 nan) (headOf ps) o (omega arith) (omega arith)) in
     let rest = filled-chain ps spans′ links′ n o (drop 2 pairs) (d .1) (λ x m. all x (List·Memᴰ·tail m)) (simp length-set hs) (simp length-set hl) in
-    more i<n (here .owner) (subst (λ (k : ℕ). Chain (filledLinks links′ o ps) n o k ps) (sym (here .next)) rest)
+    more i<n (here .owner) (subst (λ (k : ℕ). RecordChain (filledLinks links′ o ps) n o k ps) (sym (here .next)) rest)
 
 two-more : (pairs : List Float) → 2 ≤ length pairs → getD pairs 0 nan ∷ getD pairs 1 nan ∷ drop 2 pairs ≡ pairs
 two-more [] h = absurd (omega arith)
@@ -65,7 +65,7 @@ filled-ends (i ∷ ps) spans links n o pairs d all hs hl size =
     simp (here .lo, here .hi, rest) (two-more pairs (omega arith))
 
 -- ---- an empty list of a sound store is laid
-module _ (n m total : ℕ) (c : Cells) (s : SoundStore n m total c) (room : Room n m c) (u : Update) (j<m : u .list < m)
+module _ (n m total : ℕ) (c : Cells) (s : CellsChainsSound n m total c) (room : Room n m c) (u : Update) (j<m : u .list < m)
     (empty : placesOf n (c .links) (c .heads) (u .list) ≡ []) (fits : length (u .ends) / 2 + total ≤ n) where
   abbrev count : ℕ
   count = length (u .ends) / 2
@@ -73,31 +73,31 @@ module _ (n m total : ℕ) (c : Cells) (s : SoundStore n m total c) (room : Room
   pub enough-free : count ≤ length (freeFrom (c .spans) (c .links) 0 n)
   enough-free = omega (arith, free-records n m total (c .spans) (c .links) (c .heads) s)
 
-  taken-counted : (x : ℕ) → List·Memᴰ x (taken n c count) → x < n
-  unfolding taken
+  taken-counted : (x : ℕ) → List·Memᴰ x (lowestFree n c count) → x < n
+  unfolding lowestFree
   taken-counted x mx = lowest-free (c .spans) (c .links) n count x mx .0
 
-  taken-free : (x : ℕ) → List·Memᴰ x (taken n c count) → usedAt (c .spans) (c .links) x ≡ false
-  unfolding taken
+  taken-free : (x : ℕ) → List·Memᴰ x (lowestFree n c count) → usedAt (c .spans) (c .links) x ≡ false
+  unfolding lowestFree
   taken-free x mx = lowest-free (c .spans) (c .links) n count x mx .1
 
-  taken-distinct : Distinct (taken n c count)
-  unfolding taken
+  taken-distinct : Distinct (lowestFree n c count)
+  unfolding lowestFree
   taken-distinct = lowest-distinct (c .spans) (c .links) n count
 
-  pub taken-length : length (taken n c count) ≡ count
-  unfolding taken
+  pub taken-length : length (lowestFree n c count) ≡ count
+  unfolding lowestFree
   taken-length = lowest-length (c .spans) (c .links) n count enough-free
 
-  laid-replaces : Replaces n m c (laidList n c u) (u .list) (taken n c count)
+  laid-replaces : Replaces n m c (laidList n c u) (u .list) (lowestFree n c count)
   unfolding laidList
   laid-replaces =
-      let head-new : getD (set (c .heads) (u .list) (headOf (taken n c count))) (u .list) 0 ≡ headOf (taken n c count) = getD-set-same (c .heads) (u .list) (headOf (taken n c count)) 0 (omega (arith, room .in-heads)) in
-      let run = filled-chain (taken n c count) (c .spans) (c .links) n (suc (u .list)) (u .ends) taken-distinct taken-counted (room .in-spans) (room .in-links) in
+      let head-new : getD (set (c .heads) (u .list) (headOf (lowestFree n c count))) (u .list) 0 ≡ headOf (lowestFree n c count) = getD-set-same (c .heads) (u .list) (headOf (lowestFree n c count)) 0 (omega (arith, room .in-heads)) in
+      let run = filled-chain (lowestFree n c count) (c .spans) (c .links) n (suc (u .list)) (u .ends) taken-distinct taken-counted (room .in-spans) (room .in-links) in
       record {
-        chain = subst (λ (k : ℕ). Chain (filledLinks (c .links) (suc (u .list)) (taken n c count)) n (suc (u .list)) k (taken n c count)) (sym head-new) run;
-        head = λ i ne. getD-set-other (c .heads) (u .list) i (headOf (taken n c count)) 0 ne;
-        cells = λ x _ out. filled-other (taken n c count) (c .spans) (c .links) (suc (u .list)) (u .ends) x out;
+        chain = subst (λ (k : ℕ). RecordChain (filledLinks (c .links) (suc (u .list)) (lowestFree n c count)) n (suc (u .list)) k (lowestFree n c count)) (sym head-new) run;
+        head = λ i ne. getD-set-other (c .heads) (u .list) i (headOf (lowestFree n c count)) 0 ne;
+        cells = λ x _ out. filled-other (lowestFree n c count) (c .spans) (c .links) (suc (u .list)) (u .ends) x out;
         freed = λ x x<n mx _. absurd (List·Memᴰ·not-nil (subst (List·Memᴰ x) empty mx));
         apart = λ i i<m ne x mx mq.
             let busy : usedAt (c .spans) (c .links) x ≡ true = owned-used (c .spans) (c .links) x i (chain-owner (c .links) n (suc i) (s .chains i i<m) x mx .1) in
@@ -106,44 +106,44 @@ module _ (n m total : ℕ) (c : Cells) (s : SoundStore n m total c) (room : Room
             omega arith;
       }
 
-  pub laid-list : Replaced n m total c (laidList n c u) (u .list) (taken n c count)
-  laid-list = replaced n m total c (laidList n c u) (u .list) (taken n c count) s j<m laid-replaces
+  pub laid-list : Replaced n m total c (laidList n c u) (u .list) (lowestFree n c count)
+  laid-list = replaced n m total c (laidList n c u) (u .list) (lowestFree n c count) s j<m laid-replaces
 
-  pub laid-sound : SoundStore n m (total + count) (laidList n c u)
+  pub laid-sound : CellsChainsSound n m (total + count) (laidList n c u)
   laid-sound = laid-list .isSound (total + count) (omega (arith, taken-length, ap length empty))
 
-  pub laid-held : length (u .ends) % 2 ≡ 0 → held n (laidList n c u) (u .list) ≡ u .ends
+  pub laid-held : length (u .ends) % 2 ≡ 0 → storeList n (laidList n c u) (u .list) ≡ u .ends
   unfolding laidList
   laid-held whole =
-      let size : length (u .ends) ≡ 2 * length (taken n c count) = omega (arith, taken-length, div-add-mod' (length (u .ends)) 2) in
-      ap (endsAt (filledSpans (c .spans) (taken n c count) (u .ends))) (laid-list .here)
-      ∙ filled-ends (taken n c count) (c .spans) (c .links) n (suc (u .list)) (u .ends) taken-distinct taken-counted (room .in-spans) (room .in-links) size
+      let size : length (u .ends) ≡ 2 * length (lowestFree n c count) = omega (arith, taken-length, div-add-mod' (length (u .ends)) 2) in
+      ap (endsAt (filledSpans (c .spans) (lowestFree n c count) (u .ends))) (laid-list .here)
+      ∙ filled-ends (lowestFree n c count) (c .spans) (c .links) n (suc (u .list)) (u .ends) taken-distinct taken-counted (room .in-spans) (room .in-links) size
 
-  pub laid-kept : Kept n m c (laidList n c u)
+  pub laid-kept : CellsPastKept n m c (laidList n c u)
   unfolding laidList
   laid-kept =
-      let w = filled-within n (taken n c count) (c .spans) (c .links) (suc (u .list)) (u .ends) taken-counted in
+      let w = filled-within n (lowestFree n c count) (c .spans) (c .links) (suc (u .list)) (u .ends) taken-counted in
       record {
         spans-size = w .spans-size;
         links-size = w .links-size;
-        heads-size = length-set (c .heads) (u .list) (headOf (taken n c count));
+        heads-size = length-set (c .heads) (u .list) (headOf (lowestFree n c count));
         spans-past = w .spans-past;
         links-past = w .links-past;
-        heads-past = drop-set-lt m (c .heads) (u .list) (headOf (taken n c count)) j<m;
+        heads-past = drop-set-lt m (c .heads) (u .list) (headOf (lowestFree n c count)) j<m;
       }
 
 -- ---- in the terms of `lay_list`
 module _ (n : ℕ) (spans : List Float) (links heads : List ℕ) (j : ℕ) (pairs : List Float) where
-  pub laid-none : (from : ℕ) → length pairs / 2 ≡ 0 → Cursor n spans links from → Laid n (cells spans links heads) (update j pairs) from (cells spans links (set heads j 0))
-  unfolding laidList taken filledSpans filledLinks
+  pub laid-none : (from : ℕ) → length pairs / 2 ≡ 0 → FreeCursor n spans links from → LayListPost n (cells spans links heads) (update j pairs) from (cells spans links (set heads j 0))
+  unfolding laidList lowestFree filledSpans filledLinks
   laid-none from e k = record { left = sym same; onward = k }
     where
       same : laidList n (cells spans links heads) (update j pairs) ≡ cells spans links (set heads j 0)
       same = ap (λ (t : ℕ). cells (filledSpans spans (take t (freeFrom spans links 0 n)) pairs) (filledLinks links (suc j) (take t (freeFrom spans links 0 n))) (set heads j (headOf (take t (freeFrom spans links 0 n))))) e
 
-  pub laid-some : (head cursor : ℕ) (spans′ : List Float) (links′ : List ℕ) → Fills n spans links (j + 1) pairs (length pairs / 2) head cursor spans′ links′
-      → Laid n (cells spans links heads) (update j pairs) cursor (cells spans′ links′ (set heads j head))
-  unfolding laidList taken
+  pub laid-some : (head cursor : ℕ) (spans′ : List Float) (links′ : List ℕ) → FillListPost n spans links (j + 1) pairs (length pairs / 2) head cursor spans′ links′
+      → LayListPost n (cells spans links heads) (update j pairs) cursor (cells spans′ links′ (set heads j head))
+  unfolding laidList lowestFree
   laid-some head cursor spans′ links′ f = record { left = same; onward = f .onward }
     where
       same : cells spans′ links′ (set heads j head) ≡ laidList n (cells spans links heads) (update j pairs)
@@ -153,8 +153,8 @@ module _ (n : ℕ) (spans : List Float) (links heads : List ℕ) (j : ℕ) (pair
           ∙ ap (λ (l : List ℕ). cells (filledSpans spans ps pairs) l (set heads j head)) (f .links-left ∙ ap (λ (o : ℕ). filledLinks links o ps) (add-one j))
           ∙ ap (λ (h : ℕ). cells (filledSpans spans ps pairs) (filledLinks links (suc j) ps) (set heads j h)) (f .at)
 
--- a part of the pairs as a call lends it
-pub part-is : (pairs : List Float) (at n : ℕ) → take (at + 2 * n - at) (drop at pairs) ≡ part pairs at n
+-- a pairsFrom of the pairs as a call lends it
+pub part-is : (pairs : List Float) (at n : ℕ) → take (at + 2 * n - at) (drop at pairs) ≡ pairsFrom pairs at n
 part-is pairs at n = ap (λ (k : ℕ). take k (drop at pairs)) (back at (2 * n))
   where
     back : (a b : ℕ) → a + b - a ≡ b

@@ -8,17 +8,17 @@ use native.Mathlib.Decide.{ℕ-discrete}
 use native.Mathlib.Omega.{arith}
 use lib.Ieee.{Float}
 use lib.ListN.{length, getD, length-append}
-use Rattle.store.specs.Store.{nextAt, ownerAt, usedAt, Chain, ends, more, placesOf, chained, endsAt}
-use Rattle.store.specs.Updates.{Cells, SoundStore, held}
+use Rattle.store.specs.Store.{nextAt, ownerAt, usedAt, RecordChain, ends, more, placesOf, chained, endsAt}
+use Rattle.store.specs.Updates.{Cells, CellsChainsSound, storeList}
 use Rattle.store.proofs.Records.{Same, same-used, among}
 use Rattle.store.proofs.Chains.{chain-owner, chain-places}
 
 -- a chain whose cells stay
-pub chain-kept : (links links′ : List ℕ) (n o : ℕ) {k : ℕ} {ps : List ℕ} → Chain links n o k ps → ((x : ℕ) → List·Memᴰ x ps → (nextAt links′ x ≡ nextAt links x) × (ownerAt links′ x ≡ ownerAt links x)) → Chain links′ n o k ps
+pub chain-kept : (links links′ : List ℕ) (n o : ℕ) {k : ℕ} {ps : List ℕ} → RecordChain links n o k ps → ((x : ℕ) → List·Memᴰ x ps → (nextAt links′ x ≡ nextAt links x) × (ownerAt links′ x ≡ ownerAt links x)) → RecordChain links′ n o k ps
 chain-kept links links′ n o ends same = ends
 chain-kept links links′ n o (more {i} {ps} i<n own c) same =
     let s = same i (List·Memᴰ·head refl) in
-    more i<n (s .1 ∙ own) (subst (λ (k : ℕ). Chain links′ n o k ps) (sym (s .0)) (chain-kept links links′ n o c (λ x m. same x (List·Memᴰ·tail m))))
+    more i<n (s .1 ∙ own) (subst (λ (k : ℕ). RecordChain links′ n o k ps) (sym (s .0)) (chain-kept links links′ n o c (λ x m. same x (List·Memᴰ·tail m))))
 
 pub ends-kept : (spans spans′ : List Float) (links links′ ps : List ℕ) → ((x : ℕ) → List·Memᴰ x ps → Same spans spans′ links links′ x) → endsAt spans′ ps ≡ endsAt spans ps
 unfolding endsAt
@@ -49,7 +49,7 @@ module _ (n : ℕ) (links heads : List ℕ) where
 
 -- list j gets the places qs: its records are written, and those that it had and has no longer are free
 pub record Replaces (n m : ℕ) (c d : Cells) (j : ℕ) (qs : List ℕ) : Type 0 where
-  pub chain : Chain (d .links) n (suc j) (getD (d .heads) j 0) qs
+  pub chain : RecordChain (d .links) n (suc j) (getD (d .heads) j 0) qs
   pub head : (i : ℕ) → (i ≡ j → ⊥) → getD (d .heads) i 0 ≡ getD (c .heads) i 0
   pub cells : (x : ℕ) → (List·Memᴰ x (placesOf n (c .links) (c .heads) j) → ⊥) → (List·Memᴰ x qs → ⊥) → Same (c .spans) (d .spans) (c .links) (d .links) x
   pub freed : (x : ℕ) → x < n → List·Memᴰ x (placesOf n (c .links) (c .heads) j) → usedAt (d .spans) (d .links) x ≡ true → List·Memᴰ x qs
@@ -59,11 +59,11 @@ pub record Replaces (n m : ℕ) (c d : Cells) (j : ℕ) (qs : List ℕ) : Type 0
 pub record Replaced (n m total : ℕ) (c d : Cells) (j : ℕ) (qs : List ℕ) : Type 0 where
   pub here : placesOf n (d .links) (d .heads) j ≡ qs
   pub places-kept : (i : ℕ) → i < m → (i ≡ j → ⊥) → placesOf n (d .links) (d .heads) i ≡ placesOf n (c .links) (c .heads) i
-  pub lists-kept : (i : ℕ) → i < m → (i ≡ j → ⊥) → held n d i ≡ held n c i
-  pub isSound : (total′ : ℕ) → total′ + length (placesOf n (c .links) (c .heads) j) ≡ total + length qs → SoundStore n m total′ d
+  pub lists-kept : (i : ℕ) → i < m → (i ≡ j → ⊥) → storeList n d i ≡ storeList n c i
+  pub isSound : (total′ : ℕ) → total′ + length (placesOf n (c .links) (c .heads) j) ≡ total + length qs → CellsChainsSound n m total′ d
   pub less : length (placesOf n (c .links) (c .heads) j) ≤ total
 
-module _ (n m total : ℕ) (c d : Cells) (j : ℕ) (qs : List ℕ) (s : SoundStore n m total c) (j<m : j < m) (r : Replaces n m c d j qs) where
+module _ (n m total : ℕ) (c d : Cells) (j : ℕ) (qs : List ℕ) (s : CellsChainsSound n m total c) (j<m : j < m) (r : Replaces n m c d j qs) where
   -- the places of list i, before and after
   abbrev was : ℕ → List ℕ
   was i = placesOf n (c .links) (c .heads) i
@@ -78,8 +78,8 @@ module _ (n m total : ℕ) (c d : Cells) (j : ℕ) (qs : List ℕ) (s : SoundSto
   other-cells : (i : ℕ) → i < m → (i ≡ j → ⊥) → (x : ℕ) → List·Memᴰ x (was i) → Same (c .spans) (d .spans) (c .links) (d .links) x
   other-cells i i<m ne x mx = r .cells x (others-apart i i<m ne x mx) (r .apart i i<m ne x mx)
 
-  other-chain : (i : ℕ) → i < m → (i ≡ j → ⊥) → Chain (d .links) n (suc i) (getD (d .heads) i 0) (was i)
-  other-chain i i<m ne = subst (λ (k : ℕ). Chain (d .links) n (suc i) k (was i)) (sym (r .head i ne))
+  other-chain : (i : ℕ) → i < m → (i ≡ j → ⊥) → RecordChain (d .links) n (suc i) (getD (d .heads) i 0) (was i)
+  other-chain i i<m ne = subst (λ (k : ℕ). RecordChain (d .links) n (suc i) k (was i)) (sym (r .head i ne))
       (chain-kept (c .links) (d .links) n (suc i) (s .chains i i<m) (λ x mx. let k = other-cells i i<m ne x mx in (k .next, k .owner)))
 
   others-kept : (i : ℕ) → i < m → (i ≡ j → ⊥) → is i ≡ was i
@@ -88,12 +88,12 @@ module _ (n m total : ℕ) (c d : Cells) (j : ℕ) (qs : List ℕ) (s : SoundSto
   here-now : is j ≡ qs
   here-now = sym (chain-places (d .links) n (suc j) _ _ (r .chain))
 
-  all-chains : (i : ℕ) → i < m → Chain (d .links) n (suc i) (getD (d .heads) i 0) (is i)
+  all-chains : (i : ℕ) → i < m → RecordChain (d .links) n (suc i) (getD (d .heads) i 0) (is i)
   all-chains i i<m = at (ℕ-discrete i j)
     where
-      at : Dec (i ≡ j) → Chain (d .links) n (suc i) (getD (d .heads) i 0) (is i)
-      at (yes e) = subst (λ (y : ℕ). Chain (d .links) n (suc y) (getD (d .heads) y 0) (is y)) (sym e) (subst (λ (l : List ℕ). Chain (d .links) n (suc j) (getD (d .heads) j 0) l) (sym here-now) (r .chain))
-      at (no ne) = subst (λ (l : List ℕ). Chain (d .links) n (suc i) (getD (d .heads) i 0) l) (sym (others-kept i i<m ne)) (other-chain i i<m ne)
+      at : Dec (i ≡ j) → RecordChain (d .links) n (suc i) (getD (d .heads) i 0) (is i)
+      at (yes e) = subst (λ (y : ℕ). RecordChain (d .links) n (suc y) (getD (d .heads) y 0) (is y)) (sym e) (subst (λ (l : List ℕ). RecordChain (d .links) n (suc j) (getD (d .heads) j 0) l) (sym here-now) (r .chain))
+      at (no ne) = subst (λ (l : List ℕ). RecordChain (d .links) n (suc i) (getD (d .heads) i 0) l) (sym (others-kept i i<m ne)) (other-chain i i<m ne)
 
   -- the lists before j, or after it, together are what they were
   same-run : (k a : ℕ) → a + k ≤ m → ((i : ℕ) → a ≤ i → i < a + k → i ≡ j → ⊥) → length (chained n (d .links) (d .heads) a k) ≡ length (chained n (c .links) (c .heads) a k)

@@ -15,17 +15,17 @@ use lib.Ieee.{Float}
 use lib.ListN.{length}
 use borrow.Author.Tests.{eq-eqb, ne-eqb}
 use Rattle.store.specs.Store.{placesOf, endsAt, freeFrom}
-use Rattle.store.specs.Updates.{Cells, Update, SoundStore, held, Room, Kept, Freeable, Layable, Ascending, none, next, pairsFreed, pairsLaid, listAfter, freedList, freedAll, taken, laidList, laidAll, applied, Updated}
+use Rattle.store.specs.Updates.{Cells, Update, CellsChainsSound, storeList, Room, CellsPastKept, FreeListPre, LayListPre, Ascending, none, next, pairsFreed, pairsLaid, listAfter, freedList, freedAll, lowestFree, laidList, laidAll, applied, UpdatedStore}
 use Rattle.store.proofs.Replacing.{Replaced}
 use Rattle.store.proofs.Freeing.{freed-list, freed-kept}
 use Rattle.store.proofs.FreePlaces.{free-records}
 use Rattle.store.proofs.Laying.{laid-list, laid-sound, laid-held, laid-kept}
 
 -- ---- sizes and the cells that do not count
-pub kept-none : (n m : ℕ) (c : Cells) → Kept n m c c
+pub kept-none : (n m : ℕ) (c : Cells) → CellsPastKept n m c c
 kept-none n m c = record { spans-size = refl; links-size = refl; heads-size = refl; spans-past = refl; links-past = refl; heads-past = refl }
 
-pub kept-then : {n m : ℕ} {c d e : Cells} → Kept n m c d → Kept n m d e → Kept n m c e
+pub kept-then : {n m : ℕ} {c d e : Cells} → CellsPastKept n m c d → CellsPastKept n m d e → CellsPastKept n m c e
 kept-then a b = record {
   spans-size = b .spans-size ∙ a .spans-size;
   links-size = b .links-size ∙ a .links-size;
@@ -35,7 +35,7 @@ kept-then a b = record {
   heads-past = b .heads-past ∙ a .heads-past;
 }
 
-pub kept-room : {n m : ℕ} {c d : Cells} → Kept n m c d → Room n m c → Room n m d
+pub kept-room : {n m : ℕ} {c d : Cells} → CellsPastKept n m c d → Room n m c → Room n m d
 kept-room k r = record { in-spans = omega (arith, k .spans-size, r .in-spans); in-links = omega (arith, k .links-size, r .in-links); in-heads = omega (arith, k .heads-size, r .in-heads) }
 
 -- ---- the lists that are updated
@@ -110,10 +110,10 @@ none-at spans = refl
 
 -- ---- some lists of a sound store are freed
 pub record FreedAll (n m total : ℕ) (c : Cells) (us : List Update) (d : Cells) : Type 0 where
-  pub isSound : (total′ : ℕ) → total′ + pairsFreed n c us ≡ total → SoundStore n m total′ d
+  pub isSound : (total′ : ℕ) → total′ + pairsFreed n c us ≡ total → CellsChainsSound n m total′ d
   pub fewer : pairsFreed n c us ≤ total
-  pub lists : (j : ℕ) → j < m → held n d j ≡ listAfter (emptied us) j (held n c j)
-  pub kept : Kept n m c d
+  pub lists : (j : ℕ) → j < m → storeList n d j ≡ listAfter (emptied us) j (storeList n c j)
+  pub kept : CellsPastKept n m c d
 
 same-pairs : (n : ℕ) (c d : Cells) {m k : ℕ} {us : List Update} → Ascending m k us → ((i : ℕ) → i < m → k ≤ i → placesOf n (d .links) (d .heads) i ≡ placesOf n (c .links) (c .heads) i) → pairsFreed n d us ≡ pairsFreed n c us
 unfolding pairsFreed
@@ -123,10 +123,10 @@ same-pairs n c d (next {u = u} {us = us} lo hi whole a) same =
     let rest : pairsFreed n d us ≡ pairsFreed n c us = same-pairs n c d a (λ i i<m h. same i i<m (omega arith)) in
     omega arith
 
-pub freed-all : {n m total k : ℕ} {c : Cells} {us : List Update} → SoundStore n m total c → Room n m c → Ascending m k us → FreedAll n m total c us (freedAll n c us)
+pub freed-all : {n m total k : ℕ} {c : Cells} {us : List Update} → CellsChainsSound n m total c → Room n m c → Ascending m k us → FreedAll n m total c us (freedAll n c us)
 unfolding freedAll pairsFreed listAfter
 freed-all {n} {m} {total} {c = c} s room none = record {
-  isSound = λ total′ sum. let same : total ≡ total′ = omega arith in subst (λ (t : ℕ). SoundStore n m t c) same s;
+  isSound = λ total′ sum. let same : total ≡ total′ = omega arith in subst (λ (t : ℕ). CellsChainsSound n m t c) same s;
   fewer = omega arith;
   lists = λ j j<m. refl;
   kept = kept-none n m c;
@@ -135,10 +135,10 @@ freed-all {n} {m} {total} {c = c} s room (next {u = u} {us = us} lo hi whole a) 
     let j : ℕ = u .list in
     let d : Cells = freedList n c j in
     let one : Replaced n m total c d j [] = freed-list n m total c s room j hi in
-    let kept₁ : Kept n m c d = freed-kept n m total c s room j hi in
+    let kept₁ : CellsPastKept n m c d = freed-kept n m total c s room j hi in
     let here : ℕ = length (placesOf n (c .links) (c .heads) j) in
     let less : here ≤ total = one .less in
-    let s₁ : SoundStore n m (total - here) d = one .isSound (total - here) (omega arith) in
+    let s₁ : CellsChainsSound n m (total - here) d = one .isSound (total - here) (omega arith) in
     let rest : FreedAll n m (total - here) d us (freedAll n d us) = freed-all s₁ (kept-room kept₁ room) a in
     let same : pairsFreed n d us ≡ pairsFreed n c us = same-pairs n c d a (λ i i<m h. one .places-kept i i<m (λ (e : i ≡ j). omega arith)) in
     record {
@@ -149,11 +149,11 @@ freed-all {n} {m} {total} {c = c} s room (next {u = u} {us = us} lo hi whole a) 
     }
   where
     at : (i : ℕ) → i < m → Replaced n m total c (freedList n c (u .list)) (u .list) [] → Dec (i ≡ u .list)
-        → listAfter (emptied us) i (held n (freedList n c (u .list)) i) ≡ listAfter (emptied (u ∷ us)) i (held n c i)
+        → listAfter (emptied us) i (storeList n (freedList n c (u .list)) i) ≡ listAfter (emptied (u ∷ us)) i (storeList n c i)
     at i i<m one (yes e) =
-        let gone : held n (freedList n c (u .list)) i ≡ [] = ap (λ (x : ℕ). held n (freedList n c (u .list)) x) e ∙ ap (endsAt (freedList n c (u .list) .spans)) (one .here) ∙ none-at (freedList n c (u .list) .spans) in
-        after-below (ascending-emptied a) i (held n (freedList n c (u .list)) i) (omega arith) ∙ gone ∙ sym (after-here (record { list = u .list; ends = [] }) (emptied us) i (held n c i) e)
-    at i i<m one (no ne) = ap (listAfter (emptied us) i) (one .lists-kept i i<m ne) ∙ sym (after-other (record { list = u .list; ends = [] }) (emptied us) i (held n c i) ne)
+        let gone : storeList n (freedList n c (u .list)) i ≡ [] = ap (λ (x : ℕ). storeList n (freedList n c (u .list)) x) e ∙ ap (endsAt (freedList n c (u .list) .spans)) (one .here) ∙ none-at (freedList n c (u .list) .spans) in
+        after-below (ascending-emptied a) i (storeList n (freedList n c (u .list)) i) (omega arith) ∙ gone ∙ sym (after-here (record { list = u .list; ends = [] }) (emptied us) i (storeList n c i) e)
+    at i i<m one (no ne) = ap (listAfter (emptied us) i) (one .lists-kept i i<m ne) ∙ sym (after-other (record { list = u .list; ends = [] }) (emptied us) i (storeList n c i) ne)
 
 pub freed-append : (n : ℕ) (us vs : List Update) (c : Cells) → freedAll n c (us ++ vs) ≡ freedAll n (freedAll n c us) vs
 unfolding freedAll
@@ -162,17 +162,17 @@ freed-append n (u ∷ us) vs c = freed-append n us vs (freedList n c (u .list))
 
 -- ---- empty lists of a sound store are laid
 pub record LaidAll (n m total : ℕ) (c : Cells) (us : List Update) (d : Cells) : Type 0 where
-  pub isSound : SoundStore n m (total + pairsLaid us) d
-  pub lists : (j : ℕ) → j < m → held n d j ≡ listAfter us j (held n c j)
-  pub kept : Kept n m c d
+  pub isSound : CellsChainsSound n m (total + pairsLaid us) d
+  pub lists : (j : ℕ) → j < m → storeList n d j ≡ listAfter us j (storeList n c j)
+  pub kept : CellsPastKept n m c d
 
 abbrev pub Empty : ℕ → Cells → List Update → Type 0
 Empty n c us = (u : Update) → List·Memᴰ u us → placesOf n (c .links) (c .heads) (u .list) ≡ []
 
-pub laid-all : {n m total k : ℕ} {c : Cells} {us : List Update} → SoundStore n m total c → Room n m c → Ascending m k us → Empty n c us → total + pairsLaid us ≤ n → LaidAll n m total c us (laidAll n c us)
+pub laid-all : {n m total k : ℕ} {c : Cells} {us : List Update} → CellsChainsSound n m total c → Room n m c → Ascending m k us → Empty n c us → total + pairsLaid us ≤ n → LaidAll n m total c us (laidAll n c us)
 unfolding laidAll pairsLaid listAfter
 laid-all {n} {m} {total} {c = c} s room none empty fits = record {
-  isSound = let same : total ≡ total + 0 = omega arith in subst (λ (t : ℕ). SoundStore n m t c) same s;
+  isSound = let same : total ≡ total + 0 = omega arith in subst (λ (t : ℕ). CellsChainsSound n m t c) same s;
   lists = λ j j<m. refl;
   kept = kept-none n m c;
 }
@@ -180,23 +180,23 @@ laid-all {n} {m} {total} {c = c} s room (next {u = u} {us = us} lo hi whole a) e
     let count : ℕ = length (u .ends) / 2 in
     let d : Cells = laidList n c u in
     let gone : placesOf n (c .links) (c .heads) (u .list) ≡ [] = empty u (List·Memᴰ·head refl) in
-    let one : Replaced n m total c d (u .list) (taken n c count) = laid-list n m total c s room u hi gone (omega arith) in
-    let kept₁ : Kept n m c d = laid-kept n m total c s room u hi gone (omega arith) in
-    let held₁ : held n d (u .list) ≡ u .ends = laid-held n m total c s room u hi gone (omega arith) whole in
+    let one : Replaced n m total c d (u .list) (lowestFree n c count) = laid-list n m total c s room u hi gone (omega arith) in
+    let kept₁ : CellsPastKept n m c d = laid-kept n m total c s room u hi gone (omega arith) in
+    let held₁ : storeList n d (u .list) ≡ u .ends = laid-held n m total c s room u hi gone (omega arith) whole in
     let still : Empty n d us = λ v mv. one .places-kept (v .list) (ascending-at a v mv .1) (λ (e : v .list ≡ u .list). omega (arith, ascending-at a v mv .0)) ∙ empty v (List·Memᴰ·tail mv) in
     let rest : LaidAll n m (total + count) d us (laidAll n d us) = laid-all (laid-sound n m total c s room u hi gone (omega arith)) (kept-room kept₁ room) a still (omega arith) in
     let sum : total + count + pairsLaid us ≡ total + (count + pairsLaid us) = omega arith in
     record {
-      isSound = subst (λ (t : ℕ). SoundStore n m t (laidAll n d us)) sum (rest .isSound);
+      isSound = subst (λ (t : ℕ). CellsChainsSound n m t (laidAll n d us)) sum (rest .isSound);
       lists = λ i i<m. rest .lists i i<m ∙ at i i<m one held₁ (ℕ-discrete i (u .list));
       kept = kept-then kept₁ (rest .kept);
     }
   where
-    at : (i : ℕ) → i < m → Replaced n m total c (laidList n c u) (u .list) (taken n c (length (u .ends) / 2)) → held n (laidList n c u) (u .list) ≡ u .ends → Dec (i ≡ u .list)
-        → listAfter us i (held n (laidList n c u) i) ≡ listAfter (u ∷ us) i (held n c i)
+    at : (i : ℕ) → i < m → Replaced n m total c (laidList n c u) (u .list) (lowestFree n c (length (u .ends) / 2)) → storeList n (laidList n c u) (u .list) ≡ u .ends → Dec (i ≡ u .list)
+        → listAfter us i (storeList n (laidList n c u) i) ≡ listAfter (u ∷ us) i (storeList n c i)
     at i i<m one held₁ (yes e) =
-        after-below a i (held n (laidList n c u) i) (omega arith) ∙ ap (λ (x : ℕ). held n (laidList n c u) x) e ∙ held₁ ∙ sym (after-here u us i (held n c i) e)
-    at i i<m one held₁ (no ne) = ap (listAfter us i) (one .lists-kept i i<m ne) ∙ sym (after-other u us i (held n c i) ne)
+        after-below a i (storeList n (laidList n c u) i) (omega arith) ∙ ap (λ (x : ℕ). storeList n (laidList n c u) x) e ∙ held₁ ∙ sym (after-here u us i (storeList n c i) e)
+    at i i<m one held₁ (no ne) = ap (listAfter us i) (one .lists-kept i i<m ne) ∙ sym (after-other u us i (storeList n c i) ne)
 
 pub laid-append : (n : ℕ) (us vs : List Update) (c : Cells) → laidAll n c (us ++ vs) ≡ laidAll n (laidAll n c us) vs
 unfolding laidAll
@@ -209,14 +209,14 @@ pairs-append [] vs = omega arith
 pairs-append (u ∷ us) vs = omega (arith, pairs-append us vs)
 
 -- ---- freed first, all of them, then laid
-module _ {n m total k : ℕ} {c : Cells} (s : SoundStore n m total c) (room : Room n m c) where
+module _ {n m total k : ℕ} {c : Cells} (s : CellsChainsSound n m total c) (room : Room n m c) where
   -- the lists are empty once they are freed
   pub all-empty : {us : List Update} → Ascending m k us → Empty n (freedAll n c us) us
   all-empty {us} a u mu =
       let f : FreedAll n m total c us (freedAll n c us) = freed-all s room a in
-      no-ends (freedAll n c us .spans) (placesOf n (freedAll n c us .links) (freedAll n c us .heads) (u .list)) (f .lists (u .list) (ascending-at a u mu .1) ∙ after-emptied us u (held n c (u .list)) mu)
+      no-ends (freedAll n c us .spans) (placesOf n (freedAll n c us .links) (freedAll n c us .heads) (u .list)) (f .lists (u .list) (ascending-at a u mu .1) ∙ after-emptied us u (storeList n c (u .list)) mu)
 
-  pub updated : {us : List Update} → Ascending m k us → total - pairsFreed n c us + pairsLaid us ≤ n → Updated n m total c us (applied n c us)
+  pub updated : {us : List Update} → Ascending m k us → total - pairsFreed n c us + pairsLaid us ≤ n → UpdatedStore n m total c us (applied n c us)
   unfolding applied
   updated {us} a fits =
       let f : FreedAll n m total c us (freedAll n c us) = freed-all s room a in
@@ -226,21 +226,21 @@ module _ {n m total k : ℕ} {c : Cells} (s : SoundStore n m total c) (room : Ro
       record {
         fewer = less;
         isSound = l .isSound;
-        lists = λ j j<m. l .lists j j<m ∙ ap (listAfter us j) (f .lists j j<m) ∙ after-twice us j (held n c j);
+        lists = λ j j<m. l .lists j j<m ∙ ap (listAfter us j) (f .lists j j<m) ∙ after-twice us j (storeList n c j);
         kept = kept-then (f .kept) (l .kept);
       }
 
   -- ---- half-way: the updates `vs` are done, and u is the next
-  pub half-freed : (vs : List Update) (u : Update) (ws : List Update) → Ascending m k (vs ++ u ∷ ws) → Freeable n (freedAll n c vs) (u .list)
+  pub half-freed : (vs : List Update) (u : Update) (ws : List Update) → Ascending m k (vs ++ u ∷ ws) → FreeListPre n (freedAll n c vs) (u .list)
   half-freed vs u ws a =
       let f : FreedAll n m total c vs (freedAll n c vs) = freed-all s room (ascending-left vs (u ∷ ws) a) in
       let below : u .list < m = ascending-at a u (Memᴰ·append-right vs (List·Memᴰ·head refl)) .1 in
-      let some : SoundStore n m (total - pairsFreed n c vs) (freedAll n c vs) = f .isSound (total - pairsFreed n c vs) (omega (arith, f .fewer)) in
+      let some : CellsChainsSound n m (total - pairsFreed n c vs) (freedAll n c vs) = f .isSound (total - pairsFreed n c vs) (omega (arith, f .fewer)) in
       let r : Room n m (freedAll n c vs) = kept-room (f .kept) room in
       record { in-spans = r .in-spans; in-links = r .in-links; in-heads = omega (arith, r .in-heads); chain = some .chains (u .list) below }
 
   pub half-laid : (vs : List Update) (u : Update) (ws : List Update) → Ascending m k (vs ++ u ∷ ws) → total - pairsFreed n c (vs ++ u ∷ ws) + pairsLaid (vs ++ u ∷ ws) ≤ n
-      → Layable n (laidAll n (freedAll n c (vs ++ u ∷ ws)) vs) u
+      → LayListPre n (laidAll n (freedAll n c (vs ++ u ∷ ws)) vs) u
   unfolding pairsLaid
   half-laid vs u ws a fits =
       let us : List Update = vs ++ u ∷ ws in

@@ -11,9 +11,9 @@ use lib.Ieee.{Float}
 use lib.ListN.{length, getD, length-append}
 use borrow.Author.Tests.{ltb-true, lt-ltb, eqb-true, eq-eqb}
 use Rattle.doubles.proofs.Bools.{and-left, and-right}
-use Rattle.store.specs.declared.Walk.{Walk}
-use Rattle.store.specs.declared.Walk.the-variants.{Ends, Broken}
-use Rattle.store.specs.Store.{nextAt, ownerAt, Chain, ends, more, placesOf, chained}
+use Rattle.store.specs.declared.ChainWalk.{ChainWalk}
+use Rattle.store.specs.declared.ChainWalk.the-variants.{Ends, Broken}
+use Rattle.store.specs.Store.{nextAt, ownerAt, RecordChain, ends, more, placesOf, chained}
 use Rattle.store.specs.Walks.{walkFrom, andThen, walkAll}
 use Rattle.store.proofs.Chains.{places-of, Run, run-head, run-tail}
 
@@ -23,7 +23,7 @@ never {c} e = let z : _≡_ {A = ℕ} 0 1 = cc in omega arith
 -- a chain, with its length within the fuel and the count at its end
 pub record Walked (links : List ℕ) (n o f c k e : ℕ) : Type 0 where
   pub slots : List ℕ
-  pub chain : Chain links n o k slots
+  pub chain : RecordChain links n o k slots
   pub within : length slots ≤ f
   pub counted : e ≡ c + length slots
 
@@ -31,7 +31,7 @@ pub ends-eq : {a b : ℕ} → Ends a ≡ Ends b → a ≡ b
 ends-eq {a} {b} h = cc
 
 module _ (links : List ℕ) (n o : ℕ) where
-  pub walk-to : {k : ℕ} {ps : List ℕ} (f c : ℕ) → Chain links n o k ps → length ps ≤ f → walkFrom links n o f c k ≡ Ends (c + length ps)
+  pub walk-to : {k : ℕ} {ps : List ℕ} (f c : ℕ) → RecordChain links n o k ps → length ps ≤ f → walkFrom links n o f c k ≡ Ends (c + length ps)
   unfolding walkFrom
   walk-to zero c ends h = ap Ends (sym (add-zero c))
   walk-to (suc f) c ends h = ap Ends (sym (add-zero c))
@@ -59,7 +59,7 @@ module _ (links : List ℕ) (n o : ℕ) where
           }
       by-test false t w rec = absurd (never w)
 
-then-of : (w : Walk) (f : ℕ → Walk) (e : ℕ) → andThen w f ≡ Ends e → (c : ℕ) × (w ≡ Ends c) × (f c ≡ Ends e)
+then-of : (w : ChainWalk) (f : ℕ → ChainWalk) (e : ℕ) → andThen w f ≡ Ends e → (c : ℕ) × (w ≡ Ends c) × (f c ≡ Ends e)
 then-of (Ends c) f e h = (c, refl, h)
 then-of Broken f e h = absurd (never h)
 
@@ -70,11 +70,11 @@ module _ (spans : List Float) (links heads : List ℕ) (n limit : ℕ) where
     pub within : e ≤ limit
 
   -- the chain of list j, and those from the next on
-  joined : (j r : ℕ) → Chain links n (suc j) (getD heads j 0) (placesOf n links heads j) → Run spans links heads n (suc j) r → Run spans links heads n j (suc r)
+  joined : (j r : ℕ) → RecordChain links n (suc j) (getD heads j 0) (placesOf n links heads j) → Run spans links heads n (suc j) r → Run spans links heads n j (suc r)
   joined j r here later i lo hi = at (ℕ-discrete i j)
     where
-      at : Dec (i ≡ j) → Chain links n (suc i) (getD heads i 0) (placesOf n links heads i)
-      at (yes e) = subst (λ (x : ℕ). Chain links n (suc x) (getD heads x 0) (placesOf n links heads x)) (sym e) here
+      at : Dec (i ≡ j) → RecordChain links n (suc i) (getD heads i 0) (placesOf n links heads i)
+      at (yes e) = subst (λ (x : ℕ). RecordChain links n (suc x) (getD heads x 0) (placesOf n links heads x)) (sym e) here
       at (no ne) = later i (omega (arith, ne)) (omega arith)
 
   pub all-of : limit ≤ n → (r j c e : ℕ) → c ≤ limit → walkAll links heads n limit r j c ≡ Ends e → AllWalked r j c e
@@ -89,7 +89,7 @@ module _ (spans : List Float) (links heads : List ℕ) (n limit : ℕ) where
       let rest = all-of small r (suc j) (t .0) e (omega (arith, first .within, first .counted)) (t .2) in
       let sum : length (placesOf n links heads j ++ chained n links heads (suc j) r) ≡ length (placesOf n links heads j) + length (chained n links heads (suc j) r) = length-append (placesOf n links heads j) (chained n links heads (suc j) r) in
       record {
-        run = joined j r (subst (λ (l : List ℕ). Chain links n (suc j) (getD heads j 0) l) (sym same) (first .chain)) (rest .run);
+        run = joined j r (subst (λ (l : List ℕ). RecordChain links n (suc j) (getD heads j 0) l) (sym same) (first .chain)) (rest .run);
         counted = omega (arith, sum, ap length same, first .counted, rest .counted);
         within = rest .within;
       }
@@ -102,7 +102,7 @@ module _ (spans : List Float) (links heads : List ℕ) (n limit : ℕ) where
       let t : List ℕ = chained n links heads (suc j) r in
       let sum : length (s ++ t) ≡ length s + length t = length-append s t in
       let total : c + length s + length t ≡ c + length (s ++ t) = omega arith in
-      ap (λ (w : Walk). andThen w (walkAll links heads n limit r (suc j))) (walk-to links n (suc j) (limit - c) c (run-head spans links heads n j r run) (omega arith))
+      ap (λ (w : ChainWalk). andThen w (walkAll links heads n limit r (suc j))) (walk-to links n (suc j) (limit - c) c (run-head spans links heads n j r run) (omega arith))
       ∙ all-to r (suc j) (c + length s) (run-tail spans links heads n j r run) (omega arith)
       ∙ ap Ends total
 
@@ -138,10 +138,10 @@ module _ (links heads : List ℕ) (n limit m : ℕ) where
       ap (λ (r : ℕ). walkAll links heads n limit r j c) left ∙ ap (λ (o : ℕ). andThen (walkFrom links n o (limit - c) c (getD heads j 0)) (walkAll links heads n limit (m - (j + 1)) o)) next
 
   pub all-broken : (j c : ℕ) → j < m → walkFrom links n (j + 1) (limit - c) c (getD heads j 0) ≡ Broken → walkAll links heads n limit (m - j) j c ≡ Broken
-  all-broken j c h e = all-step j c h ∙ ap (λ (w : Walk). andThen w (walkAll links heads n limit (m - (j + 1)) (j + 1))) e
+  all-broken j c h e = all-step j c h ∙ ap (λ (w : ChainWalk). andThen w (walkAll links heads n limit (m - (j + 1)) (j + 1))) e
 
   pub all-next : (j c e : ℕ) → j < m → walkFrom links n (j + 1) (limit - c) c (getD heads j 0) ≡ Ends e → walkAll links heads n limit (m - j) j c ≡ walkAll links heads n limit (m - (j + 1)) (j + 1) e
-  all-next j c e h w = all-step j c h ∙ ap (λ (x : Walk). andThen x (walkAll links heads n limit (m - (j + 1)) (j + 1))) w
+  all-next j c e h w = all-step j c h ∙ ap (λ (x : ChainWalk). andThen x (walkAll links heads n limit (m - (j + 1)) (j + 1))) w
 
   pub all-end : (j c : ℕ) → m ≤ j → walkAll links heads n limit (m - j) j c ≡ Ends c
   unfolding walkAll

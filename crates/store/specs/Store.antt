@@ -44,9 +44,9 @@ places links (suc fuel) zero = []
 places links (suc fuel) (suc i) = i ∷ places links fuel (nextAt links i)
 
 -- From record number k a chain runs over the places ps, of counted records of the owner o, to a zero.
-pub data Chain (links : List ℕ) (n o : ℕ) : ℕ → List ℕ → Type 0 where
-  ends : Chain links n o zero []
-  more : {i : ℕ} {ps : List ℕ} → i < n → ownerAt links i ≡ o → Chain links n o (nextAt links i) ps → Chain links n o (suc i) (i ∷ ps)
+pub data RecordChain (links : List ℕ) (n o : ℕ) : ℕ → List ℕ → Type 0 where
+  ends : RecordChain links n o zero []
+  more : {i : ℕ} {ps : List ℕ} → i < n → ownerAt links i ≡ o → RecordChain links n o (nextAt links i) ps → RecordChain links n o (suc i) (i ∷ ps)
 
 -- the places of list j, in order. No record comes twice in a chain, so n are enough
 abbrev pub placesOf : ℕ → List ℕ → List ℕ → ℕ → List ℕ
@@ -58,8 +58,8 @@ chained n links heads j zero = []
 chained n links heads j (suc r) = placesOf n links heads j ++ chained n links heads (suc j) r
 
 -- ---- a sound store, but for the validity of its rays
-pub record Sound (n m total : ℕ) (spans : List Float) (links heads : List ℕ) : Type 0 where
-  pub chains : (j : ℕ) → j < m → Chain links n (suc j) (getD heads j 0) (placesOf n links heads j)
+pub record ChainsSound (n m total : ℕ) (spans : List Float) (links heads : List ℕ) : Type 0 where
+  pub chains : (j : ℕ) → j < m → RecordChain links n (suc j) (getD heads j 0) (placesOf n links heads j)
   pub others : (i : ℕ) → i < n → usedAt spans links i ≡ true → List·Memᴰ i (chained n links heads 0 m)
   pub counts : total ≡ length (chained n links heads 0 m)
 

@@ -6,8 +6,8 @@ use Prim.Native.Nat.{ℕ, suc, _+_, _-_, _*_, _/_, _%_, _≤_, _<_}
 use lib.Dec.{eqb}
 use lib.ListN.{length, getD, take, drop, set}
 use lib.Ieee.{Float}
-use Rattle.store.specs.Store.{Chain, placesOf, listOf, freedSpans, freedLinks, freeFrom, filledSpans, filledLinks, headOf, Sound}
-use Rattle.store.specs.Fills.{Cursor}
+use Rattle.store.specs.Store.{RecordChain, placesOf, listOf, freedSpans, freedLinks, freeFrom, filledSpans, filledLinks, headOf, ChainsSound}
+use Rattle.store.specs.Fills.{FreeCursor}
 
 -- the lent cells: lo and hi of each record; next and owner of each record; the head of each list
 pub record Cells : Type 0 where
@@ -27,8 +27,8 @@ abbrev pub update : ℕ → List Float → Update
 update list ends = record { list = list; ends = ends }
 
 -- so many pairs of a flat list, from cell `at` on
-abbrev pub part : List Float → ℕ → ℕ → List Float
-part pairs at n = take (2 * n) (drop at pairs)
+abbrev pub pairsFrom : List Float → ℕ → ℕ → List Float
+pairsFrom pairs at n = take (2 * n) (drop at pairs)
 
 -- the store with the records of list j free and its head zero
 unfoldable pub freedList : ℕ → Cells → ℕ → Cells
@@ -45,17 +45,17 @@ freedAll n c [] = c
 freedAll n c (u ∷ us) = freedAll n (freedList n c (u .list)) us
 
 -- the places that a list of so many pairs takes: the lowest free ones
-unfoldable pub taken : ℕ → Cells → ℕ → List ℕ
+unfoldable pub lowestFree : ℕ → Cells → ℕ → List ℕ
 unfolding freeFrom
-taken n c k = take k (freeFrom (c .spans) (c .links) 0 n)
+lowestFree n c k = take k (freeFrom (c .spans) (c .links) 0 n)
 
 -- the store with one list laid from the lowest free record
 unfoldable pub laidList : ℕ → Cells → Update → Cells
-unfolding taken filledSpans filledLinks
+unfolding lowestFree filledSpans filledLinks
 laidList n c u = record {
-  spans = filledSpans (c .spans) (taken n c (length (u .ends) / 2)) (u .ends);
-  links = filledLinks (c .links) (suc (u .list)) (taken n c (length (u .ends) / 2));
-  heads = set (c .heads) (u .list) (headOf (taken n c (length (u .ends) / 2)));
+  spans = filledSpans (c .spans) (lowestFree n c (length (u .ends) / 2)) (u .ends);
+  links = filledLinks (c .links) (suc (u .list)) (lowestFree n c (length (u .ends) / 2));
+  heads = set (c .heads) (u .list) (headOf (lowestFree n c (length (u .ends) / 2)));
 }
 
 unfoldable pub laidAll : ℕ → Cells → List Update → Cells
@@ -70,14 +70,14 @@ applied n c us = laidAll n (freedAll n c us) us
 
 -- ---- one list at a time
 -- list j is a chain, so that it can be freed
-pub record Freeable (n : ℕ) (c : Cells) (j : ℕ) : Type 0 where
+pub record FreeListPre (n : ℕ) (c : Cells) (j : ℕ) : Type 0 where
   pub in-spans : 2 * n ≤ length (c .spans)
   pub in-links : 2 * n ≤ length (c .links)
   pub in-heads : j < length (c .heads)
-  pub chain : Chain (c .links) n (suc j) (getD (c .heads) j 0) (placesOf n (c .links) (c .heads) j)
+  pub chain : RecordChain (c .links) n (suc j) (getD (c .heads) j 0) (placesOf n (c .links) (c .heads) j)
 
 -- there are free records for the whole pairs of an update
-pub record Layable (n : ℕ) (c : Cells) (u : Update) : Type 0 where
+pub record LayListPre (n : ℕ) (c : Cells) (u : Update) : Type 0 where
   pub in-spans : 2 * n ≤ length (c .spans)
   pub in-links : 2 * n ≤ length (c .links)
   pub in-heads : u .list < length (c .heads)
@@ -85,17 +85,17 @@ pub record Layable (n : ℕ) (c : Cells) (u : Update) : Type 0 where
   pub enough : length (u .ends) / 2 ≤ length (freeFrom (c .spans) (c .links) 0 n)
 
 -- the list is laid, and no record before place r is free
-pub record Laid (n : ℕ) (c : Cells) (u : Update) (r : ℕ) (d : Cells) : Type 0 where
+pub record LayListPost (n : ℕ) (c : Cells) (u : Update) (r : ℕ) (d : Cells) : Type 0 where
   pub left : d ≡ laidList n c u
-  pub onward : Cursor n (d .spans) (d .links) r
+  pub onward : FreeCursor n (d .spans) (d .links) r
 
 -- ---- what the law of an update speaks of
 -- a store in its cells, and list j of it
-abbrev pub SoundStore : ℕ → ℕ → ℕ → Cells → Type 0
-SoundStore n m total c = Sound n m total (c .spans) (c .links) (c .heads)
+abbrev pub CellsChainsSound : ℕ → ℕ → ℕ → Cells → Type 0
+CellsChainsSound n m total c = ChainsSound n m total (c .spans) (c .links) (c .heads)
 
-abbrev pub held : ℕ → Cells → ℕ → List Float
-held n c j = listOf n (c .spans) (c .links) (c .heads) j
+abbrev pub storeList : ℕ → Cells → ℕ → List Float
+storeList n c j = listOf n (c .spans) (c .links) (c .heads) j
 
 -- the cells have n records and m heads
 pub record Room (n m : ℕ) (c : Cells) : Type 0 where
@@ -123,7 +123,7 @@ listAfter [] j l = l
 listAfter (u ∷ us) j l = cond (eqb j (u .list)) (u .ends) (listAfter us j l)
 
 -- the sizes, and the cells past n records and m heads, are as before
-pub record Kept (n m : ℕ) (c d : Cells) : Type 0 where
+pub record CellsPastKept (n m : ℕ) (c d : Cells) : Type 0 where
   pub spans-size : length (d .spans) ≡ length (c .spans)
   pub links-size : length (d .links) ≡ length (c .links)
   pub heads-size : length (d .heads) ≡ length (c .heads)
@@ -132,8 +132,8 @@ pub record Kept (n m : ℕ) (c d : Cells) : Type 0 where
   pub heads-past : drop m (d .heads) ≡ drop m (c .heads)
 
 -- what the updates leave of a sound store with that total
-pub record Updated (n m total : ℕ) (c : Cells) (us : List Update) (d : Cells) : Type 0 where
+pub record UpdatedStore (n m total : ℕ) (c : Cells) (us : List Update) (d : Cells) : Type 0 where
   pub fewer : pairsFreed n c us ≤ total
-  pub isSound : SoundStore n m (total - pairsFreed n c us + pairsLaid us) d
-  pub lists : (j : ℕ) → j < m → held n d j ≡ listAfter us j (held n c j)
-  pub kept : Kept n m c d
+  pub isSound : CellsChainsSound n m (total - pairsFreed n c us + pairsLaid us) d
+  pub lists : (j : ℕ) → j < m → storeList n d j ≡ listAfter us j (storeList n c j)
+  pub kept : CellsPastKept n m c d

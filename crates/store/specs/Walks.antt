@@ -5,8 +5,8 @@ use Prim.Native.Nat.{ℕ, zero, suc, _+_, _-_}
 use lib.Dec.{eqb, ltb}
 use lib.ListN.{getD}
 use Rattle.store.specs.Store.{nextAt, ownerAt}
-use Rattle.store.specs.declared.Walk.{Walk}
-use Rattle.store.specs.declared.Walk.the-variants.{Ends, Broken}
+use Rattle.store.specs.declared.ChainWalk.{ChainWalk}
+use Rattle.store.specs.declared.ChainWalk.the-variants.{Ends, Broken}
 
 abbrev pub bit : Bool → ℕ
 bit true = 1
@@ -18,17 +18,17 @@ countTo p zero = 0
 countTo p (suc n) = countTo p n + bit (p n)
 
 -- A walk from record number k over at most `fuel` records of the owner o, with c records counted before: the count at its end.
-unfoldable pub walkFrom : List ℕ → ℕ → ℕ → ℕ → ℕ → ℕ → Walk
+unfoldable pub walkFrom : List ℕ → ℕ → ℕ → ℕ → ℕ → ℕ → ChainWalk
 walkFrom links n o zero c zero = Ends c
 walkFrom links n o zero c (suc i) = Broken
 walkFrom links n o (suc fuel) c zero = Ends c
 walkFrom links n o (suc fuel) c (suc i) = cond (ltb i n && eqb (ownerAt links i) o) (walkFrom links n o fuel (suc c) (nextAt links i)) Broken
 
-abbrev pub andThen : Walk → (ℕ → Walk) → Walk
+abbrev pub andThen : ChainWalk → (ℕ → ChainWalk) → ChainWalk
 andThen (Ends c) f = f c
 andThen Broken f = Broken
 
 -- the lists from j on, r of them, one after the other, with one limit on all of them
-unfoldable pub walkAll : List ℕ → List ℕ → ℕ → ℕ → ℕ → ℕ → ℕ → Walk
+unfoldable pub walkAll : List ℕ → List ℕ → ℕ → ℕ → ℕ → ℕ → ℕ → ChainWalk
 walkAll links heads n limit zero j c = Ends c
 walkAll links heads n limit (suc r) j c = andThen (walkFrom links n (suc j) (limit - c) c (getD heads j 0)) (walkAll links heads n limit r (suc j))

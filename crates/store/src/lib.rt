@@ -3,7 +3,7 @@ ghost use mathlib.Core.Path.{_≡_};
 ghost use mathlib.Core.Bool.{true};
 ghost use Prim.Native.Nat.{_+_, _-_, _*_, _<_, _≤_};
 ghost use lib.ListN.{length};
-ghost use Rattle.store.specs.Store.{isPlusZero, usedAt, Sound};
+ghost use Rattle.store.specs.Store.{isPlusZero, usedAt, ChainsSound};
 ghost use Rattle.store.specs.Walks.{countTo, walkFrom, walkAll};
 
 fn plus_zero(x: f64) -> bool
@@ -48,13 +48,20 @@ pub fn count_used(spans: &[f64], links: &[u64], n: usize) -> usize
     c
 }
 
-pub enum Walk {
+pub enum ChainWalk {
     Ends(usize),
     Broken,
 }
 
 // Walks a chain of the owner, with `from` records counted before and at most `limit` in all.
-fn walk_chain(links: &[u64], n: usize, owner: u64, head: u64, from: usize, limit: usize) -> Walk
+fn walk_chain(
+    links: &[u64],
+    n: usize,
+    owner: u64,
+    head: u64,
+    from: usize,
+    limit: usize,
+) -> ChainWalk
     requires { ⌜ 2 * n ≤ length (now links) ⌝ }
     ensures { λ r. ⌜ r ≡ walkFrom (now (links .entry)) n owner (limit - from) from head ⌝ }
 {
@@ -62,23 +69,23 @@ fn walk_chain(links: &[u64], n: usize, owner: u64, head: u64, from: usize, limit
     let mut c = from;
     while k != 0 {
         if limit <= c {
-            return Walk::Broken;
+            return ChainWalk::Broken;
         }
         let i = (k - 1) as usize;
         if n <= i {
-            return Walk::Broken;
+            return ChainWalk::Broken;
         }
         if links[2 * i + 1] != owner {
-            return Walk::Broken;
+            return ChainWalk::Broken;
         }
         k = links[2 * i];
         c += 1;
     }
-    Walk::Ends(c)
+    ChainWalk::Ends(c)
 }
 
 // Walks the chains of all m lists.
-fn walk_all(links: &[u64], heads: &[u64], n: usize, m: usize, limit: usize) -> Walk
+fn walk_all(links: &[u64], heads: &[u64], n: usize, m: usize, limit: usize) -> ChainWalk
     requires { ⌜ (2 * n ≤ length (now links)) × (m ≤ length (now heads)) ⌝ }
     ensures { λ r. ⌜ r ≡ walkAll (now (links .entry)) (now (heads .entry)) n limit m 0 0 ⌝ }
 {
@@ -87,13 +94,13 @@ fn walk_all(links: &[u64], heads: &[u64], n: usize, m: usize, limit: usize) -> W
     while j < m {
         let owner = (j as u64) + 1;
         let head = heads[j];
-        let Walk::Ends(e) = walk_chain(links, n, owner, head, c, limit) else {
-            return Walk::Broken;
+        let ChainWalk::Ends(e) = walk_chain(links, n, owner, head, c, limit) else {
+            return ChainWalk::Broken;
         };
         c = e;
         j += 1;
     }
-    Walk::Ends(c)
+    ChainWalk::Ends(c)
 }
 
 // Whether a store of n records and m lists is sound, but for the validity of its rays.
@@ -106,15 +113,15 @@ pub fn check_store(
     total: u64,
 ) -> bool
     requires { ⌜ (2 * n ≤ length (now spans)) × (2 * n ≤ length (now links)) × (m ≤ length (now heads)) ⌝ }
-    ensures { λ r. ⌜ (r ≡ true → Sound n m total (now (spans .entry)) (now (links .entry)) (now (heads .entry)))
-        × (Sound n m total (now (spans .entry)) (now (links .entry)) (now (heads .entry)) → r ≡ true) ⌝ }
+    ensures { λ r. ⌜ (r ≡ true → ChainsSound n m total (now (spans .entry)) (now (links .entry)) (now (heads .entry)))
+        × (ChainsSound n m total (now (spans .entry)) (now (links .entry)) (now (heads .entry)) → r ≡ true) ⌝ }
 {
     let u = count_used(spans, links, n);
     if (u as u64) != total {
         return false;
     }
     match walk_all(links, heads, n, m, u) {
-        Walk::Ends(c) => c == u,
-        Walk::Broken => false,
+        ChainWalk::Ends(c) => c == u,
+        ChainWalk::Broken => false,
     }
 }

@@ -2,13 +2,12 @@
 ghost use mathlib.Core.Path.{_≡_};
 ghost use Prim.Native.Nat.{_+_, _*_, _≤_};
 ghost use lib.ListN.{length};
-ghost use Rattle.store.specs.Store.{Chain, places, freedSpans, freedLinks};
-ghost use Rattle.store.specs.Updates.{cells, freedList, Freeable};
-ghost use Rattle.store_free.specs.Rays.{FreeableRay};
-
+ghost use Rattle.store.specs.Store.{RecordChain, places, freedSpans, freedLinks};
+ghost use Rattle.store.specs.Updates.{cells, freedList, FreeListPre};
+ghost use Rattle.store_free.specs.Rays.{FreeRayPre};
 // Frees the records of a chain.
 fn free_chain(spans: &mut [f64], links: &mut [u64], n: usize, owner: u64, head: u64)
-    requires { ⌜ (2 * n ≤ length (now spans)) × (2 * n ≤ length (now links)) × Chain (now links) n owner head (places (now links) n head) ⌝ }
+    requires { ⌜ (2 * n ≤ length (now spans)) × (2 * n ≤ length (now links)) × RecordChain (now links) n owner head (places (now links) n head) ⌝ }
     ensures { λ _. ⌜ (now (spans .exit) ≡ freedSpans (now (spans .entry)) (places (now (links .entry)) n head))
         × (now (links .exit) ≡ freedLinks (now (links .entry)) (places (now (links .entry)) n head)) ⌝ }
 {
@@ -25,7 +24,7 @@ fn free_chain(spans: &mut [f64], links: &mut [u64], n: usize, owner: u64, head: 
 
 // Frees list j: its records and its head.
 fn free_list(spans: &mut [f64], links: &mut [u64], heads: &mut [u64], n: usize, j: usize)
-    requires { ⌜ Freeable n (cells (now spans) (now links) (now heads)) j ⌝ }
+    requires { ⌜ FreeListPre n (cells (now spans) (now links) (now heads)) j ⌝ }
     ensures { λ _. ⌜ cells (now (spans .exit)) (now (links .exit)) (now (heads .exit)) ≡ freedList n (cells (now (spans .entry)) (now (links .entry)) (now (heads .entry))) j ⌝ }
 {
     let head = heads[j];
@@ -35,7 +34,7 @@ fn free_list(spans: &mut [f64], links: &mut [u64], heads: &mut [u64], n: usize, 
 
 // Frees both lists of a ray.
 pub fn free_ray(spans: &mut [f64], links: &mut [u64], heads: &mut [u64], n: usize, ray: usize)
-    requires { ⌜ FreeableRay n (cells (now spans) (now links) (now heads)) ray ⌝ }
+    requires { ⌜ FreeRayPre n (cells (now spans) (now links) (now heads)) ray ⌝ }
     ensures { λ _. ⌜ cells (now (spans .exit)) (now (links .exit)) (now (heads .exit))
         ≡ freedList n (freedList n (cells (now (spans .entry)) (now (links .entry)) (now (heads .entry))) (2 * ray)) (2 * ray + 1) ⌝ }
 {

@@ -11,7 +11,7 @@ use lib.ListN.{length, getD, take, drop, length-set}
 use lib.Seq.{getD-drop, drop-drop}
 use native.Mathlib.Nat.{add-zero}
 use native.Mathlib.Numerals.{add-one}
-use Rattle.store.specs.Fills.{NextFree, Cursor, Fillable}
+use Rattle.store.specs.Fills.{NextFree, FreeCursor, FillListPre}
 use Rattle.store.proofs.FreePlaces.{free-at}
 use Rattle.store.proofs.Records.{put-other, put-here, same-used, owned-used}
 use Rattle.store.specs.Store.{ownerAt, usedAt, freeFrom, headOf, filledLinks, filledSpans, putSpan, putLink}
@@ -67,7 +67,7 @@ module _ (spans : List Float) (links : List ℕ) (n : ℕ) where
           (List·Memᴰ·cases-cons (subst (List·Memᴰ x) (f .first) (free-found (n - c) c x lo (omega (arith, f .counted)) u))))
 
   -- so the free places are those from a cursor on
-  pub free-onward : (from : ℕ) → Cursor n spans links from → freeFrom spans links 0 n ≡ freeFrom spans links from (n - from)
+  pub free-onward : (from : ℕ) → FreeCursor n spans links from → freeFrom spans links 0 n ≡ freeFrom spans links from (n - from)
   free-onward from k = upTo from (omega arith)
     where
       upTo : (i : ℕ) → i ≤ from → freeFrom spans links 0 n ≡ freeFrom spans links i (n - i)
@@ -121,14 +121,14 @@ pub record Filling (n o count : ℕ) (pairs spans₀ : List Float) (links₀ ps 
   pub links-so : filledLinks links₀ o ps ≡ filledLinks links o (take (count - t) (at ∷ freeFrom spans links (at + 1) (n - (at + 1))))
 
 module _ (n o count : ℕ) (pairs spans₀ : List Float) (links₀ : List ℕ) where
-  pub fill-some : (from : ℕ) → Fillable n spans₀ links₀ o pairs count from → 0 < length (freeFrom spans₀ links₀ from (n - from))
+  pub fill-some : (from : ℕ) → FillListPre n spans₀ links₀ o pairs count from → 0 < length (freeFrom spans₀ links₀ from (n - from))
   fill-some from f = omega (arith, f .some, f .enough, ap length (free-onward spans₀ links₀ n from (f .cursor)))
 
   -- the free places, in the terms of the first of them
-  first-of : (from at : ℕ) → Fillable n spans₀ links₀ o pairs count from → NextFree spans₀ links₀ n from at → freeFrom spans₀ links₀ 0 n ≡ at ∷ freeFrom spans₀ links₀ (at + 1) (n - (at + 1))
+  first-of : (from at : ℕ) → FillListPre n spans₀ links₀ o pairs count from → NextFree spans₀ links₀ n from at → freeFrom spans₀ links₀ 0 n ≡ at ∷ freeFrom spans₀ links₀ (at + 1) (n - (at + 1))
   first-of from at f g = free-onward spans₀ links₀ n from (f .cursor) ∙ g .first
 
-  pub fill-start : (from at : ℕ) → Fillable n spans₀ links₀ o pairs count from → NextFree spans₀ links₀ n from at
+  pub fill-start : (from at : ℕ) → FillListPre n spans₀ links₀ o pairs count from → NextFree spans₀ links₀ n from at
       → Filling n o count pairs spans₀ links₀ (take count (freeFrom spans₀ links₀ 0 n)) spans₀ links₀ at 0
   fill-start from at f g =
       let all : count - 0 ≡ count = omega arith in
@@ -211,11 +211,11 @@ module _ (n o count : ℕ) (pairs spans₀ : List Float) (links₀ : List ℕ) w
           sym (s .links-so ∙ ap (filledLinks links o) places),
         )
 
-    pub fill-onward : Cursor n (putSpan spans at (getD pairs (2 * t) nan) (getD pairs (2 * t + 1) nan)) (putLink links at 0 o) (at + 1)
+    pub fill-onward : FreeCursor n (putSpan spans at (getD pairs (2 * t) nan) (getD pairs (2 * t + 1) nan)) (putLink links at 0 o) (at + 1)
     fill-onward = record { most = omega (arith, s .counted); past = put-past (getD pairs (2 * t) nan) (getD pairs (2 * t + 1) nan) 0 }
 
   -- the number of the record at the first place
-  pub first-head : (from at : ℕ) → Fillable n spans₀ links₀ o pairs count from → NextFree spans₀ links₀ n from at → at + 1 ≡ headOf (take count (freeFrom spans₀ links₀ 0 n))
+  pub first-head : (from at : ℕ) → FillListPre n spans₀ links₀ o pairs count from → NextFree spans₀ links₀ n from at → at + 1 ≡ headOf (take count (freeFrom spans₀ links₀ 0 n))
   first-head from at f g =
       sym (ap (λ (l : List ℕ). headOf (take count l)) (first-of from at f g) ∙ head-take count at (freeFrom spans₀ links₀ (at + 1) (n - (at + 1))) (f .some) ∙ sym (add-one at))
 
@@ -224,5 +224,5 @@ pub refill : {n o count : ℕ} {pairs spans₀ : List Float} {links₀ ps : List
 refill {n} {o} {count} {pairs} {spans₀} {links₀} {ps} {spans} {spans′} {links} {links′} {at} {t} es el f =
     subst (λ (l : List Float). Filling n o count pairs spans₀ links₀ ps l links′ at t) (sym es) (subst (λ (l : List ℕ). Filling n o count pairs spans₀ links₀ ps spans l at t) (sym el) f)
 
-pub cursor-same : {n : ℕ} {spans spans′ : List Float} {links links′ : List ℕ} {r : ℕ} → spans′ ≡ spans → links′ ≡ links → Cursor n spans links r → Cursor n spans′ links′ r
-cursor-same {n} {spans} {spans′} {links} {links′} {r} es el k = subst (λ (l : List Float). Cursor n l links′ r) (sym es) (subst (λ (l : List ℕ). Cursor n spans l r) (sym el) k)
+pub cursor-same : {n : ℕ} {spans spans′ : List Float} {links links′ : List ℕ} {r : ℕ} → spans′ ≡ spans → links′ ≡ links → FreeCursor n spans links r → FreeCursor n spans′ links′ r
+cursor-same {n} {spans} {spans′} {links} {links′} {r} es el k = subst (λ (l : List Float). FreeCursor n l links′ r) (sym es) (subst (λ (l : List ℕ). FreeCursor n spans l r) (sym el) k)

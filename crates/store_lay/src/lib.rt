@@ -3,10 +3,9 @@ ghost use mathlib.Core.Path.{_≡_};
 ghost use Prim.Native.Nat.{_+_, _-_, _*_, _<_, _≤_};
 ghost use lib.ListN.{length};
 ghost use Rattle.store.specs.Store.{freeFrom, putSpan, putLink};
-ghost use Rattle.store.specs.Fills.{NextFree, Cursor, Fillable, Fills};
-ghost use Rattle.store.specs.Updates.{cells, update, part, Layable, Laid};
-ghost use Rattle.store_lay.specs.Rays.{LayableRay, LaidRay};
-
+ghost use Rattle.store.specs.Fills.{NextFree, FreeCursor, FillListPre, FillListPost};
+ghost use Rattle.store.specs.Updates.{cells, update, pairsFrom, LayListPre, LayListPost};
+ghost use Rattle.store_lay.specs.Rays.{LayRayPre, LayRayPost};
 // The first free place from `from` on, of which there is one.
 fn next_free(spans: &[f64], links: &[u64], n: usize, from: usize) -> usize
     requires { ⌜ (2 * n ≤ length (now spans)) × (2 * n ≤ length (now links)) × (0 < length (freeFrom (now spans) (now links) from (n - from))) ⌝ }
@@ -20,7 +19,7 @@ fn next_free(spans: &[f64], links: &[u64], n: usize, from: usize) -> usize
 }
 
 // The record number of a list's head, and the place past its last record.
-pub struct Filled {
+pub struct ListFilled {
     pub head: u64,
     pub cursor: usize,
 }
@@ -53,9 +52,9 @@ fn fill_list(
     owner: u64,
     pairs: &[f64],
     count: usize,
-) -> Filled
-    requires { ⌜ Fillable n (now spans) (now links) owner (now pairs) count from ⌝ }
-    ensures { λ r. ⌜ Fills n (now (spans .entry)) (now (links .entry)) owner (now (pairs .entry)) count (r .head) (r .cursor) (now (spans .exit)) (now (links .exit)) ⌝ }
+) -> ListFilled
+    requires { ⌜ FillListPre n (now spans) (now links) owner (now pairs) count from ⌝ }
+    ensures { λ r. ⌜ FillListPost n (now (spans .entry)) (now (links .entry)) owner (now (pairs .entry)) count (r .head) (r .cursor) (now (spans .exit)) (now (links .exit)) ⌝ }
 {
     let first = next_free(spans, links, n, from);
     let mut at = first;
@@ -71,7 +70,7 @@ fn fill_list(
     let lo = pairs[2 * t];
     let hi = pairs[2 * t + 1];
     put_record(spans, links, at, lo, hi, 0, owner);
-    Filled {
+    ListFilled {
         head: (first as u64) + 1,
         cursor: at + 1,
     }
@@ -87,8 +86,8 @@ fn lay_list(
     j: usize,
     pairs: &[f64],
 ) -> usize
-    requires { ⌜ Layable n (cells (now spans) (now links) (now heads)) (update j (now pairs)) × Cursor n (now spans) (now links) from ⌝ }
-    ensures { λ r. ⌜ Laid n (cells (now (spans .entry)) (now (links .entry)) (now (heads .entry))) (update j (now (pairs .entry))) r (cells (now (spans .exit)) (now (links .exit)) (now (heads .exit))) ⌝ }
+    requires { ⌜ LayListPre n (cells (now spans) (now links) (now heads)) (update j (now pairs)) × FreeCursor n (now spans) (now links) from ⌝ }
+    ensures { λ r. ⌜ LayListPost n (cells (now (spans .entry)) (now (links .entry)) (now (heads .entry))) (update j (now (pairs .entry))) r (cells (now (spans .exit)) (now (links .exit)) (now (heads .exit))) ⌝ }
 {
     let count = pairs.len() / 2;
     if count == 0 {
@@ -113,9 +112,9 @@ pub fn lay_ray(
     possible: usize,
     certain: usize,
 ) -> usize
-    requires { ⌜ (at + 2 * possible + 2 * certain ≤ length (now pairs)) × Cursor n (now spans) (now links) from
-        × LayableRay n (cells (now spans) (now links) (now heads)) ray (part (now pairs) at possible) (part (now pairs) (at + 2 * possible) certain) ⌝ }
-    ensures { λ r. ⌜ LaidRay n (cells (now (spans .entry)) (now (links .entry)) (now (heads .entry))) ray (part (now (pairs .entry)) at possible) (part (now (pairs .entry)) (at + 2 * possible) certain)
+    requires { ⌜ (at + 2 * possible + 2 * certain ≤ length (now pairs)) × FreeCursor n (now spans) (now links) from
+        × LayRayPre n (cells (now spans) (now links) (now heads)) ray (pairsFrom (now pairs) at possible) (pairsFrom (now pairs) (at + 2 * possible) certain) ⌝ }
+    ensures { λ r. ⌜ LayRayPost n (cells (now (spans .entry)) (now (links .entry)) (now (heads .entry))) ray (pairsFrom (now (pairs .entry)) at possible) (pairsFrom (now (pairs .entry)) (at + 2 * possible) certain)
         r (cells (now (spans .exit)) (now (links .exit)) (now (heads .exit))) ⌝ }
 {
     let j = 2 * ray;

@@ -13,7 +13,7 @@ use borrow.Author.Tests.{eq-eqb, ne-eqb, eqb-true}
 use Rattle.doubles.proofs.Bools.{same-if, and-false}
 use Rattle.spans.specs.Spans.{equal}
 use Rattle.store.specs.Store.{loAt, hiAt, nextAt}
-use Rattle.store_lists.specs.Reading.{listFrom, Copied}
+use Rattle.store_lists.specs.Reading.{listFrom, ReadListPost}
 use Rattle.store_lists.proofs.Steps.{Step, no-ends}
 
 -- ---- `read_list`: the cells from t on get the rest of the list
@@ -30,7 +30,7 @@ list-length-step s = ap length (s .read) ∙ omega arith
 
 pub copy-end : (n : ℕ) (spans : List Float) (links : List ℕ) (head k : ℕ) (out₀ out : List Float) (at t : ℕ) → k ≡ 0 → at + length (listFrom n spans links head) ≤ length out₀
     → t + length (listFrom n spans links k) ≡ at + length (listFrom n spans links head) → sets out₀ at (listFrom n spans links head) ≡ sets out t (listFrom n spans links k)
-    → Copied (listFrom n spans links head) out₀ at out t
+    → ReadListPost (listFrom n spans links head) out₀ at out t
 copy-end n spans links head k out₀ out at t e fits count same =
     let none : length (listFrom n spans links k) ≡ 0 = ap length (no-ends n spans links k e) in
     record {

@@ -4,7 +4,7 @@ use mathlib.Core.List.{List, _++_}
 use Prim.Native.Nat.{ℕ, _+_, _*_, _≤_}
 use lib.ListN.{length, take, drop}
 use lib.Ieee.{Float}
-use Rattle.store.specs.Store.{places, Chain, endsAt}
+use Rattle.store.specs.Store.{places, RecordChain, endsAt}
 
 -- the list whose first record is number k, as a flat list; of an empty list k is zero
 abbrev pub listFrom : ℕ → List Float → List ℕ → ℕ → List Float
@@ -14,7 +14,7 @@ listFrom n spans links k = endsAt spans (places links n k)
 pub record Linked (n : ℕ) (links : List ℕ) (k : ℕ) : Type 0 where
   pub in-links : 2 * n ≤ length links
   pub owner : ℕ
-  pub chain : Chain links n owner k (places links n k)
+  pub chain : RecordChain links n owner k (places links n k)
 
 -- and the records have ends
 pub record Readable (n : ℕ) (spans : List Float) (links : List ℕ) (k : ℕ) : Type 0 where
@@ -22,6 +22,6 @@ pub record Readable (n : ℕ) (spans : List Float) (links : List ℕ) (k : ℕ) 
   pub linked : Linked n links k
 
 -- the list stands in the buffer from cell `at` on, and ends before cell r; the other cells are as before
-pub record Copied (l : List Float) (before : List Float) (at : ℕ) (after : List Float) (r : ℕ) : Type 0 where
+pub record ReadListPost (l : List Float) (before : List Float) (at : ℕ) (after : List Float) (r : ℕ) : Type 0 where
   pub past : r ≡ at + length l
   pub cells : after ≡ take at before ++ l ++ drop (at + length l) before

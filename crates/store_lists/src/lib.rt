@@ -4,8 +4,7 @@ ghost use Prim.Native.Nat.{_+_, _≤_};
 ghost use lib.ListN.{length};
 ghost use Rattle.spans.specs.Spans.{equal};
 ghost use Rattle.store.specs.Store.{places};
-ghost use Rattle.store_lists.specs.Reading.{listFrom, Linked, Readable, Copied};
-
+ghost use Rattle.store_lists.specs.Reading.{listFrom, Linked, Readable, ReadListPost};
 // How many pairs the list has.
 pub fn list_pairs(links: &[u64], n: usize, head: u64) -> usize
     requires { ⌜ Linked n (now links) head ⌝ }
@@ -31,7 +30,7 @@ pub fn read_list(
     at: usize,
 ) -> usize
     requires { ⌜ Readable n (now spans) (now links) head × (at + length (listFrom n (now spans) (now links) head) ≤ length (now out)) ⌝ }
-    ensures { λ r. ⌜ Copied (listFrom n (now (spans .entry)) (now (links .entry)) head) (now (out .entry)) at (now (out .exit)) r ⌝ }
+    ensures { λ r. ⌜ ReadListPost (listFrom n (now (spans .entry)) (now (links .entry)) head) (now (out .entry)) at (now (out .exit)) r ⌝ }
 {
     let mut t = at;
     let mut k = head;

@@ -18,7 +18,7 @@ use Rattle.store.specs.Store.{loAt, hiAt, nextAt}
 use Rattle.ray_validity.specs.Ray.{bounded, from, covers, contained, valid}
 use Rattle.ray_validity.proofs.Containment.{from-skip, from-stop, valid-ray, ray-valid}
 use Rattle.store_lists.specs.Reading.{listFrom}
-use Rattle.store_rays.specs.Lengths.{lengthFrom, startsIn, Sums, Measures}
+use Rattle.store_rays.specs.Lengths.{lengthFrom, startsIn, ListSumPost, RaySumsPost}
 use Rattle.store_rays.specs.declared.ListSum.{ListSum}
 use Rattle.store_lists.proofs.Steps.{Step, no-ends}
 
@@ -241,10 +241,10 @@ pub zero-nan : isNan (div binary64 plusZero plusZero) ≡ true
 unfolding isNan
 zero-nan = ap isNan zero-over-zero
 
-pub sum-bad : (p : Bool) (l : List Float) (x : Float) → p ≡ false → Sums p l (record { good = false; length = x })
+pub sum-bad : (p : Bool) (l : List Float) (x : Float) → p ≡ false → ListSumPost p l (record { good = false; length = x })
 sum-bad p l x h = record { told = sym h; summed = λ z. absurd (clash false z refl) }
 
-pub sum-good : (p r : Bool) (l : List Float) (x : Float) → p ≡ r → lengthFrom plusZero l ≡ x → Sums p l (record { good = r; length = x })
+pub sum-good : (p r : Bool) (l : List Float) (x : Float) → p ≡ r → lengthFrom plusZero l ≡ x → ListSumPost p l (record { good = r; length = x })
 sum-good p r l x h e = record { told = sym h; summed = λ z. sym e }
 
 -- ---- two tests at once
@@ -262,7 +262,7 @@ both-same a b c d e f = ap (λ (t : Bool). t && c) e ∙ ap (λ (t : Bool). b &&
 
 -- ---- the answers of `measure_ray`
 module _ (low high : Float) (possible certain : List Float) where
-  pub possible-bad : (p : ListSum) → Sums (sound possible && bounded low high possible) possible p → not (p .good) ≡ true → (x y : Float) → Measures low high possible certain (record { valid = false; possible = x; certain = y })
+  pub possible-bad : (p : ListSum) → ListSumPost (sound possible && bounded low high possible) possible p → not (p .good) ≡ true → (x y : Float) → RaySumsPost low high possible certain (record { valid = false; possible = x; certain = y })
   possible-bad p s h x y = record {
     is-valid = λ z. absurd (clash false z refl);
     if-valid = λ v. absurd (clash (sound possible && bounded low high possible) (both _ _ (v .possible-sound) (v .possible-bounded)) (sym (s .told) ∙ not-true (p .good) h));
@@ -270,8 +270,8 @@ module _ (low high : Float) (possible certain : List Float) where
     certain-length = λ z. absurd (clash false z refl);
   }
 
-  pub both-told : (p c : ListSum) → Sums (sound possible && bounded low high possible) possible p → not (p .good) ≡ false → Sums (sound certain && contained possible certain) certain c
-      → Measures low high possible certain (record { valid = c .good; possible = p .length; certain = c .length })
+  pub both-told : (p c : ListSum) → ListSumPost (sound possible && bounded low high possible) possible p → not (p .good) ≡ false → ListSumPost (sound certain && contained possible certain) certain c
+      → RaySumsPost low high possible certain (record { valid = c .good; possible = p .length; certain = c .length })
   unfolding valid
   both-told p c s h t =
       let bp : (sound possible && bounded low high possible) ≡ true = sym (s .told) ∙ not-false (p .good) h in

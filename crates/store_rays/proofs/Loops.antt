@@ -10,7 +10,7 @@ use Rattle.ray_validity.specs.Ray.{from, covers, contained}
 use Rattle.ray_validity.proofs.Containment.{from-skip, from-stop}
 use Rattle.store_lists.specs.Reading.{listFrom}
 use Rattle.store_lists.proofs.Steps.{Step, no-ends}
-use Rattle.store_rays.specs.Lengths.{lengthFrom, Reaches}
+use Rattle.store_rays.specs.Lengths.{lengthFrom, ReachPost}
 
 -- ---- the sum of the pairs' lengths
 length-cons : (sum lo hi : Float) (l : List Float) → lengthFrom sum (lo ∷ hi ∷ l) ≡ lengthFrom (add binary64 sum (sub binary64 hi lo)) l
@@ -55,7 +55,7 @@ module _ {n : ℕ} {spans : List Float} {links : List ℕ} {r : ℕ} (t : Step n
   over-begin h = sym (over ∙ ap (λ (b : Bool). b && le hi (hiAt spans (r - 1))) h)
 
 -- ---- `sound_within`
-module _ {n : ℕ} {spans : List Float} {links : List ℕ} {o k r : ℕ} (q : Reaches n spans links o (hiAt spans (k - 1)) r) (s : Step n spans links k) (c : Bool) where
+module _ {n : ℕ} {spans : List Float} {links : List ℕ} {o k r : ℕ} (q : ReachPost n spans links o (hiAt spans (k - 1)) r) (s : Step n spans links k) (c : Bool) where
   inner-pair : contained (listFrom n spans links o) (listFrom n spans links k)
       ≡ (covers (listFrom n spans links r) (loAt spans (k - 1)) (hiAt spans (k - 1)) && contained (listFrom n spans links r) (listFrom n spans links (nextAt links (k - 1))))
   unfolding contained

@@ -22,18 +22,18 @@ startsIn low [] = true
 startsIn low (a ∷ l) = le low a
 
 -- the answer of a test of a list, and where it passes the list's length
-pub record Sums (passes : Bool) (l : List Float) (r : ListSum) : Type 0 where
+pub record ListSumPost (passes : Bool) (l : List Float) (r : ListSum) : Type 0 where
   pub told : r .good ≡ passes
   pub summed : r .good ≡ true → r .length ≡ lengthFrom plusZero l
 
 -- the answer of the test of a ray, and where it is valid the lengths of its lists
-pub record Measures (low high : Float) (possible certain : List Float) (r : RaySums) : Type 0 where
+pub record RaySumsPost (low high : Float) (possible certain : List Float) (r : RaySums) : Type 0 where
   pub is-valid : r .valid ≡ true → ValidRay low high possible certain
   pub if-valid : ValidRay low high possible certain → r .valid ≡ true
   pub possible-length : r .valid ≡ true → r .possible ≡ lengthFrom plusZero possible
   pub certain-length : r .valid ≡ true → r .certain ≡ lengthFrom plusZero certain
 
 -- record number r begins the list from its first pair whose upper end is not below x
-pub record Reaches (n : ℕ) (spans : List Float) (links : List ℕ) (k : ℕ) (x : Float) (r : ℕ) : Type 0 where
+pub record ReachPost (n : ℕ) (spans : List Float) (links : List ℕ) (k : ℕ) (x : Float) (r : ℕ) : Type 0 where
   pub rest : listFrom n spans links r ≡ from x (listFrom n spans links k)
   pub readable : Readable n spans links r

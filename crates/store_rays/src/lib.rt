@@ -8,8 +8,7 @@ ghost use Rattle.spans.specs.Spans.{sound};
 ghost use Rattle.store.specs.Store.{loAt, hiAt};
 ghost use Rattle.ray_validity.specs.Ray.{ValidRay, bounded, covers, contained};
 ghost use Rattle.store_lists.specs.Reading.{listFrom, Readable};
-ghost use Rattle.store_rays.specs.Lengths.{startsIn, Sums, Measures, Reaches};
-
+ghost use Rattle.store_rays.specs.Lengths.{startsIn, ListSumPost, RaySumsPost, ReachPost};
 // Whether the pair at place i does not begin at x or below, and has lo < hi.
 fn follows(spans: &[f64], i: usize, x: f64) -> bool
     requires { ⌜ 2 * i + 1 < length (now spans) ⌝ }
@@ -43,7 +42,7 @@ pub struct ListSum {
 // for the end before the first pair.
 fn sound_between(spans: &[f64], links: &[u64], n: usize, head: u64, low: f64, high: f64) -> ListSum
     requires { ⌜ Readable n (now spans) (now links) head ⌝ }
-    ensures { λ r. ⌜ Sums (sound (listFrom n (now (spans .entry)) (now (links .entry)) head) && bounded low high (listFrom n (now (spans .entry)) (now (links .entry)) head))
+    ensures { λ r. ⌜ ListSumPost (sound (listFrom n (now (spans .entry)) (now (links .entry)) head) && bounded low high (listFrom n (now (spans .entry)) (now (links .entry)) head))
         (listFrom n (now (spans .entry)) (now (links .entry)) head) r ⌝ }
 {
     let mut sum = 0.0;
@@ -82,7 +81,7 @@ fn sound_between(spans: &[f64], links: &[u64], n: usize, head: u64, low: f64, hi
 // The first record from `head` on whose upper end is not below x, or zero.
 fn first_reaching(spans: &[f64], links: &[u64], n: usize, head: u64, x: f64) -> u64
     requires { ⌜ Readable n (now spans) (now links) head ⌝ }
-    ensures { λ r. ⌜ Reaches n (now (spans .entry)) (now (links .entry)) head x r ⌝ }
+    ensures { λ r. ⌜ ReachPost n (now (spans .entry)) (now (links .entry)) head x r ⌝ }
 {
     let mut k = head;
     while k != 0 {
@@ -113,7 +112,7 @@ fn reaches_over(spans: &[f64], links: &[u64], n: usize, outer: u64, i: usize) ->
 // Whether the inner list is sound and each of its pairs lies in one of the outer list's.
 fn sound_within(spans: &[f64], links: &[u64], n: usize, outer: u64, inner: u64) -> ListSum
     requires { ⌜ Readable n (now spans) (now links) outer × Readable n (now spans) (now links) inner ⌝ }
-    ensures { λ r. ⌜ Sums (sound (listFrom n (now (spans .entry)) (now (links .entry)) inner) && contained (listFrom n (now (spans .entry)) (now (links .entry)) outer) (listFrom n (now (spans .entry)) (now (links .entry)) inner))
+    ensures { λ r. ⌜ ListSumPost (sound (listFrom n (now (spans .entry)) (now (links .entry)) inner) && contained (listFrom n (now (spans .entry)) (now (links .entry)) outer) (listFrom n (now (spans .entry)) (now (links .entry)) inner))
         (listFrom n (now (spans .entry)) (now (links .entry)) inner) r ⌝ }
 {
     let mut sum = 0.0;
@@ -163,7 +162,7 @@ pub fn measure_ray(
     high: f64,
 ) -> RaySums
     requires { ⌜ Readable n (now spans) (now links) possible × Readable n (now spans) (now links) certain ⌝ }
-    ensures { λ r. ⌜ Measures low high (listFrom n (now (spans .entry)) (now (links .entry)) possible) (listFrom n (now (spans .entry)) (now (links .entry)) certain) r ⌝ }
+    ensures { λ r. ⌜ RaySumsPost low high (listFrom n (now (spans .entry)) (now (links .entry)) possible) (listFrom n (now (spans .entry)) (now (links .entry)) certain) r ⌝ }
 {
     let p = sound_between(spans, links, n, possible, low, high);
     if !p.good {

@@ -17,28 +17,28 @@ use Rattle.grid_from_spec.specs.Grid.{gridOf}
 use Rattle.grid_from_spec.specs.Causes.{gridCauses, gridIn, GridFacts}
 use Rattle.grid.specs.declared.DexelStockSpec.{DexelStockSpec}
 use Rattle.grid.specs.declared.DexelGrid.{DexelGrid}
-use Rattle.grid.specs.declared.Gridded.the-variants.{Accepted as Griddable, Refused as NoGrid}
+use Rattle.grid.specs.declared.GridAnswer.the-variants.{Accepted as Griddable, Refused as NoGrid}
 use Rattle.frame.specs.declared.Frame.{Frame}
-use Rattle.cutter_check.specs.Limits.{toolCauses, Checked}
+use Rattle.cutter_check.specs.Limits.{toolCauses, ToolCheckPost}
 use Rattle.cutter_check.specs.declared.ToolCheck.{ToolCheck}
 use Rattle.cutter_check.specs.declared.ToolCheck.the-variants.{Accepted as Usable, Refused as Unusable}
-use Rattle.stock.specs.Stock.{SoundCells, Tells, short}
+use Rattle.stock.specs.Stock.{SoundCells, Decides, isShort}
 use Rattle.stock.proofs.Causes.{due-first, due-second, none-in-both, room-of}
 use Rattle.stock.proofs.Rays.{sound-chained}
 use Rattle.stock.proofs.Answers.{accepted, refused}
 use Rattle.sweep_kernel.specs.declared.Kernel.{Kernel}
 use Rattle.sweep_kernel.specs.declared.Profile.{Profile}
 use Rattle.store.specs.Updates.{Cells}
-use Rattle.sweep_visits.specs.Walk.{Walks, Stop}
-use Rattle.sweep_visits.specs.declared.Cursor.{Cursor}
+use Rattle.sweep_visits.specs.Walk.{WalkPost, Stop}
+use Rattle.sweep_visits.specs.declared.VisitCursor.{VisitCursor}
 use Rattle.sweep_visits.specs.declared.Progress.{Progress}
 use Rattle.sweep_visits.specs.declared.Progress.the-variants.{At, Stopped}
 use Rattle.sweep_visits.proofs.Walks.{walk-done, walk-stop, stop-is, done-no-stop}
 use Rattle.chords.specs.Limits.{chordsFit}
 use Rattle.sweep_walk.specs.Entries.{Setting, setting, sweepEntries, logOf, Sweepable}
-use Rattle.sweep.specs.Answer.{Unsound, settingCauses, walkOf, visitCauses, causesIn, sweepCauses, refusedLog, Sweeps, Checks, endOf, loggedBy, endLog}
-use Rattle.sweep.specs.declared.Swept.{Swept}
-use Rattle.sweep.specs.declared.Swept.the-variants.{Accepted, Refused}
+use Rattle.sweep.specs.Answer.{SweepInputBad, settingCauses, walkOf, visitCauses, causesIn, sweepCauses, refusedLog, SweepPost, SweepCheckPost, endOf, loggedBy, endLog}
+use Rattle.sweep.specs.declared.SweepAnswer.{SweepAnswer}
+use Rattle.sweep.specs.declared.SweepAnswer.the-variants.{Accepted, Refused}
 use Rattle.sweep.specs.declared.SweepCheck.{SweepCheck}
 use Rattle.sweep.specs.declared.SweepCheck.the-variants.{Admitted, Declined}
 use Rattle.sweep_walk.proofs.Chords.{sweep-length, log-length}
@@ -48,50 +48,50 @@ module _ (s : Setting) (intervals : ℕ) (chords : List Float) where
   abbrev chordCauses : List Cause
   chordCauses = cause 7 (chordsFit (s .kernel .frame) (s .kernel .guard) chords ≡ false) ∷ []
 
-  pub check-short : (r : Bool) → r ≡ short (s .spec) (s .grid) (s .cells) → r ≡ true → Checks s intervals chords (Declined 12)
+  pub check-short : (r : Bool) → r ≡ isShort (s .spec) (s .grid) (s .cells) → r ≡ true → SweepCheckPost s intervals chords (Declined 12)
   check-short r e t = first _ _ (sym e ∙ t)
 
-  module _ (r : Bool) (e : r ≡ short (s .spec) (s .grid) (s .cells)) (t : r ≡ false) where
-    long : short (s .spec) (s .grid) (s .cells) ≡ true → ⊥
-    long u = clash (short (s .spec) (s .grid) (s .cells)) u (sym e ∙ t)
+  module _ (r : Bool) (e : r ≡ isShort (s .spec) (s .grid) (s .cells)) (t : r ≡ false) where
+    long : isShort (s .spec) (s .grid) (s .cells) ≡ true → ⊥
+    long u = clash (isShort (s .spec) (s .grid) (s .cells)) u (sym e ∙ t)
 
-    pub check-odd : (length chords % 8 ≡ 0 → ⊥) → Checks s intervals chords (Declined 11)
+    pub check-odd : (length chords % 8 ≡ 0 → ⊥) → SweepCheckPost s intervals chords (Declined 11)
     check-odd h = later _ _ 11 long (first _ _ (odd h))
       where
-        odd : (length chords % 8 ≡ 0 → ⊥) → Unsound s intervals chords
-        odd h = unfold Unsound in inl h
+        odd : (length chords % 8 ≡ 0 → ⊥) → SweepInputBad s intervals chords
+        odd h = unfold SweepInputBad in inl h
 
-    module _ (b : Bool) (w : Tells (SoundCells (s .spec) (s .grid) (s .cells) intervals) b) where
-      pub check-bad : not b ≡ true → Checks s intervals chords (Declined 11)
+    module _ (b : Bool) (w : Decides (SoundCells (s .spec) (s .grid) (s .cells) intervals) b) where
+      pub check-bad : not b ≡ true → SweepCheckPost s intervals chords (Declined 11)
       check-bad h = later _ _ 11 long (first _ _ (bad (λ (p : SoundCells (s .spec) (s .grid) (s .cells) intervals). clash b (w .1 p) (not-true b h))))
         where
-          bad : (SoundCells (s .spec) (s .grid) (s .cells) intervals → ⊥) → Unsound s intervals chords
-          bad h = unfold Unsound in inr h
+          bad : (SoundCells (s .spec) (s .grid) (s .cells) intervals → ⊥) → SweepInputBad s intervals chords
+          bad h = unfold SweepInputBad in inr h
 
       module _ (even : length chords % 8 ≡ 0) (good : b ≡ true) where
-        fine : Unsound s intervals chords → ⊥
-        unfolding Unsound
+        fine : SweepInputBad s intervals chords → ⊥
+        unfolding SweepInputBad
         fine (inl h) = h even
         fine (inr h) = h (w .0 good)
 
-        pub check-tool-bad : (tool : ToolCheck) (k : ℕ) → Checked (s .profile .shape) (s .profile .cutter) tool → tool ≡ Unusable k → Checks s intervals chords (Declined k)
+        pub check-tool-bad : (tool : ToolCheck) (k : ℕ) → ToolCheckPost (s .profile .shape) (s .profile .cutter) tool → tool ≡ Unusable k → SweepCheckPost s intervals chords (Declined k)
         check-tool-bad tool k c h =
-            later _ _ k long (later _ _ k fine (due-first (toolCauses (s .profile .shape) (s .profile .cutter)) chordCauses k (subst (Checked (s .profile .shape) (s .profile .cutter)) h c)))
+            later _ _ k long (later _ _ k fine (due-first (toolCauses (s .profile .shape) (s .profile .cutter)) chordCauses k (subst (ToolCheckPost (s .profile .shape) (s .profile .cutter)) h c)))
 
-        module _ (tool : ToolCheck) (c : Checked (s .profile .shape) (s .profile .cutter) tool) (h : tool ≡ Usable) (q : Bool) (f : q ≡ chordsFit (s .kernel .frame) (s .kernel .guard) chords) where
-          pub check-chords-bad : q ≡ false → Checks s intervals chords (Declined 7)
+        module _ (tool : ToolCheck) (c : ToolCheckPost (s .profile .shape) (s .profile .cutter) tool) (h : tool ≡ Usable) (q : Bool) (f : q ≡ chordsFit (s .kernel .frame) (s .kernel .guard) chords) where
+          pub check-chords-bad : q ≡ false → SweepCheckPost s intervals chords (Declined 7)
           check-chords-bad n =
               later _ _ 7 long (later _ _ 7 fine
-              (due-second (toolCauses (s .profile .shape) (s .profile .cutter)) chordCauses 7 (subst (Checked (s .profile .shape) (s .profile .cutter)) h c) (first _ _ (sym f ∙ n))))
+              (due-second (toolCauses (s .profile .shape) (s .profile .cutter)) chordCauses 7 (subst (ToolCheckPost (s .profile .shape) (s .profile .cutter)) h c) (first _ _ (sym f ∙ n))))
 
-          pub check-good : GridFacts (s .spec) (s .grid) → q ≡ true → Checks s intervals chords Admitted
+          pub check-good : GridFacts (s .spec) (s .grid) → q ≡ true → SweepCheckPost s intervals chords Admitted
           unfolding NoneDue
           check-good facts y = (
             (
               long,
               (
                 fine,
-                none-in-both (toolCauses (s .profile .shape) (s .profile .cutter)) chordCauses (subst (Checked (s .profile .shape) (s .profile .cutter)) h c)
+                none-in-both (toolCauses (s .profile .shape) (s .profile .cutter)) chordCauses (subst (ToolCheckPost (s .profile .shape) (s .profile .cutter)) h c)
                     ((λ (n : chordsFit (s .kernel .frame) (s .kernel .guard) chords ≡ false). clash (chordsFit (s .kernel .frame) (s .kernel .guard) chords) (sym f ∙ y) n), tt),
               ),
             ),
@@ -132,18 +132,18 @@ module _ (k : ℕ) (log : List Float) where
   cleared (inr e) = sym (ap (λ (m : ℕ). cond (eqb m 8 || eqb m 16) (replicate (length log) plusZero) log) e)
 
 -- ---- the end of a walk
-pub end-is : (x y : Progress) (r : Swept) (log after : List Float) → x ≡ y → r ≡ endOf y → after ≡ endLog y log → (r ≡ endOf x) × (after ≡ endLog x log)
+pub end-is : (x y : Progress) (r : SweepAnswer) (log after : List Float) → x ≡ y → r ≡ endOf y → after ≡ endLog y log → (r ≡ endOf x) × (after ≡ endLog x log)
 end-is x y r log after e h k = subst (λ (z : Progress). (r ≡ endOf z) × (after ≡ endLog z log)) (sym e) (h, k)
 
-pub logged-room : (budget : ℕ) (rays : List (List Float)) (c : Cursor) (log after : List Float) (x : Progress) → Walks budget rays c log x after → loggedBy x ≤ length after
+pub logged-room : (budget : ℕ) (rays : List (List Float)) (c : VisitCursor) (log after : List Float) (x : Progress) → WalkPost budget rays c log x after → loggedBy x ≤ length after
 logged-room budget rays c log after (At d) w = w .room
 logged-room budget rays c log after (Stopped k) w = omega arith
 
-pub logged-at : (x : Progress) (c : Cursor) (n : ℕ) → x ≡ At c → loggedBy x ≤ n → c .at ≤ n
+pub logged-at : (x : Progress) (c : VisitCursor) (n : ℕ) → x ≡ At c → loggedBy x ≤ n → c .at ≤ n
 logged-at x c n e h = subst (λ (y : Progress). loggedBy y ≤ n) e h
 
 module _ (s : Setting) (chords : List Float) (budget : ℕ) (log mid : List Float) where
-  abbrev origin : Cursor
+  abbrev origin : VisitCursor
   origin = record { visits = 0; at = 0 }
 
   visit-due : (k : ℕ) → walkOf s chords budget (length log) ≡ Stop k → (k ≡ 8) ⊎ (k ≡ 16) → Due (visitCauses s chords budget (length log)) k
@@ -155,8 +155,8 @@ module _ (s : Setting) (chords : List Float) (budget : ℕ) (log mid : List Floa
       apart : _≡_ {A = ℕ} 8 16 → ⊥
       apart z = omega arith
 
-  pub visit-answer : (intervals : ℕ) → SoundCells (s .spec) (s .grid) (s .cells) intervals → (x : Progress) → Walks budget (sweepEntries s chords) origin log x mid
-      → Sweeps (visitCauses s chords budget (length log)) s intervals chords log (endLog x mid) (endOf x)
+  pub visit-answer : (intervals : ℕ) → SoundCells (s .spec) (s .grid) (s .cells) intervals → (x : Progress) → WalkPost budget (sweepEntries s chords) origin log x mid
+      → SweepPost (visitCauses s chords budget (length log)) s intervals chords log (endLog x mid) (endOf x)
   unfolding NoneDue logOf
   visit-answer intervals isSound (Stopped k) w =
       let o = walk-stop budget (length log) (sweepEntries s chords) 0 [] k (w .walked) in
@@ -177,27 +177,27 @@ module _ (s : Setting) (chords : List Float) (budget : ℕ) (log mid : List Floa
 
 -- ---- the sweep over a grid that is accepted
 module _ (s : Setting) (intervals : ℕ) (chords : List Float) (budget : ℕ) (log : List Float) where
-  pub grid-declined : (ready : SweepCheck) (k : ℕ) → Checks s intervals chords ready → ready ≡ Declined k
-      → Sweeps (causesIn s intervals chords budget (length log)) s intervals chords log log (Refused k)
+  pub grid-declined : (ready : SweepCheck) (k : ℕ) → SweepCheckPost s intervals chords ready → ready ≡ Declined k
+      → SweepPost (causesIn s intervals chords budget (length log)) s intervals chords log log (Refused k)
   grid-declined ready k c h =
-      let d : Due (settingCauses s intervals chords) k = subst (Checks s intervals chords) h c in
+      let d : Due (settingCauses s intervals chords) k = subst (SweepCheckPost s intervals chords) h c in
       (due-first (settingCauses s intervals chords) (visitCauses s chords budget (length log)) k d, setting-kept k log s intervals chords d)
 
-  pub admitted : (ready : SweepCheck) → Checks s intervals chords ready → ready ≡ Admitted → Checks s intervals chords Admitted
-  admitted ready c h = subst (Checks s intervals chords) h c
+  pub admitted : (ready : SweepCheck) → SweepCheckPost s intervals chords ready → ready ≡ Admitted → SweepCheckPost s intervals chords Admitted
+  admitted ready c h = subst (SweepCheckPost s intervals chords) h c
 
-  after-setting : (after : List Float) (r : Swept) → NoneDue (settingCauses s intervals chords)
-      → Sweeps (visitCauses s chords budget (length log)) s intervals chords log after r
-      → Sweeps (causesIn s intervals chords budget (length log)) s intervals chords log after r
+  after-setting : (after : List Float) (r : SweepAnswer) → NoneDue (settingCauses s intervals chords)
+      → SweepPost (visitCauses s chords budget (length log)) s intervals chords log after r
+      → SweepPost (causesIn s intervals chords budget (length log)) s intervals chords log after r
   after-setting after (Refused k) n f = (due-second (settingCauses s intervals chords) (visitCauses s chords budget (length log)) k n (f .0), f .1)
   after-setting after (Accepted t) n f = (none-in-both (settingCauses s intervals chords) (visitCauses s chords budget (length log)) n (f .0), f .1)
 
-  pub grid-swept : (ready : SweepCheck) (x : Progress) (mid after : List Float) (r : Swept) → Checks s intervals chords ready → ready ≡ Admitted → Walks budget (sweepEntries s chords) (record { visits = 0; at = 0 }) log x mid
-      → (r ≡ endOf x) × (after ≡ endLog x mid) → Sweeps (causesIn s intervals chords budget (length log)) s intervals chords log after r
+  pub grid-swept : (ready : SweepCheck) (x : Progress) (mid after : List Float) (r : SweepAnswer) → SweepCheckPost s intervals chords ready → ready ≡ Admitted → WalkPost budget (sweepEntries s chords) (record { visits = 0; at = 0 }) log x mid
+      → (r ≡ endOf x) × (after ≡ endLog x mid) → SweepPost (causesIn s intervals chords budget (length log)) s intervals chords log after r
   grid-swept ready x mid after r c h w e =
       after-setting after r (admitted ready c h .0)
-      (subst (λ (y : Swept). Sweeps (visitCauses s chords budget (length log)) s intervals chords log after y) (sym (e .0))
-      (subst (λ (l : List Float). Sweeps (visitCauses s chords budget (length log)) s intervals chords log l (endOf x)) (sym (e .1))
+      (subst (λ (y : SweepAnswer). SweepPost (visitCauses s chords budget (length log)) s intervals chords log after y) (sym (e .0))
+      (subst (λ (l : List Float). SweepPost (visitCauses s chords budget (length log)) s intervals chords log l (endOf x)) (sym (e .1))
       (visit-answer s chords budget log mid intervals (admitted ready c h .2) x w)))
 
 -- ---- the sweep
@@ -206,32 +206,32 @@ module _ (spec : DexelStockSpec) (units : List ℕ) (k : Kernel) (p : Profile) (
   here = setting spec (gridIn spec) k p c
 
   pub sweep-refused : (n : ℕ) → gridOf spec units ≡ NoGrid n
-      → Sweeps (sweepCauses units here intervals chords budget (length log)) here intervals chords log log (Refused n)
+      → SweepPost (sweepCauses units here intervals chords budget (length log)) here intervals chords log log (Refused n)
   sweep-refused n h =
       let d = refused spec units n h in
       (due-first (gridCauses spec units) (causesIn here intervals chords budget (length log)) n d, grid-kept n log spec units d)
 
-  after-grid : (after : List Float) (r : Swept) → NoneDue (gridCauses spec units)
-      → Sweeps (causesIn here intervals chords budget (length log)) here intervals chords log after r
-      → Sweeps (sweepCauses units here intervals chords budget (length log)) here intervals chords log after r
+  after-grid : (after : List Float) (r : SweepAnswer) → NoneDue (gridCauses spec units)
+      → SweepPost (causesIn here intervals chords budget (length log)) here intervals chords log after r
+      → SweepPost (sweepCauses units here intervals chords budget (length log)) here intervals chords log after r
   after-grid after (Refused n) a f = (due-second (gridCauses spec units) (causesIn here intervals chords budget (length log)) n a (f .0), f .1)
   after-grid after (Accepted t) a f = (none-in-both (gridCauses spec units) (causesIn here intervals chords budget (length log)) a (f .0), f .1)
 
-  pub sweep-accepted : (g : DexelGrid) (after : List Float) (r : Swept) → gridOf spec units ≡ Griddable g
-      → Sweeps (causesIn (setting spec g k p c) intervals chords budget (length log)) (setting spec g k p c) intervals chords log after r
-      → Sweeps (sweepCauses units here intervals chords budget (length log)) here intervals chords log after r
+  pub sweep-accepted : (g : DexelGrid) (after : List Float) (r : SweepAnswer) → gridOf spec units ≡ Griddable g
+      → SweepPost (causesIn (setting spec g k p c) intervals chords budget (length log)) (setting spec g k p c) intervals chords log after r
+      → SweepPost (sweepCauses units here intervals chords budget (length log)) here intervals chords log after r
   sweep-accepted g after r h f =
       let a = accepted spec units g h in
       after-grid after r (a .0)
-      (subst (λ (x : DexelGrid). Sweeps (causesIn (setting spec x k p c) intervals chords budget (length log)) (setting spec x k p c) intervals chords log after r) (a .1) f)
+      (subst (λ (x : DexelGrid). SweepPost (causesIn (setting spec x k p c) intervals chords budget (length log)) (setting spec x k p c) intervals chords log after r) (a .1) f)
 
 -- the same frame and the same profile give the same answer
-module _ (spec : DexelStockSpec) (units : List ℕ) (c : Cells) (intervals : ℕ) (guard : Float) (chords : List Float) (budget : ℕ) (log after : List Float) (r : Swept) where
+module _ (spec : DexelStockSpec) (units : List ℕ) (c : Cells) (intervals : ℕ) (guard : Float) (chords : List Float) (budget : ℕ) (log after : List Float) (r : SweepAnswer) where
   abbrev with : Frame → Profile → Setting
   with f p = setting spec (gridIn spec) (record { frame = f; guard = guard }) p c
 
   abbrev SweptWith : Frame → Profile → Type 0
-  SweptWith f p = Sweeps (sweepCauses units (with f p) intervals chords budget (length log)) (with f p) intervals chords log after r
+  SweptWith f p = SweepPost (sweepCauses units (with f p) intervals chords budget (length log)) (with f p) intervals chords log after r
 
   pub same-tool : (f h : Frame) (p q : Profile) → f ≡ h → p ≡ q → SweptWith f p → SweptWith h q
   same-tool f h p q e k t = subst (λ (x : Frame). SweptWith x q) e (subst (SweptWith f) k t)

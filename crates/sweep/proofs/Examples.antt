@@ -8,70 +8,70 @@ use lib.Ieee.{ofBits, ofInt, toUnsigned, neg, add, sub, mul, div, lt, le, eq, is
 use Rattle.doubles.specs.Doubles.{ratio, largerOf, smallerOf, absOf, clampOf, floorOf, ceilOf}
 use Rattle.doubles_sqrt.specs.Root.{squareRoot}
 use Rattle.grid.specs.Axes.{byDigit}
-use Rattle.grid.specs.Grid.{within, allWithin}
-use Rattle.grid_from_spec.specs.Grid.{anyBelow, anyAbove, isMm, misdescribed, cellsOf, magnitudeOf, leastStep, tooFine, gridOver, gridOf}
+use Rattle.grid.specs.Grid.{isBetween, allBetween}
+use Rattle.grid_from_spec.specs.Grid.{anyBelow, anyAbove, isMm, misdescribed, cellCount, magnitudeOf, leastStep, tooFine, gridOver, gridOf}
 use Rattle.grid_from_spec.specs.Causes.{mm, gridIn, gridCauses}
-use Rattle.grid.specs.declared.Gridded.the-variants.{Accepted as Griddable}
+use Rattle.grid.specs.declared.GridAnswer.the-variants.{Accepted as Griddable}
 use Rattle.grid_from_spec.proofs.Facts.{grid-facts}
 use Rattle.refusal.specs.Refusal.{NoneDue}
 use Rattle.doubles.proofs.Bools.{clash}
 use Rattle.grid.specs.Rays.{rayCount, raysAlong, offset, rayAxis, boundsOf, cellAt}
 use Rattle.frame.specs.declared.Axis.the-variants.{PosZ}
-use Rattle.frame.specs.Frame.{frameOf, digitOf, worldAxisOf, localAxisOf, signAlong, localAt, localOf, turned, worldOf}
+use Rattle.frame.specs.Frame.{frameOf, axisDigit, worldAxisOf, localAxisOf, signAlong, localAt, localOf, turned, worldOf}
 use Rattle.cutter.specs.Cutter.{isFinite, cuttingRadius, offTool, radiusAt, cutRadius, cutMax, cutMin}
-use Rattle.cutter_check.specs.Limits.{aboveZero, fromZero, number, sizesFit, heightsFit, lengthsFit, diametersFit, shapeFits, withinLimits, isBeam}
+use Rattle.cutter_check.specs.Limits.{aboveZero, fromZero, isNotNan, sizesFit, heightsFit, lengthsFit, diametersFit, shapeFits, withinLimits, isBeam}
 use Rattle.cutter.specs.declared.CutterShape.the-variants.{Flat}
 use Rattle.strips.specs.Strip.{bandDistance, halfChord, chordStrip, diskStrip, stadiumStrip, hull, sideStrip}
 use Rattle.store.specs.Store.{places, endsAt}
-use Rattle.stock.specs.Stock.{SoundCells, short}
+use Rattle.stock.specs.Stock.{SoundCells, isShort}
 use Rattle.stock_fill.specs.Uncut.{recordAt, uncutSpans, uncutLinks, uncutHeads, uncut}
 use Rattle.stock.proofs.Causes.{none-in-both, room-of}
 use Rattle.stock.proofs.Answers.{accepted}
 use Rattle.stock_fill.proofs.UncutSound.{uncut-sound}
 use Rattle.sweep_meet.specs.Meets.{lastOf, spansMeet, overlapsOf}
 use Rattle.sweep_kernel.specs.Lane.{planPoint, reachOf, sideOf, laneOf, spanOver, cellsMet, cellsAcross, rectangleOf}
-use Rattle.sweep_ray.specs.Section.{centerOf, sectionWith, sectionOf}
-use Rattle.sweep_ray.specs.Across.{outerFrom, outerOf, innerFrom, innerOf, hitOf}
-use Rattle.sweep_visits.specs.Entries.{entryOf, entryFor, rayEntry, each, rowEntries, rectEntries, raysIn, sum}
+use Rattle.sweep_ray.specs.Section.{localCenter, sectionWith, sectionOf}
+use Rattle.sweep_ray.specs.Across.{outerFrom, outerOf, innerFrom, innerOf, rayHitOf}
+use Rattle.sweep_visits.specs.Entries.{entryOf, entryFor, rayEntry, each, rowEntries, rectEntries, raysIn, sumEach}
 use Rattle.sweep_visits.specs.Walk.{walk}
 use Rattle.sweep_visits.proofs.Walks.{done-no-stop}
 use Rattle.chords.specs.Chords.{chordOf}
 use Rattle.chords.specs.Limits.{guardFits, endsFit, planSize, lengthFits, numbersFit, chordFits, every, chordsFit}
 use Rattle.sweep_walk.specs.Entries.{trackOf, axisEntries, firstAxis, secondAxis, chordEntries, sweepEntries, visitTotal}
-use Rattle.sweep.specs.Answer.{Unsound, causesIn, sweepCauses}
-use Rattle.sweep.specs.Examples.{AllRight, halves, lent, blank, flat, sweeping, threeChords, fourEntries, examples}
+use Rattle.sweep.specs.Answer.{SweepInputBad, causesIn, sweepCauses}
+use Rattle.sweep.specs.Examples.{SweepExamplesRight, halves, lent, blank, flat, sweeping, threeChords, fourEntries, sweepExamples}
 
-pub examples-right : AllRight examples
-unfolding examples blank flat sweeping threeChords fourEntries trackOf axisEntries firstAxis secondAxis chordEntries sweepEntries chordOf walk entryOf entryFor rayEntry each rowEntries rectEntries outerFrom outerOf innerFrom innerOf hitOf planPoint reachOf sideOf laneOf spanOver cellsMet cellsAcross rectangleOf centerOf sectionWith sectionOf lastOf spansMeet overlapsOf recordAt uncutSpans uncutLinks uncutHeads places endsAt bandDistance halfChord chordStrip diskStrip stadiumStrip hull sideStrip isFinite cuttingRadius offTool radiusAt cutRadius cutMax cutMin digitOf worldAxisOf localAxisOf signAlong localAt localOf turned worldOf rayCount raysAlong offset rayAxis boundsOf cellAt cellsOf byDigit squareRoot ratio largerOf smallerOf absOf clampOf floorOf ceilOf ofBits ofInt toUnsigned neg add sub mul div lt le eq isNan
+pub examples-right : SweepExamplesRight sweepExamples
+unfolding sweepExamples blank flat sweeping threeChords fourEntries trackOf axisEntries firstAxis secondAxis chordEntries sweepEntries chordOf walk entryOf entryFor rayEntry each rowEntries rectEntries outerFrom outerOf innerFrom innerOf rayHitOf planPoint reachOf sideOf laneOf spanOver cellsMet cellsAcross rectangleOf localCenter sectionWith sectionOf lastOf spansMeet overlapsOf recordAt uncutSpans uncutLinks uncutHeads places endsAt bandDistance halfChord chordStrip diskStrip stadiumStrip hull sideStrip isFinite cuttingRadius offTool radiusAt cutRadius cutMax cutMin axisDigit worldAxisOf localAxisOf signAlong localAt localOf turned worldOf rayCount raysAlong offset rayAxis boundsOf cellAt cellCount byDigit squareRoot ratio largerOf smallerOf absOf clampOf floorOf ceilOf ofBits ofInt toUnsigned neg add sub mul div lt le eq isNan
 examples-right = (refl, (refl, (refl, (refl, (refl, tt)))))
 
 pub total-right : visitTotal sweeping threeChords ≡ 5
-unfolding visitTotal sum raysIn blank flat sweeping threeChords firstAxis secondAxis chordOf planPoint reachOf sideOf laneOf spanOver cellsMet cellsAcross rectangleOf recordAt uncutSpans uncutLinks uncutHeads digitOf worldAxisOf localAxisOf signAlong localAt localOf turned worldOf rayCount raysAlong offset rayAxis boundsOf cellAt cellsOf byDigit ratio largerOf smallerOf absOf clampOf floorOf ceilOf ofBits ofInt toUnsigned neg add sub mul div lt le eq isNan
+unfolding visitTotal sumEach raysIn blank flat sweeping threeChords firstAxis secondAxis chordOf planPoint reachOf sideOf laneOf spanOver cellsMet cellsAcross rectangleOf recordAt uncutSpans uncutLinks uncutHeads axisDigit worldAxisOf localAxisOf signAlong localAt localOf turned worldOf rayCount raysAlong offset rayAxis boundsOf cellAt cellCount byDigit ratio largerOf smallerOf absOf clampOf floorOf ceilOf ofBits ofInt toUnsigned neg add sub mul div lt le eq isNan
 total-right = refl
 
 -- ---- the first example has no cause, so a sweep with these arguments is accepted
 grid-made : gridOf blank mm ≡ Griddable (gridIn blank)
-unfolding blank gridOf gridOver misdescribed isMm within allWithin anyBelow anyAbove cellsOf magnitudeOf leastStep tooFine byDigit largerOf absOf ceilOf ofBits ofInt toUnsigned add sub mul div neg lt le eq isNan
+unfolding blank gridOf gridOver misdescribed isMm isBetween allBetween anyBelow anyAbove cellCount magnitudeOf leastStep tooFine byDigit largerOf absOf ceilOf ofBits ofInt toUnsigned add sub mul div neg lt le eq isNan
 grid-made = refl
 
 three-rays : rayCount (gridIn blank) ≡ 3
-unfolding blank rayCount cellsOf largerOf ceilOf ofBits ofInt toUnsigned sub div lt le eq isNan
+unfolding blank rayCount cellCount largerOf ceilOf ofBits ofInt toUnsigned sub div lt le eq isNan
 three-rays = refl
 
-lent-room : short blank (gridIn blank) lent ≡ false
-unfolding blank short rayCount cellsOf largerOf ceilOf ofBits ofInt toUnsigned sub div lt le eq isNan
+lent-room : isShort blank (gridIn blank) lent ≡ false
+unfolding blank isShort rayCount cellCount largerOf ceilOf ofBits ofInt toUnsigned sub div lt le eq isNan
 lent-room = refl
 
-laid-room : short blank (gridIn blank) (uncut blank (gridIn blank) lent) ≡ false
-unfolding blank short recordAt uncutSpans uncutLinks uncutHeads rayCount raysAlong offset rayAxis boundsOf byDigit cellsOf largerOf ceilOf ofBits ofInt toUnsigned sub div lt le eq isNan
+laid-room : isShort blank (gridIn blank) (uncut blank (gridIn blank) lent) ≡ false
+unfolding blank isShort recordAt uncutSpans uncutLinks uncutHeads rayCount raysAlong offset rayAxis boundsOf byDigit cellCount largerOf ceilOf ofBits ofInt toUnsigned sub div lt le eq isNan
 laid-room = refl
 
 tool-fits : withinLimits Flat flat ≡ true
-unfolding flat ratio withinLimits sizesFit heightsFit lengthsFit diametersFit shapeFits aboveZero fromZero number ofBits lt le eq isNan
+unfolding flat ratio withinLimits sizesFit heightsFit lengthsFit diametersFit shapeFits aboveZero fromZero isNotNan ofBits lt le eq isNan
 tool-fits = refl
 
 chords-fit : chordsFit (frameOf PosZ) (halves 1) threeChords ≡ true
-unfolding threeChords ratio chordsFit guardFits every chordFits endsFit numbersFit lengthFits planSize chordOf within allWithin digitOf worldAxisOf signAlong localAt localOf byDigit largerOf absOf ofBits neg sub mul lt le eq isNan
+unfolding threeChords ratio chordsFit guardFits every chordFits endsFit numbersFit lengthFits planSize chordOf isBetween allBetween axisDigit worldAxisOf signAlong localAt localOf byDigit largerOf absOf ofBits neg sub mul lt le eq isNan
 chords-fit = refl
 
 whole-chords : length threeChords % 8 ≡ 0
@@ -84,7 +84,7 @@ laid-sound =
     (uncut-sound blank (gridIn blank) lent (grid-facts blank mm (gridIn blank) grid-made) (room-of blank (gridIn blank) lent lent-room))
 
 pub example-accepted : NoneDue (sweepCauses mm sweeping 6 threeChords 5 24)
-unfolding examples sweeping NoneDue Unsound isBeam
+unfolding sweepExamples sweeping NoneDue SweepInputBad isBeam
 example-accepted =
     none-in-both (gridCauses blank mm) (causesIn sweeping 6 threeChords 5 24) (accepted blank mm (gridIn blank) grid-made .0) (
       (λ e. clash _ e laid-room),
@@ -94,6 +94,6 @@ example-accepted =
       ),
     )
   where
-    sound : Unsound sweeping 6 threeChords → ⊥
+    sound : SweepInputBad sweeping 6 threeChords → ⊥
     sound (inl h) = h whole-chords
     sound (inr h) = h laid-sound

@@ -17,17 +17,17 @@ use Rattle.cutter_check.specs.Limits.{toolCauses}
 use Rattle.cutter.specs.declared.CutterShape.{CutterShape}
 use Rattle.cutter.specs.declared.PreparedCutter.{PreparedCutter}
 use Rattle.store.specs.Updates.{Cells}
-use Rattle.stock.specs.Stock.{SoundCells, short}
+use Rattle.stock.specs.Stock.{SoundCells, isShort}
 use Rattle.sweep_kernel.specs.Lane.{profileOf}
-use Rattle.sweep_visits.specs.Entries.{entryCount}
+use Rattle.sweep_visits.specs.Entries.{loggedEntries}
 use Rattle.sweep_visits.specs.Walk.{Walked, Stop, walk}
 use Rattle.sweep_visits.specs.declared.Progress.{Progress}
 use Rattle.sweep_visits.specs.declared.Progress.the-variants.{At, Stopped}
 use Rattle.chords.specs.Limits.{chordsFit}
 use Rattle.sweep_walk.specs.Entries.{Setting, setting, sweepEntries, logOf, visitTotal, Sweepable}
 use Rattle.sweep.specs.declared.Totals.{Totals}
-use Rattle.sweep.specs.declared.Swept.{Swept}
-use Rattle.sweep.specs.declared.Swept.the-variants.{Accepted, Refused}
+use Rattle.sweep.specs.declared.SweepAnswer.{SweepAnswer}
+use Rattle.sweep.specs.declared.SweepAnswer.the-variants.{Accepted, Refused}
 use Rattle.sweep.specs.declared.SweepCheck.{SweepCheck}
 use Rattle.sweep.specs.declared.SweepCheck.the-variants.{Admitted, Declined}
 
@@ -36,14 +36,14 @@ abbrev pub settingOf : DexelStockSpec → Axis → CutterShape → PreparedCutte
 settingOf spec axis shape cutter guard c = setting spec (gridIn spec) (record { frame = frameOf axis; guard = guard }) (profileOf shape cutter) c
 
 -- 11: chords with part of one over, or a store that is not sound
-unfoldable pub Unsound : Setting → (intervals : ℕ) → (chords : List Float) → Type 0
-Unsound s intervals chords = (length chords % 8 ≡ 0 → ⊥) ⊎ (SoundCells (s .spec) (s .grid) (s .cells) intervals → ⊥)
+unfoldable pub SweepInputBad : Setting → (intervals : ℕ) → (chords : List Float) → Type 0
+SweepInputBad s intervals chords = (length chords % 8 ≡ 0 → ⊥) ⊎ (SoundCells (s .spec) (s .grid) (s .cells) intervals → ⊥)
 
 -- document 01's order once `grid` accepts: 12, 11, 5, 6, 7
 abbrev pub settingCauses : Setting → (intervals : ℕ) → (chords : List Float) → List Cause
 settingCauses s intervals chords =
-    cause 12 (short (s .spec) (s .grid) (s .cells) ≡ true)
-    ∷ cause 11 (Unsound s intervals chords)
+    cause 12 (isShort (s .spec) (s .grid) (s .cells) ≡ true)
+    ∷ cause 11 (SweepInputBad s intervals chords)
     ∷ (toolCauses (s .profile .shape) (s .profile .cutter) ++ (cause 7 (chordsFit (s .kernel .frame) (s .kernel .guard) chords ≡ false) ∷ []))
 
 -- the walk over all rays, with a log of `len` cells
@@ -66,27 +66,27 @@ unfoldable pub refusedLog : ℕ → List Float → List Float
 refusedLog k log = cond (eqb k 8 || eqb k 16) (replicate (length log) plusZero) log
 
 -- an accepted sweep: its store is sound; the number of entries and the visit total; the entries in order and zeros past them
-pub record Logs (s : Setting) (intervals : ℕ) (chords before after : List Float) (t : Totals) : Type 0 where
+pub record SweepLogged (s : Setting) (intervals : ℕ) (chords before after : List Float) (t : Totals) : Type 0 where
   pub isSound : SoundCells (s .spec) (s .grid) (s .cells) intervals
-  pub entries : t .entries ≡ entryCount (sweepEntries s chords)
+  pub entries : t .entries ≡ loggedEntries (sweepEntries s chords)
   pub visits : t .visits ≡ visitTotal s chords
   pub log : after ≡ logOf s chords ++ replicate (length before - length (logOf s chords)) plusZero
 
 -- a refused call gives the number that is due
-abbrev pub Sweeps : List Cause → Setting → (intervals : ℕ) → (chords before after : List Float) → Swept → Type 0
-Sweeps causes s intervals chords before after (Refused k) = Due causes k × (after ≡ refusedLog k before)
-Sweeps causes s intervals chords before after (Accepted t) = NoneDue causes × Logs s intervals chords before after t
+abbrev pub SweepPost : List Cause → Setting → (intervals : ℕ) → (chords before after : List Float) → SweepAnswer → Type 0
+SweepPost causes s intervals chords before after (Refused k) = Due causes k × (after ≡ refusedLog k before)
+SweepPost causes s intervals chords before after (Accepted t) = NoneDue causes × SweepLogged s intervals chords before after t
 
 -- the answer of the check of a setting; one that is admitted has a sound store and can be swept
-abbrev pub Checks : Setting → (intervals : ℕ) → (chords : List Float) → SweepCheck → Type 0
-Checks s intervals chords Admitted =
+abbrev pub SweepCheckPost : Setting → (intervals : ℕ) → (chords : List Float) → SweepCheck → Type 0
+SweepCheckPost s intervals chords Admitted =
     NoneDue (settingCauses s intervals chords)
     × Sweepable (s .spec) (s .grid) (s .cells)
     × SoundCells (s .spec) (s .grid) (s .cells) intervals
-Checks s intervals chords (Declined k) = Due (settingCauses s intervals chords) k
+SweepCheckPost s intervals chords (Declined k) = Due (settingCauses s intervals chords) k
 
 -- the end of a walk as an answer, and the log with what is not an entry zero
-abbrev pub endOf : Progress → Swept
+abbrev pub endOf : Progress → SweepAnswer
 endOf (Stopped k) = Refused k
 endOf (At c) = Accepted (record { entries = c .at / 6; visits = c .visits })
 

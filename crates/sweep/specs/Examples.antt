@@ -30,11 +30,11 @@ below n = neg (ratio n 2)
 abbrev pub ten : Float
 ten = ofBits binary64 0x4024_0000_0000_0000
 
-abbrev pub corner : Float → Vec3
-corner x = record { x = x; y = x; z = x }
+abbrev pub exampleCorner : Float → Vec3
+exampleCorner x = record { x = x; y = x; z = x }
 
 unfoldable pub blank : DexelStockSpec
-blank = record { version = 1; «min_mm» = corner plusZero; «max_mm» = corner ten; «cell_size_mm» = ten; «max_rays» = 3; «max_intervals» = 6 }
+blank = record { version = 1; «min_mm» = exampleCorner plusZero; «max_mm» = exampleCorner ten; «cell_size_mm» = ten; «max_rays» = 3; «max_intervals» = 6 }
 
 unfoldable pub flat : PreparedCutter
 unfolding ratio
@@ -78,22 +78,22 @@ fourEntries =
     ∷ ratio 1 1 ∷ plusZero ∷ below 17 ∷ halves 37 ∷ plusZero ∷ plusZero ∷ []
 
 -- a walk with this budget and this many cells of log, and what it must come to
-pub record Example : Type 0 where
+pub record SweepExample : Type 0 where
   pub budget : ℕ
   pub cells : ℕ
   pub want : Walked
 
-abbrev pub example : ℕ → ℕ → Walked → Example
+abbrev pub example : ℕ → ℕ → Walked → SweepExample
 example budget n want = record { budget = budget; cells = n; want = want }
 
-abbrev pub AllRight : List Example → Type 0
-AllRight [] = Unit {0}
-AllRight (e ∷ es) = (walkOf sweeping threeChords (e .budget) (e .cells) ≡ e .want) × AllRight es
+abbrev pub SweepExamplesRight : List SweepExample → Type 0
+SweepExamplesRight [] = Unit {0}
+SweepExamplesRight (e ∷ es) = (walkOf sweeping threeChords (e .budget) (e .cells) ≡ e .want) × SweepExamplesRight es
 
 -- five visits and four entries fit exactly; one visit fewer is 8, one cell fewer 16, and 8 comes first where both run out at a visit
-unfoldable pub examples : List Example
+unfoldable pub sweepExamples : List SweepExample
 unfolding fourEntries
-examples =
+sweepExamples =
     example 5 24 (Done 5 fourEntries)
     ∷ example 4 24 (Stop 8)
     ∷ example 5 23 (Stop 16)

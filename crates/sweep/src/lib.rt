@@ -5,14 +5,14 @@ ghost use lib.ListN.{length};
 ghost use Rattle.grid_from_spec.specs.Causes.{GridFacts};
 ghost use Rattle.store.specs.Updates.{cells};
 ghost use Rattle.sweep_walk.specs.Entries.{setting};
-ghost use Rattle.sweep.specs.Answer.{settingOf, causesIn, sweepCauses, Sweeps, Checks, endOf, loggedBy, endLog};
+ghost use Rattle.sweep.specs.Answer.{settingOf, causesIn, sweepCauses, SweepPost, SweepCheckPost, endOf, loggedBy, endLog};
 use cutter::CutterShape;
 use cutter::PreparedCutter;
 use cutter_check::ToolCheck;
 use frame::Axis;
 use grid::DexelGrid;
 use grid::DexelStockSpec;
-use grid::Gridded;
+use grid::GridAnswer;
 use sweep_kernel::Kernel;
 use sweep_kernel::Profile;
 use sweep_visits::Progress;
@@ -24,7 +24,7 @@ pub struct Totals {
 }
 
 // The totals of a sweep, or why the call is refused.
-pub enum Swept {
+pub enum SweepAnswer {
     Accepted(Totals),
     Refused(u32),
 }
@@ -35,18 +35,18 @@ pub enum SweepCheck {
 }
 
 // Ends a walk: its answer, and zeros in every cell of the log that is not of an entry.
-fn end_log(x: Progress, log: &mut [f64]) -> Swept
+fn end_log(x: Progress, log: &mut [f64]) -> SweepAnswer
     requires { ⌜ loggedBy x ≤ length (now log) ⌝ }
     ensures { λ r. ⌜ (r ≡ endOf x) × (now (log .exit) ≡ endLog x (now (log .entry))) ⌝ }
 {
     match x {
         Progress::Stopped(n) => {
             spans::clear_from(log, 0);
-            return Swept::Refused(n);
+            return SweepAnswer::Refused(n);
         }
         Progress::At(c) => {
             spans::clear_from(log, c.at);
-            return Swept::Accepted(Totals {
+            return SweepAnswer::Accepted(Totals {
                 entries: c.at / 6,
                 visits: c.visits,
             });
@@ -67,7 +67,7 @@ fn check_sweep(
     intervals: u64,
 ) -> SweepCheck
     requires { ⌜ GridFacts spec g ⌝ }
-    ensures { λ r. ⌜ Checks (setting spec g k p (cells (now (spans .entry)) (now (links .entry)) (now (heads .entry)))) intervals (now (chords .entry)) r ⌝ }
+    ensures { λ r. ⌜ SweepCheckPost (setting spec g k p (cells (now (spans .entry)) (now (links .entry)) (now (heads .entry)))) intervals (now (chords .entry)) r ⌝ }
 {
     if stock::is_short(spec, g, spans, links, heads) {
         return SweepCheck::Declined(12);
@@ -106,15 +106,15 @@ fn sweep_grid(
     heads: &[u64],
     intervals: u64,
     log: &mut [f64],
-) -> Swept
+) -> SweepAnswer
     requires { ⌜ GridFacts spec g ⌝ }
-    ensures { λ r. ⌜ Sweeps (causesIn (setting spec g k p (cells (now (spans .entry)) (now (links .entry)) (now (heads .entry)))) intervals (now (chords .entry)) budget (length (now (log .entry))))
+    ensures { λ r. ⌜ SweepPost (causesIn (setting spec g k p (cells (now (spans .entry)) (now (links .entry)) (now (heads .entry)))) intervals (now (chords .entry)) budget (length (now (log .entry))))
         (setting spec g k p (cells (now (spans .entry)) (now (links .entry)) (now (heads .entry)))) intervals (now (chords .entry)) (now (log .entry)) (now (log .exit)) r ⌝ }
 {
     let ready = check_sweep(spec, g, k, p, chords, spans, links, heads, intervals);
     match ready {
         SweepCheck::Declined(n) => {
-            return Swept::Refused(n);
+            return SweepAnswer::Refused(n);
         }
         SweepCheck::Admitted => {
             let x = sweep_walk::sweep_chords(
@@ -149,15 +149,15 @@ pub fn sweep(
     chords: &[f64],
     budget: u64,
     log: &mut [f64],
-) -> Swept
-    ensures { λ r. ⌜ Sweeps (sweepCauses (now (units .entry)) (settingOf spec axis shape cutter guard (cells (now (spans .entry)) (now (links .entry)) (now (heads .entry)))) intervals (now (chords .entry)) budget (length (now (log .entry))))
+) -> SweepAnswer
+    ensures { λ r. ⌜ SweepPost (sweepCauses (now (units .entry)) (settingOf spec axis shape cutter guard (cells (now (spans .entry)) (now (links .entry)) (now (heads .entry)))) intervals (now (chords .entry)) budget (length (now (log .entry))))
         (settingOf spec axis shape cutter guard (cells (now (spans .entry)) (now (links .entry)) (now (heads .entry)))) intervals (now (chords .entry)) (now (log .entry)) (now (log .exit)) r ⌝ }
 {
     match grid_from_spec::grid(spec, units) {
-        Gridded::Refused(n) => {
-            return Swept::Refused(n);
+        GridAnswer::Refused(n) => {
+            return SweepAnswer::Refused(n);
         }
-        Gridded::Accepted(g) => {
+        GridAnswer::Accepted(g) => {
             let k = Kernel {
                 frame: axis.frame(),
                 guard: guard,

@@ -20,12 +20,12 @@ use Rattle.polygons.specs.declared.Point.{Point}
 use Rattle.sweep_kernel.specs.declared.Profile.{Profile}
 use Rattle.sweep_kernel.specs.declared.Kernel.{Kernel}
 use Rattle.sweep_kernel.specs.declared.Chord.{Chord}
-use Rattle.sweep_kernel.specs.declared.Side.{Side}
-use Rattle.sweep_kernel.specs.declared.Lane.{Lane}
-use Rattle.sweep_kernel.specs.declared.Cells.{Cells}
-use Rattle.sweep_kernel.specs.declared.Cells.the-variants.{Met, Missed}
-use Rattle.sweep_kernel.specs.declared.Rectangle.{Rectangle}
-use Rattle.sweep_kernel.specs.declared.Rectangle.the-variants.{Rays, NoRays}
+use Rattle.sweep_kernel.specs.declared.AxisScale.{AxisScale}
+use Rattle.sweep_kernel.specs.declared.ChordOnAxis.{ChordOnAxis}
+use Rattle.sweep_kernel.specs.declared.CellRange.{CellRange}
+use Rattle.sweep_kernel.specs.declared.CellRange.the-variants.{Met, Missed}
+use Rattle.sweep_kernel.specs.declared.RayRect.{RayRect}
+use Rattle.sweep_kernel.specs.declared.RayRect.the-variants.{Rays, NoRays}
 
 -- the radius that visits go by is half the diameter
 abbrev pub profileOf : CutterShape → PreparedCutter → Profile
@@ -46,11 +46,11 @@ reachOf k la pad a b =
     })
 
 -- the cells along a world axis
-unfoldable pub sideOf : DexelStockSpec → DexelGrid → Frame → WorldAxis → Side
+unfoldable pub sideOf : DexelStockSpec → DexelGrid → Frame → WorldAxis → AxisScale
 sideOf s g f w = record { sign = signAlong f (localAxisOf f w); min = alongOf (s .«min_mm») w; step = stepAlong g w }
 
 -- what a chord has in common for all rays of a world axis
-unfoldable pub laneOf : DexelStockSpec → DexelGrid → Kernel → Profile → Chord → WorldAxis → Lane
+unfoldable pub laneOf : DexelStockSpec → DexelGrid → Kernel → Profile → Chord → WorldAxis → ChordOnAxis
 laneOf s g k p c axis =
     let la = localAxisOf (k .frame) axis in
     record {
@@ -70,7 +70,7 @@ laneOf s g k p c axis =
     }
 
 -- the local range along a local axis that crosses the rays: the tool's own, or the other one
-unfoldable pub spanOver : Profile → Lane → LocalAxis → Pair
+unfoldable pub spanOver : Profile → ChordOnAxis → LocalAxis → Pair
 spanOver p l i =
     let pad = add binary64 (p .radius) (l .e) in
     cond (eqb (i .0) 2)
@@ -78,21 +78,21 @@ spanOver p l i =
     (record { lo = sub binary64 (smallerOf (l .a .y) (l .b .y)) pad; hi = add binary64 (largerOf (l .a .y) (l .b .y)) pad })
 
 -- the cells along a world axis that a pair meets, clamped to the blank; none where it misses the blank or is reversed
-unfoldable pub cellsMet : DexelStockSpec → DexelGrid → WorldAxis → Pair → Cells
+unfoldable pub cellsMet : DexelStockSpec → DexelGrid → WorldAxis → Pair → CellRange
 cellsMet s g w p =
     cond (lt (p .hi) (alongOf (s .«min_mm») w)) Missed
     (cond (lt (alongOf (s .«max_mm») w) (p .lo)) Missed
     (cond (lt (p .hi) (p .lo)) Missed
     (Met (cellAt s g w (p .lo)) (cellAt s g w (p .hi)))))
 
-unfoldable pub cellsAcross : DexelStockSpec → DexelGrid → Profile → Lane → WorldAxis → Cells
+unfoldable pub cellsAcross : DexelStockSpec → DexelGrid → Profile → ChordOnAxis → WorldAxis → CellRange
 cellsAcross s g p l w = cellsMet s g w (worldOf (l .frame) (localAxisOf (l .frame) w) (spanOver p l (localAxisOf (l .frame) w)))
 
-abbrev pub rectangle : Cells → Cells → Rectangle
+abbrev pub rectangle : CellRange → CellRange → RayRect
 rectangle Missed vs = NoRays
 rectangle (Met u0 u1) Missed = NoRays
 rectangle (Met u0 u1) (Met v0 v1) = Rays (record { u0 = u0; u1 = u1; v0 = v0; v1 = v1 })
 
 -- document 01's clamped rectangle; one that misses the blank has no rays
-unfoldable pub rectangleOf : DexelStockSpec → DexelGrid → Profile → Lane → WorldAxis → Rectangle
+unfoldable pub rectangleOf : DexelStockSpec → DexelGrid → Profile → ChordOnAxis → WorldAxis → RayRect
 rectangleOf s g p l axis = rectangle (cellsAcross s g p l (crossOf axis .u)) (cellsAcross s g p l (crossOf axis .v))

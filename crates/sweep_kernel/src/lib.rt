@@ -1,7 +1,7 @@
 // What a chord has in common for all rays of a world axis, and the rectangle of rays that it visits (sweep.rs: `Kernel::rays`).
 ghost use mathlib.Core.Path.{_≡_};
 ghost use Rattle.grid_from_spec.specs.Causes.{GridFacts};
-ghost use Rattle.sweep_kernel.specs.Lane.{planPoint, reachOf, sideOf, profileOf, laneOf, spanOver, cellsMet, cellsAcross, rectangleOf};
+ghost use Rattle.sweep_kernel.specs.ChordOnAxis.{planPoint, reachOf, sideOf, profileOf, laneOf, spanOver, cellsMet, cellsAcross, rectangleOf};
 use cutter::CutterShape;
 use cutter::PreparedCutter;
 use frame::Frame;
@@ -34,14 +34,14 @@ pub struct Chord {
 }
 
 // The cells along a world axis across a ray: the sign of its local axis, the box's end and the step.
-pub struct Side {
+pub struct AxisScale {
     pub sign: f64,
     pub min: f64,
     pub step: f64,
 }
 
 // What a chord has in common for all rays of a world axis.
-pub struct Lane {
+pub struct ChordOnAxis {
     pub frame: Frame,
     pub la: LocalAxis,
     pub guard: f64,
@@ -52,27 +52,27 @@ pub struct Lane {
     pub z_lo: f64,
     pub z_hi: f64,
     pub reach: Pair,
-    pub u: Side,
-    pub v: Side,
+    pub u: AxisScale,
+    pub v: AxisScale,
     pub u_is_tool: bool,
 }
 
-// Cells from the first to the second, or none.
-pub enum Cells {
+// CellRange from the first to the second, or none.
+pub enum CellRange {
     Met(u64, u64),
     Missed,
 }
 
 // Rays from u0 to u1 and from v0 to v1.
-pub struct Rect {
+pub struct RayRange {
     pub u0: u64,
     pub u1: u64,
     pub v0: u64,
     pub v1: u64,
 }
 
-pub enum Rectangle {
-    Rays(Rect),
+pub enum RayRect {
+    Rays(RayRange),
     NoRays,
 }
 
@@ -107,10 +107,10 @@ fn reach_of(k: Kernel, la: LocalAxis, pad: f64, a: Point, b: Point) -> Pair
     frame::world(k.frame, la, s)
 }
 
-fn side_of(spec: DexelStockSpec, g: DexelGrid, f: Frame, w: WorldAxis) -> Side
+fn side_of(spec: DexelStockSpec, g: DexelGrid, f: Frame, w: WorldAxis) -> AxisScale
     ensures { λ r. ⌜ r ≡ sideOf spec g f w ⌝ }
 {
-    Side {
+    AxisScale {
         sign: frame::sign_along(f, frame::local_axis(f, w)),
         min: grid::along(spec.min_mm, w),
         step: grid::step_along(g, w),
@@ -124,7 +124,7 @@ pub fn lane_of(
     p: Profile,
     c: Chord,
     axis: WorldAxis,
-) -> Lane
+) -> ChordOnAxis
     ensures { λ r. ⌜ r ≡ laneOf spec g k p c axis ⌝ }
 {
     let f = k.frame;
@@ -133,7 +133,7 @@ pub fn lane_of(
     let b = plan_point(c.b, la);
     let w = grid::cross(axis);
     let lu = frame::local_axis(f, w.u);
-    Lane {
+    ChordOnAxis {
         frame: f,
         la: la,
         guard: k.guard,
@@ -151,7 +151,7 @@ pub fn lane_of(
 }
 
 // The local range of a chord's rays along a local axis that crosses them.
-fn span_over(p: Profile, l: Lane, i: LocalAxis) -> Pair
+fn span_over(p: Profile, l: ChordOnAxis, i: LocalAxis) -> Pair
     ensures { λ r. ⌜ r ≡ spanOver p l i ⌝ }
 {
     if i.0 == 2 {
@@ -168,26 +168,32 @@ fn span_over(p: Profile, l: Lane, i: LocalAxis) -> Pair
 }
 
 // The cells along a world axis that the pair s meets.
-fn cells_met(spec: DexelStockSpec, g: DexelGrid, w: WorldAxis, s: Pair) -> Cells
+fn cells_met(spec: DexelStockSpec, g: DexelGrid, w: WorldAxis, s: Pair) -> CellRange
     requires { ⌜ GridFacts spec g ⌝ }
     ensures { λ r. ⌜ r ≡ cellsMet spec g w s ⌝ }
 {
     if s.hi < grid::along(spec.min_mm, w) {
-        return Cells::Missed;
+        return CellRange::Missed;
     }
     if s.lo > grid::along(spec.max_mm, w) {
-        return Cells::Missed;
+        return CellRange::Missed;
     }
     if s.lo > s.hi {
-        return Cells::Missed;
+        return CellRange::Missed;
     }
-    Cells::Met(
+    CellRange::Met(
         grid_cells::cell_at(spec, g, w, s.lo),
         grid_cells::cell_at(spec, g, w, s.hi),
     )
 }
 
-fn cells_across(spec: DexelStockSpec, g: DexelGrid, p: Profile, l: Lane, w: WorldAxis) -> Cells
+fn cells_across(
+    spec: DexelStockSpec,
+    g: DexelGrid,
+    p: Profile,
+    l: ChordOnAxis,
+    w: WorldAxis,
+) -> CellRange
     requires { ⌜ GridFacts spec g ⌝ }
     ensures { λ r. ⌜ r ≡ cellsAcross spec g p l w ⌝ }
 {
@@ -200,9 +206,9 @@ pub fn rectangle_of(
     spec: DexelStockSpec,
     g: DexelGrid,
     p: Profile,
-    l: Lane,
+    l: ChordOnAxis,
     axis: WorldAxis,
-) -> Rectangle
+) -> RayRect
     requires { ⌜ GridFacts spec g ⌝ }
     ensures { λ r. ⌜ r ≡ rectangleOf spec g p l axis ⌝ }
 {
@@ -210,10 +216,10 @@ pub fn rectangle_of(
     let us = cells_across(spec, g, p, l, w.u);
     let vs = cells_across(spec, g, p, l, w.v);
     match us {
-        Cells::Missed => Rectangle::NoRays,
-        Cells::Met(u0, u1) => match vs {
-            Cells::Missed => Rectangle::NoRays,
-            Cells::Met(v0, v1) => Rectangle::Rays(Rect {
+        CellRange::Missed => RayRect::NoRays,
+        CellRange::Met(u0, u1) => match vs {
+            CellRange::Missed => RayRect::NoRays,
+            CellRange::Met(v0, v1) => RayRect::Rays(RayRange {
                 u0: u0,
                 u1: u1,
                 v0: v0,

@@ -14,14 +14,14 @@ use Rattle.frame.specs.Frame.{signAlong, turned, worldOf}
 use Rattle.polygons.specs.declared.Strip.{Strip}
 use Rattle.polygons.specs.declared.Strip.the-variants.{Hit, Miss}
 use Rattle.sweep_kernel.specs.declared.Profile.{Profile}
-use Rattle.sweep_kernel.specs.declared.Lane.{Lane}
+use Rattle.sweep_kernel.specs.declared.ChordOnAxis.{ChordOnAxis}
 use Rattle.sweep_meet.specs.Meets.{spansMeet, overlapsOf, endsOf}
 use Rattle.sweep_meet.proofs.Sharing.{overlaps-share, share-overlaps}
 use Rattle.sweep_ray.specs.declared.Section.{Section}
-use Rattle.sweep_ray.specs.declared.Hits.{Hits}
+use Rattle.sweep_ray.specs.declared.HitPairs.{HitPairs}
 use Rattle.sweep_ray.specs.declared.RayHit.{RayHit}
 use Rattle.sweep_ray.specs.declared.RayHit.the-variants.{On, Off}
-use Rattle.sweep_ray.specs.Across.{pair, outerFrom, outerAt, outerOf, innerOf, hitWith, hitOf}
+use Rattle.sweep_ray.specs.Across.{pair, outerFrom, outerAt, outerOf, innerOf, hitWith, rayHitOf}
 use Rattle.sweep_ray.proofs.Hitting.{hit-on}
 
 -- ---- the ends of the outer interval are doubles
@@ -30,7 +30,7 @@ abbrev DoubleEnds : Strip → Type 0
 DoubleEnds Miss = Unit {0}
 DoubleEnds (Hit lo hi) = Double lo × Double hi
 
-widened : (l : Lane) (t : Strip) → DoubleEnds (outerFrom l t)
+widened : (l : ChordOnAxis) (t : Strip) → DoubleEnds (outerFrom l t)
 unfolding outerFrom worldOf turned
 widened l Miss = tt
 widened l (Hit lo hi) = go (lt plusZero (signAlong (l .frame) (l .la)))
@@ -45,7 +45,7 @@ widened l (Hit lo hi) = go (lt plusZero (signAlong (l .frame) (l .la)))
     go true = (sub-fits binary64 lo (l .guard), add-fits binary64 hi (l .guard))
     go false = (neg-fits binary64 b (add-fits binary64 hi (l .guard)), neg-fits binary64 a (sub-fits binary64 lo (l .guard)))
 
-outer-doubles : (p : Profile) (l : Lane) (s : Section) → DoubleEnds (outerOf p l s)
+outer-doubles : (p : Profile) (l : ChordOnAxis) (s : Section) → DoubleEnds (outerOf p l s)
 unfolding outerOf
 outer-doubles p l s = go (cutMax (p .shape) (p .cutter) (s .w0) (s .w1))
   where
@@ -55,14 +55,14 @@ outer-doubles p l s = go (cutMax (p .shape) (p .cutter) (s .w0) (s .w1))
 
 -- ---- the law, both ways
 
-module _ (p : Profile) (l : Lane) (s : Section) (possible : List Float) (isSound : sound possible ≡ true) where
+module _ (p : Profile) (l : ChordOnAxis) (s : Section) (possible : List Float) (isSound : sound possible ≡ true) where
   abbrev Material : RayHit → Type 0
   Material Off = Unit {0}
   Material (On h) = Number (h .outer .lo) → Number (h .outer .hi) → Share possible (endsOf (h .outer))
 
-  pub hit-material : All Double possible → (h : Hits) → hitOf p l s possible ≡ On h → Number (h .outer .lo) → Number (h .outer .hi)
+  pub hit-material : All Double possible → (h : HitPairs) → rayHitOf p l s possible ≡ On h → Number (h .outer .lo) → Number (h .outer .hi)
       → Share possible (endsOf (h .outer))
-  unfolding hitOf
+  unfolding rayHitOf
   hit-material d h e = subst Material e (met (spansMeet possible (l .reach)) (outerOf p l s) (outer-doubles p l s))
     where
       found : (lo hi : Float) → Double lo → (b : Bool) → overlapsOf possible (pair lo hi) ≡ b
@@ -77,5 +77,5 @@ module _ (p : Profile) (l : Lane) (s : Section) (possible : List Float) (isSound
 
   -- and a ray that passes the quick test is hit wherever such a point is
   pub material-hit : (lo hi : Float) → spansMeet possible (l .reach) ≡ true → outerOf p l s ≡ Hit lo hi
-      → Share possible (endsOf (pair lo hi)) → On (record { outer = pair lo hi; inner = innerOf p l s }) ≡ hitOf p l s possible
+      → Share possible (endsOf (pair lo hi)) → On (record { outer = pair lo hi; inner = innerOf p l s }) ≡ rayHitOf p l s possible
   material-hit lo hi h o m = hit-on p l s possible lo hi h o (share-overlaps (pair lo hi) possible isSound m)

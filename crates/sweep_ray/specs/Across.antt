@@ -13,7 +13,7 @@ use Rattle.strips.specs.Strip.{stadiumStrip}
 use Rattle.polygons.specs.declared.Strip.{Strip}
 use Rattle.polygons.specs.declared.Strip.the-variants.{Hit, Miss}
 use Rattle.sweep_kernel.specs.declared.Profile.{Profile}
-use Rattle.sweep_kernel.specs.declared.Lane.{Lane}
+use Rattle.sweep_kernel.specs.declared.ChordOnAxis.{ChordOnAxis}
 use Rattle.sweep_ray.specs.declared.Section.{Section}
 use Rattle.sweep_ray.specs.declared.RayHit.{RayHit}
 use Rattle.sweep_ray.specs.declared.RayHit.the-variants.{On, Off}
@@ -26,24 +26,24 @@ noPair = record { lo = plusZero; hi = plusZero }
 abbrev pub pair : Float → Float → Pair
 pair lo hi = record { lo = lo; hi = hi }
 
-abbrev pub stripOf : Pair → Strip
-stripOf p = Hit (p .lo) (p .hi)
+abbrev pub pairStrip : Pair → Strip
+pairStrip p = Hit (p .lo) (p .hi)
 
 -- an extent widened by the guard, in world coordinates
-unfoldable pub outerFrom : Lane → Strip → Strip
+unfoldable pub outerFrom : ChordOnAxis → Strip → Strip
 outerFrom l Miss = Miss
-outerFrom l (Hit lo hi) = stripOf (worldOf (l .frame) (l .la) (pair (sub binary64 lo (l .guard)) (add binary64 hi (l .guard))))
+outerFrom l (Hit lo hi) = pairStrip (worldOf (l .frame) (l .la) (pair (sub binary64 lo (l .guard)) (add binary64 hi (l .guard))))
 
-abbrev pub outerAt : Lane → Section → Radius → Strip
+abbrev pub outerAt : ChordOnAxis → Section → Radius → Strip
 outerAt l s Radius.Outside = Miss
 outerAt l s (Is r) = outerFrom l (stadiumStrip (l .a) (l .b) (l .length) (add binary64 r (l .e)) (s .y0) (s .y1))
 
 -- where the largest section over the window may touch the ray's band
-unfoldable pub outerOf : Profile → Lane → Section → Strip
+unfoldable pub outerOf : Profile → ChordOnAxis → Section → Strip
 outerOf p l s = outerAt l s (cutMax (p .shape) (p .cutter) (s .w0) (s .w1))
 
 -- what two extents have in common, narrowed by the guard, in world coordinates
-unfoldable pub innerFrom : Lane → Strip → Strip → Pair
+unfoldable pub innerFrom : ChordOnAxis → Strip → Strip → Pair
 innerFrom l Miss t = noPair
 innerFrom l (Hit lo hi) Miss = noPair
 innerFrom l (Hit lo hi) (Hit lo′ hi′) =
@@ -51,7 +51,7 @@ innerFrom l (Hit lo hi) (Hit lo′ hi′) =
     let b = sub binary64 (smallerOf hi hi′) (l .guard) in
     cond (lt a b) (worldOf (l .frame) (l .la) (pair a b)) noPair
 
-abbrev pub innerAt : Lane → Section → Radius → Pair
+abbrev pub innerAt : ChordOnAxis → Section → Radius → Pair
 innerAt l s Radius.Outside = noPair
 innerAt l s (Is r) =
     let rho = sub binary64 r (l .e) in
@@ -60,13 +60,13 @@ innerAt l s (Is r) =
     noPair
 
 -- where the smallest section over the window certainly covers the ray's band: both edges of it
-unfoldable pub innerOf : Profile → Lane → Section → Pair
+unfoldable pub innerOf : Profile → ChordOnAxis → Section → Pair
 innerOf p l s = innerAt l s (cutMin (p .shape) (p .cutter) (s .w0) (s .w1))
 
-abbrev pub hitWith : Profile → Lane → Section → List Float → Strip → RayHit
+abbrev pub hitWith : Profile → ChordOnAxis → Section → List Float → Strip → RayHit
 hitWith p l s possible Miss = Off
 hitWith p l s possible (Hit lo hi) = cond (overlapsOf possible (pair lo hi)) (On (record { outer = pair lo hi; inner = innerOf p l s })) Off
 
 -- a ray is hit where possible material lies within its outer interval: `hit-material` and `material-hit` in proofs/Material.antt
-unfoldable pub hitOf : Profile → Lane → Section → (possible : List Float) → RayHit
-hitOf p l s possible = cond (spansMeet possible (l .reach)) (hitWith p l s possible (outerOf p l s)) Off
+unfoldable pub rayHitOf : Profile → ChordOnAxis → Section → (possible : List Float) → RayHit
+rayHitOf p l s possible = cond (spansMeet possible (l .reach)) (hitWith p l s possible (outerOf p l s)) Off

@@ -5,16 +5,16 @@ use lib.Ieee.{Float, binary64, add, sub, mul, div}
 use Rattle.doubles.specs.Constants.{two}
 use Rattle.grid.specs.Grid.{whole}
 use Rattle.grid.specs.Rays.{half}
-use Rattle.sweep_kernel.specs.declared.Side.{Side}
-use Rattle.sweep_kernel.specs.declared.Lane.{Lane}
+use Rattle.sweep_kernel.specs.declared.AxisScale.{AxisScale}
+use Rattle.sweep_kernel.specs.declared.ChordOnAxis.{ChordOnAxis}
 use Rattle.sweep_ray.specs.declared.Section.{Section}
 
 -- the local coordinate of the centre of cell i
-unfoldable pub centerOf : Side → ℕ → Float
-centerOf s i = mul binary64 (s .sign) (add binary64 (s .min) (mul binary64 (add binary64 (whole i) half) (s .step)))
+unfoldable pub localCenter : AxisScale → ℕ → Float
+localCenter s i = mul binary64 (s .sign) (add binary64 (s .min) (mul binary64 (add binary64 (whole i) half) (s .step)))
 
 -- a band across the ray, and a window of tool heights widened by the chord's climb and its error
-unfoldable pub sectionWith : Lane → (yc hy zc hz : Float) → Section
+unfoldable pub sectionWith : ChordOnAxis → (yc hy zc hz : Float) → Section
 sectionWith l yc hy zc hz =
     record {
       y0 = sub binary64 yc hy;
@@ -24,10 +24,10 @@ sectionWith l yc hy zc hz =
     }
 
 -- the cross-section of the ray at the cells iu and iv: one of the two axes across it is the tool's
-unfoldable pub sectionOf : Lane → (iu iv : ℕ) → Section
+unfoldable pub sectionOf : ChordOnAxis → (iu iv : ℕ) → Section
 sectionOf l iu iv =
-    let cu = centerOf (l .u) iu in
-    let cv = centerOf (l .v) iv in
+    let cu = localCenter (l .u) iu in
+    let cv = localCenter (l .v) iv in
     let hu = div binary64 (l .u .step) two in
     let hv = div binary64 (l .v .step) two in
     cond (l .«u_is_tool») (sectionWith l cv hv cu hu) (sectionWith l cu hu cv hv)

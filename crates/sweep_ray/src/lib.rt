@@ -3,14 +3,14 @@ ghost use mathlib.Core.Path.{_≡_};
 ghost use mathlib.Core.Bool.{true};
 ghost use Rattle.spans.specs.Spans.{sound};
 ghost use Rattle.store_lists.specs.Reading.{listFrom, Readable};
-ghost use Rattle.sweep_ray.specs.Section.{centerOf, sectionWith, sectionOf};
-ghost use Rattle.sweep_ray.specs.Across.{outerFrom, outerOf, innerFrom, innerOf, hitOf};
+ghost use Rattle.sweep_ray.specs.Section.{localCenter, sectionWith, sectionOf};
+ghost use Rattle.sweep_ray.specs.Across.{outerFrom, outerOf, innerFrom, innerOf, rayHitOf};
 use cutter::Radius;
 use frame::Pair;
 use polygons::Strip;
-use sweep_kernel::Lane;
+use sweep_kernel::AxisScale;
+use sweep_kernel::ChordOnAxis;
 use sweep_kernel::Profile;
-use sweep_kernel::Side;
 
 // A ray's cross-section: the band from y0 to y1, and the window of tool heights from w0 to w1.
 pub struct Section {
@@ -21,23 +21,23 @@ pub struct Section {
 }
 
 // What a hit ray is given.
-pub struct Hits {
+pub struct HitPairs {
     pub outer: Pair,
     pub inner: Pair,
 }
 
 pub enum RayHit {
-    On(Hits),
+    On(HitPairs),
     Off,
 }
 
-fn center_of(s: Side, i: u64) -> f64
-    ensures { λ r. ⌜ r ≡ centerOf s i ⌝ }
+fn center_of(s: AxisScale, i: u64) -> f64
+    ensures { λ r. ⌜ r ≡ localCenter s i ⌝ }
 {
     s.sign * (s.min + (std::num::nearest_u64_to_f64(i) + 0.5) * s.step)
 }
 
-fn section_with(l: Lane, yc: f64, hy: f64, zc: f64, hz: f64) -> Section
+fn section_with(l: ChordOnAxis, yc: f64, hy: f64, zc: f64, hz: f64) -> Section
     ensures { λ r. ⌜ r ≡ sectionWith l yc hy zc hz ⌝ }
 {
     Section {
@@ -49,7 +49,7 @@ fn section_with(l: Lane, yc: f64, hy: f64, zc: f64, hz: f64) -> Section
 }
 
 // The cross-section of the ray at the cells iu and iv.
-fn section_of(l: Lane, iu: u64, iv: u64) -> Section
+fn section_of(l: ChordOnAxis, iu: u64, iv: u64) -> Section
     ensures { λ r. ⌜ r ≡ sectionOf l iu iv ⌝ }
 {
     let cu = center_of(l.u, iu);
@@ -63,7 +63,7 @@ fn section_of(l: Lane, iu: u64, iv: u64) -> Section
 }
 
 // An extent of the largest section, widened by the guard, in world coordinates.
-fn outer_from(l: Lane, s: Strip) -> Strip
+fn outer_from(l: ChordOnAxis, s: Strip) -> Strip
     ensures { λ r. ⌜ r ≡ outerFrom l s ⌝ }
 {
     match s {
@@ -83,7 +83,7 @@ fn outer_from(l: Lane, s: Strip) -> Strip
 }
 
 // Where the cutter may touch the ray's cross-section.
-fn outer_of(p: Profile, l: Lane, s: Section) -> Strip
+fn outer_of(p: Profile, l: ChordOnAxis, s: Section) -> Strip
     ensures { λ r. ⌜ r ≡ outerOf p l s ⌝ }
 {
     let shape = p.shape;
@@ -100,7 +100,7 @@ fn outer_of(p: Profile, l: Lane, s: Section) -> Strip
 }
 
 // What both edges of the cross-section have in common, narrowed by the guard, in world coordinates; [0, 0] for none.
-fn inner_from(l: Lane, s: Strip, t: Strip) -> Pair
+fn inner_from(l: ChordOnAxis, s: Strip, t: Strip) -> Pair
     ensures { λ r. ⌜ r ≡ innerFrom l s t ⌝ }
 {
     let none = Pair { lo: 0.0, hi: 0.0 };
@@ -123,7 +123,7 @@ fn inner_from(l: Lane, s: Strip, t: Strip) -> Pair
 }
 
 // Where the cutter certainly covers the ray's cross-section.
-fn inner_of(p: Profile, l: Lane, s: Section) -> Pair
+fn inner_of(p: Profile, l: ChordOnAxis, s: Section) -> Pair
     ensures { λ r. ⌜ r ≡ innerOf p l s ⌝ }
 {
     let shape = p.shape;
@@ -152,12 +152,12 @@ pub fn ray_hit(
     n: usize,
     head: u64,
     p: Profile,
-    l: Lane,
+    l: ChordOnAxis,
     iu: u64,
     iv: u64,
 ) -> RayHit
     requires { ⌜ Readable n (now spans) (now links) head × (sound (listFrom n (now spans) (now links) head) ≡ true) ⌝ }
-    ensures { λ r. ⌜ r ≡ hitOf p l (sectionOf l iu iv) (listFrom n (now (spans .entry)) (now (links .entry)) head) ⌝ }
+    ensures { λ r. ⌜ r ≡ rayHitOf p l (sectionOf l iu iv) (listFrom n (now (spans .entry)) (now (links .entry)) head) ⌝ }
 {
     if !sweep_meet::spans_meet(spans, links, n, head, l.reach) {
         return RayHit::Off;
@@ -169,7 +169,7 @@ pub fn ray_hit(
         Strip::Hit(lo, hi) => {
             let outer = Pair { lo: lo, hi: hi };
             if sweep_meet::overlaps_at(spans, links, n, head, outer) {
-                return RayHit::On(Hits {
+                return RayHit::On(HitPairs {
                     outer: outer,
                     inner: inner_of(p, l, s),
                 });

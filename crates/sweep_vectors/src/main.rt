@@ -6,9 +6,9 @@
 // For accepted and for refused sweeps it writes how many rows agree and how many differ, then how many can't be read, and the number of the first
 // row that differs.
 use frame::Axis;
-use sweep::Swept;
-use vector_replay::Outcome;
-use vector_replay::Tally;
+use sweep::SweepAnswer;
+use vector_replay::RowCounts;
+use vector_replay::RowOutcome;
 
 // A sweep's answer as numbers, 0 for no refusal, and whether the store and the chords are as they were.
 struct Answer {
@@ -51,7 +51,7 @@ fn sweep_on(
     heads: &[u64],
     chords: &[f64],
     log: &mut [f64],
-) -> Swept {
+) -> SweepAnswer {
     let units = [byte_of(w[2]), byte_of(w[3]), byte_of(w[4])];
     let axis = axis_of(w[18]);
     let shape = vector_words::shape_at(w, 19);
@@ -92,15 +92,15 @@ fn store_agrees(
     vector_words::numbers_agree(heads, w, 159, 24)
 }
 
-fn answer_of(s: Swept, kept: bool) -> Answer {
+fn answer_of(s: SweepAnswer, kept: bool) -> Answer {
     match s {
-        Swept::Accepted(t) => Answer {
+        SweepAnswer::Accepted(t) => Answer {
             refusal: 0,
             entries: t.entries as u64,
             visits: t.visits,
             kept: kept,
         },
-        Swept::Refused(k) => Answer {
+        SweepAnswer::Refused(k) => Answer {
             refusal: k as u64,
             entries: 0,
             visits: 0,
@@ -190,16 +190,16 @@ fn kind_of(refusal: u64) -> u64 {
     1
 }
 
-fn compared(text: &[u8]) -> Outcome {
+fn compared(text: &[u8]) -> RowOutcome {
     let mut w = [0; 243];
     if !vector_replay::read_words(text, 0, &mut w) {
-        return Outcome::Unread;
+        return RowOutcome::Unread;
     }
     vector_replay::told(kind_of(w[35]), 2, agrees(&w))
 }
 
 // The turns are counted down, since a proved loop has to end and nothing says that the input does.
-fn counted() -> Tally {
+fn counted() -> RowCounts {
     let mut t = vector_replay::start();
     let mut turns = u64::MAX;
     while turns > 0 {

@@ -12,23 +12,23 @@ use lib.Ieee.{Float}
 use lib.ListN.{length, take, drop, length-append}
 use lib.Seq.{length-take-le}
 use Rattle.doubles.proofs.Bools.{clash}
-use Rattle.sweep_visits.specs.declared.Cursor.{Cursor}
+use Rattle.sweep_visits.specs.declared.VisitCursor.{VisitCursor}
 use Rattle.sweep_visits.specs.declared.Progress.{Progress}
 use Rattle.sweep_visits.specs.declared.Progress.the-variants.{At, Stopped}
-use Rattle.sweep_visits.specs.declared.Track.{Track}
+use Rattle.sweep_visits.specs.declared.AxisRays.{AxisRays}
 use Rattle.grid.specs.declared.WorldAxis.{WorldAxis}
-use Rattle.sweep_ray.specs.Across.{hitOf}
+use Rattle.sweep_ray.specs.Across.{rayHitOf}
 use Rattle.sweep_ray.specs.Section.{sectionOf}
 use Rattle.sweep_kernel.specs.declared.Profile.{Profile}
-use Rattle.sweep_kernel.specs.declared.Lane.{Lane}
-use Rattle.sweep_ray.specs.declared.Hits.{Hits}
-use Rattle.sweep_kernel.specs.declared.Rect.{Rect}
-use Rattle.sweep_kernel.specs.declared.Rectangle.{Rectangle}
-use Rattle.sweep_kernel.specs.declared.Rectangle.the-variants.{Rays, NoRays}
+use Rattle.sweep_kernel.specs.declared.ChordOnAxis.{ChordOnAxis}
+use Rattle.sweep_ray.specs.declared.HitPairs.{HitPairs}
+use Rattle.sweep_kernel.specs.declared.RayRange.{RayRange}
+use Rattle.sweep_kernel.specs.declared.RayRect.{RayRect}
+use Rattle.sweep_kernel.specs.declared.RayRect.the-variants.{Rays, NoRays}
 use Rattle.sweep_ray.specs.declared.RayHit.{RayHit}
 use Rattle.sweep_ray.specs.declared.RayHit.the-variants.{On, Off}
-use Rattle.sweep_visits.specs.Entries.{entryOf, entryFor, indexOf, possibleAt, rayEntry, each, sum, rowEntries, rectEntries, rectangleEntries, raysIn, joined, entryCount}
-use Rattle.sweep_visits.specs.Walk.{Walked, Done, Stop, walk, Went, Halted, Walks, RayReady, Ready}
+use Rattle.sweep_visits.specs.Entries.{entryOf, entryFor, indexOf, possibleAt, rayEntry, each, sumEach, rowEntries, rectEntries, rectangleEntries, raysIn, joined, loggedEntries}
+use Rattle.sweep_visits.specs.Walk.{Walked, Done, Stop, walk, Went, Halted, WalkPost, RayReady, AxisReady}
 use Rattle.sweep_visits.proofs.Cells.{put-take, put-length}
 
 abbrev onward : Walked → (ℕ → List Float → Walked) → Walked
@@ -49,11 +49,11 @@ module _ (budget len : ℕ) where
       ∙ onward-cond (leb budget k) (leb (length l + length e) len) (walk budget len r (k + 1) (l ++ e)) (walk budget len s)
 
 module _ {budget : ℕ} where
-  pub went-none : {c : Cursor} {log : List Float} → c .at ≤ length log → Went budget [] c log c log
+  pub went-none : {c : VisitCursor} {log : List Float} → c .at ≤ length log → Went budget [] c log c log
   unfolding walk
   went-none h = record { walked = refl; room = h; same = refl }
 
-  pub went-then : {r s : List (List Float)} {c d e : Cursor} {log mid end : List Float} → Went budget r c log d mid → Went budget s d mid e end → Went budget (r ++ s) c log e end
+  pub went-then : {r s : List (List Float)} {c d e : VisitCursor} {log mid end : List Float} → Went budget r c log d mid → Went budget s d mid e end → Went budget (r ++ s) c log e end
   went-then {r} {s} {c} {d} {e} {log} {mid} {end} a b = record {
     walked = walk-append budget (length log) r s (c .visits) (take (c .at) log)
         ∙ ap (λ (w : Walked). onward w (walk budget (length log) s)) (a .walked)
@@ -62,7 +62,7 @@ module _ {budget : ℕ} where
     same = b .same ∙ a .same;
   }
 
-  pub went-halt : {r s : List (List Float)} {c d : Cursor} {log mid end : List Float} {k : ℕ} → Went budget r c log d mid → Halted budget s d mid k end → Halted budget (r ++ s) c log k end
+  pub went-halt : {r s : List (List Float)} {c d : VisitCursor} {log mid end : List Float} {k : ℕ} → Went budget r c log d mid → Halted budget s d mid k end → Halted budget (r ++ s) c log k end
   went-halt {r} {s} {c} {d} {log} {mid} {end} {k} a b = record {
     walked = walk-append budget (length log) r s (c .visits) (take (c .at) log)
         ∙ ap (λ (w : Walked). onward w (walk budget (length log) s)) (a .walked)
@@ -70,7 +70,7 @@ module _ {budget : ℕ} where
     same = b .same ∙ a .same;
   }
 
-  pub halt-before : {r : List (List Float)} {c : Cursor} {log end : List Float} {k : ℕ} (s : List (List Float)) → Halted budget r c log k end → Halted budget (r ++ s) c log k end
+  pub halt-before : {r : List (List Float)} {c : VisitCursor} {log end : List Float} {k : ℕ} (s : List (List Float)) → Halted budget r c log k end → Halted budget (r ++ s) c log k end
   halt-before {r} {c} {log} s a = record {
     walked = walk-append budget (length log) r s (c .visits) (take (c .at) log) ∙ ap (λ (w : Walked). onward w (walk budget (length log) s)) (a .walked);
     same = a .same;
@@ -90,7 +90,7 @@ module _ (budget len : ℕ) (e : List Float) (k : ℕ) (l : List Float) where
   unfolding walk
   walk-one h f = simp (lt-leb _ _ h, le-leb _ _ f)
 
-module _ {budget : ℕ} {e : List Float} {c : Cursor} {log : List Float} (fits : c .at ≤ length log) where
+module _ {budget : ℕ} {e : List Float} {c : VisitCursor} {log : List Float} (fits : c .at ≤ length log) where
   pub halt-8 : budget ≤ c .visits → Halted budget (e ∷ []) c log 8 log
   halt-8 h = record { walked = walk-8 budget (length log) e (c .visits) (take (c .at) log) h; same = refl }
 
@@ -147,7 +147,7 @@ module _ (f : ℕ → List (List Float)) where
       ∙ sym (append-assoc (f from) (each f (suc from) i) (each f (from + suc i) n))
 
 -- a loop over the pieces from `from` to before `past`: those before `at` are walked
-pub record Sweeping (budget : ℕ) (f : ℕ → List (List Float)) (from past : ℕ) (c : Cursor) (log : List Float) (d : Cursor) (mid : List Float) (at : ℕ) : Type 0 where
+pub record Sweeping (budget : ℕ) (f : ℕ → List (List Float)) (from past : ℕ) (c : VisitCursor) (log : List Float) (d : VisitCursor) (mid : List Float) (at : ℕ) : Type 0 where
   pub begun : from ≤ at
   pub within : at - from ≤ past - from
   pub went : Went budget (each f from (at - from)) c log d mid
@@ -156,11 +156,11 @@ each-none : (f : ℕ → List (List Float)) (from : ℕ) → each f from (from -
 unfolding each
 each-none f from = let z : from - from ≡ 0 = omega arith in ap (each f from) z
 
-module _ {budget : ℕ} (f : ℕ → List (List Float)) (from past : ℕ) {c : Cursor} {log : List Float} where
+module _ {budget : ℕ} (f : ℕ → List (List Float)) (from past : ℕ) {c : VisitCursor} {log : List Float} where
   pub sweeping-start : c .at ≤ length log → Sweeping budget f from past c log c log from
   sweeping-start h = record { begun = omega arith; within = omega arith; went = rw (each-none f from) (went-none h) }
 
-  module _ {d : Cursor} {mid : List Float} (at : ℕ) (s : Sweeping budget f from past c log d mid at) where
+  module _ {d : VisitCursor} {mid : List Float} (at : ℕ) (s : Sweeping budget f from past c log d mid at) where
     one-more : each f from (at - from) ++ f at ≡ each f from (at + 1 - from)
     one-more =
         let b = s .begun in
@@ -168,7 +168,7 @@ module _ {budget : ℕ} (f : ℕ → List (List Float)) (from past : ℕ) {c : C
         let g : suc (at - from) ≡ at + 1 - from = omega arith in
         ap (λ (m : ℕ). each f from (at - from) ++ f m) e ∙ each-more f from (at - from) ∙ ap (each f from) g
 
-    pub sweeping-next : {e : Cursor} {end : List Float} → at < past → Went budget (f at) d mid e end → Sweeping budget f from past c log e end (at + 1)
+    pub sweeping-next : {e : VisitCursor} {end : List Float} → at < past → Went budget (f at) d mid e end → Sweeping budget f from past c log e end (at + 1)
     sweeping-next h b = record { begun = omega arith; within = omega arith; went = rw (← one-more) (went-then (s .went) b) }
 
     pub sweeping-halt : {k : ℕ} {end : List Float} → at < past → Halted budget (f at) d mid k end → Halted budget (each f from (past - from)) c log k end
@@ -185,32 +185,32 @@ module _ {budget : ℕ} (f : ℕ → List (List Float)) (from past : ℕ) {c : C
 below : (u v row rows : ℕ) → u < row → v < rows → v * row + u < row * rows
 below u v row rows h l = let m : suc v * row ≤ rows * row = mul-le-mul-right row l in omega arith
 
-pub ray-ready : {n : ℕ} {t : Track} {spans : List Float} {links heads : List ℕ} → Ready n t spans links heads → (u v : ℕ) → u < t .row → v < t .rows → RayReady n t spans links heads u v
+pub ray-ready : {n : ℕ} {t : AxisRays} {spans : List Float} {links heads : List ℕ} → AxisReady n t spans links heads → (u v : ℕ) → u < t .row → v < t .rows → RayReady n t spans links heads u v
 ray-ready {n} {t} r u v h l =
     let b = below u v (t .row) (t .rows) h l in
     let q = r .few in
     record { few = omega arith; ray = r .rays (t .first + (v * t .row + u)) (omega arith) }
 
-module _ (n : ℕ) (t : Track) (p : Profile) (l : Lane) (spans : List Float) (links heads : List ℕ) (u v : ℕ) where
-  pub entry-off : hitOf p l (sectionOf l u v) (possibleAt n t spans links heads u v) ≡ Off → rayEntry n t p l spans links heads u v ≡ []
+module _ (n : ℕ) (t : AxisRays) (p : Profile) (l : ChordOnAxis) (spans : List Float) (links heads : List ℕ) (u v : ℕ) where
+  pub entry-off : rayHitOf p l (sectionOf l u v) (possibleAt n t spans links heads u v) ≡ Off → rayEntry n t p l spans links heads u v ≡ []
   unfolding rayEntry entryFor
   entry-off h = rw h
 
-  pub entry-on : (x : Hits) → hitOf p l (sectionOf l u v) (possibleAt n t spans links heads u v) ≡ On x → rayEntry n t p l spans links heads u v ≡ entryOf (t .axis) (indexOf t u v) x
+  pub entry-on : (x : HitPairs) → rayHitOf p l (sectionOf l u v) (possibleAt n t spans links heads u v) ≡ On x → rayEntry n t p l spans links heads u v ≡ entryOf (t .axis) (indexOf t u v) x
   unfolding rayEntry entryFor
   entry-on x h = rw h
 
-pub entry-length : (axis : WorldAxis) (index : ℕ) (x : Hits) → length (entryOf axis index x) ≡ 6
+pub entry-length : (axis : WorldAxis) (index : ℕ) (x : HitPairs) → length (entryOf axis index x) ≡ 6
 unfolding entryOf
 entry-length axis index x = refl
 
 -- ---- an answer by its case
-module _ {budget : ℕ} {rays : List (List Float)} {c : Cursor} {log after : List Float} where
-  pub halted-of : (r : Progress) (k : ℕ) → r ≡ Stopped k → Walks budget rays c log r after → Halted budget rays c log k after
-  halted-of r k e w = subst (λ (x : Progress). Walks budget rays c log x after) e w
+module _ {budget : ℕ} {rays : List (List Float)} {c : VisitCursor} {log after : List Float} where
+  pub halted-of : (r : Progress) (k : ℕ) → r ≡ Stopped k → WalkPost budget rays c log r after → Halted budget rays c log k after
+  halted-of r k e w = subst (λ (x : Progress). WalkPost budget rays c log x after) e w
 
-  pub went-of : (r : Progress) (d : Cursor) → r ≡ At d → Walks budget rays c log r after → Went budget rays c log d after
-  went-of r d e w = subst (λ (x : Progress). Walks budget rays c log x after) e w
+  pub went-of : (r : Progress) (d : VisitCursor) → r ≡ At d → WalkPost budget rays c log r after → Went budget rays c log d after
+  went-of r d e w = subst (λ (x : Progress). WalkPost budget rays c log x after) e w
 
 -- ---- what a walk comes to
 abbrev stops : Walked → Bool
@@ -259,33 +259,33 @@ done-no-stop w k n l p q = clash false (ap stops (sym p ∙ q)) refl
 
 -- ---- how many rays there are
 module _ (f : ℕ → List (List Float)) where
-  pub each-length : (from n : ℕ) → length (each f from n) ≡ sum (λ i. length (f i)) from n
-  unfolding each sum
+  pub each-length : (from n : ℕ) → length (each f from n) ≡ sumEach (λ i. length (f i)) from n
+  unfolding each sumEach
   each-length from zero = refl
   each-length from (suc n) = length-append (f from) (each f (suc from) n) ∙ ap (λ (k : ℕ). length (f from) + k) (each-length (suc from) n)
 
-pub sum-same : (n : ℕ) (f g : ℕ → ℕ) → ((i : ℕ) → f i ≡ g i) → (from : ℕ) → sum f from n ≡ sum g from n
-unfolding sum
+pub sum-same : (n : ℕ) (f g : ℕ → ℕ) → ((i : ℕ) → f i ≡ g i) → (from : ℕ) → sumEach f from n ≡ sumEach g from n
+unfolding sumEach
 sum-same zero f g h from = refl
-sum-same (suc n) f g h from = ap (λ (k : ℕ). k + sum f (suc from) n) (h from) ∙ ap (λ (k : ℕ). g from + k) (sum-same n f g h (suc from))
+sum-same (suc n) f g h from = ap (λ (k : ℕ). k + sumEach f (suc from) n) (h from) ∙ ap (λ (k : ℕ). g from + k) (sum-same n f g h (suc from))
 
-sum-of : (n k from : ℕ) → sum (λ i. k) from n ≡ n * k
-unfolding sum
+sum-of : (n k from : ℕ) → sumEach (λ i. k) from n ≡ n * k
+unfolding sumEach
 sum-of zero k from = omega arith
 sum-of (suc n) k from = ap (λ (m : ℕ). k + m) (sum-of n k (suc from)) ∙ add-comm k (n * k) ∙ sym (suc-mul n k)
 
-row-length : (f : (u v : ℕ) → List Float) (r : Rect) (v : ℕ) → length (rowEntries f r v) ≡ r .u1 + 1 - r .u0
+row-length : (f : (u v : ℕ) → List Float) (r : RayRange) (v : ℕ) → length (rowEntries f r v) ≡ r .u1 + 1 - r .u0
 unfolding rowEntries
 row-length f r v = each-length (λ u. f u v ∷ []) (r .u0) (r .u1 + 1 - r .u0) ∙ sum-of (r .u1 + 1 - r .u0) 1 (r .u0) ∙ mul-one (r .u1 + 1 - r .u0)
 
-rect-length : (f : (u v : ℕ) → List Float) (r : Rect) → length (rectEntries f r) ≡ (r .v1 + 1 - r .v0) * (r .u1 + 1 - r .u0)
+rect-length : (f : (u v : ℕ) → List Float) (r : RayRange) → length (rectEntries f r) ≡ (r .v1 + 1 - r .v0) * (r .u1 + 1 - r .u0)
 unfolding rectEntries
 rect-length f r =
     each-length (rowEntries f r) (r .v0) (r .v1 + 1 - r .v0)
     ∙ sum-same (r .v1 + 1 - r .v0) _ _ (row-length f r) (r .v0) ∙ sum-of (r .v1 + 1 - r .v0) (r .u1 + 1 - r .u0) (r .v0)
 
 -- as many entries, some of them empty, as the rectangle has rays
-pub rectangle-length : (f : (u v : ℕ) → List Float) (r : Rectangle) → length (rectangleEntries f r) ≡ raysIn r
+pub rectangle-length : (f : (u v : ℕ) → List Float) (r : RayRect) → length (rectangleEntries f r) ≡ raysIn r
 unfolding raysIn
 rectangle-length f NoRays = refl
 rectangle-length f (Rays r) = rect-length f r
@@ -310,22 +310,22 @@ unfolding entryFor entryOf
 entry-sixes axis index Off = inl refl
 entry-sixes axis index (On h) = inr refl
 
-pub rectangle-sixes : (n : ℕ) (t : Track) (p : Profile) (l : Lane) (spans : List Float) (links heads : List ℕ) (r : Rectangle) → Sixes (rectangleEntries (rayEntry n t p l spans links heads) r)
+pub rectangle-sixes : (n : ℕ) (t : AxisRays) (p : Profile) (l : ChordOnAxis) (spans : List Float) (links heads : List ℕ) (r : RayRect) → Sixes (rectangleEntries (rayEntry n t p l spans links heads) r)
 unfolding rectEntries rowEntries rayEntry Sixes
 rectangle-sixes n t p l spans links heads NoRays = tt
 rectangle-sixes n t p l spans links heads (Rays r) =
-    sixes-each (r .v1 + 1 - r .v0) _ (λ (v : ℕ). sixes-each (r .u1 + 1 - r .u0) _ (λ (u : ℕ). (entry-sixes (t .axis) (indexOf t u v) (hitOf p l (sectionOf l u v) (possibleAt n t spans links heads u v)), tt)) (r .u0)) (r .v0)
+    sixes-each (r .v1 + 1 - r .v0) _ (λ (v : ℕ). sixes-each (r .u1 + 1 - r .u0) _ (λ (u : ℕ). (entry-sixes (t .axis) (indexOf t u v) (rayHitOf p l (sectionOf l u v) (possibleAt n t spans links heads u v)), tt)) (r .u0)) (r .v0)
 
 abbrev filled : List Float → Bool
 filled [] = false
 filled (x ∷ l) = true
 
-pub sixes-count : (es : List (List Float)) → Sixes es → length (joined es) ≡ 6 * entryCount es
-unfolding Sixes joined entryCount
+pub sixes-count : (es : List (List Float)) → Sixes es → length (joined es) ≡ 6 * loggedEntries es
+unfolding Sixes joined loggedEntries
 sixes-count [] h = refl
 sixes-count ([] ∷ es) h = sixes-count es (h .1)
 sixes-count ((x ∷ e) ∷ es) h = length-append (x ∷ e) (joined es) ∙ more (h .0) (sixes-count es (h .1))
   where
-    more : ((x ∷ e ≡ []) ⊎ (length (x ∷ e) ≡ 6)) → length (joined es) ≡ 6 * entryCount es → length (x ∷ e) + length (joined es) ≡ 6 * suc (entryCount es)
+    more : ((x ∷ e ≡ []) ⊎ (length (x ∷ e) ≡ 6)) → length (joined es) ≡ 6 * loggedEntries es → length (x ∷ e) + length (joined es) ≡ 6 * suc (loggedEntries es)
     more (inl q) k = absurd (clash true refl (ap filled q))
     more (inr q) k = omega (arith, q, k)

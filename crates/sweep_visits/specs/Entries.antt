@@ -7,19 +7,19 @@ use Rattle.grid.specs.Grid.{whole}
 use Rattle.grid.specs.declared.WorldAxis.{WorldAxis}
 use Rattle.store_lists.specs.Reading.{listFrom}
 use Rattle.sweep_ray.specs.Section.{sectionOf}
-use Rattle.sweep_ray.specs.Across.{hitOf}
+use Rattle.sweep_ray.specs.Across.{rayHitOf}
 use Rattle.sweep_kernel.specs.declared.Profile.{Profile}
-use Rattle.sweep_kernel.specs.declared.Lane.{Lane}
-use Rattle.sweep_kernel.specs.declared.Rect.{Rect}
-use Rattle.sweep_kernel.specs.declared.Rectangle.{Rectangle}
-use Rattle.sweep_kernel.specs.declared.Rectangle.the-variants.{Rays, NoRays}
-use Rattle.sweep_ray.specs.declared.Hits.{Hits}
+use Rattle.sweep_kernel.specs.declared.ChordOnAxis.{ChordOnAxis}
+use Rattle.sweep_kernel.specs.declared.RayRange.{RayRange}
+use Rattle.sweep_kernel.specs.declared.RayRect.{RayRect}
+use Rattle.sweep_kernel.specs.declared.RayRect.the-variants.{Rays, NoRays}
+use Rattle.sweep_ray.specs.declared.HitPairs.{HitPairs}
 use Rattle.sweep_ray.specs.declared.RayHit.{RayHit}
 use Rattle.sweep_ray.specs.declared.RayHit.the-variants.{On, Off}
-use Rattle.sweep_visits.specs.declared.Track.{Track}
+use Rattle.sweep_visits.specs.declared.AxisRays.{AxisRays}
 
 -- document 01's log entry: axis, index, outer, inner
-unfoldable pub entryOf : WorldAxis → (index : ℕ) → Hits → List Float
+unfoldable pub entryOf : WorldAxis → (index : ℕ) → HitPairs → List Float
 entryOf axis index h = whole (axis .0) ∷ whole index ∷ h .outer .lo ∷ h .outer .hi ∷ h .inner .lo ∷ h .inner .hi ∷ []
 
 unfoldable pub entryFor : WorldAxis → (index : ℕ) → RayHit → List Float
@@ -27,15 +27,15 @@ entryFor axis index Off = []
 entryFor axis index (On h) = entryOf axis index h
 
 -- a ray's index is iv · cells[u] + iu, and its possible list is the first of its two
-abbrev pub indexOf : Track → (u v : ℕ) → ℕ
+abbrev pub indexOf : AxisRays → (u v : ℕ) → ℕ
 indexOf t u v = v * t .row + u
 
-abbrev pub possibleAt : (n : ℕ) → Track → List Float → (links heads : List ℕ) → (u v : ℕ) → List Float
+abbrev pub possibleAt : (n : ℕ) → AxisRays → List Float → (links heads : List ℕ) → (u v : ℕ) → List Float
 possibleAt n t spans links heads u v = listFrom n spans links (getD heads (2 * (t .first + indexOf t u v)) 0)
 
 -- what the ray at the cells u and v adds to the log
-unfoldable pub rayEntry : (n : ℕ) → Track → Profile → Lane → List Float → (links heads : List ℕ) → (u v : ℕ) → List Float
-rayEntry n t p l spans links heads u v = entryFor (t .axis) (indexOf t u v) (hitOf p l (sectionOf l u v) (possibleAt n t spans links heads u v))
+unfoldable pub rayEntry : (n : ℕ) → AxisRays → Profile → ChordOnAxis → List Float → (links heads : List ℕ) → (u v : ℕ) → List Float
+rayEntry n t p l spans links heads u v = entryFor (t .axis) (indexOf t u v) (rayHitOf p l (sectionOf l u v) (possibleAt n t spans links heads u v))
 
 -- f at `from` and the numbers after it, `count` of them, one after the other
 unfoldable pub each : (ℕ → List (List Float)) → (from count : ℕ) → List (List Float)
@@ -43,26 +43,26 @@ each f from zero = []
 each f from (suc count) = f from ++ each f (suc from) count
 
 -- v outside and u inside
-unfoldable pub rowEntries : ((u v : ℕ) → List Float) → Rect → (v : ℕ) → List (List Float)
+unfoldable pub rowEntries : ((u v : ℕ) → List Float) → RayRange → (v : ℕ) → List (List Float)
 rowEntries f r v = each (λ u. f u v ∷ []) (r .u0) (r .u1 + 1 - r .u0)
 
-unfoldable pub rectEntries : ((u v : ℕ) → List Float) → Rect → List (List Float)
+unfoldable pub rectEntries : ((u v : ℕ) → List Float) → RayRange → List (List Float)
 rectEntries f r = each (rowEntries f r) (r .v0) (r .v1 + 1 - r .v0)
 
 -- a rectangle that misses the blank counts none
-abbrev pub rectangleEntries : ((u v : ℕ) → List Float) → Rectangle → List (List Float)
+abbrev pub rectangleEntries : ((u v : ℕ) → List Float) → RayRect → List (List Float)
 rectangleEntries f NoRays = []
 rectangleEntries f (Rays r) = rectEntries f r
 
 -- how many rays a rectangle has; one that misses the blank counts none
-unfoldable pub raysIn : Rectangle → ℕ
+unfoldable pub raysIn : RayRect → ℕ
 raysIn NoRays = 0
 raysIn (Rays r) = (r .v1 + 1 - r .v0) * (r .u1 + 1 - r .u0)
 
 -- f at `from` and the numbers after it, `count` of them, added up
-unfoldable pub sum : (ℕ → ℕ) → (from count : ℕ) → ℕ
-sum f from zero = 0
-sum f from (suc count) = f from + sum f (suc from) count
+unfoldable pub sumEach : (ℕ → ℕ) → (from count : ℕ) → ℕ
+sumEach f from zero = 0
+sumEach f from (suc count) = f from + sumEach f (suc from) count
 
 -- the entries in a row, as they stand in the log
 unfoldable pub joined : List (List Float) → List Float
@@ -70,7 +70,7 @@ joined [] = []
 joined (e ∷ es) = e ++ joined es
 
 -- the number of entries: the rays that have one
-unfoldable pub entryCount : List (List Float) → ℕ
-entryCount [] = 0
-entryCount ([] ∷ es) = entryCount es
-entryCount ((x ∷ e) ∷ es) = suc (entryCount es)
+unfoldable pub loggedEntries : List (List Float) → ℕ
+loggedEntries [] = 0
+loggedEntries ([] ∷ es) = loggedEntries es
+loggedEntries ((x ∷ e) ∷ es) = suc (loggedEntries es)

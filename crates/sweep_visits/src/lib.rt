@@ -4,27 +4,27 @@ ghost use mathlib.Core.List.{_++_, _∷_, []};
 ghost use Prim.Native.Nat.{_+_, _<_, _≤_};
 ghost use lib.ListN.{length, take, drop};
 ghost use Rattle.sweep_visits.specs.Entries.{entryOf, rayEntry, rowEntries, rectEntries};
-ghost use Rattle.sweep_visits.specs.Walk.{Walks, RayReady, Ready};
+ghost use Rattle.sweep_visits.specs.Walk.{WalkPost, RayReady, AxisReady};
 use grid::WorldAxis;
-use sweep_kernel::Lane;
+use sweep_kernel::ChordOnAxis;
 use sweep_kernel::Profile;
-use sweep_kernel::Rect;
-use sweep_ray::Hits;
+use sweep_kernel::RayRange;
+use sweep_ray::HitPairs;
 use sweep_ray::RayHit;
 
 // The place of a walk: the rays visited, and where the next entry goes in the log.
-pub struct Cursor {
+pub struct VisitCursor {
     pub visits: u64,
     pub at: usize,
 }
 
 pub enum Progress {
-    At(Cursor),
+    At(VisitCursor),
     Stopped(u32),
 }
 
 // The rays of a world axis: the number of the first, the rays of a row and the rows.
-pub struct Track {
+pub struct AxisRays {
     pub axis: WorldAxis,
     pub first: u64,
     pub row: u64,
@@ -32,7 +32,7 @@ pub struct Track {
 }
 
 // Writes an entry at cell `at`.
-fn put(log: &mut [f64], at: usize, axis: WorldAxis, index: u64, h: Hits)
+fn put(log: &mut [f64], at: usize, axis: WorldAxis, index: u64, h: HitPairs)
     requires { ⌜ at + 6 ≤ length (now log) ⌝ }
     ensures { λ _. ⌜ now (log .exit) ≡ take at (now (log .entry)) ++ (entryOf axis index h ++ drop (at + 6) (now (log .entry))) ⌝ }
 {
@@ -49,20 +49,20 @@ fn put(log: &mut [f64], at: usize, axis: WorldAxis, index: u64, h: Hits)
 // Visits the ray at the cells u and v.
 fn visit_ray(
     n: usize,
-    t: Track,
+    t: AxisRays,
     u: u64,
     v: u64,
     p: Profile,
-    l: Lane,
+    l: ChordOnAxis,
     budget: u64,
-    c: Cursor,
+    c: VisitCursor,
     spans: &[f64],
     links: &[u64],
     heads: &[u64],
     log: &mut [f64],
 ) -> Progress
     requires { ⌜ RayReady n t (now spans) (now links) (now heads) u v × (c .at ≤ length (now log)) ⌝ }
-    ensures { λ r. ⌜ Walks budget (rayEntry n t p l (now (spans .entry)) (now (links .entry)) (now (heads .entry)) u v ∷ []) c (now (log .entry)) r (now (log .exit)) ⌝ }
+    ensures { λ r. ⌜ WalkPost budget (rayEntry n t p l (now (spans .entry)) (now (links .entry)) (now (heads .entry)) u v ∷ []) c (now (log .entry)) r (now (log .exit)) ⌝ }
 {
     if budget <= c.visits {
         return Progress::Stopped(8);
@@ -74,7 +74,7 @@ fn visit_ray(
     let h = sweep_ray::ray_hit(spans, links, n, head, p, l, u, v);
     match h {
         RayHit::Off => {
-            return Progress::At(Cursor {
+            return Progress::At(VisitCursor {
                 visits: next,
                 at: c.at,
             });
@@ -85,7 +85,7 @@ fn visit_ray(
             }
             let end = c.at + 6;
             put(log, c.at, t.axis, index, hits);
-            return Progress::At(Cursor {
+            return Progress::At(VisitCursor {
                 visits: next,
                 at: end,
             });
@@ -96,20 +96,20 @@ fn visit_ray(
 // The rays from u0 to u1 of a row.
 fn sweep_row(
     n: usize,
-    t: Track,
-    r: Rect,
+    t: AxisRays,
+    r: RayRange,
     v: u64,
     p: Profile,
-    l: Lane,
+    l: ChordOnAxis,
     budget: u64,
-    start: Cursor,
+    start: VisitCursor,
     spans: &[f64],
     links: &[u64],
     heads: &[u64],
     log: &mut [f64],
 ) -> Progress
-    requires { ⌜ Ready n t (now spans) (now links) (now heads) × (r .u1 < t .row) × (v < t .rows) × (start .at ≤ length (now log)) ⌝ }
-    ensures { λ x. ⌜ Walks budget (rowEntries (rayEntry n t p l (now (spans .entry)) (now (links .entry)) (now (heads .entry))) r v) start (now (log .entry)) x (now (log .exit)) ⌝ }
+    requires { ⌜ AxisReady n t (now spans) (now links) (now heads) × (r .u1 < t .row) × (v < t .rows) × (start .at ≤ length (now log)) ⌝ }
+    ensures { λ x. ⌜ WalkPost budget (rowEntries (rayEntry n t p l (now (spans .entry)) (now (links .entry)) (now (heads .entry))) r v) start (now (log .entry)) x (now (log .exit)) ⌝ }
 {
     let mut c = start;
     let mut u = r.u0;
@@ -131,19 +131,19 @@ fn sweep_row(
 // The rows of a rectangle.
 pub fn sweep_rect(
     n: usize,
-    t: Track,
-    r: Rect,
+    t: AxisRays,
+    r: RayRange,
     p: Profile,
-    l: Lane,
+    l: ChordOnAxis,
     budget: u64,
-    start: Cursor,
+    start: VisitCursor,
     spans: &[f64],
     links: &[u64],
     heads: &[u64],
     log: &mut [f64],
 ) -> Progress
-    requires { ⌜ Ready n t (now spans) (now links) (now heads) × (r .u1 < t .row) × (r .v1 < t .rows) × (start .at ≤ length (now log)) ⌝ }
-    ensures { λ x. ⌜ Walks budget (rectEntries (rayEntry n t p l (now (spans .entry)) (now (links .entry)) (now (heads .entry))) r) start (now (log .entry)) x (now (log .exit)) ⌝ }
+    requires { ⌜ AxisReady n t (now spans) (now links) (now heads) × (r .u1 < t .row) × (r .v1 < t .rows) × (start .at ≤ length (now log)) ⌝ }
+    ensures { λ x. ⌜ WalkPost budget (rectEntries (rayEntry n t p l (now (spans .entry)) (now (links .entry)) (now (heads .entry))) r) start (now (log .entry)) x (now (log .exit)) ⌝ }
 {
     let mut c = start;
     let mut v = r.v0;

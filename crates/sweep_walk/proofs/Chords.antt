@@ -7,32 +7,32 @@ use lib.Ieee.{Float}
 use lib.ListN.{length, length-append}
 use Rattle.grid.specs.declared.WorldAxis.{WorldAxis}
 use Rattle.sweep_kernel.specs.declared.Chord.{Chord}
-use Rattle.sweep_visits.specs.Entries.{each, rayEntry, raysIn, entryCount}
-use Rattle.sweep_visits.specs.Walk.{Walks, Went, Halted}
-use Rattle.sweep_visits.specs.declared.Cursor.{Cursor}
+use Rattle.sweep_visits.specs.Entries.{each, rayEntry, raysIn, loggedEntries}
+use Rattle.sweep_visits.specs.Walk.{WalkPost, Went, Halted}
+use Rattle.sweep_visits.specs.declared.VisitCursor.{VisitCursor}
 use Rattle.sweep_visits.specs.declared.Progress.{Progress}
 use Rattle.sweep_visits.specs.declared.Progress.the-variants.{At, Stopped}
 use Rattle.sweep_visits.proofs.Walks.{went-then, went-halt, halt-before, Sweeping, sweeping-next, sweeping-halt, sweeping-all, each-length, sum-same, rectangle-length, Sixes, sixes-append, sixes-each, rectangle-sixes, sixes-count}
 use Rattle.sweep_walk.specs.Entries.{Setting, trackOf, laneIn, rectangleIn, axisEntries, firstAxis, secondAxis, chordEntries, chordIn, sweepEntries, logOf, chordVisits, visitTotal}
 
 -- the log keeps its length
-pub logged-same : (budget : ℕ) (rays : List (List Float)) (c : Cursor) (log after : List Float) (x : Progress) → Walks budget rays c log x after → length after ≡ length log
+pub logged-same : (budget : ℕ) (rays : List (List Float)) (c : VisitCursor) (log after : List Float) (x : Progress) → WalkPost budget rays c log x after → length after ≡ length log
 logged-same budget rays c log after (At d) w = w .same
 logged-same budget rays c log after (Stopped k) w = w .same
 
 -- ---- one chord
-module _ {budget : ℕ} (s : Setting) (c : Chord) {start : Cursor} {log : List Float} where
+module _ {budget : ℕ} (s : Setting) (c : Chord) {start : VisitCursor} {log : List Float} where
   pub first-halts : {k : ℕ} {after : List Float} (a : WorldAxis) → a ≡ firstAxis (s .kernel .frame) → Halted budget (axisEntries s c a) start log k after → Halted budget (chordEntries s c) start log k after
   unfolding chordEntries
   first-halts {k} {after} a e h = halt-before (axisEntries s c (secondAxis (s .kernel .frame))) (subst (λ (x : WorldAxis). Halted budget (axisEntries s c x) start log k after) e h)
 
-  pub both-walked : {d : Cursor} {mid : List Float} (after : List Float) (x : Progress) (a b : WorldAxis) → a ≡ firstAxis (s .kernel .frame) → b ≡ secondAxis (s .kernel .frame)
-      → Went budget (axisEntries s c a) start log d mid → Walks budget (axisEntries s c b) d mid x after → Walks budget (chordEntries s c) start log x after
+  pub both-walked : {d : VisitCursor} {mid : List Float} (after : List Float) (x : Progress) (a b : WorldAxis) → a ≡ firstAxis (s .kernel .frame) → b ≡ secondAxis (s .kernel .frame)
+      → Went budget (axisEntries s c a) start log d mid → WalkPost budget (axisEntries s c b) d mid x after → WalkPost budget (chordEntries s c) start log x after
   unfolding chordEntries
-  both-walked {d} {mid} after x a b e f w v = go x (subst (λ (y : WorldAxis). Went budget (axisEntries s c y) start log d mid) e w) (subst (λ (y : WorldAxis). Walks budget (axisEntries s c y) d mid x after) f v)
+  both-walked {d} {mid} after x a b e f w v = go x (subst (λ (y : WorldAxis). Went budget (axisEntries s c y) start log d mid) e w) (subst (λ (y : WorldAxis). WalkPost budget (axisEntries s c y) d mid x after) f v)
     where
-      go : (x : Progress) → Went budget (axisEntries s c (firstAxis (s .kernel .frame))) start log d mid → Walks budget (axisEntries s c (secondAxis (s .kernel .frame))) d mid x after
-          → Walks budget (axisEntries s c (firstAxis (s .kernel .frame)) ++ axisEntries s c (secondAxis (s .kernel .frame))) start log x after
+      go : (x : Progress) → Went budget (axisEntries s c (firstAxis (s .kernel .frame))) start log d mid → WalkPost budget (axisEntries s c (secondAxis (s .kernel .frame))) d mid x after
+          → WalkPost budget (axisEntries s c (firstAxis (s .kernel .frame)) ++ axisEntries s c (secondAxis (s .kernel .frame))) start log x after
       go (At e) w v = went-then w v
       go (Stopped k) w v = went-halt w v
 
@@ -40,8 +40,8 @@ module _ {budget : ℕ} (s : Setting) (c : Chord) {start : Cursor} {log : List F
 abbrev pub entriesAt : Setting → List Float → ℕ → List (List Float)
 entriesAt s chords i = chordEntries s (chordIn s chords i)
 
-module _ {budget : ℕ} (s : Setting) (chords : List Float) {start d : Cursor} {log mid : List Float} (i : ℕ) (v : Sweeping budget (entriesAt s chords) 0 (length chords / 8) start log d mid i) where
-  pub chord-next : {e : Cursor} {after : List Float} (c : Chord) → i < length chords / 8 → c ≡ chordIn s chords i → Went budget (chordEntries s c) d mid e after
+module _ {budget : ℕ} (s : Setting) (chords : List Float) {start d : VisitCursor} {log mid : List Float} (i : ℕ) (v : Sweeping budget (entriesAt s chords) 0 (length chords / 8) start log d mid i) where
+  pub chord-next : {e : VisitCursor} {after : List Float} (c : Chord) → i < length chords / 8 → c ≡ chordIn s chords i → Went budget (chordEntries s c) d mid e after
       → Sweeping budget (entriesAt s chords) 0 (length chords / 8) start log e after (i + 1)
   chord-next {e} {after} c h k w = sweeping-next (entriesAt s chords) 0 (length chords / 8) i v h (subst (λ (x : Chord). Went budget (chordEntries s x) d mid e after) k w)
 
@@ -87,6 +87,6 @@ module _ (s : Setting) where
   unfolding chordEntries
   chord-sixes c = sixes-append _ _ (axis-sixes c (firstAxis (s .kernel .frame))) (axis-sixes c (secondAxis (s .kernel .frame)))
 
-  pub log-length : (chords : List Float) → length (logOf s chords) ≡ 6 * entryCount (sweepEntries s chords)
+  pub log-length : (chords : List Float) → length (logOf s chords) ≡ 6 * loggedEntries (sweepEntries s chords)
   unfolding logOf sweepEntries
   log-length chords = sixes-count _ (sixes-each (length chords / 8) (entriesAt s chords) (λ (i : ℕ). chord-sixes (chordIn s chords i)) 0)

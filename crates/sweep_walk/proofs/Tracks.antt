@@ -23,32 +23,32 @@ use Rattle.frame.specs.declared.Pair.{Pair}
 use Rattle.store.specs.Updates.{Cells}
 use Rattle.stock.proofs.Rays.{list-readable}
 use Rattle.sweep_kernel.specs.Lane.{cellsMet, cellsAcross, rectangle, rectangleOf}
-use Rattle.sweep_kernel.specs.declared.Cells.{Cells as Range}
-use Rattle.sweep_kernel.specs.declared.Cells.the-variants.{Met, Missed}
+use Rattle.sweep_kernel.specs.declared.CellRange.{CellRange as Range}
+use Rattle.sweep_kernel.specs.declared.CellRange.the-variants.{Met, Missed}
 use Rattle.sweep_kernel.specs.declared.Profile.{Profile}
 use Rattle.sweep_kernel.specs.declared.Chord.{Chord}
-use Rattle.sweep_kernel.specs.declared.Lane.{Lane}
-use Rattle.sweep_kernel.specs.declared.Rect.{Rect}
-use Rattle.sweep_kernel.specs.declared.Rectangle.{Rectangle}
-use Rattle.sweep_kernel.specs.declared.Rectangle.the-variants.{Rays, NoRays}
+use Rattle.sweep_kernel.specs.declared.ChordOnAxis.{ChordOnAxis}
+use Rattle.sweep_kernel.specs.declared.RayRange.{RayRange}
+use Rattle.sweep_kernel.specs.declared.RayRect.{RayRect}
+use Rattle.sweep_kernel.specs.declared.RayRect.the-variants.{Rays, NoRays}
 use Rattle.sweep_visits.specs.Entries.{rayEntry, rectEntries, rectangleEntries}
-use Rattle.sweep_visits.specs.Walk.{Walks, Went, Ready}
-use Rattle.sweep_visits.specs.declared.Cursor.{Cursor}
+use Rattle.sweep_visits.specs.Walk.{WalkPost, Went, AxisReady}
+use Rattle.sweep_visits.specs.declared.VisitCursor.{VisitCursor}
 use Rattle.sweep_visits.specs.declared.Progress.{Progress}
 use Rattle.sweep_visits.specs.declared.Progress.the-variants.{At}
-use Rattle.sweep_visits.specs.declared.Track.{Track}
+use Rattle.sweep_visits.specs.declared.AxisRays.{AxisRays}
 use Rattle.sweep_visits.proofs.Walks.{went-none}
 use Rattle.sweep_walk.specs.Entries.{trackOf, Setting, laneIn, axisEntries, firstAxis, secondAxis, Sweepable}
 
 -- ---- a sound store can be read along every axis
-module _ (spec : DexelStockSpec) (g : DexelGrid) (c : Cells) (s : Sweepable spec g c) where
+module _ (spec : DexelStockSpec) (g : DexelGrid) (c : CellRange) (s : Sweepable spec g c) where
   some : (a : WorldAxis) → cellsAlong g a ≤ spec .«max_rays»
   some = each (λ (n : ℕ). n ≤ spec .«max_rays») _ _ _ (s .facts .few0) (s .facts .few1) (s .facts .few2)
 
   pub few-rays : rayCount g < 2 ^ 64
   few-rays = omega (arith, s .facts .rays, s .facts .ceiling)
 
-  ready : (a : WorldAxis) → Ready (spec .«max_intervals») (trackOf g a) (c .spans) (c .links) (c .heads)
+  ready : (a : WorldAxis) → AxisReady (spec .«max_intervals») (trackOf g a) (c .spans) (c .links) (c .heads)
   unfolding trackOf raysAlong
   ready a =
       let o : offset g a + raysAlong g a ≤ rayCount g = offset-le g a in
@@ -72,7 +72,7 @@ abbrev Under : ℕ → Range → Type 0
 Under n Missed = Unit {0}
 Under n (Met i j) = j < n
 
-abbrev Inside : (row rows : ℕ) → Rectangle → Type 0
+abbrev Inside : (row rows : ℕ) → RayRect → Type 0
 Inside row rows NoRays = Unit {0}
 Inside row rows (Rays r) = (r .u1 < row) × (r .v1 < rows)
 
@@ -92,44 +92,44 @@ module _ (spec : DexelStockSpec) (g : DexelGrid) (f : GridFacts spec g) where
       go false false true = tt
       go false false false = cell-below spec g f w (p .hi)
 
-  rectangle-inside : (p : Profile) (l : Lane) (a : WorldAxis) → Inside (cellsAlong g (crossOf a .u)) (cellsAlong g (crossOf a .v)) (rectangleOf spec g p l a)
+  rectangle-inside : (p : Profile) (l : ChordOnAxis) (a : WorldAxis) → Inside (cellsAlong g (crossOf a .u)) (cellsAlong g (crossOf a .v)) (rectangleOf spec g p l a)
   unfolding rectangleOf cellsAcross
   rectangle-inside p l a = inside _ _ (cellsAcross spec g p l (crossOf a .u)) (cellsAcross spec g p l (crossOf a .v)) (met-under (crossOf a .u) _) (met-under (crossOf a .v) _)
 
 -- what the walk over a rectangle asks for
-pub record RectReady (n : ℕ) (t : Track) (c : Cells) (q : Rect) : Type 0 where
-  pub rays : Ready n t (c .spans) (c .links) (c .heads)
+pub record RectReady (n : ℕ) (t : AxisRays) (c : CellRange) (q : RayRange) : Type 0 where
+  pub rays : AxisReady n t (c .spans) (c .links) (c .heads)
   pub row : q .u1 < t .row
   pub rows : q .v1 < t .rows
 
-pub rect-ready : (spec : DexelStockSpec) (g : DexelGrid) (c : Cells) → Sweepable spec g c → (p : Profile) (l : Lane) (a : WorldAxis) (t : Track) (r : Rectangle) (q : Rect)
+pub rect-ready : (spec : DexelStockSpec) (g : DexelGrid) (c : CellRange) → Sweepable spec g c → (p : Profile) (l : ChordOnAxis) (a : WorldAxis) (t : AxisRays) (r : RayRect) (q : RayRange)
     → t ≡ trackOf g a → r ≡ rectangleOf spec g p l a → r ≡ Rays q → RectReady (spec .«max_intervals») t c q
-rect-ready spec g c s p l a t r q e h k = subst (λ (x : Track). RectReady (spec .«max_intervals») x c q) (sym e) (made (subst (Inside (cellsAlong g (crossOf a .u)) (cellsAlong g (crossOf a .v))) (sym h ∙ k) (rectangle-inside spec g (s .facts) p l a)))
+rect-ready spec g c s p l a t r q e h k = subst (λ (x : AxisRays). RectReady (spec .«max_intervals») x c q) (sym e) (made (subst (Inside (cellsAlong g (crossOf a .u)) (cellsAlong g (crossOf a .v))) (sym h ∙ k) (rectangle-inside spec g (s .facts) p l a)))
   where
     made : (q .u1 < cellsAlong g (crossOf a .u)) × (q .v1 < cellsAlong g (crossOf a .v)) → RectReady (spec .«max_intervals») (trackOf g a) c q
     made i = record { rays = ready spec g c s a; row = unfold trackOf in i .0; rows = unfold trackOf in i .1 }
 
 -- ---- one axis of a chord
 module _ (s : Setting) (c : Chord) (a : WorldAxis) where
-  axis-is : (l : Lane) (r : Rectangle) → l ≡ laneIn s c a → r ≡ rectangleOf (s .spec) (s .grid) (s .profile) l a
+  axis-is : (l : ChordOnAxis) (r : RayRect) → l ≡ laneIn s c a → r ≡ rectangleOf (s .spec) (s .grid) (s .profile) l a
       → axisEntries s c a ≡ rectangleEntries (rayEntry (s .spec .«max_intervals») (trackOf (s .grid) a) (s .profile) l (s .cells .spans) (s .cells .links) (s .cells .heads)) r
   unfolding axisEntries
   axis-is l r e h =
-      sym (ap (λ (x : Lane). rectangleEntries (rayEntry (s .spec .«max_intervals») (trackOf (s .grid) a) (s .profile) x (s .cells .spans) (s .cells .links) (s .cells .heads)) (rectangleOf (s .spec) (s .grid) (s .profile) x a)) e)
+      sym (ap (λ (x : ChordOnAxis). rectangleEntries (rayEntry (s .spec .«max_intervals») (trackOf (s .grid) a) (s .profile) x (s .cells .spans) (s .cells .links) (s .cells .heads)) (rectangleOf (s .spec) (s .grid) (s .profile) x a)) e)
       ∙ ap (rectangleEntries (rayEntry (s .spec .«max_intervals») (trackOf (s .grid) a) (s .profile) l (s .cells .spans) (s .cells .links) (s .cells .heads))) (sym h)
 
-  pub axis-none : {budget : ℕ} {start : Cursor} {log : List Float} (l : Lane) (r : Rectangle) → l ≡ laneIn s c a → r ≡ rectangleOf (s .spec) (s .grid) (s .profile) l a → r ≡ NoRays → start .at ≤ length log
-      → Walks budget (axisEntries s c a) start log (At start) log
+  pub axis-none : {budget : ℕ} {start : VisitCursor} {log : List Float} (l : ChordOnAxis) (r : RayRect) → l ≡ laneIn s c a → r ≡ rectangleOf (s .spec) (s .grid) (s .profile) l a → r ≡ NoRays → start .at ≤ length log
+      → WalkPost budget (axisEntries s c a) start log (At start) log
   axis-none {budget} {start} {log} l r e h k room =
       subst (λ (es : List (List Float)). Went budget es start log start log) (sym (axis-is l r e h ∙ ap (rectangleEntries (rayEntry (s .spec .«max_intervals») (trackOf (s .grid) a) (s .profile) l (s .cells .spans) (s .cells .links) (s .cells .heads))) k)) (went-none room)
 
-  pub axis-some : (budget : ℕ) (start : Cursor) (log after : List Float) (x : Progress) (l : Lane) (t : Track) (r : Rectangle) (q : Rect)
+  pub axis-some : (budget : ℕ) (start : VisitCursor) (log after : List Float) (x : Progress) (l : ChordOnAxis) (t : AxisRays) (r : RayRect) (q : RayRange)
       → l ≡ laneIn s c a → t ≡ trackOf (s .grid) a → r ≡ rectangleOf (s .spec) (s .grid) (s .profile) l a → r ≡ Rays q
-      → Walks budget (rectEntries (rayEntry (s .spec .«max_intervals») t (s .profile) l (s .cells .spans) (s .cells .links) (s .cells .heads)) q) start log x after
-      → Walks budget (axisEntries s c a) start log x after
+      → WalkPost budget (rectEntries (rayEntry (s .spec .«max_intervals») t (s .profile) l (s .cells .spans) (s .cells .links) (s .cells .heads)) q) start log x after
+      → WalkPost budget (axisEntries s c a) start log x after
   axis-some budget start log after x l t r q e f h k w =
-      subst (λ (es : List (List Float)). Walks budget es start log x after)
-      (ap (λ (y : Track). rectEntries (rayEntry (s .spec .«max_intervals») y (s .profile) l (s .cells .spans) (s .cells .links) (s .cells .heads)) q) f
+      subst (λ (es : List (List Float)). WalkPost budget es start log x after)
+      (ap (λ (y : AxisRays). rectEntries (rayEntry (s .spec .«max_intervals») y (s .profile) l (s .cells .spans) (s .cells .links) (s .cells .heads)) q) f
       ∙ sym (axis-is l r e h ∙ ap (rectangleEntries (rayEntry (s .spec .«max_intervals») (trackOf (s .grid) a) (s .profile) l (s .cells .spans) (s .cells .links) (s .cells .heads))) k)) w
 
 pub track-is : (g : DexelGrid) (a : WorldAxis) (w : CrossAxes) (o m n : ℕ) → w ≡ crossOf a → o ≡ offset g a

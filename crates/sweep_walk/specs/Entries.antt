@@ -12,19 +12,19 @@ use Rattle.grid.specs.declared.DexelGrid.{DexelGrid}
 use Rattle.frame.specs.Frame.{localAxis, worldAxisOf}
 use Rattle.frame.specs.declared.Frame.{Frame}
 use Rattle.store.specs.Updates.{Cells}
-use Rattle.stock.specs.Stock.{Chained, ValidTo}
+use Rattle.stock.specs.Stock.{ChainsInRoom, ValidTo}
 use Rattle.sweep_kernel.specs.Lane.{laneOf, rectangleOf}
 use Rattle.sweep_kernel.specs.declared.Profile.{Profile}
 use Rattle.sweep_kernel.specs.declared.Kernel.{Kernel}
 use Rattle.sweep_kernel.specs.declared.Chord.{Chord}
-use Rattle.sweep_kernel.specs.declared.Lane.{Lane}
-use Rattle.sweep_kernel.specs.declared.Rectangle.{Rectangle}
-use Rattle.sweep_visits.specs.Entries.{each, sum, rayEntry, rectangleEntries, raysIn, joined}
-use Rattle.sweep_visits.specs.declared.Track.{Track}
+use Rattle.sweep_kernel.specs.declared.ChordOnAxis.{ChordOnAxis}
+use Rattle.sweep_kernel.specs.declared.RayRect.{RayRect}
+use Rattle.sweep_visits.specs.Entries.{each, sumEach, rayEntry, rectangleEntries, raysIn, joined}
+use Rattle.sweep_visits.specs.declared.AxisRays.{AxisRays}
 use Rattle.chords.specs.Chords.{chordOf}
 
 -- the rays of a world axis: the number of the first, the cells of a row and the rows
-unfoldable pub trackOf : DexelGrid → WorldAxis → Track
+unfoldable pub trackOf : DexelGrid → WorldAxis → AxisRays
 trackOf g a = record { axis = a; first = offset g a; row = cellsAlong g (crossOf a .u); rows = cellsAlong g (crossOf a .v) }
 
 -- what a sweep is made on and with
@@ -38,11 +38,11 @@ pub record Setting : Type 0 where
 abbrev pub setting : DexelStockSpec → DexelGrid → Kernel → Profile → Cells → Setting
 setting spec g k p c = record { spec = spec; grid = g; kernel = k; profile = p; cells = c }
 
-abbrev pub laneIn : Setting → Chord → WorldAxis → Lane
+abbrev pub laneIn : Setting → Chord → WorldAxis → ChordOnAxis
 laneIn s c a = laneOf (s .spec) (s .grid) (s .kernel) (s .profile) c a
 
 -- document 01's clamped rectangle of a chord and a world axis
-abbrev pub rectangleIn : Setting → Chord → WorldAxis → Rectangle
+abbrev pub rectangleIn : Setting → Chord → WorldAxis → RayRect
 rectangleIn s c a = rectangleOf (s .spec) (s .grid) (s .profile) (laneIn s c a) a
 
 -- the rays along a world axis that a chord visits
@@ -78,10 +78,10 @@ abbrev pub chordVisits : Setting → Chord → ℕ
 chordVisits s c = raysIn (rectangleIn s c (firstAxis (s .kernel .frame))) + raysIn (rectangleIn s c (secondAxis (s .kernel .frame)))
 
 unfoldable pub visitTotal : Setting → (chords : List Float) → ℕ
-visitTotal s chords = sum (λ i. chordVisits s (chordIn s chords i)) 0 (length chords / 8)
+visitTotal s chords = sumEach (λ i. chordVisits s (chordIn s chords i)) 0 (length chords / 8)
 
 -- a store that can be swept: an accepted grid, and sound cells
 pub record Sweepable (spec : DexelStockSpec) (g : DexelGrid) (c : Cells) : Type 0 where
   pub facts : GridFacts spec g
-  pub chained : Chained spec g c
+  pub chained : ChainsInRoom spec g c
   pub valid : ValidTo spec g c (rayCount g)

@@ -4,7 +4,7 @@ ghost use Prim.Native.Nat.{_+_, _<_, _≤_, _^_};
 ghost use lib.ListN.{length};
 ghost use Rattle.grid.specs.Rays.{rayCount};
 ghost use Rattle.store.specs.Updates.{cells};
-ghost use Rattle.sweep_visits.specs.Walk.{Walks};
+ghost use Rattle.sweep_visits.specs.Walk.{WalkPost};
 ghost use Rattle.sweep_walk.specs.Entries.{trackOf, setting, axisEntries, firstAxis, secondAxis, chordEntries, sweepEntries, Sweepable};
 use frame::Frame;
 use frame::LocalAxis;
@@ -14,17 +14,17 @@ use grid::WorldAxis;
 use sweep_kernel::Chord;
 use sweep_kernel::Kernel;
 use sweep_kernel::Profile;
-use sweep_kernel::Rectangle;
-use sweep_visits::Cursor;
+use sweep_kernel::RayRect;
+use sweep_visits::AxisRays;
 use sweep_visits::Progress;
-use sweep_visits::Track;
+use sweep_visits::VisitCursor;
 
-fn track_of(g: DexelGrid, axis: WorldAxis) -> Track
+fn track_of(g: DexelGrid, axis: WorldAxis) -> AxisRays
     requires { ⌜ rayCount g < 2 ^ 64 ⌝ }
     ensures { λ r. ⌜ r ≡ trackOf g axis ⌝ }
 {
     let w = grid::cross(axis);
-    Track {
+    AxisRays {
         axis,
         first: grid_rays::ray_offset(g, axis),
         row: grid::cells_along(g, w.u),
@@ -41,24 +41,24 @@ fn sweep_axis(
     chord: Chord,
     axis: WorldAxis,
     budget: u64,
-    start: Cursor,
+    start: VisitCursor,
     spans: &[f64],
     links: &[u64],
     heads: &[u64],
     log: &mut [f64],
 ) -> Progress
     requires { ⌜ Sweepable spec g (cells (now spans) (now links) (now heads)) × (start .at ≤ length (now log)) ⌝ }
-    ensures { λ x. ⌜ Walks budget (axisEntries (setting spec g k p (cells (now (spans .entry)) (now (links .entry)) (now (heads .entry)))) chord axis) start (now (log .entry)) x (now (log .exit)) ⌝ }
+    ensures { λ x. ⌜ WalkPost budget (axisEntries (setting spec g k p (cells (now (spans .entry)) (now (links .entry)) (now (heads .entry)))) chord axis) start (now (log .entry)) x (now (log .exit)) ⌝ }
 {
     let l = sweep_kernel::lane_of(spec, g, k, p, chord, axis);
     let n = spec.max_intervals as usize;
     let t = track_of(g, axis);
     let rect = sweep_kernel::rectangle_of(spec, g, p, l, axis);
     match rect {
-        Rectangle::NoRays => {
+        RayRect::NoRays => {
             return Progress::At(start);
         }
-        Rectangle::Rays(r) => {
+        RayRect::Rays(r) => {
             return sweep_visits::sweep_rect(n, t, r, p, l, budget, start, spans, links, heads, log);
         }
     }
@@ -97,14 +97,14 @@ fn sweep_chord(
     p: Profile,
     chord: Chord,
     budget: u64,
-    start: Cursor,
+    start: VisitCursor,
     spans: &[f64],
     links: &[u64],
     heads: &[u64],
     log: &mut [f64],
 ) -> Progress
     requires { ⌜ Sweepable spec g (cells (now spans) (now links) (now heads)) × (start .at ≤ length (now log)) ⌝ }
-    ensures { λ x. ⌜ Walks budget (chordEntries (setting spec g k p (cells (now (spans .entry)) (now (links .entry)) (now (heads .entry)))) chord) start (now (log .entry)) x (now (log .exit)) ⌝ }
+    ensures { λ x. ⌜ WalkPost budget (chordEntries (setting spec g k p (cells (now (spans .entry)) (now (links .entry)) (now (heads .entry)))) chord) start (now (log .entry)) x (now (log .exit)) ⌝ }
 {
     let first = first_axis(k.frame);
     let second = second_axis(k.frame);
@@ -159,11 +159,11 @@ pub fn sweep_chords(
     log: &mut [f64],
 ) -> Progress
     requires { ⌜ Sweepable spec g (cells (now spans) (now links) (now heads)) ⌝ }
-    ensures { λ x. ⌜ Walks budget (sweepEntries (setting spec g k p (cells (now (spans .entry)) (now (links .entry)) (now (heads .entry)))) (now (chords .entry)))
+    ensures { λ x. ⌜ WalkPost budget (sweepEntries (setting spec g k p (cells (now (spans .entry)) (now (links .entry)) (now (heads .entry)))) (now (chords .entry)))
         (record { visits = 0; at = 0 }) (now (log .entry)) x (now (log .exit)) ⌝ }
 {
     let n = chords.len() / 8;
-    let mut c = Cursor { visits: 0, at: 0 };
+    let mut c = VisitCursor { visits: 0, at: 0 };
     let mut i: usize = 0;
     while i < n {
         let chord = chords::chord_at(k.frame, chords, i);

@@ -1,6 +1,6 @@
 // The two commits. The small record is two numbers that the caller keeps; a refused commit leaves both as they were.
-ghost use Rattle.commit_changes.specs.Commit.{ChangeCommits};
-ghost use Rattle.commit_log.specs.Commit.{LogCommits};
+ghost use Rattle.commit_changes.specs.Commit.{ChangesPost};
+ghost use Rattle.commit_log.specs.Commit.{LogCommitPost};
 ghost use Rattle.stock.specs.Outcomes.{stock};
 ghost use Rattle.stock.specs.declared.Committed.{Committed};
 ghost use Rattle.c_results.specs.Numbers.{AnsweredBy, committedNumbers};
@@ -21,7 +21,7 @@ pub extern "C" fn tridexel_commit_changes(
     pairs: &[f64],
     changed: &mut u64,
 ) -> u32
-    ensures { λ r. ⌜ AnsweredBy committedNumbers Committed.Refused (ChangeCommits spec (now (units .entry)) base (now (changes .entry)) (now (pairs .entry))
+    ensures { λ r. ⌜ AnsweredBy committedNumbers Committed.Refused (ChangesPost spec (now (units .entry)) base (now (changes .entry)) (now (pairs .entry))
         (stock (now (spans .entry)) (now (links .entry)) (now (heads .entry)) (now (generation .entry)) (now (intervals .entry)))
         (stock (now (spans .exit)) (now (links .exit)) (now (heads .exit)) (now (generation .exit)) (now (intervals .exit)))) r
         (now (changed .entry)) (now (changed .exit)) ⌝ }
@@ -59,7 +59,7 @@ pub extern "C" fn tridexel_commit_log(
     work: &mut [f64],
     changed: &mut u64,
 ) -> u32
-    ensures { λ r. ⌜ AnsweredBy committedNumbers Committed.Refused (λ a. LogCommits spec (now (units .entry))
+    ensures { λ r. ⌜ AnsweredBy committedNumbers Committed.Refused (λ a. LogCommitPost spec (now (units .entry))
         (stock (now (spans .entry)) (now (links .entry)) (now (heads .entry)) (now (generation .entry)) (now (intervals .entry))) (now (log .entry)) allowance (now (work .entry)) a
         (stock (now (spans .exit)) (now (links .exit)) (now (heads .exit)) (now (generation .exit)) (now (intervals .exit))) (now (work .exit))) r
         (now (changed .entry)) (now (changed .exit)) ⌝ }

@@ -7,12 +7,12 @@ mod sweeps;
 
 ghost use Rattle.spans.specs.Spans.{NormalOf};
 ghost use lib.ListN.{length};
-ghost use Rattle.spans.specs.Results.{Answer};
+ghost use Rattle.spans.specs.Results.{ListPost};
 ghost use Rattle.span_normalize.specs.Normalizing.{normalizeCauses};
 ghost use Rattle.span_combine.specs.Combining.{combineCauses, LessOf, CommonOf};
-ghost use Rattle.span_compare.specs.Verdicts.{Verdict, compareCauses, Contains, Overlaps};
+ghost use Rattle.span_compare.specs.Verdicts.{ComparePost, compareCauses, Contains, Overlaps};
 ghost use Rattle.span_compare.specs.declared.Told.{Told};
-ghost use Rattle.ray_merge.specs.Merge.{MergeAnswer};
+ghost use Rattle.ray_merge.specs.Merge.{MergePost};
 ghost use Rattle.ray_merge.specs.declared.Merged.{Merged};
 ghost use Rattle.spans.specs.declared.Listed.{Listed};
 ghost use Rattle.c_results.specs.Numbers.{AnsweredBy, listedNumbers, toldNumbers, mergedNumbers, partCells};
@@ -20,7 +20,7 @@ ghost use Rattle.c_results.specs.Numbers.{AnsweredBy, listedNumbers, toldNumber
 // `span_normalize::normalize`; `pairs` becomes the number of pairs.
 #[no_mangle]
 pub extern "C" fn tridexel_normalize(spans: &[f64], out: &mut [f64], pairs: &mut usize) -> u32
-    ensures { λ r. ⌜ AnsweredBy listedNumbers Listed.Refused (Answer (NormalOf (now (spans .entry))) (normalizeCauses (now (spans .entry)) (length (now (out .entry)))) (now (out .entry)) (now (out .exit)))
+    ensures { λ r. ⌜ AnsweredBy listedNumbers Listed.Refused (ListPost (NormalOf (now (spans .entry))) (normalizeCauses (now (spans .entry)) (length (now (out .entry)))) (now (out .entry)) (now (out .exit)))
         r (now (pairs .entry)) (now (pairs .exit)) ⌝ }
 {
     let l = span_normalize::normalize(spans, out);
@@ -30,7 +30,7 @@ pub extern "C" fn tridexel_normalize(spans: &[f64], out: &mut [f64], pairs: &mut
 // `span_combine::subtract`; `pairs` becomes the number of pairs.
 #[no_mangle]
 pub extern "C" fn tridexel_subtract(a: &[f64], b: &[f64], out: &mut [f64], pairs: &mut usize) -> u32
-    ensures { λ r. ⌜ AnsweredBy listedNumbers Listed.Refused (Answer (LessOf (now (a .entry)) (now (b .entry)))
+    ensures { λ r. ⌜ AnsweredBy listedNumbers Listed.Refused (ListPost (LessOf (now (a .entry)) (now (b .entry)))
         (combineCauses (now (a .entry)) (now (b .entry)) (length (now (out .entry)))) (now (out .entry)) (now (out .exit)))
         r (now (pairs .entry)) (now (pairs .exit)) ⌝ }
 {
@@ -46,7 +46,7 @@ pub extern "C" fn tridexel_intersect(
     out: &mut [f64],
     pairs: &mut usize,
 ) -> u32
-    ensures { λ r. ⌜ AnsweredBy listedNumbers Listed.Refused (Answer (CommonOf (now (a .entry)) (now (b .entry)))
+    ensures { λ r. ⌜ AnsweredBy listedNumbers Listed.Refused (ListPost (CommonOf (now (a .entry)) (now (b .entry)))
         (combineCauses (now (a .entry)) (now (b .entry)) (length (now (out .entry)))) (now (out .entry)) (now (out .exit)))
         r (now (pairs .entry)) (now (pairs .exit)) ⌝ }
 {
@@ -57,7 +57,7 @@ pub extern "C" fn tridexel_intersect(
 // `span_compare::contains`; `yes` becomes 1 or 0.
 #[no_mangle]
 pub extern "C" fn tridexel_contains(outer: &[f64], inner: &[f64], yes: &mut u32) -> u32
-    ensures { λ r. ⌜ AnsweredBy toldNumbers Told.Refused (Verdict (compareCauses (now (outer .entry)) (now (inner .entry)))
+    ensures { λ r. ⌜ AnsweredBy toldNumbers Told.Refused (ComparePost (compareCauses (now (outer .entry)) (now (inner .entry)))
         (Contains (now (outer .entry)) (now (inner .entry))))
         r (now (yes .entry)) (now (yes .exit)) ⌝ }
 {
@@ -68,7 +68,7 @@ pub extern "C" fn tridexel_contains(outer: &[f64], inner: &[f64], yes: &mut u32)
 // `span_compare::overlaps`; `yes` becomes 1 or 0.
 #[no_mangle]
 pub extern "C" fn tridexel_overlaps(a: &[f64], b: &[f64], yes: &mut u32) -> u32
-    ensures { λ r. ⌜ AnsweredBy toldNumbers Told.Refused (Verdict (compareCauses (now (a .entry)) (now (b .entry)))
+    ensures { λ r. ⌜ AnsweredBy toldNumbers Told.Refused (ComparePost (compareCauses (now (a .entry)) (now (b .entry)))
         (Overlaps (now (a .entry)) (now (b .entry))))
         r (now (yes .entry)) (now (yes .exit)) ⌝ }
 {
@@ -90,7 +90,7 @@ pub extern "C" fn tridexel_merge(
     moved: &mut [u32; 2],
     pairs: &mut [usize; 2],
 ) -> u32
-    ensures { λ r. ⌜ AnsweredBy mergedNumbers Merged.Refused (MergeAnswer lo hi (now (possible .entry)) (now (certain .entry))
+    ensures { λ r. ⌜ AnsweredBy mergedNumbers Merged.Refused (MergePost lo hi (now (possible .entry)) (now (certain .entry))
         (now (outer .entry)) (now (inner .entry)) (now (work .entry)) (now (work .exit))) r
         (partCells (now (moved .entry)) (now (pairs .entry))) (partCells (now (moved .exit)) (now (pairs .exit))) ⌝ }
 {

@@ -2,8 +2,8 @@
 ghost use Rattle.grid_from_spec.specs.Causes.{gridIn, GridPost};
 ghost use Rattle.grid.specs.declared.Gridded.{Gridded};
 ghost use Rattle.store.specs.Updates.{cells};
-ghost use Rattle.stock_fill.specs.Uncut.{Fills, fillCauses};
-ghost use Rattle.stock_volume.specs.Volume.{Measures, volumeCauses};
+ghost use Rattle.stock_fill.specs.Uncut.{FillPost, fillCauses};
+ghost use Rattle.stock_volume.specs.Volume.{VolumePost, volumeCauses};
 ghost use Rattle.stock_fill.specs.declared.Filled.{Filled};
 ghost use Rattle.stock_volume.specs.declared.Measured.{Measured};
 ghost use Rattle.c_results.specs.Numbers.{AnsweredBy, gridNumbers, gridCells, filledNumbers, tally, volumeNumbers};
@@ -36,7 +36,7 @@ pub extern "C" fn tridexel_fill(
     intervals: &mut u64,
 ) -> u32
     ensures { λ r. ⌜ AnsweredBy filledNumbers Filled.Refused
-        (Fills (fillCauses spec (now (units .entry)) (cells (now (spans .entry)) (now (links .entry)) (now (heads .entry)))) spec (gridIn spec)
+        (FillPost (fillCauses spec (now (units .entry)) (cells (now (spans .entry)) (now (links .entry)) (now (heads .entry)))) spec (gridIn spec)
         (cells (now (spans .entry)) (now (links .entry)) (now (heads .entry))) (cells (now (spans .exit)) (now (links .exit)) (now (heads .exit)))) r
         (tally (now (generation .entry)) (now (intervals .entry))) (tally (now (generation .exit)) (now (intervals .exit))) ⌝ }
 {
@@ -56,7 +56,7 @@ pub extern "C" fn tridexel_volume(
     volume: &mut [f64; 10],
 ) -> u32
     ensures { λ r. ⌜ AnsweredBy volumeNumbers Measured.Refused
-        (Measures (volumeCauses spec (now (units .entry)) (cells (now (spans .entry)) (now (links .entry)) (now (heads .entry))) intervals)
+        (VolumePost (volumeCauses spec (now (units .entry)) (cells (now (spans .entry)) (now (links .entry)) (now (heads .entry))) intervals)
         spec (gridIn spec) (cells (now (spans .entry)) (now (links .entry)) (now (heads .entry))) intervals) r
         (now (volume .entry)) (now (volume .exit)) ⌝ }
 {

@@ -1,7 +1,7 @@
 // The sweep. An axis and a shape go in as numbers, in the order of their declarations from 0; a number that names none is refusal 6.
 ghost use lib.ListN.{length};
 ghost use Rattle.store.specs.Updates.{cells};
-ghost use Rattle.sweep.specs.Answer.{settingOf, sweepCauses, Sweeps};
+ghost use Rattle.sweep.specs.Answer.{settingOf, sweepCauses, SweepPost};
 ghost use Rattle.sweep.specs.declared.Swept.{Swept};
 ghost use Rattle.enum_codes.specs.Named.{axisOf, shapeOf};
 ghost use Rattle.c_results.specs.Numbers.{AnsweredBy, sweptNumbers, totals};
@@ -29,7 +29,7 @@ pub extern "C" fn tridexel_sweep(
     entries: &mut usize,
     visits: &mut u64,
 ) -> u32
-    ensures { λ r. ⌜ AnsweredBy sweptNumbers Swept.Refused (Sweeps (sweepCauses (now (units .entry)) (settingOf spec (axisOf axis) (shapeOf axis kind m n) cutter guard (cells (now (spans .entry)) (now (links .entry)) (now (heads .entry)))) intervals (now (chords .entry)) budget (length (now (log .entry))))
+    ensures { λ r. ⌜ AnsweredBy sweptNumbers Swept.Refused (SweepPost (sweepCauses (now (units .entry)) (settingOf spec (axisOf axis) (shapeOf axis kind m n) cutter guard (cells (now (spans .entry)) (now (links .entry)) (now (heads .entry)))) intervals (now (chords .entry)) budget (length (now (log .entry))))
         (settingOf spec (axisOf axis) (shapeOf axis kind m n) cutter guard (cells (now (spans .entry)) (now (links .entry)) (now (heads .entry)))) intervals (now (chords .entry)) (now (log .entry)) (now (log .exit)))
         r (totals (now (entries .entry)) (now (visits .entry))) (totals (now (entries .exit)) (now (visits .exit))) ⌝ }
 {

@@ -2,19 +2,19 @@
 ghost use mathlib.Core.Path.{_≡_};
 ghost use Prim.Native.Nat.{_+_, _*_, _^_, _<_};
 ghost use lib.ListN.{length};
-ghost use Rattle.vector_replay.specs.Tallies.{none, up, firstOf, agreed, differed, missed, counted, outcomeOf};
+ghost use Rattle.vector_replay.specs.Tallies.{none, up, firstDiffering, agreed, differed, missed, counted, outcomeOf};
 ghost use Rattle.vector_replay.specs.Words.{valueOr, isMissing, Reads};
 use hex_text::Word;
 
 // What a row showed of the function of this number, or that it can't be read.
-pub enum Outcome {
+pub enum RowOutcome {
     Agrees(u64),
     Differs(u64),
     Unread,
 }
 
 // How many rows of each function agree and differ, how many can't be read, how many there were, and the number of the first that differs, from 1.
-pub struct Tally {
+pub struct RowCounts {
     pub agree: [u64; 16],
     pub differ: [u64; 16],
     pub unread: u64,
@@ -22,10 +22,10 @@ pub struct Tally {
     pub first: u64,
 }
 
-pub fn start() -> Tally
+pub fn start() -> RowCounts
     ensures { λ r. ⌜ r ≡ none ⌝ }
 {
-    Tally {
+    RowCounts {
         agree: [0; 16],
         differ: [0; 16],
         unread: 0,
@@ -44,7 +44,7 @@ fn one_more(n: u64) -> u64
     n + 1
 }
 
-fn with_agreed(t: Tally, k: usize) -> Tally
+fn with_agreed(t: RowCounts, k: usize) -> RowCounts
     requires { ⌜ k < 16 ⌝ }
     ensures { λ r. ⌜ r ≡ agreed t k ⌝ }
 {
@@ -55,7 +55,7 @@ fn with_agreed(t: Tally, k: usize) -> Tally
 }
 
 fn first_of(first: u64, row: u64) -> u64
-    ensures { λ r. ⌜ r ≡ firstOf first row ⌝ }
+    ensures { λ r. ⌜ r ≡ firstDiffering first row ⌝ }
 {
     if first == 0 {
         return row;
@@ -63,7 +63,7 @@ fn first_of(first: u64, row: u64) -> u64
     first
 }
 
-fn with_differed(t: Tally, k: usize) -> Tally
+fn with_differed(t: RowCounts, k: usize) -> RowCounts
     requires { ⌜ k < 16 ⌝ }
     ensures { λ r. ⌜ r ≡ differed t k ⌝ }
 {
@@ -74,7 +74,7 @@ fn with_differed(t: Tally, k: usize) -> Tally
     next
 }
 
-fn with_missed(t: Tally) -> Tally
+fn with_missed(t: RowCounts) -> RowCounts
     ensures { λ r. ⌜ r ≡ missed t ⌝ }
 {
     let mut next = t;
@@ -84,37 +84,37 @@ fn with_missed(t: Tally) -> Tally
 }
 
 // Counts a row. One of a function from 16 on can't be read.
-pub fn count(t: Tally, o: Outcome) -> Tally
+pub fn count(t: RowCounts, o: RowOutcome) -> RowCounts
     ensures { λ r. ⌜ r ≡ counted t o ⌝ }
 {
     match o {
-        Outcome::Agrees(k) => {
+        RowOutcome::Agrees(k) => {
             if k < 16 {
                 return with_agreed(t, k as usize);
             }
             with_missed(t)
         }
-        Outcome::Differs(k) => {
+        RowOutcome::Differs(k) => {
             if k < 16 {
                 return with_differed(t, k as usize);
             }
             with_missed(t)
         }
-        Outcome::Unread => with_missed(t),
+        RowOutcome::Unread => with_missed(t),
     }
 }
 
 // What a row of function k of so many showed.
-pub fn told(k: u64, functions: u64, agrees: bool) -> Outcome
+pub fn told(k: u64, functions: u64, agrees: bool) -> RowOutcome
     ensures { λ r. ⌜ r ≡ outcomeOf k functions agrees ⌝ }
 {
     if functions <= k {
-        return Outcome::Unread;
+        return RowOutcome::Unread;
     }
     if agrees {
-        return Outcome::Agrees(k);
+        return RowOutcome::Agrees(k);
     }
-    Outcome::Differs(k)
+    RowOutcome::Differs(k)
 }
 
 // A word's number, and the other number for none.
@@ -165,7 +165,7 @@ fn print_number(name: &[u8], n: u64) {
 }
 
 // Prints how many rows of function k agree and differ.
-fn print_counts(name: &[u8], t: Tally, k: usize) {
+fn print_counts(name: &[u8], t: RowCounts, k: usize) {
     if k < 16 {
         print_number(name, t.agree[k]);
         print_number(b"", t.differ[k]);
@@ -174,14 +174,14 @@ fn print_counts(name: &[u8], t: Tally, k: usize) {
 }
 
 // Prints how many rows can't be read, and the first that differs, 0 for none.
-fn print_end(t: Tally) {
+fn print_end(t: RowCounts) {
     print_number(b"unread", t.unread);
     print_number(b"\nfirst that differs", t.first);
     io::write_all(libc::STDOUT_FILENO, b"\n");
 }
 
 // Prints the counts of each function, and what is left of the tally. The functions' names stand in order, with a space between two.
-pub fn print(names: &[u8], t: Tally) {
+pub fn print(names: &[u8], t: RowCounts) {
     let mut start = 0;
     let mut k = 0;
     let mut i = 0;

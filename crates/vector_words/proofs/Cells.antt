@@ -7,7 +7,7 @@ use native.Mathlib.Omega.{arith}
 use Prim.Native.Nat.{ℕ, _+_, _-_, _≤_, _<_}
 use lib.ListN.{length, length-set, getD, set, List·getD-eq-default}
 use lib.Seq.{getD-set-same, getD-set-other}
-use Rattle.vector_words.specs.Words.{wordOf, Filled}
+use Rattle.vector_words.specs.Words.{wordOf, CellsFilled}
 use Rattle.vector_words.specs.Agreement.{Every, each-right}
 
 -- a word of the row, and one past it, which is 0
@@ -48,7 +48,7 @@ module _ {A : Type 0} (d : A) (wanted : ℕ → A) where
         ];
       }
 
-  pub all-filled : (size : ℕ) (out : List A) (k : ℕ) → FilledTo d wanted size out k → length out ≤ k → Filled d wanted out
+  pub all-filled : (size : ℕ) (out : List A) (k : ℕ) → FilledTo d wanted size out k → length out ≤ k → CellsFilled d wanted out
   all-filled size out k s h j g = s .so-far j (omega arith)
 
 -- the first k are right

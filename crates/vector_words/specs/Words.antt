@@ -17,8 +17,8 @@ unfoldable pub doubleOf : List ℕ → (from k : ℕ) → Float
 doubleOf w from k = ofBits binary64 (wordOf w from k)
 
 -- each cell k of the list is `wanted k`; d stands for a cell that is not there
-abbrev pub Filled : {A : Type 0} → A → (ℕ → A) → List A → Type 0
-Filled d wanted out = (k : ℕ) → k < length out → getD out k d ≡ wanted k
+abbrev pub CellsFilled : {A : Type 0} → A → (ℕ → A) → List A → Type 0
+CellsFilled d wanted out = (k : ℕ) → k < length out → getD out k d ≡ wanted k
 
 -- a description: its version from one word, the box, the cell size and the two limits from nine
 abbrev pub specOf : List ℕ → (version from : ℕ) → DexelStockSpec

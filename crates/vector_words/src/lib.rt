@@ -3,7 +3,7 @@ ghost use mathlib.Core.Path.{_≡_};
 ghost use lib.Ieee.{nan};
 ghost use lib.ListN.{length, take};
 ghost use Rattle.enum_codes.specs.Named.{namedShape};
-ghost use Rattle.vector_words.specs.Words.{wordOf, doubleOf, Filled, specOf, unitsOf, cutterOf};
+ghost use Rattle.vector_words.specs.Words.{wordOf, doubleOf, CellsFilled, specOf, unitsOf, cutterOf};
 ghost use Rattle.vector_words.specs.Agreement.{cellAgrees, numberAgrees, cellRight, numberRight, Every};
 use cutter::CutterShape;
 use cutter::PreparedCutter;
@@ -35,7 +35,7 @@ fn double_of(w: &[u64], from: usize, k: usize) -> f64
 
 // Fills `out` with the doubles from word `from` on.
 pub fn doubles_at(w: &[u64], from: usize, out: &mut [f64])
-    ensures { λ r. ⌜ Filled nan (doubleOf (now (w .entry)) from) (now (out .exit)) ⌝ }
+    ensures { λ r. ⌜ CellsFilled nan (doubleOf (now (w .entry)) from) (now (out .exit)) ⌝ }
 {
     let mut k: usize = 0;
     while k < out.len() {
@@ -46,7 +46,7 @@ pub fn doubles_at(w: &[u64], from: usize, out: &mut [f64])
 
 // Fills `out` with the words from place `from` on.
 pub fn numbers_at(w: &[u64], from: usize, out: &mut [u64])
-    ensures { λ r. ⌜ Filled 0 (wordOf (now (w .entry)) from) (now (out .exit)) ⌝ }
+    ensures { λ r. ⌜ CellsFilled 0 (wordOf (now (w .entry)) from) (now (out .exit)) ⌝ }
 {
     let mut k: usize = 0;
     while k < out.len() {

@@ -12,14 +12,14 @@ use Rattle.doubles.proofs.Bools.{and-left, and-right, not-true, not-false, or-c
 use Rattle.spans.specs.Spans.{All, Point, holds, sound, retained, Within, Outside, NormalOf}
 use Rattle.spans.proofs.Pieces.{agree, by-ends, Piecewise, of-list, of-none, in-left, in-right, one-of}
 use Rattle.span_overlay.specs.Overlay.{lessOf, commonOf}
-use Rattle.grid.specs.Grid.{within, allWithin}
+use Rattle.grid.specs.Grid.{isBetween, allBetween}
 use Rattle.grid.specs.Rays.{rayCount}
-use Rattle.grid_from_spec.specs.Grid.{anyBelow, anyAbove, isMm, misdescribed, cellsOf, magnitudeOf, leastStep, tooFine, gridOver, gridOf}
+use Rattle.grid_from_spec.specs.Grid.{anyBelow, anyAbove, isMm, misdescribed, cellCount, magnitudeOf, leastStep, tooFine, gridOver, gridOf}
 use Rattle.doubles_sqrt.specs.Root.{squareRoot}
 use Rattle.strips.specs.Strip.{bandDistance, halfChord, chordStrip, diskStrip}
 use Rattle.cutter.specs.Cutter.{isFinite, offTool, arcAt, cuttingRadius, radiusAt}
 use Rattle.frame.specs.Frame.{worldOf}
-use Rattle.worked.specs.Examples.{Example, normalizes, subtracts, intersects, contains, grids, disk, radius-at, turns, Right, AllRight, examples}
+use Rattle.worked.specs.Examples.{WorkedExample, normalizes, subtracts, intersects, contains, grids, disk, radius-at, turns, RowRight, WorkedRight, workedExamples}
 
 told : (b : Bool) → b ≡ true → T b
 told b h = subst T (sym h) tt
@@ -129,17 +129,17 @@ sticks-out outer inner h =
 -- ---- the table
 
 -- what is to be computed of an example: a test of its lists, else what it says
-abbrev Computed : Example → Type 0
+abbrev Computed : WorkedExample → Type 0
 Computed (normalizes s r) = is-normal s r ≡ true
-Computed (subtracts a b r) = Right (subtracts a b r)
-Computed (intersects a b r) = Right (intersects a b r)
+Computed (subtracts a b r) = RowRight (subtracts a b r)
+Computed (intersects a b r) = RowRight (intersects a b r)
 Computed (contains outer inner want) = says outer inner want ≡ true
-Computed (grids to size cells step rays) = Right (grids to size cells step rays)
-Computed (disk x y radius y0 y1 lo hi) = Right (disk x y radius y0 y1 lo hi)
-Computed (radius-at shape cutter height want) = Right (radius-at shape cutter height want)
-Computed (turns sign pair want) = Right (turns sign pair want)
+Computed (grids to size cells step rays) = RowRight (grids to size cells step rays)
+Computed (disk x y radius y0 y1 lo hi) = RowRight (disk x y radius y0 y1 lo hi)
+Computed (radius-at shape cutter height want) = RowRight (radius-at shape cutter height want)
+Computed (turns sign pair want) = RowRight (turns sign pair want)
 
-right : (e : Example) → Computed e → Right e
+right : (e : WorkedExample) → Computed e → RowRight e
 right (normalizes s r) h = normal s r h
 right (subtracts a b r) h = h
 right (intersects a b r) h = h
@@ -150,17 +150,17 @@ right (disk x y radius y0 y1 lo hi) h = h
 right (radius-at shape cutter height want) h = h
 right (turns sign pair want) h = h
 
-abbrev AllComputed : List Example → Type 0
+abbrev AllComputed : List WorkedExample → Type 0
 AllComputed [] = Unit {0}
 AllComputed (e ∷ es) = Computed e × AllComputed es
 
-all : (es : List Example) → AllComputed es → AllRight es
+all : (es : List WorkedExample) → AllComputed es → WorkedRight es
 all [] h = tt
 all (e ∷ es) h = (right e (h .0), all es (h .1))
 
-pub examples-right : AllRight examples
-unfolding examples is-normal says holds sound retained lessOf commonOf
-    gridOf gridOver misdescribed isMm within allWithin anyBelow anyAbove cellsOf magnitudeOf leastStep tooFine rayCount
+pub examples-right : WorkedRight workedExamples
+unfolding workedExamples is-normal says holds sound retained lessOf commonOf
+    gridOf gridOver misdescribed isMm isBetween allBetween anyBelow anyAbove cellCount magnitudeOf leastStep tooFine rayCount
     diskStrip chordStrip halfChord bandDistance squareRoot radiusAt offTool isFinite cuttingRadius arcAt worldOf
     absOf ceilOf ofBits toBits ofInt toUnsigned sub mul div le fits isNan
-examples-right = all examples (refl, (refl, (refl, (refl, (refl, (refl, (refl, (refl, (refl, ((refl, refl), (refl, (refl, (refl, tt)))))))))))))
+examples-right = all workedExamples (refl, (refl, (refl, (refl, (refl, (refl, (refl, (refl, (refl, ((refl, refl), (refl, (refl, (refl, tt)))))))))))))

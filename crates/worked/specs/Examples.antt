@@ -12,7 +12,7 @@ use Rattle.grid.specs.Rays.{rayCount}
 use Rattle.grid.specs.declared.Vec3.{Vec3}
 use Rattle.grid.specs.declared.DexelStockSpec.{DexelStockSpec}
 use Rattle.grid.specs.declared.DexelGrid.{DexelGrid}
-use Rattle.grid.specs.declared.Gridded.the-variants.{Accepted}
+use Rattle.grid.specs.declared.GridAnswer.the-variants.{Accepted}
 use Rattle.grid_from_spec.specs.Causes.{mm}
 use Rattle.grid_from_spec.specs.Grid.{gridOf}
 use Rattle.polygons.specs.declared.Strip.the-variants.{Hit}
@@ -26,14 +26,14 @@ use Rattle.frame.specs.declared.Pair.{Pair}
 use Rattle.frame.specs.Frame.{frame, localAxis, worldOf}
 
 -- what is asked, and last what it must come to
-pub data Example : Type 0 where
-  normalizes : (pairs want : List Float) → Example
-  subtracts intersects : (a b want : List Float) → Example
-  contains : (outer inner : List Float) (want : Bool) → Example
-  grids : (to size : Float) (cells : ℕ) (step : Float) (rays : ℕ) → Example
-  disk : (x y radius y0 y1 lo hi : Float) → Example
-  radius-at : (shape : CutterShape) (cutter : PreparedCutter) (height want : Float) → Example
-  turns : (sign : Float) (pair want : Pair) → Example
+pub data WorkedExample : Type 0 where
+  normalizes : (pairs want : List Float) → WorkedExample
+  subtracts intersects : (a b want : List Float) → WorkedExample
+  contains : (outer inner : List Float) (want : Bool) → WorkedExample
+  grids : (to size : Float) (cells : ℕ) (step : Float) (rays : ℕ) → WorkedExample
+  disk : (x y radius y0 y1 lo hi : Float) → WorkedExample
+  radius-at : (shape : CutterShape) (cutter : PreparedCutter) (height want : Float) → WorkedExample
+  turns : (sign : Float) (examplePair want : Pair) → WorkedExample
 
 abbrev pub corner : Float → Vec3
 corner x = record { x = x; y = x; z = x }
@@ -54,20 +54,20 @@ box to size rays =
 abbrev pub even : (cells : ℕ) (step : Float) → DexelGrid
 even n step = record { c0 = n; c1 = n; c2 = n; s0 = step; s1 = step; s2 = step }
 
-abbrev pub Right : Example → Type 0
-Right (normalizes pairs want) = NormalOf pairs want
-Right (subtracts a b want) = lessOf a b ≡ want
-Right (intersects a b want) = commonOf a b ≡ want
-Right (contains outer inner true) = Within outer inner
-Right (contains outer inner false) = Outside outer inner
-Right (grids to size cells step rays) = (gridOf (box to size rays) mm ≡ Accepted (even cells step)) × (rayCount (even cells step) ≡ rays)
-Right (disk x y radius y0 y1 lo hi) = diskStrip (record { x = x; y = y }) radius y0 y1 ≡ Hit lo hi
-Right (radius-at shape cutter height want) = radiusAt shape cutter height ≡ Cutting want
-Right (turns sign pair want) = worldOf (frame 0 sign) (localAxis 1) pair ≡ want
+abbrev pub RowRight : WorkedExample → Type 0
+RowRight (normalizes pairs want) = NormalOf pairs want
+RowRight (subtracts a b want) = lessOf a b ≡ want
+RowRight (intersects a b want) = commonOf a b ≡ want
+RowRight (contains outer inner true) = Within outer inner
+RowRight (contains outer inner false) = Outside outer inner
+RowRight (grids to size cells step rays) = (gridOf (box to size rays) mm ≡ Accepted (even cells step)) × (rayCount (even cells step) ≡ rays)
+RowRight (disk x y radius y0 y1 lo hi) = diskStrip (record { x = x; y = y }) radius y0 y1 ≡ Hit lo hi
+RowRight (radius-at shape cutter height want) = radiusAt shape cutter height ≡ Cutting want
+RowRight (turns sign examplePair want) = worldOf (frame 0 sign) (localAxis 1) examplePair ≡ want
 
-abbrev pub AllRight : List Example → Type 0
-AllRight [] = Unit {0}
-AllRight (e ∷ es) = Right e × AllRight es
+abbrev pub WorkedRight : List WorkedExample → Type 0
+WorkedRight [] = Unit {0}
+WorkedRight (e ∷ es) = RowRight e × WorkedRight es
 
 -- a whole number as a double
 abbrev pub num : ℕ → Float
@@ -88,12 +88,12 @@ ball =
       shoulder = num 10;
     }
 
-abbrev pub pair : (lo hi : Float) → Pair
-pair lo hi = record { lo = lo; hi = hi }
+abbrev pub examplePair : (lo hi : Float) → Pair
+examplePair lo hi = record { lo = lo; hi = hi }
 
-unfoldable pub examples : List Example
+unfoldable pub workedExamples : List WorkedExample
 unfolding ratio neg
-examples =
+workedExamples =
     normalizes (num 3 ∷ num 4 ∷ num 1 ∷ num 2 ∷ num 2 ∷ num 3 ∷ []) (num 1 ∷ num 4 ∷ [])
     ∷ normalizes (num 1 ∷ num 1 ∷ nan ∷ num 2 ∷ num 2 ∷ num 1 ∷ []) []
     ∷ normalizes (num 1 ∷ num 2 ∷ num 3 ∷ num 4 ∷ []) (num 1 ∷ num 2 ∷ num 3 ∷ num 4 ∷ [])
@@ -106,5 +106,5 @@ examples =
     ∷ grids (num 10) (num 3) 4 (ratio 5 2) 48
     ∷ disk (num 0) (num 0) (num 5) (num 3) (num 7) (neg (num 4)) (num 4)
     ∷ radius-at Ball ball (num 2) (num 4)
-    ∷ turns (neg (num 1)) (pair (num 1) (num 2)) (pair (neg (num 2)) (neg (num 1)))
+    ∷ turns (neg (num 1)) (examplePair (num 1) (num 2)) (examplePair (neg (num 2)) (neg (num 1)))
     ∷ []

@@ -6,7 +6,7 @@ use Prim.Native.Nat.{ℕ, _-_, _/_, _^_, _≤_, _<_}
 use lib.Ieee.{Float}
 use lib.ListN.{length}
 use Rattle.store.specs.Updates.{Cells, cells}
-use Rattle.change_apply.specs.Passes.{Fitting}
+use Rattle.change_apply.specs.Passes.{ChangesFit}
 use Rattle.change_apply.proofs.Turns.{FreedTo, freed-none, freed-names, ray-freeable, freed-next, freed-whole, all-freed}
 use Rattle.change_apply.proofs.free_changes.Statement.{statement}
 use Rattle.change_apply.proofs.free_changes.Tie as tie
@@ -14,7 +14,7 @@ use Rattle.change_apply.proofs.free_changes.Tie as tie
 abbrev Inv-loop : tie.InvT-loop
 Inv-loop spec g spans₀ links₀ heads₀ changes count k₀ spans links heads k =
     (count ≡ length changes / 6) × (count < 2 ^ 63) × (k ≤ count)
-    × ((total : ℕ) (pairs : List Float) → Fitting spec g (cells spans₀ links₀ heads₀) total changes pairs → FreedTo spec g (cells spans₀ links₀ heads₀) changes pairs k (cells spans links heads))
+    × ((total : ℕ) (pairs : List Float) → ChangesFit spec g (cells spans₀ links₀ heads₀) total changes pairs → FreedTo spec g (cells spans₀ links₀ heads₀) changes pairs k (cells spans links heads))
 
 abbrev μ-loop : tie.MeasureT-loop
 μ-loop spec g spans₀ links₀ heads₀ changes count k₀ spans links heads k = count - k

@@ -4,7 +4,7 @@ use mathlib.Core.Path.{_≡_, refl, sym, ap, _∙_}
 use Prim.Native.Nat.{_-_, _/_, _^_, _≤_, _<_}
 use lib.ListN.{length}
 use Rattle.store.specs.Updates.{Cells, cells, laidAll}
-use Rattle.change_apply.specs.Passes.{updatesIn, Emptied}
+use Rattle.change_apply.specs.Passes.{updatesIn, ChangesFreed}
 use Rattle.change_apply.proofs.Turns.{all-freed, LaidTo, laid-none, laid-good, ray-layable, laid-next, laid-whole, all-laid, front-fits, back-within, back-fits}
 use Rattle.change_apply.proofs.lay_changes.Statement.{statement}
 use Rattle.change_apply.proofs.lay_changes.Tie as tie
@@ -12,7 +12,7 @@ use Rattle.change_apply.proofs.lay_changes.Tie as tie
 abbrev Inv-loop : tie.InvT-loop
 Inv-loop spec g spans₀ links₀ heads₀ changes pairs count at₀ from₀ k₀ spans links heads at from k =
     (count ≡ length changes / 6) × (count < 2 ^ 63) × (k ≤ count)
-    × ((b : Emptied spec g changes pairs (cells spans₀ links₀ heads₀)) → LaidTo spec g (b .before) changes pairs (b .total) (b .fitting) k at from (cells spans links heads))
+    × ((b : ChangesFreed spec g changes pairs (cells spans₀ links₀ heads₀)) → LaidTo spec g (b .before) changes pairs (b .total) (b .fitting) k at from (cells spans links heads))
 
 abbrev μ-loop : tie.MeasureT-loop
 μ-loop spec g spans₀ links₀ heads₀ changes pairs count at₀ from₀ k₀ spans links heads at from k = count - k

@@ -4,7 +4,7 @@ use Prim.Native.Nat.{_-_, _/_, _^_, _<_}
 use mathlib.Core.Path.{_≡_, refl, subst}
 use lib.ListN.{length}
 use Rattle.store.specs.Updates.{cells}
-use Rattle.change_list.specs.Steps.{Checks}
+use Rattle.change_list.specs.Steps.{CheckChangePost}
 use Rattle.change_list.proofs.Sums.{Passed, none-passed, bad-change, next-change, all-passed}
 use Rattle.change_list.proofs.check_changes.Statement.{statement}
 use Rattle.change_list.proofs.check_changes.Tie as tie
@@ -27,12 +27,12 @@ check-change-requires c κs = (c .before .before .before .before .before .before
 returns : tie.Need-returns Inv-loop μ-loop
 returns c =
     let inv = c .before .before .before .before .before .loop .inv in
-    let a = c .before .before .before .before .before .before .before .before .before .before .before in let s = cells (a .args .spans .now) (a .args .links .now) (a .args .heads .now) in bad-change (a .args .spec) (a .args .g) s (a .args .changes .now) (a .args .pairs .now) (c .before .before .before .before .before .loop .k) (c .before .before .before .before .before .loop .cur) (c .before .before .before .head .result) (inv .2) (omega (arith, inv .0)) (c .before .before .before .head .ensures) (subst (Checks (a .args .spec) (a .args .g) s (a .args .pairs .now) (c .before .before .before .head .result) (c .before .before .before .before .before .loop .cur)) (c .enum-told .given .1) (c .before .before .check-change .ensures))
+    let a = c .before .before .before .before .before .before .before .before .before .before .before in let s = cells (a .args .spans .now) (a .args .links .now) (a .args .heads .now) in bad-change (a .args .spec) (a .args .g) s (a .args .changes .now) (a .args .pairs .now) (c .before .before .before .before .before .loop .k) (c .before .before .before .before .before .loop .cur) (c .before .before .before .head .result) (inv .2) (omega (arith, inv .0)) (c .before .before .before .head .ensures) (subst (CheckChangePost (a .args .spec) (a .args .g) s (a .args .pairs .now) (c .before .before .before .head .result) (c .before .before .before .before .before .loop .cur)) (c .enum-told .given .1) (c .before .before .check-change .ensures))
 
 loop-again : tie.Need-loop-again Inv-loop μ-loop
 loop-again c =
     let inv = c .before .before .before .before .before .before .loop .inv in
-    (inv .0, inv .1, let a = c .before .before .before .before .before .before .before .before .before .before .before .before in let s = cells (a .args .spans .now) (a .args .links .now) (a .args .heads .now) in next-change (a .args .spec) (a .args .g) s (a .args .changes .now) (a .args .pairs .now) (c .before .before .before .before .before .before .loop .k) (c .before .before .before .before .before .before .loop .cur) _ (c .before .before .before .before .head .result) (inv .2) (omega (arith, inv .0)) (c .before .before .before .before .head .ensures) (subst (Checks (a .args .spec) (a .args .g) s (a .args .pairs .now) (c .before .before .before .before .head .result) (c .before .before .before .before .before .before .loop .cur)) (c .before .next .given .1) (c .before .before .before .check-change .ensures)))
+    (inv .0, inv .1, let a = c .before .before .before .before .before .before .before .before .before .before .before .before in let s = cells (a .args .spans .now) (a .args .links .now) (a .args .heads .now) in next-change (a .args .spec) (a .args .g) s (a .args .changes .now) (a .args .pairs .now) (c .before .before .before .before .before .before .loop .k) (c .before .before .before .before .before .before .loop .cur) _ (c .before .before .before .before .head .result) (inv .2) (omega (arith, inv .0)) (c .before .before .before .before .head .ensures) (subst (CheckChangePost (a .args .spec) (a .args .g) s (a .args .pairs .now) (c .before .before .before .before .head .result) (c .before .before .before .before .before .before .loop .cur)) (c .before .next .given .1) (c .before .before .before .check-change .ensures)))
 
 returns-2 : tie.Need-returns-2 Inv-loop μ-loop
 returns-2 c = let a = c .before .before .before .before .before .before .before in let s = cells (a .args .spans .now) (a .args .links .now) (a .args .heads .now) in all-passed (a .args .spec) (a .args .g) s (a .args .changes .now) (a .args .pairs .now) (c .before .loop .k) (c .before .loop .cur) (c .before .loop .inv .2) (omega (arith, c .before .loop .inv .0))

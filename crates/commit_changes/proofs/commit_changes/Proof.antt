@@ -44,7 +44,7 @@ use denote.Triple.Clauses.{ensured, lasts}
 use denote.Triple.Walked.{says, Stays, stay-ref, gave-slice, stay-dropped, walkOf, AllGo, goes-ref, goes-gave-slice, goes-dropped, Walks, ends-at, walked, walk-meets}
 use denote.Exit.{yes}
 use Rattle.stock.specs.Outcomes.{stock}
-use Rattle.commit_changes.specs.Commit.{ChangeCommits}
+use Rattle.commit_changes.specs.Commit.{ChangesPost}
 use Rattle.stock.proofs.Outcomes.{left, mach, ans, made}
 use Rattle.stock.specs.declared.Tally.{Tally}
 use Rattle.stock.specs.declared.Outcome.{Outcome}
@@ -52,8 +52,8 @@ use Rattle.stock.proofs.Tally as T
 use Rattle.stock.proofs.Tally.Laws as T′
 use Rattle.stock.proofs.Outcome as O
 use Rattle.stock.proofs.Outcome.Laws as O′
-use Rattle.stock.proofs.Committed as R
-use Rattle.stock.proofs.Committed.Laws as R′
+use Rattle.stock.proofs.CommitAnswer as R
+use Rattle.stock.proofs.CommitAnswer.Laws as R′
 use Rattle.grid.specs.declared.DexelStockSpec.{DexelStockSpec}
 use Rattle.grid.proofs.DexelStockSpec as DexelStockSpecT
 use Rattle.grid.proofs.DexelStockSpec.Laws as DexelStockSpecL
@@ -110,7 +110,7 @@ module _ {M : Type 1} (𝓤 : URA M) (H : Heap 𝓤) (A : Atoms 𝓤) (W : Given
 
   -- what the callee ensures
   abbrev Fact : Outcome → List Float → List ℕ → List ℕ → Type 0
-  Fact r s0 s1 s2 = ChangeCommits spec (units .now) base (changes .now) (pairs .now) (stock (spans .now) (links .now) (heads .now) (h .generation) (h .intervals)) (stock s0 s1 s2 (r .generation) (r .intervals)) (r .answer)
+  Fact r s0 s1 s2 = ChangesPost spec (units .now) base (changes .now) (pairs .now) (stock (spans .now) (links .now) (heads .now) (h .generation) (h .intervals)) (stock s0 s1 s2 (r .generation) (r .intervals)) (r .answer)
 
   abbrev Post : Val → SProp 𝓤
   Post = walkOf 𝓤 H A caller.ended stayed (caller.clauses 𝓤 H A at-mem run) .post (((κ, (κ₁, (κ₂, (κ₃, (κ₄, (κ₅, (κ₆, tt))))))), (q, (q₁, (q₂, (q₃, (q₄, (q₅, (q₆, tt))))))), tt, a, vals), tt)

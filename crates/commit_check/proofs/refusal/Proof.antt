@@ -9,7 +9,7 @@ use Rattle.stock.specs.Outcomes.{stock}
 use Rattle.log_entries.specs.Named.{EachNamed}
 use Rattle.log_model.specs.Logs.{entries, workNeeded}
 use Rattle.log_model.proofs.Doubles.{Doubles, all-doubles}
-use Rattle.log_updates.specs.Merges.{listsOf}
+use Rattle.log_updates.specs.Merges.{stockLists}
 use Rattle.commit_check.proofs.Tests.{short-due, room-of-test, work-due, work-of-test, part-due, unsound-due, sound-of-test, last-due, unnamed-due, named-of-test, rays-due, intervals-due, all-passed}
 use Rattle.commit_check.proofs.refusal.Statement.{statement}
 use Rattle.commit_check.proofs.refusal.Tie as tie
@@ -19,7 +19,7 @@ room : (c : tie.Else1) → let a = c .before .before .before .before .before .be
 room c = let a = c .before .before .before .before .before .before .before .args in room-of-test (a .spec) (a .g) (stock (a .spans .now) (a .links .now) (a .heads .now) (a .generation) (a .intervals)) (a .log .now) (a .allowance) (a .work .now) _ (c .before .is-short .ensures) (c .if1 .left)
 
 doubles : (c : tie.Else1) → let a = c .before .before .before .before .before .before .before .args in Doubles (a .g)
-    (listsOf (a .spec) (a .g) (stock (a .spans .now) (a .links .now) (a .heads .now) (a .generation) (a .intervals)))
+    (stockLists (a .spec) (a .g) (stock (a .spans .now) (a .links .now) (a .heads .now) (a .generation) (a .intervals)))
     (entries (a .log .now))
 doubles c = let a = c .before .before .before .before .before .before .before .args in all-doubles (a .spec) (a .g)
     (stock (a .spans .now) (a .links .now) (a .heads .now) (a .generation) (a .intervals)) (a .log .now)

@@ -1,14 +1,14 @@
-use Rattle.cutter_check.specs.Limits.{number}
+use Rattle.cutter_check.specs.Limits.{isNotNan}
 use Rattle.doubles.proofs.Order.{ne-self}
 use Rattle.cutter_check.proofs.is_number.Statement.{statement}
 use Rattle.cutter_check.proofs.is_number.Tie as tie
 
 returns : tie.Need-returns
-unfolding number
+unfolding isNotNan
 returns c = simp (← ne-self, c .if1 .taken)
 
 returns-2 : tie.Need-returns-2
-unfolding number
+unfolding isNotNan
 returns-2 c = simp (← ne-self, c .if1 .left)
 
 pub is-number-spec : {M : Type 1} → statement M

@@ -1,4 +1,4 @@
-use Rattle.frame.specs.Frame.{digitOf}
+use Rattle.frame.specs.Frame.{axisDigit}
 use borrow.Author.Tests.{le-leb, le-ltb, lt-leb, lt-ltb}
 use Rattle.frame.proofs.digit.Statement.{statement}
 use Rattle.frame.proofs.digit.Tie as tie
@@ -7,12 +7,12 @@ use Rattle.frame.proofs.digit.Lts as lts
 
 -- src/lib.rt:32:1
 returns : tie.Need-returns
-unfolding digitOf
+unfolding axisDigit
 returns c = simp (lt-ltb _ _ (c .if1 .taken), lt-leb _ _ (c .if1 .taken))
 
 -- src/lib.rt:32:1
 returns-2 : tie.Need-returns-2
-unfolding digitOf
+unfolding axisDigit
 returns-2 c = simp (le-leb _ _ (c .if1 .left), le-ltb _ _ (c .if1 .left))
 
 pub digit-spec : {M : Type 1} → statement M

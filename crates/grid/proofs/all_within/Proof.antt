@@ -1,19 +1,19 @@
 -- `grid::all_within` meets its contract. Assumes nothing.
-use Rattle.grid.specs.Grid.{allWithin}
+use Rattle.grid.specs.Grid.{allBetween}
 use borrow.Author.Needs.{needs}
 use Rattle.grid.proofs.all_within.Statement.{statement}
 use Rattle.grid.proofs.all_within.Tie as tie
 
 returns : tie.Need-returns
-unfolding allWithin
+unfolding allBetween
 returns c = simp (← c .is-within3 .ensures, c .before .if2 .taken, ← c .before .before .is-within2 .ensures, c .before .before .before .if1 .taken, ← c .before .before .before .before .is-within .ensures)
 
 returns-2 : tie.Need-returns-2
-unfolding allWithin
+unfolding allBetween
 returns-2 c = simp (c .if2 .left, ← c .before .is-within2 .ensures, c .before .before .if1 .taken, ← c .before .before .before .is-within .ensures)
 
 returns-3 : tie.Need-returns-3
-unfolding allWithin
+unfolding allBetween
 returns-3 c = simp (c .if1 .left, ← c .before .is-within .ensures)
 
 pub all-within-spec : {M : Type 1} → statement M

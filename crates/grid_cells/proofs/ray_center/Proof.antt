@@ -1,5 +1,5 @@
 -- `grid_cells::ray_center` meets its contract. Assumes nothing.
-use Rattle.grid.specs.Rays.{centerOf, cellCenter}
+use Rattle.grid.specs.Rays.{rayCenterOf, cellCenter}
 use borrow.Author.Needs.{needs}
 use Rattle.grid_cells.proofs.ray_center.Statement.{statement}
 use Rattle.grid_cells.proofs.ray_center.Tie as tie
@@ -11,7 +11,7 @@ div-nearest-u64-to-f64 : tie.Need-div-nearest-u64-to-f64
 div-nearest-u64-to-f64 c = rw (c .before .cells-along .ensures, c .before .before .cross .ensures) (c .before .before .before .pre)
 
 returns : tie.Need-returns
-unfolding centerOf cellCenter
+unfolding rayCenterOf cellCenter
 returns c =
     let a = c .before .before .before .before in
     let n = a .before .before in

@@ -1,5 +1,5 @@
 -- `grid_from_spec::cells` meets its contract. Assumes nothing.
-use Rattle.grid_from_spec.specs.Grid.{cellsOf}
+use Rattle.grid_from_spec.specs.Grid.{cellCount}
 use borrow.Author.Needs.{needs}
 use Rattle.grid_from_spec.proofs.cells.Statement.{statement}
 use Rattle.grid_from_spec.proofs.cells.Tie as tie
@@ -11,7 +11,7 @@ larger-requires : tie.Need-larger-requires
 larger-requires c κs = search needs
 
 returns : tie.Need-returns
-unfolding cellsOf
+unfolding cellCount
 returns c = simp (← c .larger .ensures, ← c .before .ceil .ensures)
 
 pub cells-spec : {M : Type 1} → statement M

@@ -6,7 +6,7 @@ use native.Mathlib.Omega.{arith}
 use borrow.Author.Tests.{le-leb, lt-leb}
 use lib.ListN.{length, take, drop, getD}
 use mathlib.Core.List.{List}
-use Rattle.hex_text.specs.Hex.{digitOf, number, hexAt}
+use Rattle.hex_text.specs.Hex.{hexDigit, hexNumber, hexAt}
 use Rattle.hex_text.specs.declared.Word.{Word}
 use Rattle.hex_text.specs.declared.Word.the-variants.{Missing}
 use Rattle.hex_text.proofs.Digits.{digit-le, Read, read-none, read-more, read-stop, read-all, small-at}
@@ -23,12 +23,12 @@ returns : tie.Need-returns Inv-loop μ-loop
 unfolding hexAt
 returns c = simp (lt-leb _ _ (c .if1 .taken))
 
--- the text ends before the number does
+-- the text ends before the hexNumber does
 past : (text : List ℕ) (k n : ℕ) → n ≤ 16 → length text < k + n → Missing ≡ hexAt text k n
 unfolding hexAt
 past text k n l h = simp (le-leb n 16 l, lt-leb (k + n) (length text) h)
 
-inside : (text : List ℕ) (k n : ℕ) (w : Word) → n ≤ 16 → k + n ≤ length text → w ≡ number 0 (take n (drop k text)) → w ≡ hexAt text k n
+inside : (text : List ℕ) (k n : ℕ) (w : Word) → n ≤ 16 → k + n ≤ length text → w ≡ hexNumber 0 (take n (drop k text)) → w ≡ hexAt text k n
 unfolding hexAt
 inside text k n w l h e = simp (le-leb n 16 l, le-leb (k + n) (length text) h) e
 
@@ -86,7 +86,7 @@ loop-again c =
     let start = at-loop .before .before .before .before .before in
     let d = c .before .digit in
     let j = getD (start .args .text .now) (start .args .at + at-loop .loop .i) 0 in
-    let below : digitOf j < 16 = omega (arith, d .ensures, digit-le j, c .if4 .left) in
+    let below : hexDigit j < 16 = omega (arith, d .ensures, digit-le j, c .if4 .left) in
     subst (λ (z : ℕ). Read (start .args .text .now) (start .args .at) (start .args .count) (at-loop .loop .value * 16 + z) (at-loop .loop .i + 1)) (sym (d .ensures))
     (read-more _ _ _ _ _ (at-loop .loop .inv) (c .before .before .before .loop-test .taken) (fit (at-loop .before)) below)
 

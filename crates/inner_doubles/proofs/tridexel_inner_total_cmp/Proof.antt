@@ -1,7 +1,7 @@
 -- `tridexel_inner::tridexel_inner_total_cmp` meets its contract: each arm answers the number of the case that it matched.
 use borrow.Author.Needs.{needs}
 use mathlib.Core.Path.{sym, ap, _∙_}
-use Rattle.inner_doubles.specs.Orderings.{digitOf}
+use Rattle.inner_doubles.specs.Orderings.{orderingCode}
 use Rattle.inner_doubles.proofs.tridexel_inner_total_cmp.Statement.{statement}
 use Rattle.inner_doubles.proofs.tridexel_inner_total_cmp.Tie as tie
 use Rattle.inner_doubles.proofs.tridexel_inner_total_cmp.Reads as reads
@@ -21,13 +21,13 @@ enum-told-3 : tie.Need-enum-told-3
 enum-told-3 c = search needs
 
 returns : tie.Need-returns
-returns c = ap digitOf (sym (c .enum-told .given .1) ∙ c .before .before .total-cmp .ensures)
+returns c = ap orderingCode (sym (c .enum-told .given .1) ∙ c .before .before .total-cmp .ensures)
 
 returns-2 : tie.Need-returns-2
-returns-2 c = ap digitOf (sym (c .enum-told2 .given .1) ∙ c .before .before .total-cmp .ensures)
+returns-2 c = ap orderingCode (sym (c .enum-told2 .given .1) ∙ c .before .before .total-cmp .ensures)
 
 returns-3 : tie.Need-returns-3
-returns-3 c = ap digitOf (sym (c .enum-told3 .given .1) ∙ c .before .before .total-cmp .ensures)
+returns-3 c = ap orderingCode (sym (c .enum-told3 .given .1) ∙ c .before .before .total-cmp .ensures)
 
 pub tridexel-inner-total-cmp-spec : {M : Type 1} → statement M
 tridexel-inner-total-cmp-spec =

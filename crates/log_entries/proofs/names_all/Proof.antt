@@ -4,8 +4,8 @@ use borrow.Author.Count.{below-more}
 use Prim.Native.Nat.{ℕ, _≤_, _<_, _-_}
 use borrow.Author.Needs.{needs}
 use native.Mathlib.Omega.{arith}
-use Rattle.log_model.specs.Logs.{entryAt, namesOne}
-use Rattle.log_model.specs.Model.{NoRay}
+use Rattle.log_model.specs.Logs.{entryAt, namesSomeRay}
+use Rattle.log_model.specs.Model.{NamesNoRay}
 use Rattle.log_model.proofs.Entries.{entry-in}
 use Rattle.doubles.proofs.Bools.{not-true, not-false}
 use Rattle.log_entries.specs.Named.{EachNamed}
@@ -13,7 +13,7 @@ use Rattle.log_entries.proofs.names_all.Statement.{statement}
 use Rattle.log_entries.proofs.names_all.Tie as tie
 
 abbrev Inv-loop : tie.InvT-loop
-Inv-loop g log n i₀ i = (i ≤ n) × ((j : ℕ) → j < i → namesOne g (entryAt log j) ≡ true)
+Inv-loop g log n i₀ i = (i ≤ n) × ((j : ℕ) → j < i → namesSomeRay g (entryAt log j) ≡ true)
 
 abbrev μ-loop : tie.MeasureT-loop
 μ-loop g log n i₀ i = n - i
@@ -22,7 +22,7 @@ loop-holds : tie.Need-loop-holds Inv-loop μ-loop
 loop-holds c = (omega arith, λ j h. absurd (omega arith))
 
 returns : tie.Need-returns Inv-loop μ-loop
-unfolding EachNamed NoRay
+unfolding EachNamed NamesNoRay
 returns c = record { yes = λ h. absurd (false≢true h); no = λ _. (entryAt (c .before .before .before .before .before .args .log .now) (c .before .before .before .loop .i), entry-in (c .before .before .before .before .before .args .log .now) (c .before .before .before .loop .i) (omega arith), sym (c .before .named .ensures) ∙ not-true _ (c .if1 .taken)) }
 
 loop-again : tie.Need-loop-again Inv-loop μ-loop

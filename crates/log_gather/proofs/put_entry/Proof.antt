@@ -1,12 +1,12 @@
 -- The outer pair is put first, if it counts, then the inner one.
 use borrow.Author.Needs.{needs}
-use Rattle.log_model.specs.Logs.{entryAt, loOf, hiOf}
+use Rattle.log_model.specs.Logs.{entryAt, hitLo, hitHi}
 use Rattle.log_gather.proofs.Entries.{puts-inner, puts-both}
 use Rattle.log_gather.proofs.put_entry.Statement.{statement}
 use Rattle.log_gather.proofs.put_entry.Tie as tie
 
 returns : tie.Need-returns
-unfolding entryAt loOf hiOf
+unfolding entryAt hitLo hitHi
 returns c =
     let second = c .before .before .put2 in
     let asked = c .before .before .before .before .before .before .before .before in
@@ -17,7 +17,7 @@ returns c =
     (given .certain) (first .last .0) (first .result) (taken .if1 .taken) (first .ensures) (second .ensures)
 
 returns-2 : tie.Need-returns-2
-unfolding entryAt loOf hiOf
+unfolding entryAt hitLo hitHi
 returns-2 c =
     let only = c .before .before .put3 in
     let left = c .before .before .before .before .before .before in

@@ -9,7 +9,7 @@ use lib.ListN.{length, drop}
 use lib.Seq.{length-take-le}
 use lib.Ieee.{Float}
 use Rattle.grid.specs.declared.DexelGrid.{DexelGrid}
-use Rattle.log_model.specs.Logs.{entryAt, entryCount, namesOne}
+use Rattle.log_model.specs.Logs.{entryAt, entryCount, namesSomeRay}
 use Rattle.log_entries.specs.Named.{EachNamed}
 use Rattle.log_entries.proofs.Places.{each-below}
 use Rattle.log_group.proofs.Chains.{Grouping, grouping-start, grouping-step, grouping-done, cleared-size, cleared-none, cleared-past}
@@ -22,7 +22,7 @@ Inv-loop g log work₀ rays i₀ work i = Grouping g log work₀ work i
 abbrev μ-loop : tie.MeasureT-loop
 μ-loop g log work₀ rays i₀ work i = i
 
-named : (g : DexelGrid) (log : List Float) (i : ℕ) → EachNamed g log → i < entryCount log → namesOne g (entryAt log i) ≡ true
+named : (g : DexelGrid) (log : List Float) (i : ℕ) → EachNamed g log → i < entryCount log → namesSomeRay g (entryAt log i) ≡ true
 unfolding EachNamed
 named g log i all h = all i h
 

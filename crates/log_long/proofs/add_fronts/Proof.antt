@@ -1,12 +1,12 @@
 -- `log_long::add_fronts` meets its contract.
 use borrow.Author.Needs.{needs}
 use mathlib.Core.Path.{refl}
-use Rattle.log_model.specs.Logs.{entryAt, loOf, hiOf}
+use Rattle.log_model.specs.Logs.{entryAt, hitLo, hitHi}
 use Rattle.log_long.proofs.add_fronts.Statement.{statement}
 use Rattle.log_long.proofs.add_fronts.Tie as tie
 
 returns : tie.Need-returns
-unfolding entryAt loOf hiOf
+unfolding entryAt hitLo hitHi
 returns c = record {
   count-is = refl;
   end-is = refl;

@@ -1,15 +1,14 @@
 -- `log_merge::bring_hits` meets its contract.
 use borrow.Author.Needs.{needs}
 use native.Mathlib.Omega.{arith}
-use borrow.Author.Needs.{needs}
 use mathlib.Core.Path.{_≡_}
 use Prim.Native.Nat.{_-_}
 use lib.ListN.{length, take, drop, length-drop}
 use lib.Seq.{length-take-le}
 use Rattle.log_model.specs.Logs.{entries}
-use Rattle.log_entries.specs.Named.{pairsNamed}
+use Rattle.log_entries.specs.Named.{hitsOnRayNumber}
 use Rattle.log_entries.proofs.Sizes.{named-even}
-use Rattle.log_group.specs.Groups.{kindOf}
+use Rattle.log_group.specs.Groups.{hitKindOf}
 use Rattle.log_merge.proofs.Bringing.{copied-size, hits-brought}
 use Rattle.log_merge.proofs.bring_hits.Statement.{statement}
 use Rattle.log_merge.proofs.bring_hits.Tie as tie
@@ -20,7 +19,7 @@ part-long y =
     let s = y .before .before .before .before in
     let a = s .args in
     let w = y .gather-hits .last .1 .1 .0 in
-    let size = copied-size (pairsNamed (a .g) (entries (a .log .now)) (a .ray) (kindOf (a .inner))) (a .work .now) (a .at) w (y .gather-hits .result) (s .pre .3) (y .gather-hits .ensures) in
+    let size = copied-size (hitsOnRayNumber (a .g) (entries (a .log .now)) (a .ray) (hitKindOf (a .inner))) (a .work .now) (a .at) w (y .gather-hits .result) (s .pre .3) (y .gather-hits .ensures) in
     omega (arith, size, length-drop (a .at) w, length-take-le (length w - a .at) (drop (a .at) w) (omega (arith, length-drop (a .at) w)))
 
 normalize-front-requires : tie.Need-normalize-front-requires
@@ -29,7 +28,7 @@ normalize-front-requires c κs =
     let s = y .before .before .before .before in
     let a = s .args in
     let e = y .gather-hits .ensures in
-    (omega (arith, e .past, named-even (a .g) (a .ray) (kindOf (a .inner)) (entries (a .log .now))), omega (arith, e .past, s .pre .3, part-long y))
+    (omega (arith, e .past, named-even (a .g) (a .ray) (hitKindOf (a .inner)) (entries (a .log .now))), omega (arith, e .past, s .pre .3, part-long y))
 
 returns : tie.Need-returns
 returns c =
@@ -37,7 +36,7 @@ returns c =
     let y = z .before .before .before .before in
     let s = y .before .before .before .before in
     let a = s .args in
-    hits-brought (pairsNamed (a .g) (entries (a .log .now)) (a .ray) (kindOf (a .inner))) (a .work .now) (y .gather-hits .last .1 .1 .0) (z .normalize-front .last .0) (a .at) (y .gather-hits .result) (z .normalize-front .result)
+    hits-brought (hitsOnRayNumber (a .g) (entries (a .log .now)) (a .ray) (hitKindOf (a .inner))) (a .work .now) (y .gather-hits .last .1 .1 .0) (z .normalize-front .last .0) (a .at) (y .gather-hits .result) (z .normalize-front .result)
     (s .pre .3) (y .gather-hits .ensures) (z .normalize-front .kept .0) (z .normalize-front .ensures)
 
 pub bring-hits-spec : {M : Type 1} → statement M

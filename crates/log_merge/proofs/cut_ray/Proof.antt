@@ -3,7 +3,7 @@ use borrow.Author.Needs.{needs}
 use mathlib.Core.Path.{sym, _∙_}
 use Prim.Native.Nat.{_+_, _*_}
 use Rattle.doubles.proofs.Bools.{not-true, not-false}
-use Rattle.ray_subtract.specs.Steps.{part}
+use Rattle.ray_subtract.specs.Steps.{cellsFrom}
 use Rattle.log_merge.proofs.Cutting.{untouched, second-ready, both-cut}
 use Rattle.log_merge.proofs.cut_ray.Statement.{statement}
 use Rattle.log_merge.proofs.cut_ray.Tie as tie
@@ -12,9 +12,9 @@ returns : tie.Need-returns
 returns c =
     let a = c .before .before .before .before .args in
     let h = c .before .is-changed in
-    untouched (part (a .at) (a .np) (a .w .now)) (part (a .at + a .np) (a .nc) (a .w .now))
-    (part (a .at + a .np + a .nc) (a .no) (a .w .now))
-    (part (a .at + a .np + a .nc + a .no) (a .ni) (a .w .now)) 0 (a .np + a .nc + a .no + 2 * a .ni) (a .w .now)
+    untouched (cellsFrom (a .at) (a .np) (a .w .now)) (cellsFrom (a .at + a .np) (a .nc) (a .w .now))
+    (cellsFrom (a .at + a .np + a .nc) (a .no) (a .w .now))
+    (cellsFrom (a .at + a .np + a .nc + a .no) (a .ni) (a .w .now)) 0 (a .np + a .nc + a .no + 2 * a .ni) (a .w .now)
     (sym (h .ensures) ∙ not-true (h .result) (c .if1 .taken))
 
 subtract-both-requires : tie.Need-subtract-both-requires

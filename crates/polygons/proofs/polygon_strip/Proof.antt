@@ -1,4 +1,4 @@
-use Rattle.polygons.specs.Polygon.{polygonStrip, stripOf}
+use Rattle.polygons.specs.Polygon.{polygonStrip, extentStrip}
 use borrow.Author.Needs.{needs}
 use Rattle.polygons.proofs.polygon_strip.Statement.{statement}
 use Rattle.polygons.proofs.polygon_strip.Tie as tie
@@ -13,11 +13,11 @@ widen-clip-requires : tie.Need-widen-clip-requires
 widen-clip-requires c κs = search needs
 
 returns : tie.Need-returns
-unfolding polygonStrip stripOf
+unfolding polygonStrip extentStrip
 returns c = simp (c .if1 .taken, ← c .before .widen-clip .ensures, ← c .before .before .no-extent .ensures, ← c .before .before .before .clip4 .ensures .0)
 
 returns-2 : tie.Need-returns-2
-unfolding polygonStrip stripOf
+unfolding polygonStrip extentStrip
 returns-2 c = simp (c .if1 .left, ← c .before .widen-clip .ensures, ← c .before .before .no-extent .ensures, ← c .before .before .before .clip4 .ensures .0)
 
 pub polygon-strip-spec : {M : Type 1} → statement M

@@ -3,7 +3,7 @@ use mathlib.Core.Path.{_≡_, subst}
 use mathlib.Core.List.{List}
 use Prim.Native.Nat.{_+_, _*_, _-_, _≤_}
 use lib.Ieee.{Float}
-use Rattle.ray_input.specs.Format.{pairAt, pairs}
+use Rattle.ray_input.specs.Format.{pairAt, textPairs}
 use Rattle.ray_input.specs.Steps.{Appended}
 use Rattle.ray_input.proofs.Reading.{count-hit, count-mono, pairs-none, pairs-more, pairs-length}
 use Rattle.ray_input.proofs.Writing.{put-none, put-then, same-size}
@@ -13,7 +13,7 @@ use Rattle.ray_input.proofs.collect.Statement.{statement}
 use Rattle.ray_input.proofs.collect.Tie as tie
 
 abbrev Inv-loop : tie.InvT-loop
-Inv-loop s n c out₀ m₀ k₀ out m k = (k ≤ n) × Appended out₀ 0 (pairs c s k) out m
+Inv-loop s n c out₀ m₀ k₀ out m k = (k ≤ n) × Appended out₀ 0 (textPairs c s k) out m
 
 abbrev μ-loop : tie.MeasureT-loop
 μ-loop s n c out₀ m₀ k₀ out m k = n - k
@@ -28,7 +28,7 @@ put-line-of-requires c κs =
     let l = c .before .before in
     let s = l .before .before .before in
     let a = s .args in
-    let size = same-size (a .out .now) 0 (pairs (a .c) (a .s .now) (l .loop .k)) (l .loop .out) (l .loop .m) (l .loop .inv .1) in
+    let size = same-size (a .out .now) 0 (textPairs (a .c) (a .s .now) (l .loop .k)) (l .loop .out) (l .loop .m) (l .loop .inv .1) in
     let put = pairs-length (a .c) (a .s .now) (l .loop .k) in
     let more = l .loop .inv .1 .next in (
       omega (arith, s .pre .0),
@@ -43,7 +43,7 @@ loop-again c =
     let a = l .before .before .before .args in (
       omega arith,
       subst (λ (x : List Float). Appended (a .out .now) 0 x (p .put-line-of .last .1 .1 .1 .0) (p .put-line-of .result)) (pairs-more (a .c) (a .s .now) (l .loop .k))
-          (put-then (a .out .now) 0 (pairs (a .c) (a .s .now) (l .loop .k)) (l .loop .out) (l .loop .m) (l .loop .inv .1)
+          (put-then (a .out .now) 0 (textPairs (a .c) (a .s .now) (l .loop .k)) (l .loop .out) (l .loop .m) (l .loop .inv .1)
           (pairAt (a .c) (a .s .now) (36 * l .loop .k)) (p .put-line-of .last .1 .1 .1 .0) (p .put-line-of .result) (p .put-line-of .ensures)),
     )
 
@@ -51,7 +51,7 @@ same-length : tie.Need-same-length Inv-loop μ-loop
 same-length c =
     let l = c .before in
     let a = l .before .before .before .args in
-    same-size (a .out .now) 0 (pairs (a .c) (a .s .now) (l .loop .k)) (l .loop .out) (l .loop .m) (l .loop .inv .1)
+    same-size (a .out .now) 0 (textPairs (a .c) (a .s .now) (l .loop .k)) (l .loop .out) (l .loop .m) (l .loop .inv .1)
 
 returns : tie.Need-returns Inv-loop μ-loop
 returns c =

@@ -4,7 +4,7 @@ use Prim.Native.Nat.{ℕ, _+_, _/_, _<_}
 use lib.ListN.{length}
 use Rattle.doubles.proofs.Bools.{not-true, not-false, clash}
 use Rattle.spans.proofs.Sets.{sound-mod}
-use Rattle.ray_merge.specs.Merge.{workPairs, Mergeable}
+use Rattle.ray_merge.specs.Merge.{workPairs, MergePre}
 use Rattle.ray_merge.proofs.Answers.{refuse-short, refuse-bad, accept}
 use borrow.Author.Needs.{needs}
 use native.Mathlib.Omega.{arith}
@@ -14,7 +14,7 @@ use Rattle.ray_merge.proofs.merge.Tie as tie
 not-short : (c : tie.Else1) → let a = c .before .before .before .before .before .before .args in ¬ (length (a .work .now) / 2 < workPairs (a .possible .now) (a .certain .now) (a .outer .now) (a .inner .now))
 not-short c h = omega (arith, c .if1 .left)
 
-good : (c : tie.Else4) → let a = c .before .before .before .before .before .before .before .before .before .before .args in Mergeable (a .lo) (a .hi) (a .possible .now) (a .certain .now) (a .outer .now) (a .inner .now)
+good : (c : tie.Else4) → let a = c .before .before .before .before .before .before .before .before .before .before .args in MergePre (a .lo) (a .hi) (a .possible .now) (a .certain .now) (a .outer .now) (a .inner .now)
 good c =
     let v = c .before .valid-ray in
     let t = c .before .before in

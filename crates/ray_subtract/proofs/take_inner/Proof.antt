@@ -2,7 +2,7 @@
 use mathlib.Core.Path.{_≡_}
 use mathlib.Core.Bool.{true}
 use Rattle.spans.specs.Spans.{sound}
-use Rattle.ray_subtract.specs.Steps.{part}
+use Rattle.ray_subtract.specs.Steps.{cellsFrom}
 use Rattle.ray_subtract.proofs.Places.{part-length}
 use Rattle.ray_subtract.proofs.Sparing.{reduced-still, reduced-moved, less-still}
 use Rattle.span_overlay.specs.Overlay.{lessOf}
@@ -12,7 +12,7 @@ use native.Mathlib.Omega.{arith}
 use Rattle.ray_subtract.proofs.take_inner.Statement.{statement}
 use Rattle.ray_subtract.proofs.take_inner.Tie as tie
 
-inner-sound : (s : tie.Start) → let a = s .args in sound (lessOf (part (a .a) (a .n) (a .w .now)) (part (a .b) (a .m) (a .w .now))) ≡ true
+inner-sound : (s : tie.Start) → let a = s .args in sound (lessOf (cellsFrom (a .a) (a .n) (a .w .now)) (cellsFrom (a .b) (a .m) (a .w .now))) ≡ true
 inner-sound s = less-list _ _ (s .pre .0 .isSound) (s .pre .1 .isSound) .isSound
 
 returns : tie.Need-returns

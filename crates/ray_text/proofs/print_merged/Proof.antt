@@ -5,9 +5,9 @@ use lib.ListN.{length}
 use lib.Ieee.{Float}
 use denote.Ref.{now}
 use Rattle.refusal.specs.Refusal.{Due, NoneDue}
-use Rattle.ray_subtract.specs.Taking.{handed, cellsOf}
-use Rattle.ray_merge.specs.Merge.{mergeCauses, Left}
-use Rattle.ray_subtract.specs.declared.Part.{Part}
+use Rattle.ray_subtract.specs.Taking.{handedBack, newCells}
+use Rattle.ray_merge.specs.Merge.{mergeCauses, MergeEffect}
+use Rattle.ray_subtract.specs.declared.MergedList.{MergedList}
 use Rattle.ray_input.specs.Format.{letterP, letterC}
 use Rattle.ray_output.specs.Output.{linesText}
 use Rattle.ray_input.specs.Steps.{Appended}
@@ -22,33 +22,33 @@ due : (c : tie.After-known-told) → let a = c .before .before .before .before .
 due c = (rw (c .before .answer .given .1) at (c .before .before .before .before .merge .ensures)) .0
 
 -- the two lists, and the buffer, where it did not
-abbrev first : tie.After-known-told2 → Part
+abbrev first : tie.After-known-told2 → MergedList
 first c = c .before .answer2 .given .0 .0
 
-abbrev second : tie.After-known-told2 → Part
+abbrev second : tie.After-known-told2 → MergedList
 second c = c .before .answer2 .given .0 .1 .0
 
 abbrev buffer : tie.After-known-told2 → List Float
 buffer c = c .before .before .before .before .merge .last .1 .1 .1 .1 .1 .1 .0
 
-lists : (c : tie.After-known-told2) → let a = c .before .before .before .before .before .before .before .before .before .before .before .args in NoneDue (mergeCauses (a .lo) (a .hi) (a .possible .now) (a .certain .now) (a .outer .now) (a .inner .now) 3072) × Left (a .lo) (a .hi) (a .possible .now) (a .certain .now) (a .outer .now) (a .inner .now) (first c) (second c) (buffer c)
+lists : (c : tie.After-known-told2) → let a = c .before .before .before .before .before .before .before .before .before .before .before .args in NoneDue (mergeCauses (a .lo) (a .hi) (a .possible .now) (a .certain .now) (a .outer .now) (a .inner .now) 3072) × MergeEffect (a .lo) (a .hi) (a .possible .now) (a .certain .now) (a .outer .now) (a .inner .now) (first c) (second c) (buffer c)
 lists c = rw (c .before .answer2 .given .1) at (c .before .before .before .before .merge .ensures)
 
 size : (c : tie.After-known-told2) → length (buffer c) ≡ 3072
 size c = c .before .before .before .before .merge .kept .1 .1 .1 .1 .1 .1 .0
 
-possible-is : (c : tie.After-possible-of) → let k = c .before .before .before in now (c .possible-of .result) ≡ handed (first k) (k .before .before .before .before .before .before .before .before .before .before .before .args .possible .now) (buffer k) 0
+possible-is : (c : tie.After-possible-of) → let k = c .before .before .before in now (c .possible-of .result) ≡ handedBack (first k) (k .before .before .before .before .before .before .before .before .before .before .before .args .possible .now) (buffer k) 0
 possible-is c = c .possible-of .ensures .0
 
-certain-is : (c : tie.After-certain-of) → let k = c .before .before .before .before .before .before .before .before .before in now (c .certain-of .result) ≡ handed (second k) (k .before .before .before .before .before .before .before .before .before .before .before .args .certain .now) (buffer k) (cellsOf (first k))
+certain-is : (c : tie.After-certain-of) → let k = c .before .before .before .before .before .before .before .before .before in now (c .certain-of .result) ≡ handedBack (second k) (k .before .before .before .before .before .before .before .before .before .before .before .args .certain .now) (buffer k) (newCells (first k))
 certain-is c = c .certain-of .ensures .0
 
 -- what was printed is the text of the list
-printed : (o : tie.After-put-lines) → let k = o .before .before .before .before in length (linesText letterP (now (o .before .possible-of .result))) ≡ length (linesText letterP (handed (first k) (k .before .before .before .before .before .before .before .before .before .before .before .args .possible .now) (buffer k) 0))
+printed : (o : tie.After-put-lines) → let k = o .before .before .before .before in length (linesText letterP (now (o .before .possible-of .result))) ≡ length (linesText letterP (handedBack (first k) (k .before .before .before .before .before .before .before .before .before .before .before .args .possible .now) (buffer k) 0))
 printed o = ap (λ (l : List Float). length (linesText letterP l)) (possible-is (o .before))
 
 printed-2 : (d : tie.After-put-lines2) → let k = d .before .before .before .before .before .before .before .before .before .before in
-    length (linesText letterC (now (d .before .certain-of .result))) ≡ length (linesText letterC (handed (second k) (k .before .before .before .before .before .before .before .before .before .before .before .args .certain .now) (buffer k) (cellsOf (first k))))
+    length (linesText letterC (now (d .before .certain-of .result))) ≡ length (linesText letterC (handedBack (second k) (k .before .before .before .before .before .before .before .before .before .before .before .args .certain .now) (buffer k) (newCells (first k))))
 printed-2 d = ap (λ (l : List Float). length (linesText letterC l)) (certain-is (d .before))
 
 put-refused-requires : tie.Need-put-refused-requires

@@ -5,13 +5,13 @@ use mathlib.Core.Path.{_≡_, refl, sym, _∙_}
 use native.Mathlib.Omega.{arith}
 use lib.ListN.{length, drop}
 use borrow.Author.Needs.{needs}
-use Rattle.span_hits.specs.Hits.{hitOf}
+use Rattle.span_hits.specs.Hits.{nextHit}
 use Rattle.span_hits.proofs.Step.{hit-step, hit-end}
 use Rattle.span_hits.proofs.hit_from.Statement.{statement}
 use Rattle.span_hits.proofs.hit_from.Tie as tie
 
 abbrev Inv-loop : tie.InvT-loop
-Inv-loop hits from at₀ at = hitOf from (drop from hits) ≡ hitOf at (drop at hits)
+Inv-loop hits from at₀ at = nextHit from (drop from hits) ≡ nextHit at (drop at hits)
 
 abbrev μ-loop : tie.MeasureT-loop
 μ-loop hits from at₀ at = length hits - at

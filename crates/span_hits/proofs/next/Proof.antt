@@ -45,13 +45,13 @@ use denote.Triple.Table.{entered, cited}
 use denote.Triple.Walked.{says, Stays, stay-ref, walkOf, goes-ref, Walks, ends-at, walked, walk-meets}
 use Rattle.span_hits.specs.declared.HitReader.{HitReader}
 use Rattle.span_hits.specs.declared.Found.{Found}
-use Rattle.span_hits.specs.Hits.{hitOf}
+use Rattle.span_hits.specs.Hits.{nextHit}
 use Rattle.span_hits.proofs.HitReader as T
 use Rattle.span_hits.proofs.HitReader.Laws as T′
 use Rattle.span_hits.proofs.Found as O
 use Rattle.span_hits.proofs.Found.Laws as O′
-use Rattle.span_hits.proofs.Hit as R
-use Rattle.span_hits.proofs.Hit.Laws as R′
+use Rattle.span_hits.proofs.NextHit as R
+use Rattle.span_hits.proofs.NextHit.Laws as R′
 use Rattle.span_hits.proofs.hit_from as callee
 use Rattle.span_hits.proofs.hit_from.Symbol as callee-def
 use Rattle.span_hits.proofs.hit_from.Symbol.{name as #callee}
@@ -97,7 +97,7 @@ module _ {M : Type 1} (𝓤 : URA M) (H : Heap 𝓤) (A : Atoms 𝓤) (W : Given
   Own = B κ′ .own h (T′.lowered h ∷ [])
 
   abbrev found : Found
-  found = hitOf (h .at) (dropped (h .at) (h .hits .now))
+  found = nextHit (h .at) (dropped (h .at) (h .hits .now))
 
   -- the machine value of the hit
   abbrev ans : Found → Val

@@ -1,13 +1,13 @@
 -- `span_join::join_falling` meets its contract.
 use borrow.Author.Needs.{needs}
 use native.Mathlib.Omega.{arith}
-use Rattle.span_join.specs.Steps.{BegunBack}
+use Rattle.span_join.specs.Steps.{JoinedFromBack}
 use Rattle.span_join.proofs.Passes.{back-start, back-step, filled-even}
 use Rattle.span_join.proofs.join_falling.Statement.{statement}
 use Rattle.span_join.proofs.join_falling.Tie as tie
 
 abbrev Inv-loop : tie.InvT-loop
-Inv-loop spans out₀ n₀ k₀ out n k = BegunBack spans out₀ out (record { passed = k; end = n })
+Inv-loop spans out₀ n₀ k₀ out n k = JoinedFromBack spans out₀ out (record { passed = k; end = n })
 
 abbrev μ-loop : tie.MeasureT-loop
 μ-loop spans out₀ n₀ k₀ out n k = k

@@ -3,13 +3,13 @@ use borrow.Author.Needs.{needs}
 use native.Mathlib.Omega.{arith}
 use Prim.Native.Nat.{_-_}
 use lib.ListN.{length}
-use Rattle.span_join.specs.Steps.{Begun}
+use Rattle.span_join.specs.Steps.{JoinedFromFront}
 use Rattle.span_join.proofs.Passes.{begun-start, begun-step, filled-even}
 use Rattle.span_join.proofs.join_rising.Statement.{statement}
 use Rattle.span_join.proofs.join_rising.Tie as tie
 
 abbrev Inv-loop : tie.InvT-loop
-Inv-loop spans out₀ n₀ k₀ out n k = Begun spans out₀ out (record { passed = k; end = n })
+Inv-loop spans out₀ n₀ k₀ out n k = JoinedFromFront spans out₀ out (record { passed = k; end = n })
 
 abbrev μ-loop : tie.MeasureT-loop
 μ-loop spans out₀ n₀ k₀ out n k = length spans - k

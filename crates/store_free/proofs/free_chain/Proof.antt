@@ -2,7 +2,7 @@ use mathlib.Core.Path.{_≡_, refl, sym, _∙_}
 use native.Mathlib.Omega.{arith}
 use borrow.Author.Needs.{needs}
 use lib.ListN.{length, length-set}
-use Rattle.store.specs.Store.{Chain, places, freedSpans, freedLinks}
+use Rattle.store.specs.Store.{RecordChain, places, freedSpans, freedLinks}
 use Rattle.store.proofs.Chains.{Step, chain-step}
 use Rattle.store.proofs.Freeing.{Turn, turn, freed-end}
 use Rattle.store_free.proofs.free_chain.Statement.{statement}
@@ -12,7 +12,7 @@ use Rattle.store_free.proofs.free_chain.Lts as lts
 
 abbrev Inv-loop : tie.InvT-loop
 Inv-loop spans₀ links₀ n owner head k₀ spans links k =
-    (length spans ≡ length spans₀) × (length links ≡ length links₀) × Chain links n owner k (places links n k)
+    (length spans ≡ length spans₀) × (length links ≡ length links₀) × RecordChain links n owner k (places links n k)
     × (freedSpans spans₀ (places links₀ n head) ≡ freedSpans spans (places links n k)) × (freedLinks links₀ (places links₀ n head) ≡ freedLinks links (places links n k))
 
 abbrev μ-loop : tie.MeasureT-loop

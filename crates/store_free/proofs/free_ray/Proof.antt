@@ -1,14 +1,14 @@
 use borrow.Author.Needs.{needs}
 use mathlib.Core.Path.{sym, ap, _∙_, subst}
 use Prim.Native.Nat.{_+_, _*_}
-use Rattle.store.specs.Updates.{Cells, Freeable, freedList}
+use Rattle.store.specs.Updates.{Cells, FreeListPre, freedList}
 use Rattle.store_free.proofs.free_ray.Statement.{statement}
 use Rattle.store_free.proofs.free_ray.Tie as tie
 
 free-list-requires-2 : tie.Need-free-list-requires-2
 free-list-requires-2 c κs =
     let given = c .before .before .before .before .before .before .before .before .before .before .before .before .before .before .before .before .args in
-    subst (λ (x : Cells). Freeable (given .n) x (2 * given .ray + 1)) (sym (c .before .before .before .before .before .before .before .before .before .free-list .ensures)) (c .before .before .before .before .before .before .before .before .before .before .before .before .before .before .before .before .pre .certain)
+    subst (λ (x : Cells). FreeListPre (given .n) x (2 * given .ray + 1)) (sym (c .before .before .before .before .before .before .before .before .before .free-list .ensures)) (c .before .before .before .before .before .before .before .before .before .before .before .before .before .before .before .before .pre .certain)
 
 returns : tie.Need-returns
 returns c =

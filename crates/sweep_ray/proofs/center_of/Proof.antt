@@ -1,4 +1,4 @@
-use Rattle.sweep_ray.specs.Section.{centerOf}
+use Rattle.sweep_ray.specs.Section.{localCenter}
 use borrow.Author.Needs.{needs}
 use Rattle.sweep_ray.proofs.center_of.Statement.{statement}
 use Rattle.sweep_ray.proofs.center_of.Tie as tie
@@ -7,7 +7,7 @@ nearest-u64-to-f64-requires : tie.Need-nearest-u64-to-f64-requires
 nearest-u64-to-f64-requires c κs = search needs
 
 returns : tie.Need-returns
-unfolding centerOf
+unfolding localCenter
 returns c = simp (← c .before .before .before .nearest-u64-to-f64 .ensures)
 
 pub center-of-spec : {M : Type 1} → statement M
