@@ -18,9 +18,8 @@ use Rattle.stock.specs.Stock.{Stock, SoundStock}
 use Rattle.stock.specs.declared.CommitAnswer.{CommitAnswer}
 use Rattle.store.specs.Updates.{Cells}
 use Rattle.commit_changes.specs.Commit.{changeCommitCauses}
-use Rattle.commit_check.specs.Tests.{commitOf}
 use Rattle.commit_log.specs.Commit.{LogCommitPost}
-use Rattle.log_model.specs.Logs.{Commit}
+use Rattle.log_model.specs.Logs.{Commit, commitOf}
 use Rattle.log_model.specs.Model.{LogAnswer, changed, refused, logCommitCauses, AnswerDue}
 use Rattle.log_model.specs.Lent.{CommitOnAnyGrid, lentStore}
 use Rattle.log_model.specs.Runs.{pointSets}

@@ -14,9 +14,10 @@ use Rattle.store.specs.Updates.{Cells}
 use Rattle.span_cover.specs.Covering.{Covers}
 use Rattle.ray_validity.specs.Ray.{ValidRay}
 use Rattle.ray_check.proofs.Tests.{passes, covers-tells}
-use Rattle.stock.specs.Stock.{Decides, possibleIn, certainIn}
+use Rattle.stock.specs.Stock.{possibleIn, certainIn}
 use Rattle.change_check.specs.Cuts.{SoundWithRoom, IsRemoval, ChangeAllowed}
 use Rattle.change_check.proofs.Lists.{sound-equal}
+use Rattle.logic.specs.Logic.{Decides}
 
 -- a test that fails, of a Bool that P brings with it
 pub fails : (P : Type 0) (b r : Bool) → r ≡ b → not r ≡ true → (P → b ≡ true) → Decides P false

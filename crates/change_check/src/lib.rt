@@ -6,8 +6,9 @@ ghost use lib.ListN.{length};
 ghost use Rattle.spans.specs.Spans.{sound, equal};
 ghost use Rattle.grid.specs.Rays.{rayCount};
 ghost use Rattle.store.specs.Updates.{cells, pairsFrom};
-ghost use Rattle.stock.specs.Stock.{Decides, ChainsInRoom, possibleIn, certainIn};
+ghost use Rattle.stock.specs.Stock.{ChainsInRoom, possibleIn, certainIn};
 ghost use Rattle.change_check.specs.Cuts.{SoundWithRoom, IsRemoval, ChangeAllowed};
+ghost use Rattle.logic.specs.Logic.{Decides};
 use grid::DexelGrid;
 use grid::DexelStockSpec;
 

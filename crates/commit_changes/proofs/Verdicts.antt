@@ -15,7 +15,7 @@ use Rattle.grid.specs.declared.DexelGrid.{DexelGrid}
 use Rattle.store.specs.Updates.{Room, pairsFreed}
 use Rattle.store.proofs.FreePlaces.{free-records}
 use Rattle.store.proofs.Updating.{freed-all}
-use Rattle.stock.specs.Stock.{Stock, SoundStock, Decides, isShort}
+use Rattle.stock.specs.Stock.{Stock, SoundStock, isShort}
 use Rattle.stock.proofs.Causes.{due-first}
 use Rattle.change_list.specs.Changes.{changesOf, AllGood}
 use Rattle.change_list.specs.Steps.{badCauses, CheckChangesPost}
@@ -28,6 +28,7 @@ use Rattle.commit_changes.specs.Commit.{intervalsAfter, ChangeInputBad, 
 use Rattle.commit_changes.specs.Verdicts.{VerdictBy}
 use Rattle.commit_changes.specs.declared.ChangeVerdict.{ChangeVerdict}
 use Rattle.commit_changes.specs.declared.ChangeVerdict.the-variants.{Fits, Refused}
+use Rattle.logic.specs.Logic.{Decides}
 
 module _ (spec : DexelStockSpec) (g : DexelGrid) (s : Stock) (changes : List ℕ) (pairs : List Float) where
   -- ---- 13, 10, 15

@@ -16,9 +16,9 @@ use Rattle.grid.specs.Rays.{rayCount}
 use Rattle.grid.specs.declared.DexelStockSpec.{DexelStockSpec}
 use Rattle.grid.specs.declared.DexelGrid.{DexelGrid}
 use Rattle.store.specs.Updates.{Room}
-use Rattle.stock.specs.Stock.{Stock, SoundStock, Decides, isShort}
+use Rattle.stock.specs.Stock.{Stock, SoundStock, isShort}
 use Rattle.stock.proofs.Causes.{room-of}
-use Rattle.log_model.specs.Logs.{Ray, Kind, entries, workNeeded}
+use Rattle.log_model.specs.Logs.{Ray, Kind, entries, workNeeded, commitOf}
 use Rattle.log_model.specs.Model.{LogBuffersShort, LogInputBad, logCommitCauses}
 use Rattle.log_model.specs.Counts.{changedRayCount, pairsAfter}
 use Rattle.log_model.specs.Runs.{pointSets}
@@ -32,7 +32,8 @@ use Rattle.log_updates.specs.Merges.{stockLists}
 use Rattle.log_budget.specs.Answer.{budgetNumber, budgetOf}
 use Rattle.log_budget.specs.declared.BudgetAnswer.{BudgetAnswer}
 use Rattle.log_budget.specs.declared.BudgetAnswer.the-variants.{Kept, Rays, Intervals}
-use Rattle.commit_check.specs.Tests.{commitOf, LogChecked, stockLogCauses, LogCheckPost}
+use Rattle.commit_check.specs.Tests.{LogChecked, stockLogCauses, LogCheckPost}
+use Rattle.logic.specs.Logic.{Decides}
 
 -- ---- what `budget` says
 module _ (a n c l : ℕ) where

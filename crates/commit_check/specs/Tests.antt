@@ -10,17 +10,13 @@ use Rattle.grid.specs.declared.DexelGrid.{DexelGrid}
 use Rattle.store.specs.Updates.{Room}
 use Rattle.stock.specs.Stock.{Stock, SoundStock}
 use Rattle.refusal.specs.Refusal.{Cause, Due}
-use Rattle.log_model.specs.Logs.{entries, workNeeded, Commit}
+use Rattle.log_model.specs.Logs.{entries, workNeeded, Commit, commitOf}
 use Rattle.log_model.specs.Model.{logCommitCauses}
 use Rattle.log_model.specs.Counts.{changedRayCount, pairsAfter}
 use Rattle.log_model.specs.Runs.{pointSets}
 use Rattle.log_model.specs.Lent.{lentStore}
 use Rattle.log_entries.specs.Named.{EachNamed}
 use Rattle.log_updates.specs.Merges.{stockLists}
-
--- what the commit brings: only the pairs of its work buffer count
-abbrev pub commitOf : (log : List Float) (allowance : ℕ) (work : List Float) → Commit
-commitOf log allowance work = record { log = log; allowance = allowance; work = length work / 2 }
 
 -- every test of the commit is passed
 pub record LogChecked (spec : DexelStockSpec) (g : DexelGrid) (s : Stock) (log : List Float) (allowance : ℕ) (work : List Float) : Type 0 where

@@ -13,23 +13,23 @@ use Rattle.grid.specs.declared.GridAnswer.the-variants.{Accepted as Griddable, 
 use Rattle.grid.specs.declared.DexelStockSpec.{DexelStockSpec}
 use Rattle.grid.specs.declared.DexelGrid.{DexelGrid}
 use Rattle.store.specs.Store.{usedAt}
-use Rattle.store.specs.Walks.{countTo}
 use Rattle.store.specs.Updates.{Cells, CellsPastKept, pairsFreed, pairsLaid, applied}
 use Rattle.store.proofs.Checked.{count-of}
 use Rattle.stock.specs.Stock.{Stock}
 use Rattle.stock.specs.declared.CommitAnswer.{CommitAnswer}
 use Rattle.stock.specs.declared.CommitAnswer.the-variants.{Changed, Refused}
-use Rattle.log_model.specs.Logs.{entries}
+use Rattle.log_model.specs.Logs.{entries, commitOf}
 use Rattle.log_model.specs.Model.{AnswerDue, refused}
 use Rattle.log_model.specs.Runs.{pointSets, CommitEffect, AcceptedEffect}
 use Rattle.log_model.specs.Lent.{listIn, lentStore, CommitOnAnyGrid}
 use Rattle.log_model.proofs.Doubles.{DoubleCells, Doubles, all-doubles}
 use Rattle.log_updates.specs.Merges.{MergeUpdates, committedStock, stockLists}
 use Rattle.log_updates.proofs.Leaves.{changed-rays, all-updated, cut-sound, cut}
-use Rattle.commit_check.specs.Tests.{commitOf, LogChecked, LogCheckPost}
+use Rattle.commit_check.specs.Tests.{LogChecked, LogCheckPost}
 use Rattle.commit_check.proofs.Tests.{passes-none}
 use Rattle.commit_apply.specs.Cutting.{ApplyPre, ApplyPost}
 use Rattle.commit_log.specs.Commit.{answerOf, LogCommitOnGrid, LogCellsOnAnyGrid, LogCommitPost}
+use Rattle.logic.specs.Logic.{countTo}
 
 module _ (spec : DexelStockSpec) (g : DexelGrid) (s : Stock) (log : List Float) (allowance : ℕ) (work : List Float) where
   -- a refused commit

@@ -15,12 +15,11 @@ use Rattle.store.specs.Updates.{Update, CellsPastKept}
 use Rattle.stock.specs.Stock.{Stock}
 use Rattle.stock.specs.declared.CommitAnswer.{CommitAnswer}
 use Rattle.stock.specs.declared.CommitAnswer.the-variants.{Changed, Refused}
-use Rattle.log_model.specs.Logs.{entries}
+use Rattle.log_model.specs.Logs.{entries, commitOf}
 use Rattle.log_model.specs.Model.{LogAnswer, changed, refused}
 use Rattle.log_model.specs.Runs.{CommitStep as CommitPromise}
 use Rattle.log_model.specs.Lent.{lentStore, CommitOnAnyGrid}
 use Rattle.log_updates.specs.Merges.{MergeUpdates, committedStock, stockLists}
-use Rattle.commit_check.specs.Tests.{commitOf}
 
 -- the answer in the model's words: how many rays changed, or document 01's number
 abbrev pub answerOf : CommitAnswer → LogAnswer

@@ -1,8 +1,8 @@
 // The log commit: merge and commit at once.
 ghost use Prim.Native.Nat.{_+_};
 ghost use Rattle.grid_from_spec.specs.Causes.{GridFacts};
-ghost use Rattle.stock.specs.Outcomes.{stock};
 ghost use Rattle.commit_log.specs.Commit.{LogCommitOnGrid, LogCommitPost};
+ghost use Rattle.stock.specs.Stock.{stock};
 use grid::DexelGrid;
 use grid::DexelStockSpec;
 use grid::GridAnswer;

@@ -16,14 +16,13 @@ use Rattle.grid.specs.declared.GridAnswer.the-variants.{Accepted, Refused}
 use Rattle.stock.specs.Stock.{Stock}
 use Rattle.stock.specs.declared.CommitAnswer.{CommitAnswer}
 use Rattle.stock.specs.declared.CommitAnswer.the-variants.{Changed, Refused as NotCommitted}
-use Rattle.log_model.specs.Logs.{Commit}
+use Rattle.log_model.specs.Logs.{Commit, commitOf}
 use Rattle.log_model.specs.Model.{LogAnswer}
 use Rattle.log_model.specs.Runs.{Run, done, CommitStep as CommitPromise}
 use Rattle.log_model.specs.Lent.{lentStore, CommitOnAnyGrid}
 use Rattle.log_model.proofs.Demand3.{extend}
 use Rattle.log_model.proofs.Doubles.{DoubleCells, list-doubles}
 use Rattle.log_model.proofs.Lent.{demand3-lent}
-use Rattle.commit_check.specs.Tests.{commitOf}
 use Rattle.commit_log.specs.Commit.{answerOf}
 use Rattle.commit_run.specs.Running.{beginOf, logFrom, commitAt, commitsTo, answerBy, answersTo, answerCode, answerNumber, answered, RunStepPost, CommitsTo, none, more, RunOnGridPost, RunLogsPost}
 

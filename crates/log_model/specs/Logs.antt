@@ -146,3 +146,7 @@ pub record Commit : Type 0 where
   pub log : List Float
   pub allowance : ℕ
   pub work : ℕ
+
+-- what the commit brings: only the pairs of its work buffer count
+abbrev pub commitOf : (log : List Float) (allowance : ℕ) (work : List Float) → Commit
+commitOf log allowance work = record { log = log; allowance = allowance; work = length work / 2 }

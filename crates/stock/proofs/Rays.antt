@@ -13,7 +13,8 @@ use Rattle.store.specs.Updates.{Cells, Room, CellsChainsSound}
 use Rattle.ray_validity.specs.Ray.{ValidRay}
 use Rattle.store_lists.specs.Reading.{Readable}
 use Rattle.store_lists.proofs.Steps.{readable}
-use Rattle.stock.specs.Stock.{possibleIn, certainIn, ValidAt, ValidTo, SoundCells, Decides, ChainsInRoom}
+use Rattle.stock.specs.Stock.{possibleIn, certainIn, ValidAt, ValidTo, SoundCells, ChainsInRoom}
+use Rattle.logic.specs.Logic.{Decides}
 
 -- a test that fails, of what P brings with it
 pub tells-bad : (P Q : Type 0) (r : Bool) → Decides Q r → not r ≡ true → (P → Q) → Decides P false

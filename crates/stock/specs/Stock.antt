@@ -1,6 +1,5 @@
 -- A stock: the lent store with its small record, beside a description that `grid` accepts.
-use mathlib.Core.Path.{_≡_}
-use mathlib.Core.Bool.{Bool, true, _||_}
+use mathlib.Core.Bool.{Bool, _||_}
 use mathlib.Core.List.{List}
 use Prim.Native.Nat.{ℕ, _+_, _*_, _/_, _<_}
 use lib.Dec.{ltb}
@@ -9,7 +8,7 @@ use lib.ListN.{length}
 use Rattle.grid.specs.Rays.{rayCount, boundsOf}
 use Rattle.grid.specs.declared.DexelStockSpec.{DexelStockSpec}
 use Rattle.grid.specs.declared.DexelGrid.{DexelGrid}
-use Rattle.store.specs.Updates.{Cells, Room, CellsChainsSound, storeList}
+use Rattle.store.specs.Updates.{Cells, Room, CellsChainsSound, storeList, cells}
 use Rattle.ray_validity.specs.Ray.{ValidRay}
 
 -- Document 01's store and small record. With a description that `grid` accepts they are a stock.
@@ -42,10 +41,6 @@ pub record SoundCells (spec : DexelStockSpec) (g : DexelGrid) (c : Cells) (inter
 abbrev pub SoundStock : DexelStockSpec → DexelGrid → Stock → Type 0
 SoundStock spec g s = SoundCells spec g (s .cells) (s .intervals)
 
--- the answer of a test of P
-abbrev pub Decides : Type 0 → Bool → Type 0
-Decides P r = (r ≡ true → P) × (P → r ≡ true)
-
 -- 12: fewer whole records than `max_intervals`, or fewer heads than two per ray
 unfoldable pub isShort : DexelStockSpec → DexelGrid → Cells → Bool
 isShort spec g c = ltb (length (c .spans) / 2) (spec .«max_intervals») || (ltb (length (c .links) / 2) (spec .«max_intervals») || ltb (length (c .heads)) (2 * rayCount g))
@@ -55,3 +50,7 @@ pub record ChainsInRoom (spec : DexelStockSpec) (g : DexelGrid) (c : Cells) : Ty
   pub room : Room (spec .«max_intervals») (2 * rayCount g) c
   pub total : ℕ
   pub store : CellsChainsSound (spec .«max_intervals») (2 * rayCount g) total c
+
+-- a stock by its lent cells and its small record's numbers
+abbrev pub stock : (spans : List Float) (links heads : List ℕ) (generation intervals : ℕ) → Stock
+stock spans links heads generation intervals = record { cells = cells spans links heads; generation = generation; intervals = intervals }

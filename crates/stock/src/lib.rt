@@ -4,7 +4,8 @@ ghost use Prim.Native.Nat.{_*_, _<_};
 ghost use Rattle.grid.specs.Rays.{rayCount};
 ghost use Rattle.grid_from_spec.specs.Causes.{GridFacts};
 ghost use Rattle.store.specs.Updates.{cells, Room, CellsChainsSound};
-ghost use Rattle.stock.specs.Stock.{Decides, ValidAt, ValidTo, ChainsInRoom, SoundCells, isShort};
+ghost use Rattle.stock.specs.Stock.{ValidAt, ValidTo, ChainsInRoom, SoundCells, isShort};
+ghost use Rattle.logic.specs.Logic.{Decides};
 use grid::DexelGrid;
 use grid::DexelStockSpec;
 

@@ -16,7 +16,7 @@ use Rattle.grid.specs.declared.DexelGrid.{DexelGrid}
 use Rattle.grid.specs.declared.WorldAxis.{WorldAxis}
 use Rattle.grid.specs.declared.GridAnswer.the-variants.{Accepted as Griddable, Refused as NoGrid}
 use Rattle.store.specs.Updates.{Cells, CellsChainsSound}
-use Rattle.stock.specs.Stock.{SoundCells, Decides, isShort}
+use Rattle.stock.specs.Stock.{SoundCells, isShort}
 use Rattle.stock.proofs.Causes.{due-first, due-second, none-in-both}
 use Rattle.stock.proofs.Answers.{accepted, refused}
 use Rattle.stock_volume.specs.Volume.{volumeAlong, AxisVolumePost, boxVolume, boundsBy, VolumeRaysPost, storeCauses, volumeCauses, VolumePost}
@@ -26,6 +26,7 @@ use Rattle.stock_volume.specs.declared.DexelVolume.{DexelVolume}
 use Rattle.stock_volume.specs.declared.VolumeAnswer.{VolumeAnswer}
 use Rattle.stock_volume.specs.declared.VolumeAnswer.the-variants.{Accepted as Told, Refused as Declined}
 use Rattle.stock_volume.proofs.Lengths.{after-z}
+use Rattle.logic.specs.Logic.{Decides}
 
 module _ (spec : DexelStockSpec) (g : DexelGrid) (c : Cells) (intervals : ℕ) where
   pub measure-short : (r : Bool) → r ≡ isShort spec g c → r ≡ true

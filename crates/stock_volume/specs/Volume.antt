@@ -16,12 +16,13 @@ use Rattle.grid.specs.declared.DexelStockSpec.{DexelStockSpec}
 use Rattle.grid.specs.declared.DexelGrid.{DexelGrid}
 use Rattle.store.specs.Updates.{Cells}
 use Rattle.store_rays.specs.Lengths.{lengthFrom}
-use Rattle.stock.specs.Stock.{possibleIn, certainIn, ValidAt, ValidTo, SoundCells, Decides, isShort}
+use Rattle.stock.specs.Stock.{possibleIn, certainIn, ValidAt, ValidTo, SoundCells, isShort}
 use Rattle.stock_volume.specs.declared.AxisVolume.{AxisVolume}
 use Rattle.stock_volume.specs.declared.AxisSums.{AxisSums}
 use Rattle.stock_volume.specs.declared.DexelVolume.{DexelVolume}
 use Rattle.stock_volume.specs.declared.VolumeAnswer.{VolumeAnswer}
 use Rattle.stock_volume.specs.declared.VolumeAnswer.the-variants.{Accepted, Refused}
+use Rattle.logic.specs.Logic.{Decides}
 
 -- the area of a ray's cell: the product of the steps on the two axes across it
 unfoldable pub areaOf : DexelGrid → WorldAxis → Float

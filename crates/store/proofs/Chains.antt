@@ -12,9 +12,9 @@ use native.Mathlib.Omega.{arith}
 use lib.Ieee.{Float}
 use lib.ListN.{length, getD}
 use Rattle.store.specs.Store.{nextAt, ownerAt, usedAt, places, RecordChain, ends, more, placesOf, chained}
-use Rattle.store.specs.Walks.{countTo}
 use Rattle.store.proofs.Records.{owned-used}
 use Rattle.store.proofs.Counting.{Distinct, Pass, distinct-append, distinct-le, count-max}
+use Rattle.logic.specs.Logic.{countTo}
 
 module _ (links : List ℕ) (n o : ℕ) where
   pub places-of : {k : ℕ} {ps : List ℕ} (f : ℕ) → RecordChain links n o k ps → length ps ≤ f → places links f k ≡ ps

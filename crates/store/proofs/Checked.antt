@@ -10,10 +10,11 @@ use lib.Ieee.{Float}
 use lib.ListN.{length}
 use Rattle.store.specs.declared.ChainWalk.the-variants.{Ends, Broken}
 use Rattle.store.specs.Store.{usedAt, chained, ChainsSound}
-use Rattle.store.specs.Walks.{countTo, walkAll}
+use Rattle.store.specs.Walks.{walkAll}
 use Rattle.store.proofs.Counting.{distinct-le, distinct-full, covers-le, count-max}
 use Rattle.store.proofs.Chains.{Run, chained-distinct, chained-pass}
 use Rattle.store.proofs.Walking.{AllWalked, all-of, all-to, ends-eq, never}
+use Rattle.logic.specs.Logic.{countTo}
 
 module _ (n m total : ℕ) (spans : List Float) (links heads : List ℕ) where
   pub sound-of : countTo (usedAt spans links) n ≡ total → walkAll links heads n total m 0 0 ≡ Ends total → ChainsSound n m total spans links heads

@@ -13,7 +13,7 @@ use lib.Dec.{eqb}
 use lib.ListN.{length}
 use borrow.Author.Tests.{eq-eqb, ne-eqb}
 use Rattle.doubles.proofs.Bools.{and-left, and-false, clash}
-use Rattle.store.specs.Walks.{bit, countTo}
+use Rattle.logic.specs.Logic.{bit, countTo}
 
 -- the test, but for the place x
 abbrev pub without : (ℕ → Bool) → ℕ → ℕ → Bool

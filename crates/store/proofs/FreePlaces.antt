@@ -10,9 +10,9 @@ use lib.Ieee.{Float}
 use lib.ListN.{length, take}
 use lib.Seq.{length-take-le}
 use Rattle.store.specs.Store.{usedAt, freeFrom, ChainsSound}
-use Rattle.store.specs.Walks.{bit, countTo}
 use Rattle.store.proofs.Counting.{Distinct}
 use Rattle.store.proofs.Checked.{count-of}
+use Rattle.logic.specs.Logic.{bit, countTo}
 
 -- ---- the front of a list of places
 pub take-mem : (k : ℕ) (l : List ℕ) (x : ℕ) → List·Memᴰ x (take k l) → List·Memᴰ x l

@@ -8,7 +8,7 @@ use lib.Dec.{eqb}
 use lib.Ieee.{Float}
 use borrow.Author.Tests.{eq-eqb, ne-eqb}
 use Rattle.store.specs.Store.{isPlusZero, loAt, hiAt, nextAt, ownerAt, usedAt}
-use Rattle.store.specs.Walks.{bit, countTo}
+use Rattle.logic.specs.Logic.{bit, countTo}
 
 last : (a b c : Bool) → not (a && (b && (c && false))) ≡ true
 last true true true = refl

@@ -1,21 +1,12 @@
 -- What the functions that check a store answer.
-use mathlib.Core.Bool.{Bool, true, false, cond, _&&_}
+use mathlib.Core.Bool.{cond, _&&_}
 use mathlib.Core.List.{List}
-use Prim.Native.Nat.{ℕ, zero, suc, _+_, _-_}
+use Prim.Native.Nat.{ℕ, zero, suc, _-_}
 use lib.Dec.{eqb, ltb}
 use lib.ListN.{getD}
 use Rattle.store.specs.Store.{nextAt, ownerAt}
 use Rattle.store.specs.declared.ChainWalk.{ChainWalk}
 use Rattle.store.specs.declared.ChainWalk.the-variants.{Ends, Broken}
-
-abbrev pub bit : Bool → ℕ
-bit true = 1
-bit false = 0
-
--- how many of the first n places pass the test
-unfoldable pub countTo : (ℕ → Bool) → ℕ → ℕ
-countTo p zero = 0
-countTo p (suc n) = countTo p n + bit (p n)
 
 -- A walk from record number k over at most `fuel` records of the owner o, with c records counted before: the count at its end.
 unfoldable pub walkFrom : List ℕ → ℕ → ℕ → ℕ → ℕ → ℕ → ChainWalk

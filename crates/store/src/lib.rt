@@ -4,7 +4,8 @@ ghost use mathlib.Core.Bool.{true};
 ghost use Prim.Native.Nat.{_+_, _-_, _*_, _<_, _≤_};
 ghost use lib.ListN.{length};
 ghost use Rattle.store.specs.Store.{isPlusZero, usedAt, ChainsSound};
-ghost use Rattle.store.specs.Walks.{countTo, walkFrom, walkAll};
+ghost use Rattle.store.specs.Walks.{walkFrom, walkAll};
+ghost use Rattle.logic.specs.Logic.{countTo};
 
 fn plus_zero(x: f64) -> bool
     ensures { λ r. ⌜ r ≡ isPlusZero x ⌝ }

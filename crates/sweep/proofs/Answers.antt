@@ -22,7 +22,7 @@ use Rattle.frame.specs.declared.Frame.{Frame}
 use Rattle.cutter_check.specs.Limits.{toolCauses, ToolCheckPost}
 use Rattle.cutter_check.specs.declared.ToolCheck.{ToolCheck}
 use Rattle.cutter_check.specs.declared.ToolCheck.the-variants.{Accepted as Usable, Refused as Unusable}
-use Rattle.stock.specs.Stock.{SoundCells, Decides, isShort}
+use Rattle.stock.specs.Stock.{SoundCells, isShort}
 use Rattle.stock.proofs.Causes.{due-first, due-second, none-in-both, room-of}
 use Rattle.stock.proofs.Rays.{sound-chained}
 use Rattle.stock.proofs.Answers.{accepted, refused}
@@ -42,6 +42,7 @@ use Rattle.sweep.specs.declared.SweepAnswer.the-variants.{Accepted, Refu
 use Rattle.sweep.specs.declared.SweepCheck.{SweepCheck}
 use Rattle.sweep.specs.declared.SweepCheck.the-variants.{Admitted, Declined}
 use Rattle.sweep_walk.proofs.Chords.{sweep-length, log-length}
+use Rattle.logic.specs.Logic.{Decides}
 
 -- ---- the check of a setting
 module _ (s : Setting) (intervals : ℕ) (chords : List Float) where

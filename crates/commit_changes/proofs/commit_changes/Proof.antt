@@ -43,7 +43,6 @@ use denote.Triple.Table.{entered, cited}
 use denote.Triple.Clauses.{ensured, lasts}
 use denote.Triple.Walked.{says, Stays, stay-ref, gave-slice, stay-dropped, walkOf, AllGo, goes-ref, goes-gave-slice, goes-dropped, Walks, ends-at, walked, walk-meets}
 use denote.Exit.{yes}
-use Rattle.stock.specs.Outcomes.{stock}
 use Rattle.commit_changes.specs.Commit.{ChangesPost}
 use Rattle.stock.proofs.Outcomes.{left, mach, ans, made}
 use Rattle.stock.specs.declared.Tally.{Tally}
@@ -62,6 +61,7 @@ use Rattle.commit_changes.proofs.commit_changes_on.Symbol as work-def
 use Rattle.commit_changes.proofs.commit_changes_on.Symbol.{name as #work}
 use Rattle.commit_changes.proofs.commit_changes_on.Met as work-thm
 use Rattle.commit_changes.proofs.commit_changes.Key.{name as #entry}
+use Rattle.stock.specs.Stock.{stock}
 use Rattle.commit_changes.proofs.commit_changes as caller
 use Rattle.commit_changes.proofs.commit_changes.Statement as stated
 use Rattle.commit_changes.proofs.commit_changes.Code as code

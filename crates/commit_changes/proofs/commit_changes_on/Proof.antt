@@ -1,9 +1,9 @@
 use borrow.Author.Needs.{needs}
 use mathlib.Core.Path.{sym, _∙_}
 use Rattle.grid_from_spec.proofs.Facts.{grid-facts}
-use Rattle.stock.specs.Outcomes.{stock}
 use Rattle.commit_changes.proofs.Answers.{grid-accepted, grid-refused}
 use Rattle.commit_changes.proofs.commit_changes_on.Statement.{statement}
+use Rattle.stock.specs.Stock.{stock}
 use Rattle.commit_changes.proofs.commit_changes_on.Tie as tie
 
 commit-grid-requires : tie.Need-commit-grid-requires

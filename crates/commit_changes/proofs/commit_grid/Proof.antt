@@ -1,8 +1,8 @@
 use borrow.Author.Needs.{needs}
 use native.Mathlib.Omega.{arith}
-use Rattle.stock.specs.Outcomes.{stock}
 use Rattle.commit_changes.proofs.Answers.{judged-no, judged-fitting, generation-steps, judged-fits}
 use Rattle.commit_changes.proofs.commit_grid.Statement.{statement}
+use Rattle.stock.specs.Stock.{stock}
 use Rattle.commit_changes.proofs.commit_grid.Tie as tie
 
 judge-requires : tie.Need-judge-requires

@@ -1,8 +1,8 @@
 use borrow.Author.Needs.{needs}
 use native.Mathlib.Omega.{arith}
-use Rattle.stock.specs.Outcomes.{stock}
 use Rattle.commit_changes.proofs.Verdicts.{bad-list, freed-fewer, total-fits, over-budget, last-generation, list-fits}
 use Rattle.commit_changes.proofs.judge_list.Statement.{statement}
+use Rattle.stock.specs.Stock.{stock}
 use Rattle.commit_changes.proofs.judge_list.Tie as tie
 
 returns : tie.Need-returns

@@ -4,8 +4,7 @@ use Prim.Native.Nat.{_*_, _/_, _≤_}
 use lib.ListN.{length}
 use Rattle.grid.specs.Rays.{rayCount}
 use Rattle.store.specs.Updates.{Room, cells}
-use Rattle.stock.specs.Stock.{SoundStock}
-use Rattle.stock.specs.Outcomes.{stock}
+use Rattle.stock.specs.Stock.{SoundStock, stock}
 use Rattle.log_entries.specs.Named.{EachNamed}
 use Rattle.log_model.specs.Logs.{entries, workNeeded}
 use Rattle.log_model.proofs.Doubles.{Doubles, all-doubles}

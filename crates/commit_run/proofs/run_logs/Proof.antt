@@ -2,9 +2,9 @@
 use borrow.Author.Needs.{needs}
 use native.Mathlib.Omega.{arith}
 use Prim.Native.Nat.{_-_}
-use Rattle.stock.specs.Outcomes.{stock}
 use Rattle.commit_run.proofs.Turns.{RunTo, run-start, run-next, run-end}
 use Rattle.commit_run.proofs.run_logs.Statement.{statement}
+use Rattle.stock.specs.Stock.{stock}
 use Rattle.commit_run.proofs.run_logs.Tie as tie
 
 abbrev Inv-loop : tie.InvT-loop

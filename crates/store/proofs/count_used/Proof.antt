@@ -7,8 +7,8 @@ use mathlib.Core.Path.{_≡_, refl, sym, ap, _∙_}
 use native.Mathlib.Omega.{arith}
 use borrow.Author.Needs.{needs}
 use Rattle.store.specs.Store.{usedAt}
-use Rattle.store.specs.Walks.{countTo}
 use Rattle.store.proofs.count_used.Statement.{statement}
+use Rattle.logic.specs.Logic.{countTo}
 use Rattle.store.proofs.count_used.Tie as tie
 
 abbrev Inv-loop : tie.InvT-loop

@@ -1,8 +1,8 @@
 -- `tridexel::commits::tridexel_commit_changes` meets its contract.
 use Rattle.c_results.proofs.Handing.{answered, changes-above}
-use Rattle.stock.specs.Outcomes.{stock}
 use borrow.Author.Needs.{needs}
 use Rattle.tridexel.proofs.commits.tridexel_commit_changes.Statement.{statement}
+use Rattle.stock.specs.Stock.{stock}
 use Rattle.tridexel.proofs.commits.tridexel_commit_changes.Tie as tie
 
 commit-changes-on-requires : tie.Need-commit-changes-on-requires
