@@ -5,7 +5,7 @@ use native.Mathlib.Omega.{arith}
 use Prim.Native.Nat.{ℕ, _<_}
 use lib.Ieee.{Float}
 use lib.ListN.{length}
-use Rattle.grid_from_spec.specs.Causes.{gridCauses}
+use Rattle.grid.specs.Causes.{gridCauses}
 use Rattle.grid.specs.declared.DexelStockSpec.{DexelStockSpec}
 use Rattle.frame.specs.declared.Axis.{Axis}
 use Rattle.cutter.specs.declared.CutterShape.{CutterShape}
@@ -17,7 +17,7 @@ use Rattle.sweep_walk.specs.Entries.{Setting}
 use Rattle.sweep.specs.declared.Totals.{Totals}
 use Rattle.sweep.specs.declared.SweepAnswer.{SweepAnswer}
 use Rattle.c_results.specs.Numbers.{AnsweredBy, HandedAs, sweptNumbers}
-use Rattle.c_results.proofs.Handing.{answered, due-above}
+use Rattle.c_results.proofs.Results.{answered, due-above}
 
 sweep-above : (units : List ℕ) (s : Setting) (intervals : ℕ) (chords : List Float) (budget len k : ℕ) → Due (sweepCauses units s intervals chords budget len) k → 0 < k
 unfolding gridCauses

@@ -9,7 +9,7 @@ use lib.Dec.{eqb}
 use lib.Ieee.{Float, nan, eq}
 use lib.ListN.{length, getD, drop, drop-of-length-le}
 use lib.Seq.{drop-cons}
-use Rattle.doubles.proofs.Bools.{and-left, and-right, both, not-true, not-false, clash}
+use Rattle.logic.proofs.Bools.{and-left, and-right, both, not-true, not-false, clash}
 use Rattle.doubles.proofs.Order.{lt-eq-left, lt-eq-right}
 use Rattle.spans.specs.Spans.{leads, rising, sound, equal}
 use Rattle.spans.proofs.Sets.{equal-length}

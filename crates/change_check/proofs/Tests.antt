@@ -4,15 +4,15 @@ use mathlib.Core.Bool.{Bool, true, false, not, _&&_}
 use mathlib.Core.List.{List}
 use Prim.Native.Nat.{ℕ, _<_}
 use lib.Ieee.{Float}
-use Rattle.doubles.proofs.Bools.{and-left, and-right, not-true, not-false, clash}
+use Rattle.logic.proofs.Bools.{and-left, and-right, not-true, not-false, clash}
 use Rattle.spans.specs.Spans.{sound, equal, Within}
 use Rattle.grid.specs.Rays.{rayCount, boundsOf}
 use Rattle.grid.specs.declared.DexelStockSpec.{DexelStockSpec}
 use Rattle.grid.specs.declared.DexelGrid.{DexelGrid}
 use Rattle.grid.specs.declared.RayBounds.{RayBounds}
 use Rattle.store.specs.Updates.{Cells}
-use Rattle.span_cover.specs.Covering.{Covers}
-use Rattle.ray_validity.specs.Ray.{ValidRay}
+use Rattle.span_cover.specs.Cover.{Covers}
+use Rattle.spans.specs.Rays.{ValidRay}
 use Rattle.ray_check.proofs.Tests.{passes, covers-tells}
 use Rattle.stock.specs.Stock.{possibleIn, certainIn}
 use Rattle.change_check.specs.Cuts.{SoundWithRoom, IsRemoval, ChangeAllowed}

@@ -9,7 +9,7 @@ use Rattle.grid.specs.Rays.{rayCount, boundsOf}
 use Rattle.grid.specs.declared.DexelStockSpec.{DexelStockSpec}
 use Rattle.grid.specs.declared.DexelGrid.{DexelGrid}
 use Rattle.store.specs.Updates.{Cells, Room}
-use Rattle.ray_validity.specs.Ray.{ValidRay}
+use Rattle.spans.specs.Rays.{ValidRay}
 use Rattle.stock.specs.Stock.{possibleIn, certainIn, SoundCells}
 
 -- the new lists make a valid ray, gain no point of the old ones and differ from them

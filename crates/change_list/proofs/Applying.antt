@@ -14,7 +14,7 @@ use Rattle.grid.specs.declared.DexelGrid.{DexelGrid}
 use Rattle.grid.proofs.Numbering.{number-lt}
 use Rattle.store.specs.Updates.{Cells, Update, update, Room, Ascending, none, next, pairsFreed, pairsLaid, listAfter, applied, UpdatedStore}
 use Rattle.store.proofs.Updating.{after-here, after-other, updated}
-use Rattle.ray_validity.specs.Ray.{ValidRay}
+use Rattle.spans.specs.Rays.{ValidRay}
 use Rattle.stock.specs.Stock.{possibleIn, certainIn, SoundCells}
 use Rattle.change_list.specs.Changes.{Change, changeRay, Good, AllGood, updatesOf}
 

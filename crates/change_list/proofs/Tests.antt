@@ -9,7 +9,7 @@ use lib.Dec.{leb}
 use lib.Ieee.{Float}
 use lib.ListN.{length}
 use borrow.Author.Tests.{leb-true, le-leb}
-use Rattle.doubles.proofs.Bools.{not-true, not-false, clash}
+use Rattle.logic.proofs.Bools.{not-true, not-false, clash}
 use Rattle.refusal.specs.Refusal.{cause, Due}
 use Rattle.refusal.proofs.Laws.{first}
 use Rattle.grid.specs.Axes.{worldAxis}

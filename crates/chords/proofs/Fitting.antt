@@ -9,7 +9,7 @@ use lib.Dec.{ltb}
 use lib.Ieee.{Float}
 use lib.ListN.{length}
 use borrow.Author.Tests.{ltb-true, ltb-false}
-use Rattle.doubles.proofs.Bools.{both, and-false, not-true, not-false}
+use Rattle.logic.proofs.Bools.{both, and-false, not-true, not-false}
 use Rattle.frame.specs.declared.Frame.{Frame}
 use Rattle.sweep_kernel.specs.declared.Chord.{Chord}
 use Rattle.chords.specs.Chords.{chordOf}

@@ -6,8 +6,8 @@ use native.Mathlib.Omega.{arith}
 use lib.Ieee.{Float}
 use lib.ListN.{length}
 use Rattle.refusal.specs.Refusal.{NoneDue}
-use Rattle.grid_from_spec.specs.Grid.{gridOf}
-use Rattle.grid_from_spec.specs.Causes.{gridCauses, gridIn}
+use Rattle.grid.specs.FromSpec.{gridOf}
+use Rattle.grid.specs.Causes.{gridCauses, gridIn}
 use Rattle.grid.specs.declared.DexelStockSpec.{DexelStockSpec}
 use Rattle.grid.specs.declared.DexelGrid.{DexelGrid}
 use Rattle.grid.specs.declared.GridAnswer.the-variants.{Accepted as Griddable, Refused as NoGrid}
@@ -20,7 +20,7 @@ use Rattle.stock.proofs.Answers.{accepted, refused}
 use Rattle.change_list.specs.Changes.{changesOf, changeRay}
 use Rattle.change_list.proofs.Applying.{changed-has, other-keeps, changes-update, changes-sound}
 use Rattle.change_apply.specs.Passes.{updatesIn, ChangesFit}
-use Rattle.commit_changes.specs.Commit.{changedStock, changeCauses, changeCommitCauses, ChangesEffect, ChangesPostBy}
+use Rattle.commit_changes.specs.ChangeCommit.{changedStock, changeCauses, changeCommitCauses, ChangesEffect, ChangesPostBy}
 use Rattle.commit_changes.specs.Verdicts.{VerdictBy}
 use Rattle.commit_changes.specs.declared.ChangeVerdict.{ChangeVerdict}
 use Rattle.commit_changes.specs.declared.ChangeVerdict.the-variants.{Fits, Refused as No}

@@ -7,7 +7,7 @@ use Prim.Native.Nat.{ℕ, _+_, _-_, _*_, _%_, _^_, _≤_, _<_}
 use native.Mathlib.Omega.{arith}
 use lib.Ieee.{Float}
 use lib.ListN.{length}
-use Rattle.doubles.proofs.Bools.{not-true, clash}
+use Rattle.logic.proofs.Bools.{not-true, clash}
 use Rattle.refusal.specs.Refusal.{Due, NoneDue}
 use Rattle.grid.specs.Rays.{rayCount}
 use Rattle.grid.specs.declared.DexelStockSpec.{DexelStockSpec}
@@ -24,7 +24,7 @@ use Rattle.change_list.specs.declared.ChangeCheck.{ChangeCheck}
 use Rattle.change_list.specs.declared.ChangeCheck.the-variants.{Next, Bad}
 use Rattle.change_list.proofs.Applying.{good-ascend}
 use Rattle.change_apply.specs.Passes.{updatesIn}
-use Rattle.commit_changes.specs.Commit.{intervalsAfter, ChangeInputBad, changeListCauses, changeCauses}
+use Rattle.commit_changes.specs.ChangeCommit.{intervalsAfter, ChangeInputBad, changeListCauses, changeCauses}
 use Rattle.commit_changes.specs.Verdicts.{VerdictBy}
 use Rattle.commit_changes.specs.declared.ChangeVerdict.{ChangeVerdict}
 use Rattle.commit_changes.specs.declared.ChangeVerdict.the-variants.{Fits, Refused}

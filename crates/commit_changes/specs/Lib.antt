@@ -1,2 +1,2 @@
-pub mod Commit
 pub mod Verdicts
+pub mod ChangeCommit

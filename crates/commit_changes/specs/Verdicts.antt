@@ -8,7 +8,7 @@ use Rattle.grid.specs.declared.DexelStockSpec.{DexelStockSpec}
 use Rattle.grid.specs.declared.DexelGrid.{DexelGrid}
 use Rattle.stock.specs.Stock.{Stock}
 use Rattle.change_apply.specs.Passes.{ChangesFit}
-use Rattle.commit_changes.specs.Commit.{intervalsAfter, changeListCauses, changeCauses}
+use Rattle.commit_changes.specs.ChangeCommit.{intervalsAfter, changeListCauses, changeCauses}
 use Rattle.commit_changes.specs.declared.ChangeVerdict.{ChangeVerdict}
 use Rattle.commit_changes.specs.declared.ChangeVerdict.the-variants.{Fits, Refused}
 

@@ -9,7 +9,7 @@ use borrow.Author.Tests.{ltb-true, ltb-false, le-ltb}
 use lib.Dec.{ltb}
 use lib.ListN.{length}
 use lib.Ieee.{Float}
-use Rattle.doubles.proofs.Bools.{or-cases, not-true, not-false, clash}
+use Rattle.logic.proofs.Bools.{or-cases, not-true, not-false, clash}
 use Rattle.refusal.specs.Refusal.{Due, NoneDue}
 use Rattle.spans.specs.Spans.{ListOf}
 use Rattle.grid.specs.Rays.{rayCount}
@@ -22,13 +22,13 @@ use Rattle.log_model.specs.Logs.{Ray, Kind, entries, workNeeded, commitOf}
 use Rattle.log_model.specs.Model.{LogBuffersShort, LogInputBad, logCommitCauses}
 use Rattle.log_model.specs.Counts.{changedRayCount, pairsAfter}
 use Rattle.log_model.specs.Runs.{pointSets}
-use Rattle.log_model.specs.Lent.{listIn, listsIn, lentStore}
+use Rattle.log_model.specs.View.{listIn, listsIn, lentStore}
 use Rattle.log_model.proofs.Decided.{rays-by, intervals-by}
 use Rattle.log_model.proofs.Doubles.{Doubles}
-use Rattle.log_model.proofs.Lent.{lent-laws}
+use Rattle.log_model.proofs.View.{lent-laws}
 use Rattle.log_entries.specs.Named.{EachNamed, NamesAll}
 use Rattle.log_entries.proofs.Places.{each-no}
-use Rattle.log_updates.specs.Merges.{stockLists}
+use Rattle.log_model.specs.Updates.{stockLists}
 use Rattle.log_budget.specs.Answer.{budgetNumber, budgetOf}
 use Rattle.log_budget.specs.declared.BudgetAnswer.{BudgetAnswer}
 use Rattle.log_budget.specs.declared.BudgetAnswer.the-variants.{Kept, Rays, Intervals}

@@ -14,9 +14,9 @@ use Rattle.log_model.specs.Logs.{entries, workNeeded, Commit, commitOf}
 use Rattle.log_model.specs.Model.{logCommitCauses}
 use Rattle.log_model.specs.Counts.{changedRayCount, pairsAfter}
 use Rattle.log_model.specs.Runs.{pointSets}
-use Rattle.log_model.specs.Lent.{lentStore}
+use Rattle.log_model.specs.View.{lentStore}
 use Rattle.log_entries.specs.Named.{EachNamed}
-use Rattle.log_updates.specs.Merges.{stockLists}
+use Rattle.log_model.specs.Updates.{stockLists}
 
 -- every test of the commit is passed
 pub record LogChecked (spec : DexelStockSpec) (g : DexelGrid) (s : Stock) (log : List Float) (allowance : ℕ) (work : List Float) : Type 0 where

@@ -3,7 +3,7 @@ ghost use mathlib.Core.Path.{_≡_};
 ghost use Prim.Native.Nat.{_*_, _/_, _^_, _<_};
 ghost use lib.Dec.{ltb};
 ghost use lib.ListN.{length};
-ghost use Rattle.grid_from_spec.specs.Causes.{GridFacts};
+ghost use Rattle.grid.specs.Causes.{GridFacts};
 ghost use Rattle.log_model.specs.Logs.{workNeeded};
 ghost use Rattle.commit_check.specs.Tests.{LogCheckPost};
 ghost use Rattle.stock.specs.Stock.{stock};

@@ -5,9 +5,9 @@ use Prim.Native.Nat.{ℕ, suc, _+_, _-_, _*_}
 use native.Mathlib.Numerals.{add-one}
 use lib.Ieee.{Float}
 use Rattle.grid.specs.Rays.{rayCount}
-use Rattle.grid_from_spec.specs.Causes.{GridFacts, ByCauses}
-use Rattle.grid_from_spec.proofs.Causes.{grid-by-causes}
-use Rattle.grid_from_spec.specs.Grid.{gridOf}
+use Rattle.grid.specs.Causes.{GridFacts, ByCauses}
+use Rattle.grid.proofs.Causes.{grid-by-causes}
+use Rattle.grid.specs.FromSpec.{gridOf}
 use Rattle.grid.specs.declared.GridAnswer.{GridAnswer}
 use Rattle.grid.specs.declared.GridAnswer.the-variants.{Accepted as Griddable, Refused as NoGrid}
 use Rattle.grid.specs.declared.DexelStockSpec.{DexelStockSpec}
@@ -21,14 +21,14 @@ use Rattle.stock.specs.declared.CommitAnswer.the-variants.{Changed, Refused}
 use Rattle.log_model.specs.Logs.{entries, commitOf}
 use Rattle.log_model.specs.Model.{AnswerDue, refused}
 use Rattle.log_model.specs.Runs.{pointSets, CommitEffect, AcceptedEffect}
-use Rattle.log_model.specs.Lent.{listIn, lentStore, CommitOnAnyGrid}
+use Rattle.log_model.specs.View.{listIn, lentStore, CommitOnAnyGrid}
 use Rattle.log_model.proofs.Doubles.{DoubleCells, Doubles, all-doubles}
-use Rattle.log_updates.specs.Merges.{MergeUpdates, committedStock, stockLists}
-use Rattle.log_updates.proofs.Leaves.{changed-rays, all-updated, cut-sound, cut}
+use Rattle.log_model.specs.Updates.{MergeUpdates, committedStock, stockLists}
+use Rattle.log_model.proofs.Leaves.{changed-rays, all-updated, cut-sound, cut}
 use Rattle.commit_check.specs.Tests.{LogChecked, LogCheckPost}
 use Rattle.commit_check.proofs.Tests.{passes-none}
-use Rattle.commit_apply.specs.Cutting.{ApplyPre, ApplyPost}
-use Rattle.commit_log.specs.Commit.{answerOf, LogCommitOnGrid, LogCellsOnAnyGrid, LogCommitPost}
+use Rattle.commit_apply.specs.Apply.{ApplyPre, ApplyPost}
+use Rattle.commit_log.specs.LogCommit.{answerOf, LogCommitOnGrid, LogCellsOnAnyGrid, LogCommitPost}
 use Rattle.logic.specs.Logic.{countTo}
 
 module _ (spec : DexelStockSpec) (g : DexelGrid) (s : Stock) (log : List Float) (allowance : ℕ) (work : List Float) where

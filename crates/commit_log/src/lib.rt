@@ -1,7 +1,7 @@
 // The log commit: merge and commit at once.
 ghost use Prim.Native.Nat.{_+_};
-ghost use Rattle.grid_from_spec.specs.Causes.{GridFacts};
-ghost use Rattle.commit_log.specs.Commit.{LogCommitOnGrid, LogCommitPost};
+ghost use Rattle.grid.specs.Causes.{GridFacts};
+ghost use Rattle.commit_log.specs.LogCommit.{LogCommitOnGrid, LogCommitPost};
 ghost use Rattle.stock.specs.Stock.{stock};
 use grid::DexelGrid;
 use grid::DexelStockSpec;

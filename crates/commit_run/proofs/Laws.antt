@@ -11,7 +11,7 @@ use lib.Ieee.{Float}
 use Rattle.refusal.specs.Refusal.{Due, NoneDue}
 use Rattle.refusal.proofs.Laws.{due-unique, none-due}
 use Rattle.spans.specs.Spans.{All, Double, Point, holds, sound, equal}
-use Rattle.grid_from_spec.specs.Causes.{gridCauses, gridIn, ByCauses}
+use Rattle.grid.specs.Causes.{gridCauses, gridIn, ByCauses}
 use Rattle.grid.specs.declared.DexelStockSpec.{DexelStockSpec}
 use Rattle.grid.specs.declared.GridAnswer.{GridAnswer}
 use Rattle.grid.specs.declared.GridAnswer.the-variants.{Accepted, Refused}
@@ -21,9 +21,9 @@ use Rattle.stock.specs.declared.CommitAnswer.the-variants.{Changed, Refused as 
 use Rattle.log_model.specs.Logs.{Ray, Kind, Commit}
 use Rattle.log_model.specs.Model.{LogAnswer, changed, refused, modelAfter}
 use Rattle.log_model.specs.Runs.{modelStart}
-use Rattle.log_model.specs.Lent.{listIn, lentStore, CommitOnAnyGrid}
-use Rattle.commit_log.specs.Commit.{answerOf, LogCellsOnAnyGrid}
-use Rattle.commit_run.specs.Running.{commitsTo, answerBy, answersTo, answerCode, answerNumber, answered, CommitsTo, none, more, RunOnGridPost, AllRefused, RunLogsPost}
+use Rattle.log_model.specs.View.{listIn, lentStore, CommitOnAnyGrid}
+use Rattle.commit_log.specs.LogCommit.{answerOf, LogCellsOnAnyGrid}
+use Rattle.commit_run.specs.RunLogs.{commitsTo, answerBy, answersTo, answerCode, answerNumber, answered, CommitsTo, none, more, RunOnGridPost, AllRefused, RunLogsPost}
 use Rattle.commit_run.proofs.Turns.{told-at}
 
 -- ---- a refused description

@@ -8,7 +8,7 @@ use lib.Seq.{getD-set-other, getD-set-same}
 use lib.Ieee.{Float}
 use Rattle.refusal.specs.Refusal.{NoneDue}
 use Rattle.refusal.proofs.Laws.{none-due}
-use Rattle.grid_from_spec.specs.Causes.{gridCauses, gridIn, ByCauses}
+use Rattle.grid.specs.Causes.{gridCauses, gridIn, ByCauses}
 use Rattle.grid.specs.declared.DexelStockSpec.{DexelStockSpec}
 use Rattle.grid.specs.declared.DexelGrid.{DexelGrid}
 use Rattle.grid.specs.declared.GridAnswer.{GridAnswer}
@@ -19,12 +19,12 @@ use Rattle.stock.specs.declared.CommitAnswer.the-variants.{Changed, Refused as 
 use Rattle.log_model.specs.Logs.{Commit, commitOf}
 use Rattle.log_model.specs.Model.{LogAnswer}
 use Rattle.log_model.specs.Runs.{Run, done, CommitStep as CommitPromise}
-use Rattle.log_model.specs.Lent.{lentStore, CommitOnAnyGrid}
-use Rattle.log_model.proofs.Demand3.{extend}
+use Rattle.log_model.specs.View.{lentStore, CommitOnAnyGrid}
+use Rattle.log_model.proofs.RunCorrect.{extend}
 use Rattle.log_model.proofs.Doubles.{DoubleCells, list-doubles}
-use Rattle.log_model.proofs.Lent.{demand3-lent}
-use Rattle.commit_log.specs.Commit.{answerOf}
-use Rattle.commit_run.specs.Running.{beginOf, logFrom, commitAt, commitsTo, answerBy, answersTo, answerCode, answerNumber, answered, RunStepPost, CommitsTo, none, more, RunOnGridPost, RunLogsPost}
+use Rattle.log_model.proofs.View.{demand3-lent}
+use Rattle.commit_log.specs.LogCommit.{answerOf}
+use Rattle.commit_run.specs.RunLogs.{beginOf, logFrom, commitAt, commitsTo, answerBy, answersTo, answerCode, answerNumber, answered, RunStepPost, CommitsTo, none, more, RunOnGridPost, RunLogsPost}
 
 -- the two numbers of an answer tell it
 by-numbers : (a : CommitAnswer) → answerBy (answerCode a) (answerNumber a) ≡ answerOf a

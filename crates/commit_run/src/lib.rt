@@ -2,7 +2,7 @@
 ghost use mathlib.Core.Path.{_≡_};
 ghost use Prim.Native.Nat.{_+_, _*_, _<_, _≤_};
 ghost use lib.ListN.{length, set};
-ghost use Rattle.commit_run.specs.Running.{Lends, logFrom, answered, RunStepPost, RunLogsPost};
+ghost use Rattle.commit_run.specs.RunLogs.{Lends, logFrom, answered, RunStepPost, RunLogsPost};
 ghost use Rattle.stock.specs.Stock.{stock};
 use grid::DexelStockSpec;
 use stock::CommitAnswer;

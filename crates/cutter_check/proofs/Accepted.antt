@@ -4,7 +4,7 @@ use mathlib.Core.Bool.{Bool, true, false, cond, _&&_, false≢true}
 use lib.Ieee.{Float, nan, inf, fin, ofBits, lt, le, eq}
 use Rattle.doubles.specs.Constants.{million, plusZero}
 use Rattle.doubles.specs.Doubles.{Number, clampOf}
-use Rattle.doubles.proofs.Bools.{and-left, and-right}
+use Rattle.logic.proofs.Bools.{and-left, and-right}
 use Rattle.doubles.proofs.Order.{le-refl, le-trans, lt→le, le-number, le→not-lt, not-lt→le}
 use Rattle.cutter.specs.declared.CutterShape.{CutterShape}
 use Rattle.cutter.specs.declared.PreparedCutter.{PreparedCutter}

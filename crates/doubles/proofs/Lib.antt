@@ -1,4 +1,3 @@
-pub mod Bools
 pub mod Order
 pub mod Pick
 pub mod Total

@@ -1,2 +1,2 @@
 -- The definitions that the contracts of `enum_codes` cite.
-pub mod Named
+pub mod Codes

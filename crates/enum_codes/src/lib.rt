@@ -1,6 +1,6 @@
 // Axes and cutter shapes from the numbers that name them, in the order of their declarations from 0.
 ghost use mathlib.Core.Path.{_≡_};
-ghost use Rattle.enum_codes.specs.Named.{axisOf, lowShape, highShape, namedShape, shapeOf};
+ghost use Rattle.enum_codes.specs.Codes.{axisOf, lowShape, highShape, namedShape, shapeOf};
 use cutter::CutterShape;
 use frame::Axis;
 

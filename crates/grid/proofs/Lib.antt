@@ -1,2 +1,9 @@
 pub mod Tests
 pub mod Numbering
+pub mod Causes
+pub mod Counts
+pub mod Described
+pub mod Extents
+pub mod Facts
+pub mod Lookup
+pub mod Sums

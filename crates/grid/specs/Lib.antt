@@ -1,3 +1,5 @@
 pub mod Axes
 pub mod Grid
 pub mod Rays
+pub mod FromSpec
+pub mod Causes

@@ -1,7 +1,7 @@
 // The grid of a blank: its description tested, its cells and steps worked out.
 ghost use mathlib.Core.Path.{_≡_};
-ghost use Rattle.grid_from_spec.specs.Grid.{anyBelow, anyAbove, isMm, misdescribed, cellCount, dimsOf, gridWith, magnitudeOf, tooFine, gridOver};
-ghost use Rattle.grid_from_spec.specs.Causes.{GridPost};
+ghost use Rattle.grid.specs.FromSpec.{anyBelow, anyAbove, isMm, misdescribed, cellCount, dimsOf, gridWith, magnitudeOf, tooFine, gridOver};
+ghost use Rattle.grid.specs.Causes.{GridPost};
 use grid::DexelGrid;
 use grid::DexelStockSpec;
 use grid::GridAnswer;

@@ -2,11 +2,11 @@
 use mathlib.Core.Path.{_≡_, sym}
 use mathlib.Core.List.{List}
 use Prim.Native.Nat.{ℕ}
-use Rattle.grid_from_spec.specs.Grid.{gridOf}
+use Rattle.grid.specs.FromSpec.{gridOf}
 use Rattle.grid.specs.declared.DexelStockSpec.{DexelStockSpec}
 use Rattle.grid.specs.declared.GridAnswer.{GridAnswer}
 use Rattle.grid.specs.declared.GridAnswer.the-variants.{Accepted, Refused}
-use Rattle.grid_from_spec.proofs.Facts.{grid-facts}
+use Rattle.grid.proofs.Facts.{grid-facts}
 use Rattle.grid_vectors.specs.Facts.{FactsOf}
 
 pub facts-of : (s : DexelStockSpec) (units : List ℕ) (r : GridAnswer) → r ≡ gridOf s units → FactsOf s r

@@ -1,5 +1,5 @@
 -- An answer of `grid` as far as the functions over an accepted grid ask: its facts.
-use Rattle.grid_from_spec.specs.Causes.{GridFacts}
+use Rattle.grid.specs.Causes.{GridFacts}
 use Rattle.grid.specs.declared.DexelStockSpec.{DexelStockSpec}
 use Rattle.grid.specs.declared.GridAnswer.{GridAnswer}
 use Rattle.grid.specs.declared.GridAnswer.the-variants.{Accepted, Refused}

@@ -5,7 +5,7 @@ ghost use Rattle.polygons.specs.Polygon.{polygonStrip};
 ghost use Rattle.cutter.specs.Cutter.{radiusAt, cutRadius, cutMax, cutMin};
 ghost use Rattle.cutter_check.specs.Limits.{ToolCheckPost};
 ghost use Rattle.inner_geometry.specs.Geometry.{stripAs, sliceAs, radiusAs, CheckedAs};
-ghost use Rattle.enum_codes.specs.Named.{namedShape};
+ghost use Rattle.enum_codes.specs.Codes.{namedShape};
 use cutter::PreparedCutter;
 use cutter::ProfileSlice;
 use cutter::Radius;

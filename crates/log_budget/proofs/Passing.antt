@@ -14,7 +14,7 @@ use Rattle.grid.specs.declared.DexelGrid.{DexelGrid}
 use Rattle.store.specs.Updates.{Cells}
 use Rattle.log_model.specs.Logs.{entryAt, entryCount, entries, entryRay}
 use Rattle.log_model.specs.Counts.{changedRayCount, pairsAfter}
-use Rattle.log_model.specs.Lent.{listsIn}
+use Rattle.log_model.specs.View.{listsIn}
 use Rattle.log_entries.specs.Named.{namedFrom}
 use Rattle.log_entries.proofs.Places.{AllFrom, all-first, all-rest}
 use Rattle.log_count.specs.Totals.{Countable, Prefixed, sumBelow, rayChangeCount}

@@ -9,7 +9,7 @@ use Rattle.grid.specs.declared.DexelGrid.{DexelGrid}
 use Rattle.store.specs.Updates.{Cells}
 use Rattle.log_model.specs.Logs.{entries}
 use Rattle.log_model.specs.Counts.{changedRayCount, pairsAfter}
-use Rattle.log_model.specs.Lent.{listsIn}
+use Rattle.log_model.specs.View.{listsIn}
 use Rattle.log_budget.specs.declared.BudgetAnswer.{BudgetAnswer}
 use Rattle.log_budget.specs.declared.BudgetAnswer.the-variants.{Kept, Rays, Intervals}
 

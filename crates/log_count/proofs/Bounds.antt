@@ -9,7 +9,7 @@ use borrow.Author.Tests.{eq-eqb, ne-eqb}
 use lib.Dec.{eqb}
 use lib.ListN.{length, length-append}
 use lib.Ieee.{Float}
-use Rattle.doubles.proofs.Bools.{and-true}
+use Rattle.logic.proofs.Bools.{and-true}
 use Rattle.grid.specs.Rays.{rayCount}
 use Rattle.grid.specs.declared.DexelStockSpec.{DexelStockSpec}
 use Rattle.grid.specs.declared.DexelGrid.{DexelGrid}
@@ -22,8 +22,8 @@ use Rattle.store_lists.proofs.Steps.{ends-length}
 use Rattle.log_model.specs.Logs.{possible, certain, entryAt, entryCount, entries, entryRay, HitKind, outer, inner}
 use Rattle.log_model.specs.Model.{pairTotal}
 use Rattle.log_model.specs.Counts.{isHitBy, startsLeft, hitsOnList, isRayChanged, changedRayCount, pairsAfter}
-use Rattle.log_model.specs.Lent.{listNumber, listIn, listsIn}
-use Rattle.log_model.proofs.Lent.{lent-laws}
+use Rattle.log_model.specs.View.{listNumber, listIn, listsIn}
+use Rattle.log_model.proofs.View.{lent-laws}
 use Rattle.log_model.proofs.Starts.{pairs-left}
 use Rattle.log_entries.specs.Named.{hitsOnRayNumber, namedFrom, pairsAt}
 use Rattle.log_entries.proofs.Places.{AllFrom, all-first, all-rest, pairs-named, each-below, pairs-of}

@@ -4,9 +4,9 @@ use mathlib.Core.Bool.{Bool, true, false}
 use mathlib.Core.Logic.{_⊎_, inl, inr}
 use lib.Ieee.{Float, lt, le}
 use Rattle.doubles.specs.Doubles.{Number}
-use Rattle.doubles.proofs.Bools.{by-cases, clash}
+use Rattle.logic.proofs.Bools.{by-cases, clash}
 use Rattle.doubles.proofs.Order.{lt-number, lt-irrefl, le-refl, lt→le, not-lt→le, lt-le-trans, lt-trans}
-use Rattle.span_overlay.specs.Overlay.{higherOf, lowerOf}
+use Rattle.spans.specs.Overlay.{higherOf, lowerOf}
 use Rattle.log_model.specs.Logs.{Entry, HitKind, outer, inner, hitLo, hitHi}
 use Rattle.log_keys.proofs.Hits.{LosesKind, inner-hit, outer-hit}
 use Rattle.log_long.specs.Long.{beginPast, leastPast}

@@ -5,7 +5,7 @@ use mathlib.Core.List.{List, [], _∷_}
 use mathlib.Core.Logic.{inl, inr}
 use lib.Ieee.{Float, lt, le, neg, ofBits, isNan}
 use Rattle.doubles.specs.Doubles.{Number}
-use Rattle.doubles.proofs.Bools.{and-right, or-cases, by-cases, clash}
+use Rattle.logic.proofs.Bools.{and-right, or-cases, by-cases, clash}
 use Rattle.doubles.proofs.Order.{lt-number, le-bottom, le-top, le→not-lt, lt-le-trans}
 use Rattle.spans.specs.Spans.{within, holds}
 use Rattle.log_count.specs.Steps.{top}

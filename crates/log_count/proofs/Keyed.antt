@@ -6,7 +6,7 @@ use Prim.Native.Nat.{ℕ, _%_, _<_}
 use native.Mathlib.Nat.{mod-lt}
 use lib.ListN.{length, getD}
 use lib.Ieee.{Float}
-use Rattle.doubles.proofs.Bools.{same-if}
+use Rattle.logic.proofs.Bools.{same-if}
 use Rattle.grid.specs.declared.DexelGrid.{DexelGrid}
 use Rattle.spans.specs.Spans.{holds}
 use Rattle.log_model.specs.Logs.{entryCount}

@@ -6,7 +6,7 @@ use mathlib.Core.Logic.{inl, inr}
 use Prim.Native.Nat.{ℕ, _<_}
 use lib.ListN.{length}
 use lib.Ieee.{Float, lt, le, neg}
-use Rattle.doubles.proofs.Bools.{clash}
+use Rattle.logic.proofs.Bools.{clash}
 use Rattle.doubles.proofs.Order.{lt-irrefl, le-refl, lt→le}
 use Rattle.grid.specs.declared.DexelGrid.{DexelGrid}
 use Rattle.spans.specs.Spans.{holds, sound}

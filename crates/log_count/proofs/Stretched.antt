@@ -10,7 +10,7 @@ use lib.ListN.{length, getD, take}
 use lib.Seq.{length-take-le, getD-take}
 use lib.Ieee.{Float, lt, le, neg}
 use Rattle.doubles.specs.Doubles.{Number}
-use Rattle.doubles.proofs.Bools.{and-left, and-right, both, by-cases}
+use Rattle.logic.proofs.Bools.{and-left, and-right, both, by-cases}
 use Rattle.doubles.proofs.Order.{lt-number, le-refl, lt→le, le-lt-trans, le-trans}
 use Rattle.grid.specs.declared.DexelGrid.{DexelGrid}
 use Rattle.spans.specs.Spans.{within, holds}

@@ -5,7 +5,7 @@ use mathlib.Core.List.{List}
 use mathlib.Core.Logic.{inr}
 use Prim.Native.Nat.{ℕ}
 use lib.Ieee.{Float, lt, le, neg}
-use Rattle.doubles.proofs.Bools.{and-true, and-right, same-if, clash}
+use Rattle.logic.proofs.Bools.{and-true, and-right, same-if, clash}
 use Rattle.spans.specs.Spans.{holds, sound, less}
 use Rattle.store_lists.specs.Reading.{listFrom}
 use Rattle.log_keys.specs.Keys.{Stretch}

@@ -6,7 +6,7 @@ use Prim.Native.Nat.{ℕ, zero, suc, _+_, _≤_, _<_}
 use native.Mathlib.Omega.{arith}
 use lib.Dec.{eqb}
 use lib.Ieee.{Float}
-use Rattle.doubles.proofs.Bools.{clash}
+use Rattle.logic.proofs.Bools.{clash}
 use Rattle.grid.specs.Rays.{rayCount}
 use Rattle.grid.specs.declared.DexelGrid.{DexelGrid}
 use Rattle.log_model.specs.Logs.{Ray, Entry, entryAt, entriesFrom, entryCount, entries, namesSomeRay, entryRay, namesRay, HitKind, hitLo, hitHi, hitsOnRay}

@@ -11,7 +11,7 @@ use lib.Ieee.{Float, nan, inf, fin, up, down, binary64, lt, le, eq, ofInt, ofBit
 use lib.Ieee.Fits.{down-pos}
 use lib.Ieee.Exact.{HasValue}
 use lib.Ieee.Back.{round-whole}
-use Rattle.doubles.proofs.Bools.{and-left, and-right, both}
+use Rattle.logic.proofs.Bools.{and-left, and-right, both}
 use Rattle.log_model.specs.Logs.{isWhole}
 
 -- a positive double with the value of the whole number q, which the format counts without a gap

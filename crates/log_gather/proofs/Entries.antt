@@ -10,7 +10,7 @@ use native.Mathlib.Numerals.{add-one}
 use lib.ListN.{length, getD}
 use lib.Ieee.{Float, lt, le}
 use Rattle.spans.specs.Spans.{holds}
-use Rattle.doubles.proofs.Bools.{and-right}
+use Rattle.logic.proofs.Bools.{and-right}
 use Rattle.log_model.specs.Logs.{Entry, entryAt, entryCount, outer, inner, hitLo, hitHi}
 use Rattle.log_keys.specs.Keys.{entryOfKey, withEntry, hitsTo}
 use Rattle.log_gather.specs.declared.HeldHits.{HeldHits}

@@ -10,7 +10,7 @@ use lib.Seq.{take-set-le, getD-set-same, getD-set-other}
 use lib.Ieee.{Float, nan, lt, le}
 use Rattle.spans.specs.Spans.{within, holds}
 use Rattle.spans.proofs.Points.{empty-pair, holds-more}
-use Rattle.doubles.proofs.Bools.{and-left, and-right, both, or-cases, or-left, or-right, clash}
+use Rattle.logic.proofs.Bools.{and-left, and-right, both, or-cases, or-left, or-right, clash}
 use Rattle.doubles.proofs.Order.{lt-number, le-number, le-trans, le-lt-trans, lt-trans, lt-le-trans, not-lt→le, not-le→lt}
 use Rattle.log_keys.specs.Keys.{pairsPast}
 use Rattle.log_keys.proofs.Past.{past-first, past-more}

@@ -14,9 +14,9 @@ use Rattle.spans.specs.Steps.{FilledFront}
 use Rattle.spans.proofs.Sets.{sound-mod}
 use Rattle.spans.proofs.Points.{front-only, front-in, in-pair, pair-rises, number-at}
 use Rattle.doubles.specs.Doubles.{Number}
-use Rattle.doubles.proofs.Bools.{and-left, and-right, both, by-cases}
+use Rattle.logic.proofs.Bools.{and-left, and-right, both, by-cases}
 use Rattle.doubles.proofs.Order.{lt-number, le-refl, lt-trans, lt-le-trans, not-lt→le}
-use Rattle.span_overlay.specs.Overlay.{lowerOf}
+use Rattle.spans.specs.Overlay.{lowerOf}
 use Rattle.log_keys.specs.Keys.{pairsPast}
 use Rattle.log_gather.specs.declared.HeldHits.{HeldHits}
 use Rattle.log_gather.specs.Gathering.{Shaped, WholePairs, Gathers, MakeRoomPost}

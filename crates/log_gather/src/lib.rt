@@ -3,7 +3,7 @@
 ghost use Prim.Native.Nat.{_+_, _*_, _<_};
 ghost use mathlib.Core.Path.{_≡_};
 ghost use lib.ListN.{length};
-ghost use Rattle.span_overlay.specs.Overlay.{lowerOf};
+ghost use Rattle.spans.specs.Overlay.{lowerOf};
 ghost use Rattle.log_model.specs.Logs.{entryAt, entryCount};
 ghost use Rattle.log_keys.specs.Keys.{hitsTo};
 ghost use Rattle.log_gather.specs.Gathering.{Shaped, WholePairs, MakeRoomPost, PutPost, PutEntryPost, GatherPost};

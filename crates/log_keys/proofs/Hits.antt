@@ -10,7 +10,7 @@ use borrow.Author.Tests.{eqb-true, eq-eqb}
 use lib.Dec.{eqb}
 use lib.ListN.{length, getD}
 use lib.Ieee.{Float, lt}
-use Rattle.doubles.proofs.Bools.{and-right, both, or-cases, or-left, or-right, by-cases}
+use Rattle.logic.proofs.Bools.{and-right, both, or-cases, or-left, or-right, by-cases}
 use Rattle.grid.specs.declared.DexelGrid.{DexelGrid}
 use Rattle.spans.specs.Spans.{within, holds}
 use Rattle.spans.proofs.Sets.{oddN-mod}

@@ -8,7 +8,7 @@ use native.Mathlib.Omega.{arith}
 use lib.ListN.{length}
 use lib.Ieee.{Float, lt, le}
 use Rattle.spans.specs.Spans.{within, holds}
-use Rattle.doubles.proofs.Bools.{and-left, or-cases, or-left, or-right, by-cases, clash}
+use Rattle.logic.proofs.Bools.{and-left, or-cases, or-left, or-right, by-cases, clash}
 use Rattle.doubles.proofs.Order.{le→not-lt, le-lt-trans, lt-le-trans}
 use Rattle.log_keys.specs.Keys.{pairsPast}
 

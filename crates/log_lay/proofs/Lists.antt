@@ -8,7 +8,7 @@ use native.Mathlib.Omega.{arith}
 use lib.Dec.{eqb}
 use lib.ListN.{take, drop}
 use lib.Ieee.{Float}
-use Rattle.doubles.proofs.Bools.{by-cases}
+use Rattle.logic.proofs.Bools.{by-cases}
 use Rattle.store.specs.Updates.{Update, update}
 use Rattle.log_lay.specs.Updates.{firstSize, possibleCells, certainCells, updatesFrom, listsEnd}
 

@@ -9,15 +9,14 @@ use native.Mathlib.Omega.{arith}
 use lib.ListN.{length, length-append}
 use lib.Ieee.{Float, lt, le}
 use Rattle.doubles.specs.Doubles.{Number}
-use Rattle.doubles.proofs.Bools.{and-left, and-right, and-true, and-false, or-left, or-right, both, by-cases, clash}
+use Rattle.logic.proofs.Bools.{and-left, and-right, and-true, and-false, or-left, or-right, both, by-cases, clash}
 use Rattle.doubles.proofs.Order.{lt-number, le-number, le-refl, lt→le, lt-not-le, le-trans, lt-le-trans, lt-trans}
 use Rattle.spans.specs.Spans.{within, holds, rising, sound, ListOf}
 use Rattle.spans.specs.Steps.{UpTo, pairIf}
-use Rattle.spans.proofs.Ends.{AtMost, Over, Above, all-append, all-map, above-less, upTo-more}
-use Rattle.spans.proofs.Ends.{rising-tail, rising-above, rising-append, rising-left, rising-right, rising-before}
+use Rattle.spans.proofs.Ends.{AtMost, Over, Above, all-append, all-map, above-less, upTo-more, rising-tail, rising-above, rising-append, rising-left, rising-right, rising-before}
 use Rattle.spans.proofs.Sets.{oddN-mod, sound-rising, sound-mod, make-sound}
 use Rattle.spans.proofs.Points.{or-false, holds-append, holds-upTo, holds-above}
-use Rattle.span_overlay.specs.Overlay.{higherOf}
+use Rattle.spans.specs.Overlay.{higherOf}
 use Rattle.span_overlay.proofs.Less.{higher-first, higher-second, higher-both, pair-all, pair-even, pair-rising, pair-holds}
 
 -- the parts of a list with a pair in its midst

@@ -9,7 +9,7 @@ use native.Mathlib.Omega.{arith}
 use native.Mathlib.Decide.{decLt}
 use lib.ListN.{length, length-append}
 use lib.Ieee.{Float, lt, le}
-use Rattle.doubles.proofs.Bools.{and-left, and-right, and-true, and-false, by-cases, not-false}
+use Rattle.logic.proofs.Bools.{and-left, and-right, and-true, and-false, by-cases, not-false}
 use Rattle.doubles.proofs.Order.{lt-number, lt→le, not-le→lt, not-lt→le, lt-trans, lt-le-trans, lt-irrefl}
 use Rattle.spans.specs.Spans.{within, holds, sound, less, ListOf}
 use Rattle.spans.specs.Steps.{pairIf}

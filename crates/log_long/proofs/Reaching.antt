@@ -8,7 +8,7 @@ use native.Mathlib.Omega.{arith}
 use native.Mathlib.Decide.{decLt}
 use lib.Ieee.{Float, lt, le}
 use Rattle.doubles.specs.Doubles.{Number}
-use Rattle.doubles.proofs.Bools.{and-left, and-right, both, clash}
+use Rattle.logic.proofs.Bools.{and-left, and-right, both, clash}
 use Rattle.doubles.proofs.Order.{lt-number, le-number, not-lt→le, le-trans, lt-trans, lt-le-trans}
 use Rattle.spans.specs.Spans.{within}
 use Rattle.log_model.specs.Logs.{entryAt, HitKind, hitLo, hitHi}

@@ -9,7 +9,7 @@ use native.Mathlib.Decide.{decLt}
 use lib.ListN.{length, getD, set, length-set}
 use lib.Seq.{getD-set-same, getD-set-other}
 use lib.Ieee.{Float, lt}
-use Rattle.doubles.proofs.Bools.{not-true, not-false, clash}
+use Rattle.logic.proofs.Bools.{not-true, not-false, clash}
 use Rattle.doubles.proofs.Order.{lt-irrefl, lt-trans}
 use Rattle.log_model.specs.Logs.{entryAt}
 use Rattle.log_keys.specs.KeysKept.{KeysKept}

@@ -8,7 +8,7 @@ use lib.ListN.{length, getD}
 use lib.Ieee.{Float, lt, neg}
 use Rattle.doubles.specs.Doubles.{Number}
 use Rattle.spans.specs.Spans.{within}
-use Rattle.span_overlay.specs.Overlay.{lowerOf}
+use Rattle.spans.specs.Overlay.{lowerOf}
 use Rattle.grid.specs.declared.DexelGrid.{DexelGrid}
 use Rattle.log_model.specs.Logs.{Entry, entryAt, entryCount, entryRay, HitKind, outer, inner, hitLo, hitHi}
 use Rattle.log_long.specs.declared.LongPart.{LongPart}

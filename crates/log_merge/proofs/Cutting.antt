@@ -8,7 +8,7 @@ use lib.ListN.{length}
 use lib.Ieee.{Float}
 use Rattle.spans.specs.Spans.{sound}
 use Rattle.spans.proofs.Sets.{sound-mod}
-use Rattle.span_overlay.specs.Overlay.{lessOf}
+use Rattle.spans.specs.Overlay.{lessOf}
 use Rattle.span_overlay.proofs.Less.{less-list}
 use Rattle.ray_subtract.specs.Steps.{cellsFrom, SoundListAt, WrittenAt, lessHits, MergeWithinPre}
 use Rattle.ray_subtract.proofs.Places.{part-length, part-front, part-past, lies-past}

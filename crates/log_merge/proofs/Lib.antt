@@ -3,4 +3,4 @@ pub mod Cutting
 pub mod Bringing
 pub mod Rays
 pub mod Told
-pub mod Merging
+pub mod AllRays

@@ -8,10 +8,10 @@ use borrow.Rule.Slice.PartMut.{putMid}
 use lib.ListN.{length, take, drop, length-drop}
 use lib.Seq.{take-all, drop-drop}
 use lib.Ieee.{Float}
-use Rattle.doubles.proofs.Bools.{both}
+use Rattle.logic.proofs.Bools.{both}
 use Rattle.spans.specs.Spans.{holds, sound, rising, equal, NormalOf, Apart}
 use Rattle.spans.proofs.Sets.{same-set}
-use Rattle.span_overlay.specs.Overlay.{lessOf}
+use Rattle.spans.specs.Overlay.{lessOf}
 use Rattle.span_overlay.proofs.Less.{less-apart}
 use Rattle.grid.specs.declared.DexelStockSpec.{DexelStockSpec}
 use Rattle.grid.specs.declared.DexelGrid.{DexelGrid}

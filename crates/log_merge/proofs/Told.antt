@@ -7,7 +7,7 @@ use native.Mathlib.Omega.{arith}
 use lib.ListN.{length}
 use lib.Ieee.{Float}
 use Rattle.spans.specs.Spans.{holds, ListOf, NormalOf}
-use Rattle.span_overlay.specs.Overlay.{lessOf}
+use Rattle.spans.specs.Overlay.{lessOf}
 use Rattle.grid.specs.Rays.{rayCount}
 use Rattle.grid.specs.declared.DexelStockSpec.{DexelStockSpec}
 use Rattle.grid.specs.declared.DexelGrid.{DexelGrid}
@@ -15,13 +15,13 @@ use Rattle.stock.specs.Stock.{Stock, possibleIn, certainIn, SoundCells}
 use Rattle.log_model.specs.Logs.{Ray, Kind, possible, certain, entries, outer, inner}
 use Rattle.log_model.specs.Model.{RayChanges}
 use Rattle.log_model.specs.Counts.{isRayChanged, startsLeft, hitsOnList}
-use Rattle.log_model.specs.Lent.{listNumber, listIn}
+use Rattle.log_model.specs.View.{listNumber, listIn}
 use Rattle.log_model.proofs.Decided.{changes-by}
 use Rattle.log_model.proofs.Doubles.{Doubles}
 use Rattle.log_entries.proofs.Places.{pairs-named}
-use Rattle.log_updates.specs.Merges.{MergedByLog, stockLists}
-use Rattle.log_updates.proofs.Asked.{exact-possible, exact-certain, exact-changes}
-use Rattle.log_updates.proofs.Totals.{each, one-pairs}
+use Rattle.log_model.specs.Updates.{MergedByLog, stockLists}
+use Rattle.log_model.proofs.Asked.{exact-possible, exact-certain, exact-changes}
+use Rattle.log_model.proofs.Totals.{each, one-pairs}
 use Rattle.ray_subtract.specs.Steps.{cellsFrom}
 use Rattle.ray_subtract.proofs.Places.{part-length}
 use Rattle.log_merge.specs.Rays.{MergeRayPost, limitOf}

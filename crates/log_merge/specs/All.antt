@@ -6,7 +6,7 @@ use Prim.Native.Nat.{ℕ, _+_, _*_, _≤_}
 use lib.ListN.{length}
 use lib.Ieee.{Float}
 use Rattle.grid.specs.Rays.{rayCount}
-use Rattle.grid_from_spec.specs.Causes.{GridFacts}
+use Rattle.grid.specs.Causes.{GridFacts}
 use Rattle.grid.specs.declared.DexelStockSpec.{DexelStockSpec}
 use Rattle.grid.specs.declared.DexelGrid.{DexelGrid}
 use Rattle.store.specs.Updates.{Cells, Room}
@@ -14,7 +14,7 @@ use Rattle.stock.specs.Stock.{Stock, SoundStock}
 use Rattle.log_model.specs.Logs.{entries, entryCount}
 use Rattle.log_model.specs.Counts.{pairsAfter}
 use Rattle.log_lay.specs.Updates.{updatesFrom, listsEnd}
-use Rattle.log_updates.specs.Merges.{MergeUpdates, stockLists}
+use Rattle.log_model.specs.Updates.{MergeUpdates, stockLists}
 use Rattle.log_group.specs.Groups.{Grouped}
 use Rattle.log_merge.specs.declared.RayUpdate.{RayUpdate}
 

@@ -12,7 +12,7 @@ use borrow.Author.Tests.{ltb-true, ltb-false, eqb-true, eqb-false}
 use lib.Dec.{ltb, eqb}
 use lib.ListN.{length}
 use lib.Ieee.{Float}
-use Rattle.doubles.proofs.Bools.{or-cases, or-left, clash, not-true, not-false}
+use Rattle.logic.proofs.Bools.{or-cases, or-left, clash, not-true, not-false}
 use Rattle.refusal.specs.Refusal.{Cause, Due, NoneDue}
 use Rattle.spans.specs.Spans.{All, Double, Point, within, holds, sound, ListOf}
 use Rattle.spans.proofs.Points.{or-assoc}

@@ -12,7 +12,7 @@ use Rattle.store.specs.Store.{placesOf, endsAt}
 use Rattle.stock.specs.Stock.{Stock}
 use Rattle.log_model.specs.Logs.{Ray, Kind, possible, certain, Entry, entryAt, entriesFrom, entryCount, entries, namesRay, HitKind, outer, inner, hitLo, hitHi, hitsOnRay}
 use Rattle.log_model.specs.Counts.{hitsOnList}
-use Rattle.log_model.specs.Lent.{listNumber, listIn}
+use Rattle.log_model.specs.View.{listNumber, listIn}
 use Rattle.log_model.proofs.Less.{piece, lower, higher, lessPair, less}
 
 -- every cell is a double, which a slice of doubles knows of itself; past its end stands nan, a double too

@@ -11,17 +11,17 @@ use lib.Dec.{T, lit<, eqb}
 use lib.ListN.{length, getD, replicate}
 use lib.Ieee.{Float, nan, inf, binary64, fits, lt, le, eq, neg, ofInt, ofBits, toUnsigned, isNan, sub, add, mul, div}
 use Rattle.doubles.specs.Doubles.{ratio, largerOf, ceilOf, absOf}
-use Rattle.doubles.proofs.Bools.{or-cases, and-left, and-right, clash, not-true}
+use Rattle.logic.proofs.Bools.{or-cases, and-left, and-right, clash, not-true}
 use Rattle.spans.specs.Spans.{All, Double, holds, sound, equal, ListOf}
 use Rattle.doubles.proofs.Order.{lt-number, eq-refl}
 use Rattle.spans.proofs.Pieces.{agree, by-ends, of-list, in-left, in-right, both-of}
 use Rattle.grid.specs.Axes.{byDigit}
 use Rattle.grid.specs.Grid.{allBetween, isBetween}
-use Rattle.grid_from_spec.specs.Grid.{gridOf, isMm, misdescribed, anyBelow, gridOver, anyAbove, cellCount, tooFine, leastStep, magnitudeOf}
+use Rattle.grid.specs.FromSpec.{gridOf, isMm, misdescribed, anyBelow, gridOver, anyAbove, cellCount, tooFine, leastStep, magnitudeOf}
 use Rattle.grid.specs.Rays.{rayCount, raysAlong, offset, rayAxis, boundsOf}
 use Rattle.grid.specs.declared.GridAnswer.the-variants.{Accepted}
 use Rattle.store.specs.Store.{usedAt, places, RecordChain, ends, more, placesOf, chained, endsAt}
-use Rattle.ray_validity.specs.Ray.{bounded, ValidRay}
+use Rattle.spans.specs.Rays.{bounded, ValidRay}
 use Rattle.log_model.specs.Logs.{Ray, Kind, possible, certain, entries, namesSomeRay, hitLo, hitHi, HitsIncluded, Alike, Commit}
 use Rattle.log_model.specs.Model.{LogAnswer, changed, refused, logCommitCauses, AnswerDue, acceptedLogs}
 use Rattle.log_model.specs.Counts.{hitsOnList, changedRayCount}
@@ -30,12 +30,12 @@ use Rattle.log_model.specs.Examples.{num, exampleBox, exampleGrid, examp
 use Rattle.store.specs.Updates.{cells}
 use Rattle.stock.specs.Stock.{Stock, ValidAt, SoundStock}
 use Rattle.stock_fill.specs.Uncut.{uncut as uncutCells, uncutSpans, uncutLinks, uncutHeads, recordAt}
-use Rattle.log_model.specs.Lent.{listIn, lentStore}
+use Rattle.log_model.specs.View.{listIn, lentStore}
 use Rattle.log_model.proofs.Unique.{judged-unsound}
 use Rattle.log_model.proofs.Less.{less}
 use Rattle.log_model.proofs.Doubles.{DoubleCells, all-doubles}
 use Rattle.log_model.proofs.Decided.{tests, answerBy, judged, left-list}
-use Rattle.log_model.proofs.Lent.{lent-laws, demand3-lent}
+use Rattle.log_model.proofs.View.{lent-laws, demand3-lent}
 use Rattle.log_model.proofs.Plain.{Plain, Valid, answers, final}
 
 accepted-box : gridOf (exampleBox 8) (109 ∷ 109 ∷ []) ≡ Accepted exampleGrid

@@ -4,7 +4,7 @@ use mathlib.Core.Bool.{Bool, true, false, cond, _&&_, _||_, false≢true}
 use mathlib.Core.List.{List, [], _∷_, List·Memᴰ, List·Memᴰ·head, List·Memᴰ·tail, List·Memᴰ·not-nil, List·Memᴰ·cases-cons}
 use mathlib.Core.Logic.{_⊎_, inl, inr}
 use lib.Ieee.{Float, lt, le, eq}
-use Rattle.doubles.proofs.Bools.{or-cases, or-left, or-right, and-left, and-right, both, same-if}
+use Rattle.logic.proofs.Bools.{or-cases, or-left, or-right, and-left, and-right, both, same-if}
 use Rattle.doubles.proofs.Order.{le-trans, le-lt-trans, lt-le-trans, eq→le, eq→ge}
 use Rattle.spans.specs.Spans.{within, holds}
 use Rattle.grid.specs.declared.DexelGrid.{DexelGrid}

@@ -6,11 +6,10 @@ use mathlib.Core.Logic.{inl, inr}
 use lib.ListN.{length}
 use lib.Ieee.{Float, lt, le}
 use Rattle.doubles.specs.Doubles.{Number}
-use Rattle.doubles.proofs.Bools.{or-cases, or-left, or-right, and-left, and-right, both, by-cases, clash, same-if, and-not-or}
+use Rattle.logic.proofs.Bools.{or-cases, or-left, or-right, and-left, and-right, both, by-cases, clash, same-if, and-not-or}
 use Rattle.doubles.proofs.Order.{lt-number, le-number, le-refl, le-trans, lt→le, not-lt→le, le-lt-trans, lt-le-trans, lt→not-le, le→not-lt}
 use Rattle.spans.specs.Spans.{within, holds, rising, ListOf}
-use Rattle.spans.proofs.Ends.{oddN, Above}
-use Rattle.spans.proofs.Ends.{not-not, above-less, rising-tail, rising-above, rising-cons}
+use Rattle.spans.proofs.Ends.{oddN, Above, not-not, above-less, rising-tail, rising-above, rising-cons}
 use Rattle.spans.proofs.Sets.{sound-rising, sound-even, make-sound, mod-oddN}
 use Rattle.log_model.proofs.Hits.{within-proper}
 

@@ -2,8 +2,6 @@ pub mod Entries
 pub mod Hits
 pub mod Unique
 pub mod Naming
-pub mod Demand3
-pub mod Lent
 pub mod Meets
 pub mod Starts
 pub mod Less
@@ -11,3 +9,9 @@ pub mod Doubles
 pub mod Decided
 pub mod Plain
 pub mod Examples
+pub mod View
+pub mod RunCorrect
+pub mod Asked
+pub mod Leaves
+pub mod Valid
+pub mod Totals

@@ -4,7 +4,7 @@ use mathlib.Core.Bool.{Bool, true, false, not, _&&_, false≢true}
 use mathlib.Core.List.{List, [], _∷_}
 use mathlib.Core.Logic.{inl, inr, _↔_}
 use lib.Ieee.{Float, lt, le}
-use Rattle.doubles.proofs.Bools.{or-cases, or-left, or-right, and-left, and-right, both, by-cases, clash}
+use Rattle.logic.proofs.Bools.{or-cases, or-left, or-right, and-left, and-right, both, by-cases, clash}
 use Rattle.doubles.proofs.Order.{lt-number, le-number, le-refl, lt→le, not-lt→le, le-lt-trans}
 use Rattle.spans.specs.Spans.{All, Double, Point, within, holds, rising, sound, equal, ListOf, Apart}
 use Rattle.doubles.specs.Doubles.{Number}

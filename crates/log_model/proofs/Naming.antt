@@ -11,7 +11,7 @@ use lib.IntN.{pos}
 use lib.Ieee.{Float, nan, inf, fin, up, down, binary64, eq, ofInt, toUnsigned, inFloat}
 use lib.Ieee.Fits.{down-pos}
 use lib.Ieee.Back.{unsigned-back}
-use Rattle.doubles.proofs.Bools.{and-left, and-right, both}
+use Rattle.logic.proofs.Bools.{and-left, and-right, both}
 use Rattle.grid.specs.Axes.{worldAxis}
 use Rattle.grid.specs.Rays.{rayCount, raysAlong, rayNumber}
 use Rattle.grid.specs.declared.DexelGrid.{DexelGrid}

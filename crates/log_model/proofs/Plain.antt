@@ -6,7 +6,7 @@ use mathlib.Core.List.{List, [], _∷_}
 use mathlib.Core.Logic.{inl, inr}
 use Prim.Native.Nat.{ℕ, suc}
 use lib.Ieee.{Float}
-use Rattle.doubles.proofs.Bools.{or-right, and-left, and-right, both, by-cases, clash, not-true}
+use Rattle.logic.proofs.Bools.{or-right, and-left, and-right, both, by-cases, clash, not-true}
 use Rattle.spans.specs.Spans.{All, Double, holds, sound, ListOf}
 use Rattle.grid.specs.declared.DexelStockSpec.{DexelStockSpec}
 use Rattle.grid.specs.declared.DexelGrid.{DexelGrid}

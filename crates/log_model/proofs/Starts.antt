@@ -8,7 +8,7 @@ use native.Mathlib.Omega.{arith}
 use lib.ListN.{length}
 use lib.Ieee.{Float, lt, le, eq}
 use Rattle.doubles.specs.Doubles.{Number}
-use Rattle.doubles.proofs.Bools.{or-cases, or-left, or-right, and-left, and-right, both, by-cases, clash, not-true}
+use Rattle.logic.proofs.Bools.{or-cases, or-left, or-right, and-left, and-right, both, by-cases, clash, not-true}
 use Rattle.doubles.proofs.Order.{lt-number, le-number, le-refl, le-trans, le-total, lt→le, not-lt→le, not-le→lt, le-lt-trans, lt-le-trans, lt→not-le, le→not-lt, lt-trans, eq→le, eq→ge, eq-refl, eq-sym, eq-trans, lt-eq-left, le-eq-right, le-cases}
 use Rattle.spans.specs.Spans.{within, holds, rising, sound, ListOf}
 use Rattle.spans.proofs.Ends.{All, Above, all-map, rising-tail, rising-above, rising-cons}

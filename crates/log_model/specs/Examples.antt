@@ -9,7 +9,7 @@ use lib.IntN.{pos}
 use lib.ListN.{replicate}
 use lib.Ieee.{Float, binary64, ofInt}
 use Rattle.spans.specs.Spans.{equal}
-use Rattle.grid_from_spec.specs.Grid.{gridOf}
+use Rattle.grid.specs.FromSpec.{gridOf}
 use Rattle.grid.specs.declared.DexelStockSpec.{DexelStockSpec}
 use Rattle.grid.specs.declared.DexelGrid.{DexelGrid}
 use Rattle.grid.specs.declared.GridAnswer.the-variants.{Accepted}
@@ -19,7 +19,7 @@ use Rattle.stock_fill.specs.Uncut.{uncut, uncutTally}
 use Rattle.log_model.specs.Logs.{Ray, Kind, possible, certain, Commit}
 use Rattle.log_model.specs.Model.{LogAnswer, changed, refused}
 use Rattle.log_model.specs.Runs.{Run}
-use Rattle.log_model.specs.Lent.{listIn, lentStore}
+use Rattle.log_model.specs.View.{listIn, lentStore}
 
 -- a whole number as a double
 abbrev pub num : ℕ → Float

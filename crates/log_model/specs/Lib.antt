@@ -2,5 +2,6 @@ pub mod Logs
 pub mod Model
 pub mod Runs
 pub mod Counts
-pub mod Lent
 pub mod Examples
+pub mod Updates
+pub mod View

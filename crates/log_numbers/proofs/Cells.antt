@@ -10,7 +10,7 @@ use lib.Ieee.{Float, nan, binary64, ofBits, toBits}
 use lib.Seq.{getD-set-same}
 use lib.Ieee.Bits.{toBits-ofBits, nanBits-is, nanBits-above}
 use borrow.Author.Tests.{le-ltb}
-use Rattle.doubles.proofs.Bools.{of-false}
+use Rattle.logic.proofs.Bools.{of-false}
 use Rattle.log_numbers.specs.Numbers.{numberCell, numberAt, largestNumber}
 
 -- a number comes back as it was put

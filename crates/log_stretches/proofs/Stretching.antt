@@ -8,7 +8,7 @@ use native.Mathlib.Omega.{arith}
 use lib.ListN.{length, take}
 use lib.Seq.{length-take-le}
 use lib.Ieee.{Float, lt, le}
-use Rattle.doubles.proofs.Bools.{and-left, and-right, both, clash}
+use Rattle.logic.proofs.Bools.{and-left, and-right, both, clash}
 use Rattle.doubles.proofs.Order.{le-refl, le-trans, lt→le, lt-le-trans, le-number, lt-irrefl}
 use Rattle.spans.specs.Spans.{within, holds, NormalOf}
 use Rattle.spans.specs.Steps.{FilledFront}

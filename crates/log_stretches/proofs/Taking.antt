@@ -9,7 +9,7 @@ use native.Mathlib.Omega.{arith}
 use lib.ListN.{length, getD, take}
 use lib.Seq.{getD-take, length-take-le}
 use lib.Ieee.{Float, nan, lt, le}
-use Rattle.doubles.proofs.Bools.{or-cases, or-left, or-right, and-left, and-right, both, by-cases, clash, and-not-or}
+use Rattle.logic.proofs.Bools.{or-cases, or-left, or-right, and-left, and-right, both, by-cases, clash, and-not-or}
 use Rattle.doubles.proofs.Order.{le-refl, lt→le, lt-le-trans, le-number, lt-number, not-lt→le}
 use Rattle.spans.specs.Spans.{within, holds, sound}
 use Rattle.spans.proofs.Ends.{rising-at}

@@ -7,8 +7,8 @@ use native.Mathlib.Numerals.{add-one}
 use lib.Ieee.{Float, nan, le}
 use lib.ListN.{length, getD, drop, drop-of-length-le}
 use lib.Seq.{drop-cons}
-use Rattle.doubles.proofs.Bools.{and-false, not-true, not-false}
-use Rattle.ray_validity.specs.Ray.{bounded}
+use Rattle.logic.proofs.Bools.{and-false, not-true, not-false}
+use Rattle.spans.specs.Rays.{bounded}
 
 module _ (lo hi : Float) (l : List Float) (k : ℕ) where
   bounded-at : k < length l → bounded lo hi (drop k l) ≡ (le lo (getD l k nan) && (le (getD l k nan) hi && bounded lo hi (drop (k + 1) l)))

@@ -3,10 +3,10 @@ use mathlib.Core.Path.{_≡_, refl, sym, _∙_}
 use mathlib.Core.Bool.{Bool, true, false, not}
 use mathlib.Core.List.{List}
 use lib.Ieee.{Float}
-use Rattle.doubles.proofs.Bools.{not-true, not-false, clash}
+use Rattle.logic.proofs.Bools.{not-true, not-false, clash}
 use Rattle.spans.specs.Spans.{holds, sound, Within}
-use Rattle.span_cover.specs.Covering.{Covers}
-use Rattle.ray_validity.specs.Ray.{bounded, ValidRay}
+use Rattle.span_cover.specs.Cover.{Covers}
+use Rattle.spans.specs.Rays.{bounded, ValidRay}
 
 -- a test of b that passes
 pub passes : (b r : Bool) → r ≡ b → not r ≡ false → b ≡ true

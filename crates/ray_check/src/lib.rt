@@ -1,7 +1,7 @@
 // Whether two lent lists are document 01's valid ray.
 ghost use mathlib.Core.Path.{_≡_};
 ghost use mathlib.Core.Bool.{true};
-ghost use Rattle.ray_validity.specs.Ray.{bounded, ValidRay};
+ghost use Rattle.spans.specs.Rays.{bounded, ValidRay};
 
 // Whether each end of a list lies within the bounds.
 fn is_bounded(s: &[f64], lo: f64, hi: f64) -> bool

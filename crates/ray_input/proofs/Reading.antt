@@ -10,7 +10,7 @@ use borrow.Author.Tests.{lt-leb, le-leb, eq-eqb, ne-eqb, eqb-false}
 use lib.Dec.{leb, eqb}
 use lib.ListN.{length, getD, length-append}
 use lib.Ieee.{Float, binary64, ofBits}
-use Rattle.doubles.proofs.Bools.{and-false, both}
+use Rattle.logic.proofs.Bools.{and-false, both}
 use Rattle.ray_input.specs.Format.{space, newline, letterB, letterP, letterC, letterO, letterI, isLetter, eachBelow, isNumber, bitsAt, isLine, lines, letterOf, count, pairAt, textPairs, few, total, readable}
 
 module _ (test : ℕ → Bool) where

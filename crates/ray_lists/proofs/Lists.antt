@@ -6,8 +6,8 @@ use Prim.Native.Nat.{ℕ, _+_, _*_, _<_}
 use borrow.Author.Tests.{lt-leb}
 use lib.ListN.{length}
 use lib.Ieee.{Float}
-use Rattle.doubles.proofs.Bools.{and-false}
-use Rattle.ray_subtract.specs.Taking.{handedBack}
+use Rattle.logic.proofs.Bools.{and-false}
+use Rattle.ray_subtract.specs.Subtract.{handedBack}
 use Rattle.ray_subtract.specs.declared.MergedList.{MergedList}
 
 pub handed-short : (p : MergedList) (before work : List Float) (at : ℕ) → length work < at + 2 * p .pairs → before ≡ handedBack p before work at

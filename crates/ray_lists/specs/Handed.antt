@@ -6,7 +6,7 @@ use Prim.Native.Nat.{ℕ, _+_, _*_, _≤_}
 use lib.ListN.{length}
 use lib.Ieee.{Float}
 use denote.Ref.{RefT}
-use Rattle.ray_subtract.specs.Taking.{newCells, handedBack}
+use Rattle.ray_subtract.specs.Subtract.{newCells, handedBack}
 use Rattle.ray_subtract.specs.declared.MergedList.{MergedList}
 use Rattle.ray_merge.specs.declared.MergeAnswer.{MergeAnswer}
 use Rattle.ray_merge.specs.declared.MergeAnswer.the-variants.{Lists, Refused}

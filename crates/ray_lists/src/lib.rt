@@ -1,7 +1,7 @@
 // The lists of a ray after a merge: the caller's own, or the new ones in the work buffer.
 ghost use mathlib.Core.Path.{_≡_};
 ghost use mathlib.Core.Bool.{false};
-ghost use Rattle.ray_subtract.specs.Taking.{handedBack};
+ghost use Rattle.ray_subtract.specs.Subtract.{handedBack};
 ghost use Rattle.ray_lists.specs.Handed.{possibleHanded, certainHanded, PossibleStays, CertainStays, ListMoved, PossibleMoved, CertainMoved};
 use ray_merge::MergeAnswer;
 use ray_subtract::MergedList;

@@ -10,13 +10,13 @@ use lib.Seq.{length-take-le, getD-take, drop-at}
 use lib.Ieee.{Float, nan}
 use Rattle.doubles.specs.Constants.{plusZero}
 use Rattle.refusal.specs.Refusal.{Due, NoneDue}
-use Rattle.doubles.proofs.Bools.{and-left, and-right, or-neither, both, not-true}
+use Rattle.logic.proofs.Bools.{and-left, and-right, or-neither, both, not-true}
 use Rattle.spans.specs.Spans.{holds, Within}
-use Rattle.ray_validity.specs.Ray.{ValidRay}
-use Rattle.ray_subtract.specs.Taking.{eitherHit, newCells, handedBack, ListAfterHits, MergedExactly}
+use Rattle.spans.specs.Rays.{ValidRay}
+use Rattle.ray_subtract.specs.Subtract.{eitherHit, newCells, handedBack, ListAfterHits, MergedExactly}
 use Rattle.ray_merge.specs.Merge.{MergePre, workPairs, MergePost}
 use Rattle.ray_subtract.specs.Steps.{cellsFrom, newList, MergeWithinPre, MergeWithinPost, PlacedAt, NormalizedAt, MergeInputs, MergeListsPost}
-use Rattle.span_overlay.specs.Overlay.{lessOf}
+use Rattle.spans.specs.Overlay.{lessOf}
 use Rattle.span_overlay.proofs.Less.{less-list}
 use Rattle.ray_subtract.specs.declared.MergedList.{MergedList}
 use Rattle.ray_subtract.specs.declared.MergedLists.{MergedLists}

@@ -7,12 +7,12 @@ use Prim.Native.Nat.{ℕ, suc, _%_}
 use native.Mathlib.Omega.{arith}
 use lib.ListN.{length}
 use lib.Ieee.{Float, lt, le}
-use Rattle.doubles.proofs.Bools.{and-left, and-right, both, or-cases, or-left, or-right, by-cases, clash}
+use Rattle.logic.proofs.Bools.{and-left, and-right, both, or-cases, or-left, or-right, by-cases, clash}
 use Rattle.doubles.proofs.Order.{lt-number, lt→le, le-refl, le-trans, lt-irrefl, lt-le-trans, not-le→lt}
 use Rattle.spans.specs.Spans.{within, holds, sound, Within}
 use Rattle.spans.proofs.Sets.{sound-rising, sound-mod, make-sound}
 use Rattle.spans.proofs.Ends.{rising-first, rising-tail}
-use Rattle.ray_validity.specs.Ray.{bounded}
+use Rattle.spans.specs.Rays.{bounded}
 
 tail-sound : (x y : Float) (l : List Float) → sound (x ∷ y ∷ l) ≡ true → sound l ≡ true
 tail-sound x y l h =

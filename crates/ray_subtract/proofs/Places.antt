@@ -11,8 +11,8 @@ use lib.Seq.{length-take-le, getD-take, getD-drop, drop-drop, drop-at, take-all,
 use lib.Ieee.{Float, nan}
 use Rattle.spans.specs.Spans.{NormalOf}
 use Rattle.spans.specs.Steps.{CopyPost, FilledFront}
-use Rattle.span_overlay.specs.Overlay.{lessOf}
-use Rattle.ray_subtract.specs.Taking.{handedBack}
+use Rattle.spans.specs.Overlay.{lessOf}
+use Rattle.ray_subtract.specs.Subtract.{handedBack}
 use Rattle.ray_subtract.specs.Steps.{cellsFrom, SoundListAt, ChangedBetween, WrittenAt, PlacedAt, NormalizedAt}
 use Rattle.ray_subtract.specs.declared.MergedList.{MergedList}
 

@@ -7,13 +7,13 @@ use Prim.Native.Nat.{ℕ, _+_, _*_, _/_, _%_, _≤_}
 use native.Mathlib.Omega.{arith}
 use lib.ListN.{length}
 use lib.Ieee.{Float}
-use Rattle.doubles.proofs.Bools.{and-right, and-not-or, or-neither, not-true, not-false, found-not, by-cases, clash}
+use Rattle.logic.proofs.Bools.{and-right, and-not-or, or-neither, not-true, not-false, found-not, by-cases, clash}
 use Rattle.spans.specs.Spans.{holds, sound, equal, ListOf}
 use Rattle.spans.proofs.Sets.{sound-mod, equal-holds, same-set}
-use Rattle.span_overlay.specs.Overlay.{lessOf}
+use Rattle.spans.specs.Overlay.{lessOf}
 use Rattle.span_overlay.proofs.Less.{less-list, less-apart, less-moves}
-use Rattle.span_cover.specs.Covering.{Meets}
-use Rattle.ray_subtract.specs.Taking.{eitherHit, spared, newCells, ListAfterHits}
+use Rattle.span_cover.specs.Cover.{Meets}
+use Rattle.ray_subtract.specs.Subtract.{eitherHit, spared, newCells, ListAfterHits}
 use Rattle.ray_subtract.specs.Steps.{cellsFrom, SoundListAt, WrittenAt, lessHits, Becomes, newList, ReducePost, MergeWithinPre, MergeWithinPost}
 use Rattle.ray_subtract.specs.declared.MergedList.{MergedList}
 use Rattle.ray_subtract.proofs.Places.{part-length, part-past, part-front, between-both, between-same, lies-past}

@@ -7,9 +7,9 @@ use lib.ListN.{length, take, drop, getD}
 use lib.Ieee.{Float, nan}
 use Rattle.spans.specs.Spans.{holds, sound, equal, NormalOf}
 use Rattle.spans.specs.declared.Place.{Place}
-use Rattle.span_overlay.specs.Overlay.{lessOf}
+use Rattle.spans.specs.Overlay.{lessOf}
 use Rattle.span_overlay.specs.Steps.{OverlayCutPost}
-use Rattle.ray_subtract.specs.Taking.{eitherHit, newCells, ListAfterHits, MergedExactly}
+use Rattle.ray_subtract.specs.Subtract.{eitherHit, newCells, ListAfterHits, MergedExactly}
 use Rattle.ray_subtract.specs.declared.MergedList.{MergedList}
 use Rattle.ray_subtract.specs.declared.MergedLists.{MergedLists}
 

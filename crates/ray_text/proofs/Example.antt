@@ -8,14 +8,14 @@ use Prim.Native.Nat.{ℕ}
 use lib.Ieee.{Float, binary64, ofBits, toBits, lt, le, eq}
 use Rattle.refusal.specs.Refusal.{Due}
 use Rattle.hex_text.specs.Hex.{hexDigit, hexAt}
-use Rattle.doubles.proofs.Bools.{and-left, and-right, clash}
+use Rattle.logic.proofs.Bools.{and-left, and-right, clash}
 use Rattle.doubles.proofs.Order.{lt-irrefl, lt-eq-right}
 use Rattle.spans.specs.Spans.{All, rising, sound, equal, NormalOf}
 use Rattle.spans.proofs.Ends.{Above, rising-above, rising-tail}
 use Rattle.spans.proofs.Sets.{same-set, sound-rising}
 use Rattle.spans.proofs.Normal.{retained-sound}
-use Rattle.span_overlay.specs.Overlay.{cutBy, lessOf}
-use Rattle.ray_validity.specs.Ray.{bounded, ValidRay}
+use Rattle.spans.specs.Overlay.{cutBy, lessOf}
+use Rattle.spans.specs.Rays.{bounded, ValidRay}
 use Rattle.ray_input.specs.Format.{eachBelow, isLine, count, few, textPairs, readable}
 use Rattle.ray_input.specs.Steps.{Appended}
 use Rattle.ray_output.specs.Output.{hex, lineText, linesText, endText, answerText}

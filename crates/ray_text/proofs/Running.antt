@@ -11,14 +11,14 @@ use lib.ListN.{length, take, drop}
 use lib.Ieee.{Float}
 use Rattle.refusal.specs.Refusal.{Due, NoneDue}
 use Rattle.spans.specs.Spans.{holds}
-use Rattle.ray_subtract.specs.Taking.{eitherHit, newCells, handedBack, ListAfterHits}
+use Rattle.ray_subtract.specs.Subtract.{eitherHit, newCells, handedBack, ListAfterHits}
 use Rattle.ray_merge.specs.Merge.{MergeEffect, mergeCauses}
 use Rattle.ray_subtract.specs.declared.MergedList.{MergedList}
 use Rattle.ray_input.specs.Format.{letterB, letterP, letterC, letterO, letterI, lines, letterOf, count, textPairs, few, total, readable}
 use Rattle.ray_output.specs.Output.{linesText, endText, refusedText}
 use Rattle.ray_text.specs.Run.{boundLo, boundHi, textPossible, textCertain, textOuter, textInner, rayCauses, runCauses, Result, refused, written, Printed, ProgramRan, Small}
 use Rattle.ray_input.specs.Steps.{Appended}
-use Rattle.doubles.proofs.Bools.{and-left, and-right}
+use Rattle.logic.proofs.Bools.{and-left, and-right}
 use Rattle.ray_input.proofs.Reading.{pairs-length}
 use Rattle.ray_output.proofs.Printing.{lines-length}
 use Rattle.ray_input.proofs.Writing.{front, put-then}

@@ -13,8 +13,8 @@ use Rattle.spans.specs.Spans.{sound}
 use Rattle.spans.specs.Results.{ListPost, listCauses}
 use Rattle.spans.specs.Steps.{FilledFront}
 use Rattle.spans.specs.declared.ListAnswer.the-variants.{Pairs, Refused}
-use Rattle.span_combine.specs.Combining.{CombineCheckPost, combineCauses}
-use Rattle.doubles.proofs.Bools.{and-false, by-cases}
+use Rattle.span_combine.specs.Combine.{CombineCheckPost, combineCauses}
+use Rattle.logic.proofs.Bools.{and-false, by-cases}
 use Rattle.spans.proofs.Answers.{laid}
 use Rattle.spans.proofs.Sets.{sound-mod}
 

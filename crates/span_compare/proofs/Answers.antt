@@ -8,10 +8,10 @@ use mathlib.Core.Logic.{inl, inr}
 use lib.Ieee.{Float, nan, lt, le}
 use Rattle.refusal.specs.Refusal.{Due, NoneDue}
 use Rattle.doubles.specs.Doubles.{Number}
-use Rattle.doubles.proofs.Bools.{found, and-left, or-cases}
+use Rattle.logic.proofs.Bools.{found, and-left, or-cases}
 use Rattle.doubles.proofs.Order.{le-number}
 use Rattle.spans.specs.Spans.{Double, EndOfEither, within, holds, sound}
-use Rattle.span_cover.specs.Covering.{Covers, Meets}
+use Rattle.span_cover.specs.Cover.{Covers, Meets}
 use Rattle.spans.proofs.Answers.{bad-first, bad-second, good-both}
 use Rattle.span_compare.specs.Verdicts.{ComparePost, compareCauses, Contains, Overlaps}
 use Rattle.span_compare.specs.declared.BoolAnswer.the-variants.{Yes, No, Refused}

@@ -10,14 +10,14 @@ use lib.ListN.{length, getD, take}
 use lib.Seq.{take-all}
 use lib.Ieee.{Float, nan, lt, le}
 use Rattle.spans.specs.Spans.{EndOfEither, within, holds, sound, Within, Apart}
-use Rattle.span_cover.specs.Covering.{Covers, Meets}
+use Rattle.span_cover.specs.Cover.{Covers, Meets}
 use Rattle.spans.proofs.Ends.{rising-at}
 use Rattle.spans.proofs.Sets.{sound-rising, sound-mod}
 use Rattle.spans.proofs.Points.{holds-more, front-only, in-pair, in-gap, upTo-last, pair-rises, number-at}
-use Rattle.span_overlay.specs.Overlay.{higherOf as top}
+use Rattle.spans.specs.Overlay.{higherOf as top}
 use Rattle.span_overlay.proofs.Less.{higher-first as top-first, higher-second as top-second, higher-both as top-both}
 use Rattle.doubles.specs.Doubles.{Number}
-use Rattle.doubles.proofs.Bools.{and-left, and-right, or-cases, by-cases, clash}
+use Rattle.logic.proofs.Bools.{and-left, and-right, or-cases, by-cases, clash}
 use Rattle.doubles.proofs.Order.{lt-number, not-lt→le, not-le→lt, le-refl, le-trans, lt-trans, lt-le-trans}
 
 -- a cell of a list is one of its ends

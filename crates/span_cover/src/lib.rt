@@ -2,7 +2,7 @@
 ghost use mathlib.Core.Path.{_≡_};
 ghost use mathlib.Core.Bool.{true};
 ghost use Rattle.spans.specs.Spans.{sound};
-ghost use Rattle.span_cover.specs.Covering.{Covers, Meets};
+ghost use Rattle.span_cover.specs.Cover.{Covers, Meets};
 
 // Whether each point of inner is in outer.
 pub fn covers(outer: &[f64], inner: &[f64]) -> bool

@@ -10,7 +10,7 @@ use lib.Seq.{drop-drop}
 use lib.Ieee.{Float, lt}
 use Rattle.spans.specs.Spans.{holds, retained}
 use Rattle.spans.proofs.Points.{retained-holds}
-use Rattle.doubles.proofs.Bools.{by-cases}
+use Rattle.logic.proofs.Bools.{by-cases}
 use Rattle.span_hits.specs.declared.Found.{Found}
 use Rattle.span_hits.specs.declared.NextHit.{NextHit}
 use Rattle.span_hits.specs.declared.NextHit.the-variants.{Pair, End}

@@ -15,7 +15,7 @@ use Rattle.spans.specs.Spans.{within, holds, rising, sound}
 use Rattle.spans.specs.Steps.{PutPairPost, pairIf}
 use Rattle.span_insert.specs.Steps.{EndsCounted, SplicePost, InsertPost, endIf, joinAt}
 use Rattle.doubles.specs.Doubles.{Number}
-use Rattle.doubles.proofs.Bools.{and-left, and-right, and-true, and-false, both, by-cases, clash}
+use Rattle.logic.proofs.Bools.{and-left, and-right, and-true, and-false, both, by-cases, clash}
 use Rattle.doubles.proofs.Order.{lt-number, le-number, lt-not-le, lt→le, not-lt→le, not-le→lt, le-lt-trans, lt-trans, lt-le-trans, le-refl, le-trans}
 use Rattle.spans.proofs.Ends.{flip, flip-false, not-not, oddN, odd, odd-append, All, all-append, all-left, all-right, all-map, all-by-place, all-at, Over, Under, AtMost, Past, From, Above, Below, UpTo, odd-all, odd-none, odd-past, above-less, upTo-more, below-upTo, oddN-add, rising-cons, rising-append, rising-left, rising-right, rising-at, rising-before}
 use Rattle.spans.proofs.Points.{or-false, or-true, or-assoc, holds-more, put-list, below-by-last}

@@ -1,2 +1,2 @@
 -- The definitions that the contracts of `span_normalize` cite.
-pub mod Normalizing
+pub mod Causes

@@ -6,7 +6,7 @@ ghost use mathlib.Core.List.{_++_};
 ghost use Rattle.spans.specs.Spans.{NormalOf};
 ghost use Rattle.spans.specs.Results.{ListPost};
 ghost use Rattle.spans.specs.Steps.{FilledFront};
-ghost use Rattle.span_normalize.specs.Normalizing.{normalizeCauses};
+ghost use Rattle.span_normalize.specs.Causes.{normalizeCauses};
 use pair_sort::sort_pairs;
 use spans::ListAnswer;
 

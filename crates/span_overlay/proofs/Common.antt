@@ -9,7 +9,7 @@ use lib.ListN.{length, getD, take, drop, drop-of-length-le}
 use lib.Ieee.{Float, nan, lt}
 use Rattle.spans.specs.Spans.{sound}
 use Rattle.spans.specs.Steps.{PutPairPost, FilledFront, pairIf}
-use Rattle.span_overlay.specs.Overlay.{sharedBy, commonOf}
+use Rattle.spans.specs.Overlay.{sharedBy, commonOf}
 use Rattle.doubles.specs.Doubles.{Number, largerOf, smallerOf}
 use Rattle.doubles.proofs.Order.{not-lt→le, le-lt-trans, lt-trans}
 use Rattle.spans.proofs.Ends.{All, rising-at}

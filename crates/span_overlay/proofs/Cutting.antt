@@ -10,7 +10,7 @@ use lib.Seq.{take-add}
 use lib.Ieee.{Float, nan, lt, le}
 use Rattle.spans.specs.Spans.{sound}
 use Rattle.spans.specs.Steps.{PutPairPost, FilledFront, pairIf}
-use Rattle.span_overlay.specs.Overlay.{higherOf, lowerOf, cutBy, lessOf}
+use Rattle.spans.specs.Overlay.{higherOf, lowerOf, cutBy, lessOf}
 use Rattle.span_overlay.specs.Steps.{OverlayCutPre, OverlayCutPost}
 use Rattle.spans.specs.declared.Place.{Place}
 use Rattle.doubles.specs.Doubles.{Number}

@@ -9,9 +9,9 @@ use lib.ListN.{length, length-append}
 use lib.Ieee.{Float, lt, le}
 use Rattle.spans.specs.Spans.{within, holds, rising, sound, common, ListOf}
 use Rattle.spans.specs.Steps.{pairIf}
-use Rattle.span_overlay.specs.Overlay.{higherOf, lowerOf, sharedBy, commonOf}
+use Rattle.spans.specs.Overlay.{higherOf, lowerOf, sharedBy, commonOf}
 use Rattle.doubles.specs.Doubles.{Number, largerOf, smallerOf}
-use Rattle.doubles.proofs.Bools.{and-left, and-right, and-false, both, by-cases, clash}
+use Rattle.logic.proofs.Bools.{and-left, and-right, and-false, both, by-cases, clash}
 use Rattle.doubles.proofs.Order.{lt→le, le→not-lt, le-trans, lt-trans, lt-le-trans}
 use Rattle.spans.proofs.Ends.{All, all-append, all-map, Over, AtMost, Above, above-less, rising-tail, rising-above, rising-append}
 use Rattle.spans.proofs.Sets.{oddN-mod, sound-rising, make-sound}

@@ -7,9 +7,9 @@ use lib.ListN.{length}
 use lib.Ieee.{Float, lt, le}
 use Rattle.spans.specs.Spans.{Double, Point, within, holds, rising, sound, less, Within}
 use Rattle.spans.specs.Steps.{pairIf}
-use Rattle.span_overlay.specs.Overlay.{higherOf, lowerOf, cutBy, lessOf, sharedBy, commonOf}
+use Rattle.spans.specs.Overlay.{higherOf, lowerOf, cutBy, lessOf, sharedBy, commonOf}
 use Rattle.doubles.specs.Doubles.{largerOf, smallerOf, Number}
-use Rattle.doubles.proofs.Bools.{or-left, or-right, or-cases, and-left, and-right, both, by-cases, clash, not-false}
+use Rattle.logic.proofs.Bools.{or-left, or-right, or-cases, and-left, and-right, both, by-cases, clash, not-false}
 use Rattle.doubles.proofs.Order.{lt-number, lt→le, le→not-lt, not-lt→le, lt-irrefl, le-refl, le-trans}
 use Rattle.spans.proofs.Ends.{not-not, oddN, All, all-append, above-less, rising-tail, rising-above}
 use Rattle.spans.proofs.Sets.{points-decide, sound-rising, sound-even}

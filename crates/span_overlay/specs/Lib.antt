@@ -1,3 +1,2 @@
 -- The definitions that the contracts of `span_overlay` cite.
-pub mod Overlay
 pub mod Steps

@@ -8,7 +8,7 @@ use lib.Ieee.{Float, lt}
 use Rattle.spans.specs.Spans.{sound}
 use Rattle.spans.specs.Steps.{UpTo}
 use Rattle.spans.specs.declared.Place.{Place}
-use Rattle.span_overlay.specs.Overlay.{cutBy}
+use Rattle.spans.specs.Overlay.{cutBy}
 
 -- what `cut_pair` asks: a pair, and room for what is left of it past the first n ends
 pub record OverlayCutPre (rest : List Float) (from hi : Float) (before : List Float) (n : ℕ) : Type 0 where

@@ -5,7 +5,7 @@ ghost use Prim.Native.Nat.{_+_, _≤_};
 ghost use lib.ListN.{length};
 ghost use Rattle.spans.specs.Spans.{sound};
 ghost use Rattle.spans.specs.Steps.{FilledFront};
-ghost use Rattle.span_overlay.specs.Overlay.{higherOf, lessOf, commonOf};
+ghost use Rattle.spans.specs.Overlay.{higherOf, lessOf, commonOf};
 ghost use Rattle.span_overlay.specs.Steps.{OverlayCutPre, OverlayCutPost};
 use spans::Place;
 

@@ -2,15 +2,14 @@
 use mathlib.Core.Path.{_≡_, refl, sym, _∙_, ap, ap₂, subst}
 use mathlib.Core.Logic.{_⊎_, inl, inr}
 use mathlib.Core.Bool.{Bool, true, false, _||_, or-comm, true≢false}
-use mathlib.Core.List.{List, [], _∷_, _++_, append-assoc, append-nil, List·Memᴰ, List·Memᴰ·head, List·Memᴰ·tail}
-use mathlib.Core.List.{Memᴰ·append-left, Memᴰ·append-right, List·Memᴰ·append-cases}
+use mathlib.Core.List.{List, [], _∷_, _++_, append-assoc, append-nil, List·Memᴰ, List·Memᴰ·head, List·Memᴰ·tail, Memᴰ·append-left, Memᴰ·append-right, List·Memᴰ·append-cases}
 use Prim.Native.Nat.{_%_, _≤_}
 use native.Mathlib.Omega.{arith}
 use lib.ListN.{length}
 use lib.Ieee.{Float, lt}
 use Rattle.spans.specs.Spans.{All, within, holds, rising, sound, retained, ListOf, NormalOf}
 use Rattle.spans.specs.Steps.{pairIf}
-use Rattle.doubles.proofs.Bools.{by-cases}
+use Rattle.logic.proofs.Bools.{by-cases}
 use Rattle.spans.proofs.Ends.{not-not, oddN, all-map, rising-above, rising-tail}
 use Rattle.spans.proofs.Sets.{oddN-mod, sound-rising, sound-even, sound-mod}
 use Rattle.spans.proofs.Points.{or-false, retained-holds, holds-append}

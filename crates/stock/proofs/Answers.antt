@@ -3,12 +3,12 @@ use mathlib.Core.Path.{_≡_, subst}
 use mathlib.Core.List.{List}
 use Prim.Native.Nat.{ℕ}
 use Rattle.refusal.specs.Refusal.{Due, NoneDue}
-use Rattle.grid_from_spec.specs.Grid.{gridOf}
-use Rattle.grid_from_spec.specs.Causes.{gridCauses, gridIn, ByCauses}
+use Rattle.grid.specs.FromSpec.{gridOf}
+use Rattle.grid.specs.Causes.{gridCauses, gridIn, ByCauses}
 use Rattle.grid.specs.declared.DexelStockSpec.{DexelStockSpec}
 use Rattle.grid.specs.declared.DexelGrid.{DexelGrid}
 use Rattle.grid.specs.declared.GridAnswer.the-variants.{Accepted as Griddable, Refused as NoGrid}
-use Rattle.grid_from_spec.proofs.Causes.{grid-by-causes}
+use Rattle.grid.proofs.Causes.{grid-by-causes}
 
 -- ---- a description that `grid` accepts, and one that it refuses
 module _ (spec : DexelStockSpec) (units : List ℕ) where

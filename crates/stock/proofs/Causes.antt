@@ -9,7 +9,7 @@ use lib.Dec.{ltb}
 use lib.ListN.{length}
 use borrow.Author.Tests.{ltb-false, lt-ltb, le-ltb}
 use Rattle.refusal.specs.Refusal.{Cause, Due, NoneDue}
-use Rattle.doubles.proofs.Bools.{or-left, or-right, or-neither}
+use Rattle.logic.proofs.Bools.{or-left, or-right, or-neither}
 use Rattle.grid.specs.Rays.{rayCount}
 use Rattle.grid.specs.declared.DexelStockSpec.{DexelStockSpec}
 use Rattle.grid.specs.declared.DexelGrid.{DexelGrid}

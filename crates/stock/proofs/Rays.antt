@@ -4,13 +4,13 @@ use mathlib.Core.Bool.{Bool, true, false, not}
 use Prim.Native.Nat.{ℕ, _+_, _*_, _<_}
 use lib.ListN.{getD}
 use borrow.Author.Count.{below-more}
-use Rattle.doubles.proofs.Bools.{not-true, not-false, clash}
+use Rattle.logic.proofs.Bools.{not-true, not-false, clash}
 use Rattle.grid.specs.Rays.{rayCount, boundsOf}
 use Rattle.grid.specs.declared.DexelStockSpec.{DexelStockSpec}
 use Rattle.grid.specs.declared.DexelGrid.{DexelGrid}
 use Rattle.grid.specs.declared.RayBounds.{RayBounds}
 use Rattle.store.specs.Updates.{Cells, Room, CellsChainsSound}
-use Rattle.ray_validity.specs.Ray.{ValidRay}
+use Rattle.spans.specs.Rays.{ValidRay}
 use Rattle.store_lists.specs.Reading.{Readable}
 use Rattle.store_lists.proofs.Steps.{readable}
 use Rattle.stock.specs.Stock.{possibleIn, certainIn, ValidAt, ValidTo, SoundCells, ChainsInRoom}

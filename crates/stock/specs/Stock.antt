@@ -9,7 +9,7 @@ use Rattle.grid.specs.Rays.{rayCount, boundsOf}
 use Rattle.grid.specs.declared.DexelStockSpec.{DexelStockSpec}
 use Rattle.grid.specs.declared.DexelGrid.{DexelGrid}
 use Rattle.store.specs.Updates.{Cells, Room, CellsChainsSound, storeList, cells}
-use Rattle.ray_validity.specs.Ray.{ValidRay}
+use Rattle.spans.specs.Rays.{ValidRay}
 
 -- Document 01's store and small record. With a description that `grid` accepts they are a stock.
 pub record Stock : Type 0 where

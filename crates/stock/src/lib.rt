@@ -2,7 +2,7 @@
 ghost use mathlib.Core.Path.{_≡_};
 ghost use Prim.Native.Nat.{_*_, _<_};
 ghost use Rattle.grid.specs.Rays.{rayCount};
-ghost use Rattle.grid_from_spec.specs.Causes.{GridFacts};
+ghost use Rattle.grid.specs.Causes.{GridFacts};
 ghost use Rattle.store.specs.Updates.{cells, Room, CellsChainsSound};
 ghost use Rattle.stock.specs.Stock.{ValidAt, ValidTo, ChainsInRoom, SoundCells, isShort};
 ghost use Rattle.logic.specs.Logic.{Decides};

@@ -15,11 +15,11 @@ use lib.Ieee.{Float, lt, le}
 use lib.ListN.{length, getD, drop}
 use lib.Seq.{getD-set-other, getD-set-same, drop-set-lt}
 use borrow.Author.Tests.{ltb-true, ltb-false}
-use Rattle.doubles.proofs.Bools.{both, clash}
+use Rattle.logic.proofs.Bools.{both, clash}
 use Rattle.doubles.proofs.Order.{lt-number, le-refl, lt→le}
 use Rattle.spans.specs.Spans.{rising, sound}
 use Rattle.grid.specs.Rays.{rayCount, rayAxis, boundsOf}
-use Rattle.grid_from_spec.specs.Causes.{GridFacts}
+use Rattle.grid.specs.Causes.{GridFacts}
 use Rattle.grid.specs.declared.DexelStockSpec.{DexelStockSpec}
 use Rattle.grid.specs.declared.DexelGrid.{DexelGrid}
 use Rattle.store.specs.Store.{loAt, hiAt, ownerAt, usedAt, RecordChain, ends, more, placesOf, chained, endsAt, ChainsSound}
@@ -27,7 +27,7 @@ use Rattle.store.specs.Updates.{Cells, Room, CellsPastKept, storeList}
 use Rattle.store.proofs.Records.{Written, written-same, put-other, put-here, Within, within-none, within-then, within-put, free-used}
 use Rattle.store.proofs.Chains.{chain-places}
 use Rattle.store.proofs.Replacing.{mem-to}
-use Rattle.ray_validity.specs.Ray.{bounded, ValidRay}
+use Rattle.spans.specs.Rays.{bounded, ValidRay}
 use Rattle.stock.specs.Stock.{possibleIn, certainIn, SoundStock}
 use Rattle.stock_fill.specs.Uncut.{recordAt, uncutSpans, uncutLinks, uncutHeads, uncut}
 use Rattle.stock_fill.specs.declared.UncutRecord.{UncutRecord}

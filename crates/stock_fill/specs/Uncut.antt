@@ -9,7 +9,7 @@ use lib.ListN.{set}
 use Rattle.doubles.specs.Constants.{plusZero}
 use Rattle.refusal.specs.Refusal.{Cause, cause, Due, NoneDue}
 use Rattle.grid.specs.Rays.{rayCount, boundsOf}
-use Rattle.grid_from_spec.specs.Causes.{gridCauses, gridIn}
+use Rattle.grid.specs.Causes.{gridCauses, gridIn}
 use Rattle.grid.specs.declared.DexelStockSpec.{DexelStockSpec}
 use Rattle.grid.specs.declared.DexelGrid.{DexelGrid}
 use Rattle.store.specs.Store.{putSpan, putLink}

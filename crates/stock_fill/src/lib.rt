@@ -3,7 +3,7 @@ ghost use mathlib.Core.Path.{_≡_};
 ghost use Prim.Native.Nat.{_*_, _≤_};
 ghost use lib.ListN.{length};
 ghost use Rattle.grid.specs.Rays.{rayCount};
-ghost use Rattle.grid_from_spec.specs.Causes.{GridFacts, gridIn};
+ghost use Rattle.grid.specs.Causes.{GridFacts, gridIn};
 ghost use Rattle.store.specs.Updates.{cells};
 ghost use Rattle.stock_fill.specs.Uncut.{recordAt, uncutSpans, uncutLinks, uncutHeads, FillPost, roomCauses, fillCauses};
 use grid::DexelGrid;

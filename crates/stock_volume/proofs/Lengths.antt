@@ -6,7 +6,7 @@ use native.Mathlib.Numerals.{add-one}
 use native.Mathlib.Omega.{arith}
 use lib.Ieee.{Float, binary64, ofBits, inf, add, mul, div}
 use Rattle.doubles.specs.Constants.{one, plusZero}
-use Rattle.doubles.proofs.Bools.{not-true, clash}
+use Rattle.logic.proofs.Bools.{not-true, clash}
 use Rattle.grid.specs.Axes.{byDigit, worldAxis, stepAlong, crossOf}
 use Rattle.grid.specs.Rays.{rayCount, raysAlong, offset, boundsOf}
 use Rattle.grid.specs.declared.WorldAxis.{WorldAxis}

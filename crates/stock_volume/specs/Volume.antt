@@ -8,9 +8,9 @@ use Rattle.doubles.specs.Constants.{one, plusZero}
 use Rattle.doubles.specs.Doubles.{largerOf, smallerOf}
 use Rattle.refusal.specs.Refusal.{Cause, cause, Due, NoneDue}
 use Rattle.grid.specs.Axes.{worldAxis, stepAlong, crossOf}
-use Rattle.grid_from_spec.specs.Grid.{extentsOf}
+use Rattle.grid.specs.FromSpec.{extentsOf}
 use Rattle.grid.specs.Rays.{rayCount, raysAlong, offset}
-use Rattle.grid_from_spec.specs.Causes.{gridCauses, gridIn}
+use Rattle.grid.specs.Causes.{gridCauses, gridIn}
 use Rattle.grid.specs.declared.WorldAxis.{WorldAxis}
 use Rattle.grid.specs.declared.DexelStockSpec.{DexelStockSpec}
 use Rattle.grid.specs.declared.DexelGrid.{DexelGrid}

@@ -2,7 +2,7 @@
 ghost use mathlib.Core.Path.{_≡_};
 ghost use Prim.Native.Nat.{_<_};
 ghost use Rattle.grid.specs.Rays.{rayCount, offset};
-ghost use Rattle.grid_from_spec.specs.Causes.{GridFacts, gridIn};
+ghost use Rattle.grid.specs.Causes.{GridFacts, gridIn};
 ghost use Rattle.store.specs.Updates.{cells};
 ghost use Rattle.stock.specs.Stock.{ValidTo, ChainsInRoom};
 ghost use Rattle.stock_volume.specs.Volume.{AddVolumePost, AxisVolumePost, boxVolume, boundsBy, VolumeRaysPost, VolumePost, storeCauses, volumeCauses};

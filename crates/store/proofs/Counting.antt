@@ -12,7 +12,7 @@ use native.Mathlib.Omega.{arith}
 use lib.Dec.{eqb}
 use lib.ListN.{length}
 use borrow.Author.Tests.{eq-eqb, ne-eqb}
-use Rattle.doubles.proofs.Bools.{and-left, and-false, clash}
+use Rattle.logic.proofs.Bools.{and-left, and-false, clash}
 use Rattle.logic.specs.Logic.{bit, countTo}
 
 -- the test, but for the place x

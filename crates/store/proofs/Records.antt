@@ -12,7 +12,7 @@ use lib.ListN.{length, getD, set, drop, length-set}
 use lib.Seq.{getD-set-other, getD-set-same, drop-set-lt}
 use borrow.Author.Tests.{ne-eqb, eqb-true}
 use Rattle.doubles.specs.Constants.{plusZero}
-use Rattle.doubles.proofs.Bools.{and-left, and-right, not-false}
+use Rattle.logic.proofs.Bools.{and-left, and-right, not-false}
 use Rattle.store.specs.Store.{isPlusZero, loAt, hiAt, nextAt, ownerAt, usedAt, putSpan, putLink}
 use Rattle.store.proofs.Zero.{plus-is, bits-zero}
 

@@ -10,7 +10,7 @@ use lib.Dec.{eqb, ltb}
 use lib.Ieee.{Float}
 use lib.ListN.{length, getD, length-append}
 use borrow.Author.Tests.{ltb-true, lt-ltb, eqb-true, eq-eqb}
-use Rattle.doubles.proofs.Bools.{and-left, and-right}
+use Rattle.logic.proofs.Bools.{and-left, and-right}
 use Rattle.store.specs.declared.ChainWalk.{ChainWalk}
 use Rattle.store.specs.declared.ChainWalk.the-variants.{Ends, Broken}
 use Rattle.store.specs.Store.{nextAt, ownerAt, RecordChain, ends, more, placesOf, chained}

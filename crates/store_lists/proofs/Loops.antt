@@ -10,7 +10,7 @@ use lib.Ieee.{Float, nan, eq}
 use lib.ListN.{length, getD, set, drop, length-drop}
 use lib.Seq.{sets, sets-eq, drop-cons}
 use borrow.Author.Tests.{eq-eqb, ne-eqb, eqb-true}
-use Rattle.doubles.proofs.Bools.{same-if, and-false}
+use Rattle.logic.proofs.Bools.{same-if, and-false}
 use Rattle.spans.specs.Spans.{equal}
 use Rattle.store.specs.Store.{loAt, hiAt, nextAt}
 use Rattle.store_lists.specs.Reading.{listFrom, ReadListPost}

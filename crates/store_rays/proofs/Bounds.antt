@@ -9,14 +9,14 @@ use lib.Dec.{eqb}
 use lib.Ieee.{Float, nan, binary64, isNan, div, lt, le}
 use lib.ListN.{length}
 use borrow.Author.Tests.{eq-eqb, eqb-true}
-use Rattle.doubles.proofs.Bools.{and-left, and-right, and-false, both, same-if, clash, by-cases, not-true, not-false}
+use Rattle.logic.proofs.Bools.{and-left, and-right, and-false, both, same-if, clash, by-cases, not-true, not-false}
 use Rattle.doubles.specs.Doubles.{Number}
 use Rattle.doubles.proofs.Order.{lt-number, lt→le, le-trans, le-nan, lt-not-le, zero-over-zero}
 use Rattle.spans.specs.Spans.{rising, sound}
 use Rattle.doubles.specs.Constants.{plusZero}
 use Rattle.store.specs.Store.{loAt, hiAt, nextAt}
-use Rattle.ray_validity.specs.Ray.{bounded, from, covers, contained, valid}
-use Rattle.ray_validity.proofs.Containment.{from-skip, from-stop, valid-ray, ray-valid}
+use Rattle.spans.specs.Rays.{bounded, from, covers, contained, valid}
+use Rattle.spans.proofs.Containment.{from-skip, from-stop, valid-ray, ray-valid}
 use Rattle.store_lists.specs.Reading.{listFrom}
 use Rattle.store_rays.specs.Lengths.{lengthFrom, startsIn, ListSumPost, RaySumsPost}
 use Rattle.store_rays.specs.declared.ListSum.{ListSum}

@@ -4,10 +4,10 @@ use mathlib.Core.Bool.{Bool, true, false, not, _&&_}
 use mathlib.Core.List.{List, [], _∷_}
 use Prim.Native.Nat.{ℕ, _-_}
 use lib.Ieee.{Float, binary64, add, sub, lt, le}
-use Rattle.doubles.proofs.Bools.{not-true, not-false}
+use Rattle.logic.proofs.Bools.{not-true, not-false}
 use Rattle.store.specs.Store.{loAt, hiAt, nextAt}
-use Rattle.ray_validity.specs.Ray.{from, covers, contained}
-use Rattle.ray_validity.proofs.Containment.{from-skip, from-stop}
+use Rattle.spans.specs.Rays.{from, covers, contained}
+use Rattle.spans.proofs.Containment.{from-skip, from-stop}
 use Rattle.store_lists.specs.Reading.{listFrom}
 use Rattle.store_lists.proofs.Steps.{Step, no-ends}
 use Rattle.store_rays.specs.Lengths.{lengthFrom, ReachPost}

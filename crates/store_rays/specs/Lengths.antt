@@ -5,7 +5,7 @@ use mathlib.Core.List.{List, [], _∷_}
 use Prim.Native.Nat.{ℕ}
 use lib.Ieee.{Float, binary64, add, sub, le}
 use Rattle.doubles.specs.Constants.{plusZero}
-use Rattle.ray_validity.specs.Ray.{from, ValidRay}
+use Rattle.spans.specs.Rays.{from, ValidRay}
 use Rattle.store_lists.specs.Reading.{listFrom, Readable}
 use Rattle.store_rays.specs.declared.ListSum.{ListSum}
 use Rattle.store_rays.specs.declared.RaySums.{RaySums}

@@ -10,11 +10,11 @@ use lib.Ieee.{Float}
 use lib.ListN.{length, take, replicate}
 use lib.Seq.{length-take-le}
 use Rattle.doubles.specs.Constants.{plusZero}
-use Rattle.doubles.proofs.Bools.{clash, not-true}
+use Rattle.logic.proofs.Bools.{clash, not-true}
 use Rattle.refusal.specs.Refusal.{Cause, cause, Due, NoneDue}
 use Rattle.refusal.proofs.Laws.{first, later}
-use Rattle.grid_from_spec.specs.Grid.{gridOf}
-use Rattle.grid_from_spec.specs.Causes.{gridCauses, gridIn, GridFacts}
+use Rattle.grid.specs.FromSpec.{gridOf}
+use Rattle.grid.specs.Causes.{gridCauses, gridIn, GridFacts}
 use Rattle.grid.specs.declared.DexelStockSpec.{DexelStockSpec}
 use Rattle.grid.specs.declared.DexelGrid.{DexelGrid}
 use Rattle.grid.specs.declared.GridAnswer.the-variants.{Accepted as Griddable, Refused as NoGrid}

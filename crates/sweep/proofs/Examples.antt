@@ -9,12 +9,12 @@ use Rattle.doubles.specs.Doubles.{ratio, largerOf, smallerOf, absOf, clampOf, f
 use Rattle.doubles_sqrt.specs.Root.{squareRoot}
 use Rattle.grid.specs.Axes.{byDigit}
 use Rattle.grid.specs.Grid.{isBetween, allBetween}
-use Rattle.grid_from_spec.specs.Grid.{anyBelow, anyAbove, isMm, misdescribed, cellCount, magnitudeOf, leastStep, tooFine, gridOver, gridOf}
-use Rattle.grid_from_spec.specs.Causes.{mm, gridIn, gridCauses}
+use Rattle.grid.specs.FromSpec.{anyBelow, anyAbove, isMm, misdescribed, cellCount, magnitudeOf, leastStep, tooFine, gridOver, gridOf}
+use Rattle.grid.specs.Causes.{mm, gridIn, gridCauses}
 use Rattle.grid.specs.declared.GridAnswer.the-variants.{Accepted as Griddable}
-use Rattle.grid_from_spec.proofs.Facts.{grid-facts}
+use Rattle.grid.proofs.Facts.{grid-facts}
 use Rattle.refusal.specs.Refusal.{NoneDue}
-use Rattle.doubles.proofs.Bools.{clash}
+use Rattle.logic.proofs.Bools.{clash}
 use Rattle.grid.specs.Rays.{rayCount, raysAlong, offset, rayAxis, boundsOf, cellAt}
 use Rattle.frame.specs.declared.Axis.the-variants.{PosZ}
 use Rattle.frame.specs.Frame.{frameOf, axisDigit, worldAxisOf, localAxisOf, signAlong, localAt, localOf, turned, worldOf}

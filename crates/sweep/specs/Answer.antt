@@ -9,7 +9,7 @@ use lib.Ieee.{Float}
 use lib.ListN.{length, replicate, take}
 use Rattle.doubles.specs.Constants.{plusZero}
 use Rattle.refusal.specs.Refusal.{Cause, cause, Due, NoneDue}
-use Rattle.grid_from_spec.specs.Causes.{gridCauses, gridIn}
+use Rattle.grid.specs.Causes.{gridCauses, gridIn}
 use Rattle.grid.specs.declared.DexelStockSpec.{DexelStockSpec}
 use Rattle.frame.specs.Frame.{frameOf}
 use Rattle.frame.specs.declared.Axis.{Axis}

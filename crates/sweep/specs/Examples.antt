@@ -13,7 +13,7 @@ use Rattle.cutter.specs.declared.CutterShape.the-variants.{Flat}
 use Rattle.cutter.specs.declared.PreparedCutter.{PreparedCutter}
 use Rattle.grid.specs.declared.Vec3.{Vec3}
 use Rattle.grid.specs.declared.DexelStockSpec.{DexelStockSpec}
-use Rattle.grid_from_spec.specs.Causes.{gridIn}
+use Rattle.grid.specs.Causes.{gridIn}
 use Rattle.store.specs.Updates.{Cells, cells}
 use Rattle.stock_fill.specs.Uncut.{uncut}
 use Rattle.sweep_visits.specs.Walk.{Walked, Done, Stop}

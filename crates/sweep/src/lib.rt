@@ -2,7 +2,7 @@
 ghost use mathlib.Core.Path.{_≡_};
 ghost use Prim.Native.Nat.{_≤_};
 ghost use lib.ListN.{length};
-ghost use Rattle.grid_from_spec.specs.Causes.{GridFacts};
+ghost use Rattle.grid.specs.Causes.{GridFacts};
 ghost use Rattle.store.specs.Updates.{cells};
 ghost use Rattle.sweep_walk.specs.Entries.{setting};
 ghost use Rattle.sweep.specs.Answer.{settingOf, causesIn, sweepCauses, SweepPost, SweepCheckPost, endOf, loggedBy, endLog};

@@ -4,7 +4,7 @@ use mathlib.Core.Bool.{Bool, true, false, _&&_, _||_}
 use mathlib.Core.List.{List, [], _∷_}
 use Prim.Native.Nat.{ℕ, _-_}
 use lib.Ieee.{Float, lt}
-use Rattle.doubles.proofs.Bools.{and-left, and-right}
+use Rattle.logic.proofs.Bools.{and-left, and-right}
 use Rattle.doubles.proofs.Order.{lt-trans}
 use Rattle.doubles.specs.Doubles.{largerOf, smallerOf}
 use Rattle.spans.specs.Spans.{rising, sound}

@@ -6,7 +6,7 @@ use mathlib.Core.List.{List, [], _∷_}
 use mathlib.Core.Logic.{inl, inr}
 use lib.Ieee.{Float, lt, le}
 use Rattle.doubles.specs.Doubles.{Number, largerOf, smallerOf}
-use Rattle.doubles.proofs.Bools.{and-left, and-right, both, or-cases, or-left, or-right, by-cases, clash}
+use Rattle.logic.proofs.Bools.{and-left, and-right, both, or-cases, or-left, or-right, by-cases, clash}
 use Rattle.doubles.proofs.Order.{lt-number, le-number, lt→le, not-lt→le, le-trans, le-lt-trans}
 use Rattle.doubles.proofs.Pick.{larger-either, larger-left, larger-right, larger-le, lt-smaller}
 use Rattle.spans.specs.Spans.{Double, Point, All, within, holds, rising, sound, Share}

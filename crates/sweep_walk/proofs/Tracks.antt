@@ -8,15 +8,15 @@ use lib.Ieee.{Float, lt}
 use lib.ListN.{length}
 use Rattle.grid.specs.Axes.{byDigit, worldAxis, alongOf, cellsAlong, crossOf}
 use Rattle.grid.specs.Rays.{rayCount, raysAlong, offset, cellAt}
-use Rattle.grid_from_spec.specs.Causes.{GridFacts}
+use Rattle.grid.specs.Causes.{GridFacts}
 use Rattle.grid.specs.declared.WorldAxis.{WorldAxis}
 use Rattle.grid.specs.declared.CrossAxes.{CrossAxes}
 use Rattle.grid.specs.declared.DexelStockSpec.{DexelStockSpec}
 use Rattle.grid.specs.declared.DexelGrid.{DexelGrid}
 use Rattle.grid.proofs.Tests.{third}
-use Rattle.grid_from_spec.proofs.Described.{each}
+use Rattle.grid.proofs.Described.{each}
 use Rattle.grid.proofs.Numbering.{offset-le}
-use Rattle.grid_from_spec.proofs.Lookup.{cell-below}
+use Rattle.grid.proofs.Lookup.{cell-below}
 use Rattle.frame.specs.Frame.{localAxis, worldAxisOf}
 use Rattle.frame.specs.declared.Frame.{Frame}
 use Rattle.frame.specs.declared.Pair.{Pair}

@@ -5,7 +5,7 @@ use lib.Ieee.{Float}
 use lib.ListN.{length}
 use Rattle.grid.specs.Axes.{byDigit, worldAxis, cellsAlong, crossOf}
 use Rattle.grid.specs.Rays.{rayCount, offset}
-use Rattle.grid_from_spec.specs.Causes.{GridFacts}
+use Rattle.grid.specs.Causes.{GridFacts}
 use Rattle.grid.specs.declared.WorldAxis.{WorldAxis}
 use Rattle.grid.specs.declared.DexelStockSpec.{DexelStockSpec}
 use Rattle.grid.specs.declared.DexelGrid.{DexelGrid}

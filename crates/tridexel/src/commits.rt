@@ -1,6 +1,6 @@
 // The two commits. The small record is two numbers that the caller keeps; a refused commit leaves both as they were.
-ghost use Rattle.commit_changes.specs.Commit.{ChangesPost};
-ghost use Rattle.commit_log.specs.Commit.{LogCommitPost};
+ghost use Rattle.commit_changes.specs.ChangeCommit.{ChangesPost};
+ghost use Rattle.commit_log.specs.LogCommit.{LogCommitPost};
 ghost use Rattle.stock.specs.declared.Committed.{Committed};
 ghost use Rattle.c_results.specs.Numbers.{AnsweredBy, committedNumbers};
 ghost use Rattle.stock.specs.Stock.{stock};

@@ -1,5 +1,5 @@
 // The grid of a blank and its stock. A store is three slices: the ends of the records, their links, and the heads.
-ghost use Rattle.grid_from_spec.specs.Causes.{gridIn, GridPost};
+ghost use Rattle.grid.specs.Causes.{gridIn, GridPost};
 ghost use Rattle.grid.specs.declared.Gridded.{Gridded};
 ghost use Rattle.store.specs.Updates.{cells};
 ghost use Rattle.stock_fill.specs.Uncut.{FillPost, fillCauses};

@@ -3,7 +3,7 @@ ghost use lib.ListN.{length};
 ghost use Rattle.store.specs.Updates.{cells};
 ghost use Rattle.sweep.specs.Answer.{settingOf, sweepCauses, SweepPost};
 ghost use Rattle.sweep.specs.declared.Swept.{Swept};
-ghost use Rattle.enum_codes.specs.Named.{axisOf, shapeOf};
+ghost use Rattle.enum_codes.specs.Codes.{axisOf, shapeOf};
 ghost use Rattle.c_results.specs.Numbers.{AnsweredBy, sweptNumbers, totals};
 use cutter::PreparedCutter;
 use grid::DexelStockSpec;

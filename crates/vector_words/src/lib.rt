@@ -2,7 +2,7 @@
 ghost use mathlib.Core.Path.{_≡_};
 ghost use lib.Ieee.{nan};
 ghost use lib.ListN.{length, take};
-ghost use Rattle.enum_codes.specs.Named.{namedShape};
+ghost use Rattle.enum_codes.specs.Codes.{namedShape};
 ghost use Rattle.vector_words.specs.Words.{wordOf, doubleOf, CellsFilled, specOf, unitsOf, cutterOf};
 ghost use Rattle.vector_words.specs.Agreement.{cellAgrees, numberAgrees, cellRight, numberRight, Every};
 use cutter::CutterShape;

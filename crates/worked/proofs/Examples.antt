@@ -8,13 +8,13 @@ use lib.Dec.{T, eqb, eqb→eq}
 use lib.Ieee.{Float, binary64, ofBits, toBits, ofInt, toUnsigned, sub, mul, div, le, fits, isNan}
 use lib.Ieee.Bits.{ofBits-toBits}
 use Rattle.doubles.specs.Doubles.{absOf, ceilOf}
-use Rattle.doubles.proofs.Bools.{and-left, and-right, not-true, not-false, or-cases}
+use Rattle.logic.proofs.Bools.{and-left, and-right, not-true, not-false, or-cases}
 use Rattle.spans.specs.Spans.{All, Point, holds, sound, retained, Within, Outside, NormalOf}
 use Rattle.spans.proofs.Pieces.{agree, by-ends, Piecewise, of-list, of-none, in-left, in-right, one-of}
-use Rattle.span_overlay.specs.Overlay.{lessOf, commonOf}
+use Rattle.spans.specs.Overlay.{lessOf, commonOf}
 use Rattle.grid.specs.Grid.{isBetween, allBetween}
 use Rattle.grid.specs.Rays.{rayCount}
-use Rattle.grid_from_spec.specs.Grid.{anyBelow, anyAbove, isMm, misdescribed, cellCount, magnitudeOf, leastStep, tooFine, gridOver, gridOf}
+use Rattle.grid.specs.FromSpec.{anyBelow, anyAbove, isMm, misdescribed, cellCount, magnitudeOf, leastStep, tooFine, gridOver, gridOf}
 use Rattle.doubles_sqrt.specs.Root.{squareRoot}
 use Rattle.strips.specs.Strip.{bandDistance, halfChord, chordStrip, diskStrip}
 use Rattle.cutter.specs.Cutter.{isFinite, offTool, arcAt, cuttingRadius, radiusAt}

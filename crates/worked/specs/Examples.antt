@@ -7,14 +7,14 @@ use Prim.Native.Nat.{ℕ, _*_}
 use lib.Ieee.{Float, nan, neg}
 use Rattle.doubles.specs.Doubles.{ratio}
 use Rattle.spans.specs.Spans.{NormalOf, Within, Outside}
-use Rattle.span_overlay.specs.Overlay.{lessOf, commonOf}
+use Rattle.spans.specs.Overlay.{lessOf, commonOf}
 use Rattle.grid.specs.Rays.{rayCount}
 use Rattle.grid.specs.declared.Vec3.{Vec3}
 use Rattle.grid.specs.declared.DexelStockSpec.{DexelStockSpec}
 use Rattle.grid.specs.declared.DexelGrid.{DexelGrid}
 use Rattle.grid.specs.declared.GridAnswer.the-variants.{Accepted}
-use Rattle.grid_from_spec.specs.Causes.{mm}
-use Rattle.grid_from_spec.specs.Grid.{gridOf}
+use Rattle.grid.specs.Causes.{mm}
+use Rattle.grid.specs.FromSpec.{gridOf}
 use Rattle.polygons.specs.declared.Strip.the-variants.{Hit}
 use Rattle.strips.specs.Strip.{diskStrip}
 use Rattle.cutter.specs.declared.CutterShape.{CutterShape}

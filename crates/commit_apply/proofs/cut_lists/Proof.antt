@@ -4,7 +4,7 @@ use Prim.Native.Nat.{ℕ, _+_, _*_, _/_, _^_, _≤_, _<_}
 use mir.Val.{Fits}
 use mir.Syntax.{w64}
 use lib.ListN.{length}
-use Rattle.commit_apply.proofs.Cutting.{group-room, mergeable, sizes-fit, freeable, layable, done, cleared-size}
+use Rattle.commit_apply.proofs.Apply.{group-room, mergeable, sizes-fit, freeable, layable, done, cleared-size}
 use Rattle.commit_apply.proofs.cut_lists.Statement.{statement}
 use Rattle.commit_apply.proofs.cut_lists.Tie as tie
 

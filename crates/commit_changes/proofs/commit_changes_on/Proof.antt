@@ -1,6 +1,6 @@
 use borrow.Author.Needs.{needs}
 use mathlib.Core.Path.{sym, _∙_}
-use Rattle.grid_from_spec.proofs.Facts.{grid-facts}
+use Rattle.grid.proofs.Facts.{grid-facts}
 use Rattle.commit_changes.proofs.Answers.{grid-accepted, grid-refused}
 use Rattle.commit_changes.proofs.commit_changes_on.Statement.{statement}
 use Rattle.stock.specs.Stock.{stock}

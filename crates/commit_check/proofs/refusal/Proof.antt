@@ -8,7 +8,7 @@ use Rattle.stock.specs.Stock.{SoundStock, stock}
 use Rattle.log_entries.specs.Named.{EachNamed}
 use Rattle.log_model.specs.Logs.{entries, workNeeded}
 use Rattle.log_model.proofs.Doubles.{Doubles, all-doubles}
-use Rattle.log_updates.specs.Merges.{stockLists}
+use Rattle.log_model.specs.Updates.{stockLists}
 use Rattle.commit_check.proofs.Tests.{short-due, room-of-test, work-due, work-of-test, part-due, unsound-due, sound-of-test, last-due, unnamed-due, named-of-test, rays-due, intervals-due, all-passed}
 use Rattle.commit_check.proofs.refusal.Statement.{statement}
 use Rattle.commit_check.proofs.refusal.Tie as tie

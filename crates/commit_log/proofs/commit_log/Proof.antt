@@ -43,7 +43,7 @@ use denote.Triple.Table.{entered, cited}
 use denote.Triple.Clauses.{ensured, lasts}
 use denote.Triple.Walked.{says, Stays, stay-ref, gave-slice, stay-dropped, walkOf, AllGo, goes-ref, goes-gave-slice, goes-dropped, Walks, ends-at, walked, walk-meets}
 use denote.Exit.{yes}
-use Rattle.commit_log.specs.Commit.{LogCommitPost}
+use Rattle.commit_log.specs.LogCommit.{LogCommitPost}
 use Rattle.stock.proofs.Outcomes.{left, mach, ans, made}
 use Rattle.stock.specs.declared.Tally.{Tally}
 use Rattle.stock.specs.declared.Outcome.{Outcome}

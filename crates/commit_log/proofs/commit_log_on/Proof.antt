@@ -1,6 +1,6 @@
 use borrow.Author.Needs.{needs}
 use mathlib.Core.Path.{sym, _∙_}
-use Rattle.grid_from_spec.proofs.Facts.{grid-facts}
+use Rattle.grid.proofs.Facts.{grid-facts}
 use Rattle.commit_log.proofs.Answers.{on-grid, no-grid}
 use Rattle.commit_log.proofs.commit_log_on.Statement.{statement}
 use Rattle.commit_log.proofs.commit_log_on.Tie as tie

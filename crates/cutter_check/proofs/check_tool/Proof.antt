@@ -2,7 +2,7 @@
 use mathlib.Core.Path.{sym, _∙_}
 use Rattle.refusal.specs.Refusal.{NoneDue}
 use Rattle.refusal.proofs.Laws.{first, later}
-use Rattle.doubles.proofs.Bools.{clash}
+use Rattle.logic.proofs.Bools.{clash}
 use borrow.Author.Needs.{needs}
 use Rattle.cutter_check.proofs.check_tool.Statement.{statement}
 use Rattle.cutter_check.proofs.check_tool.Tie as tie

@@ -4,7 +4,7 @@ use lib.Ieee.{nan, binary64, toBits}
 use lib.Ieee.Compare.{differs-from-itself}
 use borrow.Author.Needs.{needs}
 use Rattle.doubles.proofs.Order.{no-nan}
-use Rattle.doubles.proofs.Bools.{of-true}
+use Rattle.logic.proofs.Bools.{of-true}
 use Rattle.doubles_bits.proofs.bits_of.Statement.{statement}
 use Rattle.doubles_bits.proofs.bits_of.Tie as tie
 

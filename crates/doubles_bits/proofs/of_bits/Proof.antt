@@ -4,7 +4,7 @@ use lib.Ieee.{binary64, ofBits}
 use lib.Ieee.Bits.{nanBits-is, nanBits-above}
 use borrow.Author.Needs.{needs}
 use borrow.Author.Tests.{lt-ltb, le-ltb}
-use Rattle.doubles.proofs.Bools.{of-false}
+use Rattle.logic.proofs.Bools.{of-false}
 use Rattle.doubles.proofs.Order.{nan-only, zero-over-zero}
 use Rattle.doubles_bits.proofs.of_bits.Statement.{statement}
 use Rattle.doubles_bits.proofs.of_bits.Tie as tie

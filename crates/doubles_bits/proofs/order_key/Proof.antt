@@ -6,7 +6,7 @@ use borrow.Author.Needs.{needs}
 use borrow.Author.Tests.{lt-ltb, le-ltb}
 use Rattle.doubles.specs.Doubles.{keyOf, keyOfBits}
 use Rattle.doubles.proofs.Order.{ne-self, no-nan}
-use Rattle.doubles.proofs.Bools.{of-true}
+use Rattle.logic.proofs.Bools.{of-true}
 use Rattle.doubles_bits.proofs.order_key.Statement.{statement}
 use Rattle.doubles_bits.proofs.order_key.Tie as tie
 

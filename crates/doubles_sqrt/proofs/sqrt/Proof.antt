@@ -8,7 +8,7 @@ use lib.Ieee.{Float, nan, binary64, fits, isNan, ofBits, toBits}
 use lib.Ieee.Bits.{ofBits-toBits, toBits-lt}
 use lib.Ieee.Compare.{differs-from-itself}
 use Rattle.doubles_sqrt.specs.Root.{squareRoot}
-use Rattle.doubles.proofs.Bools.{of-true}
+use Rattle.logic.proofs.Bools.{of-true}
 use Rattle.doubles.proofs.Order.{no-nan, zero-over-zero}
 use Rattle.doubles_sqrt.proofs.Result.{root-of-nan, root-of-zero, root-of-negative-zero, root-of-infinity, root-of-negative, finite-is-no-nan, positive-under}
 use Rattle.doubles_sqrt.proofs.sqrt.Statement.{statement}

@@ -1,5 +1,5 @@
 -- `enum_codes::axis_of` meets its contract: each number gives the axis of its branch.
-use Rattle.enum_codes.specs.Named.{axisOf}
+use Rattle.enum_codes.specs.Codes.{axisOf}
 use borrow.Author.Tests.{eq-eqb, ne-eqb}
 use Rattle.enum_codes.proofs.axis_of.Statement.{statement}
 use Rattle.enum_codes.proofs.axis_of.Tie as tie

@@ -1,5 +1,5 @@
 -- `enum_codes::high_shape` meets its contract: each number gives the shape of its branch.
-use Rattle.enum_codes.specs.Named.{highShape}
+use Rattle.enum_codes.specs.Codes.{highShape}
 use borrow.Author.Tests.{eq-eqb, ne-eqb}
 use Rattle.doubles.proofs.Order.{zero-over-zero}
 use Rattle.enum_codes.proofs.high_shape.Statement.{statement}

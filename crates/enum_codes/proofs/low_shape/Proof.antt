@@ -1,5 +1,5 @@
 -- `enum_codes::low_shape` meets its contract: each number gives the shape of its branch.
-use Rattle.enum_codes.specs.Named.{lowShape}
+use Rattle.enum_codes.specs.Codes.{lowShape}
 use borrow.Author.Tests.{eq-eqb, ne-eqb}
 use Rattle.enum_codes.proofs.low_shape.Statement.{statement}
 use Rattle.enum_codes.proofs.low_shape.Tie as tie

@@ -1,5 +1,5 @@
 -- `enum_codes::named_shape` meets its contract: each number gives the shape of its branch.
-use Rattle.enum_codes.specs.Named.{namedShape}
+use Rattle.enum_codes.specs.Codes.{namedShape}
 use borrow.Author.Tests.{lt-ltb, le-ltb}
 use borrow.Author.Needs.{needs}
 use Rattle.enum_codes.proofs.named_shape.Statement.{statement}

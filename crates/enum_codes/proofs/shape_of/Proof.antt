@@ -1,5 +1,5 @@
 -- `enum_codes::shape_of` meets its contract: each number gives the shape of its branch.
-use Rattle.enum_codes.specs.Named.{shapeOf}
+use Rattle.enum_codes.specs.Codes.{shapeOf}
 use borrow.Author.Tests.{eq-eqb, ne-eqb, lt-ltb, le-ltb}
 use Rattle.doubles.proofs.Order.{zero-over-zero}
 use borrow.Author.Needs.{needs}

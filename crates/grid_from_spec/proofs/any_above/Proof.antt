@@ -1,6 +1,6 @@
 -- `grid_from_spec::any_above` meets its contract, a test at a time. Assumes nothing.
 use mathlib.Core.Path.{refl}
-use Rattle.grid_from_spec.specs.Grid.{anyAbove}
+use Rattle.grid.specs.FromSpec.{anyAbove}
 use Rattle.grid.proofs.Tests.{or-yes, or-no}
 use Rattle.grid_from_spec.proofs.any_above.Statement.{statement}
 use Rattle.grid_from_spec.proofs.any_above.Tie as tie

@@ -1,6 +1,6 @@
 -- `grid_from_spec::any_below` meets its contract, a test at a time. Assumes nothing.
 use mathlib.Core.Path.{refl}
-use Rattle.grid_from_spec.specs.Grid.{anyBelow}
+use Rattle.grid.specs.FromSpec.{anyBelow}
 use Rattle.grid.proofs.Tests.{or-yes, or-no}
 use Rattle.grid_from_spec.proofs.any_below.Statement.{statement}
 use Rattle.grid_from_spec.proofs.any_below.Tie as tie

@@ -1,5 +1,5 @@
 -- `grid_from_spec::cells` meets its contract. Assumes nothing.
-use Rattle.grid_from_spec.specs.Grid.{cellCount}
+use Rattle.grid.specs.FromSpec.{cellCount}
 use borrow.Author.Needs.{needs}
 use Rattle.grid_from_spec.proofs.cells.Statement.{statement}
 use Rattle.grid_from_spec.proofs.cells.Tie as tie

@@ -1,7 +1,7 @@
 -- `grid_from_spec::grid` meets its contract. Assumes nothing.
-use Rattle.grid_from_spec.specs.Grid.{gridOf}
+use Rattle.grid.specs.FromSpec.{gridOf}
 use borrow.Author.Needs.{needs}
-use Rattle.grid_from_spec.proofs.Causes.{grid-post}
+use Rattle.grid.proofs.Causes.{grid-post}
 use Rattle.grid_from_spec.proofs.grid.Statement.{statement}
 use Rattle.grid_from_spec.proofs.grid.Tie as tie
 

@@ -1,5 +1,5 @@
 -- `grid_from_spec::grid_over` meets its contract: each answer from the tests that lead to it. Assumes nothing.
-use Rattle.grid_from_spec.specs.Grid.{gridOver}
+use Rattle.grid.specs.FromSpec.{gridOver}
 use borrow.Author.Needs.{needs}
 use Rattle.grid_from_spec.proofs.grid_over.Statement.{statement}
 use Rattle.grid_from_spec.proofs.grid_over.Tie as tie

@@ -1,5 +1,5 @@
 -- `grid_from_spec::is_misdescribed` meets its contract: each answer from the tests that lead to it. Assumes nothing.
-use Rattle.grid_from_spec.specs.Grid.{misdescribed}
+use Rattle.grid.specs.FromSpec.{misdescribed}
 use borrow.Author.Tests.{eq-eqb, ne-eqb, lt-ltb, le-ltb}
 use borrow.Author.Needs.{needs}
 use Rattle.grid_from_spec.proofs.is_misdescribed.Statement.{statement}

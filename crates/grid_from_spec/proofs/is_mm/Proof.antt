@@ -1,6 +1,6 @@
 -- `grid_from_spec::is_mm` meets its contract, a test at a time. Assumes nothing.
 use Rattle.grid.proofs.Tests.{and-yes, and-no}
-use Rattle.grid_from_spec.specs.Grid.{isMm}
+use Rattle.grid.specs.FromSpec.{isMm}
 use borrow.Author.Tests.{eq-eqb, ne-eqb}
 use mathlib.Core.Path.{refl}
 use borrow.Author.Needs.{needs}

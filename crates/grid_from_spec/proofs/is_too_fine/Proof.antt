@@ -1,5 +1,5 @@
 -- `grid_from_spec::is_too_fine` meets its contract. Assumes nothing.
-use Rattle.grid_from_spec.specs.Grid.{tooFine, leastStep}
+use Rattle.grid.specs.FromSpec.{tooFine, leastStep}
 use borrow.Author.Needs.{needs}
 use Rattle.grid_from_spec.proofs.is_too_fine.Statement.{statement}
 use Rattle.grid_from_spec.proofs.is_too_fine.Tie as tie

@@ -1,5 +1,5 @@
 -- `grid_from_spec::magnitude` meets its contract. Assumes nothing.
-use Rattle.grid_from_spec.specs.Grid.{magnitudeOf}
+use Rattle.grid.specs.FromSpec.{magnitudeOf}
 use borrow.Author.Needs.{needs}
 use Rattle.grid_from_spec.proofs.magnitude.Statement.{statement}
 use Rattle.grid_from_spec.proofs.magnitude.Tie as tie

@@ -1,6 +1,6 @@
 -- `grid_vectors::asked` meets what the functions over a grid ask, by the facts of an accepted grid. Assumes nothing.
 use Rattle.grid.specs.Axes.{crossOf}
-use Rattle.grid_from_spec.proofs.Facts.{cells-positive}
+use Rattle.grid.proofs.Facts.{cells-positive}
 use borrow.Author.Needs.{needs}
 use Rattle.grid_vectors.proofs.asked.Statement.{statement}
 use Rattle.grid_vectors.proofs.asked.Tie as tie

@@ -4,7 +4,7 @@ use mathlib.Core.Path.{_∙_}
 use borrow.Author.Needs.{needs}
 use native.Mathlib.Omega.{arith}
 use lib.ListN.{length}
-use Rattle.doubles.proofs.Bools.{not-true, not-false}
+use Rattle.logic.proofs.Bools.{not-true, not-false}
 use Rattle.store.specs.Updates.{cells}
 use Rattle.log_keys.specs.Keys.{pairsPast}
 use Rattle.log_gather.proofs.Entries.{same-shape}

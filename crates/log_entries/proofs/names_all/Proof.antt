@@ -7,7 +7,7 @@ use native.Mathlib.Omega.{arith}
 use Rattle.log_model.specs.Logs.{entryAt, namesSomeRay}
 use Rattle.log_model.specs.Model.{NamesNoRay}
 use Rattle.log_model.proofs.Entries.{entry-in}
-use Rattle.doubles.proofs.Bools.{not-true, not-false}
+use Rattle.logic.proofs.Bools.{not-true, not-false}
 use Rattle.log_entries.specs.Named.{EachNamed}
 use Rattle.log_entries.proofs.names_all.Statement.{statement}
 use Rattle.log_entries.proofs.names_all.Tie as tie

@@ -3,7 +3,7 @@ use borrow.Author.Needs.{needs}
 use native.Mathlib.Omega.{arith}
 use lib.ListN.{length-set}
 use lib.Ieee.{lt}
-use Rattle.doubles.proofs.Bools.{not-true, not-false}
+use Rattle.logic.proofs.Bools.{not-true, not-false}
 use Rattle.log_gather.proofs.Pairs.{puts-none, puts-below, puts-beyond, puts-front, puts-cells}
 use Rattle.log_gather.proofs.put.Statement.{statement}
 use Rattle.log_gather.proofs.put.Tie as tie

@@ -5,7 +5,7 @@ use mathlib.Core.Path.{_≡_}
 use mathlib.Core.List.{List}
 use lib.ListN.{length}
 use lib.Ieee.{Float, le}
-use Rattle.doubles.proofs.Bools.{not-true, not-false}
+use Rattle.logic.proofs.Bools.{not-true, not-false}
 use Rattle.store.specs.Store.{places}
 use Rattle.store_lists.specs.Reading.{Readable}
 use Rattle.store_lists.proofs.Steps.{step}

@@ -2,7 +2,7 @@
 use borrow.Author.Needs.{needs}
 use mathlib.Core.Path.{sym, _∙_}
 use Prim.Native.Nat.{_+_, _*_}
-use Rattle.doubles.proofs.Bools.{not-true, not-false}
+use Rattle.logic.proofs.Bools.{not-true, not-false}
 use Rattle.ray_subtract.specs.Steps.{cellsFrom}
 use Rattle.log_merge.proofs.Cutting.{untouched, second-ready, both-cut}
 use Rattle.log_merge.proofs.cut_ray.Statement.{statement}

@@ -2,7 +2,7 @@
 use borrow.Author.Needs.{needs}
 use Prim.Native.Nat.{_+_}
 use Rattle.spans.specs.Spans.{equal}
-use Rattle.span_overlay.specs.Overlay.{lessOf}
+use Rattle.spans.specs.Overlay.{lessOf}
 use Rattle.ray_subtract.specs.Steps.{cellsFrom, lessHits}
 use Rattle.log_merge.proofs.Cutting.{moves-first, moves-second}
 use Rattle.log_merge.proofs.is_changed.Statement.{statement}

@@ -5,7 +5,7 @@ use Prim.Native.Nat.{_-_}
 use native.Mathlib.Omega.{arith}
 use lib.ListN.{take, getD}
 use lib.Ieee.{nan, lt}
-use Rattle.doubles.proofs.Bools.{not-true, not-false}
+use Rattle.logic.proofs.Bools.{not-true, not-false}
 use Rattle.log_stretches.proofs.Taking.{TakesFront, TakesSome, none-reaches, some-reaches, no-pair, pair-more, no-more}
 use Rattle.log_stretches.proofs.take_held.Statement.{statement}
 use Rattle.log_stretches.proofs.take_held.Tie as tie

@@ -3,7 +3,7 @@
 use borrow.Author.Needs.{needs}
 use lib.ListN.{length}
 use lib.Ieee.{lt}
-use Rattle.doubles.proofs.Bools.{not-true, not-false}
+use Rattle.logic.proofs.Bools.{not-true, not-false}
 use Rattle.log_keys.specs.Keys.{hitsTo, pairsPast}
 use Rattle.log_gather.proofs.Entries.{same-shape}
 use Rattle.log_stretches.proofs.Stretching.{StretchLoop, pairs-fall, roomy-front, reaches-start, reaches-on, reaches-end}

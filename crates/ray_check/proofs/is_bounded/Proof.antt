@@ -3,7 +3,7 @@ use native.Mathlib.Omega.{arith}
 use Prim.Native.Nat.{_-_, _≤_}
 use mathlib.Core.Path.{_≡_, refl}
 use lib.ListN.{length, drop}
-use Rattle.ray_validity.specs.Ray.{bounded}
+use Rattle.spans.specs.Rays.{bounded}
 use Rattle.ray_check.proofs.Bounds.{low-out, high-out, end-in, all-in}
 use Rattle.ray_check.proofs.is_bounded.Statement.{statement}
 use Rattle.ray_check.proofs.is_bounded.Tie as tie

@@ -5,7 +5,7 @@ use Prim.Native.Nat.{_+_}
 use lib.ListN.{getD}
 use borrow.Author.Tests.{eq-eqb, ne-eqb}
 use Rattle.ray_input.specs.Format.{isLetter, isNumber}
-use Rattle.doubles.proofs.Bools.{found, found-not}
+use Rattle.logic.proofs.Bools.{found, found-not}
 use Rattle.ray_input.proofs.Reading.{no-letter, no-space, no-lo, no-second, no-hi, last-byte}
 use borrow.Author.Needs.{needs}
 use Rattle.ray_input.proofs.is_line.Statement.{statement}

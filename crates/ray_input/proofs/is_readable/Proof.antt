@@ -2,7 +2,7 @@
 use mathlib.Core.Path.{_≡_, sym, _∙_}
 use mathlib.Core.Bool.{true}
 use Rattle.ray_input.specs.Format.{lines, total}
-use Rattle.doubles.proofs.Bools.{found, found-not}
+use Rattle.logic.proofs.Bools.{found, found-not}
 use Rattle.ray_input.proofs.Reading.{empty-first, no-whole-lines, bad-line, no-first, not-once, last-test}
 use borrow.Author.Needs.{needs}
 use native.Mathlib.Omega.{arith}

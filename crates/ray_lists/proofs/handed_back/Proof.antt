@@ -1,7 +1,7 @@
 -- `ray_lists::handed_back` meets its contract.
 use mathlib.Core.Path.{_≡_, refl, ap}
 use Prim.Native.Nat.{ℕ, _+_, _-_, _*_}
-use Rattle.doubles.proofs.Bools.{not-true, not-false, clash}
+use Rattle.logic.proofs.Bools.{not-true, not-false, clash}
 use Rattle.ray_subtract.proofs.Places.{handed-still, handed-new}
 use Rattle.ray_lists.proofs.Lists.{handed-short}
 use borrow.Author.Needs.{needs}

@@ -2,7 +2,7 @@
 use mathlib.Core.Path.{ap₂}
 use Prim.Native.Nat.{ℕ, _+_, _/_, _<_}
 use lib.ListN.{length}
-use Rattle.doubles.proofs.Bools.{not-true, not-false, clash}
+use Rattle.logic.proofs.Bools.{not-true, not-false, clash}
 use Rattle.spans.proofs.Sets.{sound-mod}
 use Rattle.ray_merge.specs.Merge.{workPairs, MergePre}
 use Rattle.ray_merge.proofs.Answers.{refuse-short, refuse-bad, accept}

@@ -4,7 +4,7 @@ use mathlib.Core.List.{List}
 use Prim.Native.Nat.{ℕ, _+_, _-_}
 use lib.ListN.{take, drop}
 use lib.Ieee.{Float}
-use Rattle.span_cover.specs.Covering.{Meets}
+use Rattle.span_cover.specs.Cover.{Meets}
 use Rattle.ray_subtract.specs.Steps.{cellsFrom}
 use Rattle.ray_subtract.proofs.Sparing.{meets-moves}
 use borrow.Author.Needs.{needs}

@@ -5,7 +5,7 @@ use Rattle.spans.specs.Spans.{sound}
 use Rattle.ray_subtract.specs.Steps.{cellsFrom}
 use Rattle.ray_subtract.proofs.Places.{part-length}
 use Rattle.ray_subtract.proofs.Sparing.{reduced-still, reduced-moved, less-still}
-use Rattle.span_overlay.specs.Overlay.{lessOf}
+use Rattle.spans.specs.Overlay.{lessOf}
 use Rattle.span_overlay.proofs.Less.{less-list}
 use borrow.Author.Needs.{needs}
 use native.Mathlib.Omega.{arith}

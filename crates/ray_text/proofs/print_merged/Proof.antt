@@ -5,7 +5,7 @@ use lib.ListN.{length}
 use lib.Ieee.{Float}
 use denote.Ref.{now}
 use Rattle.refusal.specs.Refusal.{Due, NoneDue}
-use Rattle.ray_subtract.specs.Taking.{handedBack, newCells}
+use Rattle.ray_subtract.specs.Subtract.{handedBack, newCells}
 use Rattle.ray_merge.specs.Merge.{mergeCauses, MergeEffect}
 use Rattle.ray_subtract.specs.declared.MergedList.{MergedList}
 use Rattle.ray_input.specs.Format.{letterP, letterC}

@@ -1,5 +1,5 @@
 -- `ray_text::run` meets its contract.
-use Rattle.doubles.proofs.Bools.{found, found-not}
+use Rattle.logic.proofs.Bools.{found, found-not}
 use Rattle.ray_text.proofs.Running.{run-refused}
 use borrow.Author.Needs.{needs}
 use Rattle.ray_text.proofs.run.Statement.{statement}

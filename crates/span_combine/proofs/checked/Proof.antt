@@ -7,7 +7,7 @@ use lib.ListN.{length}
 use Rattle.spans.specs.Spans.{sound}
 use Rattle.span_combine.proofs.Answers.{checked-short, checked-bad, checked-none}
 use Rattle.spans.proofs.Answers.{bad-first, bad-second, good-both}
-use Rattle.doubles.proofs.Bools.{found}
+use Rattle.logic.proofs.Bools.{found}
 use borrow.Author.Needs.{needs}
 use Rattle.span_combine.proofs.checked.Statement.{statement}
 use Rattle.span_combine.proofs.checked.Tie as tie

@@ -1,7 +1,7 @@
 -- `span_combine::intersect` meets its contract.
 use mathlib.Core.Path.{refl}
 use Rattle.span_overlay.proofs.Shared.{common-list}
-use Rattle.span_combine.specs.Combining.{CommonOf}
+use Rattle.span_combine.specs.Combine.{CommonOf}
 use Rattle.span_combine.proofs.Answers.{refuse-checked, checked-lists, filled-fits, accept-filled}
 use borrow.Author.Needs.{needs}
 use Rattle.span_combine.proofs.intersect.Statement.{statement}

@@ -1,7 +1,7 @@
 -- `span_combine::subtract` meets its contract.
 use mathlib.Core.Path.{refl}
 use Rattle.span_overlay.proofs.Less.{less-list}
-use Rattle.span_combine.specs.Combining.{LessOf}
+use Rattle.span_combine.specs.Combine.{LessOf}
 use Rattle.span_combine.proofs.Answers.{refuse-checked, checked-lists, filled-fits, accept-filled}
 use borrow.Author.Needs.{needs}
 use Rattle.span_combine.proofs.subtract.Statement.{statement}

@@ -6,7 +6,7 @@ use lib.Seq.{length-take-le}
 use lib.Ieee.{nan, lt}
 use mathlib.Core.Bool.{true}
 use mathlib.Core.Path.{_≡_}
-use Rattle.doubles.proofs.Bools.{not-true, not-false, clash}
+use Rattle.logic.proofs.Bools.{not-true, not-false, clash}
 use Rattle.spans.proofs.Sets.{sound-mod}
 use Rattle.spans.proofs.Points.{empty-pair}
 use Rattle.span_insert.proofs.Join.{insert-last, insert-inside, insert-extends, insert-none, insert-done, places-rise}

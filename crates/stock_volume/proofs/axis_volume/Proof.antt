@@ -5,7 +5,7 @@ use mathlib.Core.Path.{_≡_}
 use Rattle.store.specs.Updates.{cells}
 use Rattle.grid.specs.Rays.{rayCount}
 use Rattle.grid.proofs.Numbering.{offset-le}
-use Rattle.doubles.proofs.Bools.{not-false}
+use Rattle.logic.proofs.Bools.{not-false}
 use Rattle.stock.specs.Stock.{ValidTo}
 use Rattle.stock_volume.specs.Volume.{volumeTo}
 use Rattle.stock_volume.proofs.Lengths.{area-is, volume-first, volume-next, along-bad, along-more, along-good}

@@ -1,7 +1,7 @@
 use borrow.Author.Needs.{needs}
 use mathlib.Core.Path.{refl}
 use Rattle.store.specs.Updates.{cells}
-use Rattle.doubles.proofs.Bools.{not-false}
+use Rattle.logic.proofs.Bools.{not-false}
 use Rattle.stock_volume.proofs.Lengths.{before-x, before-y, before-z}
 use Rattle.stock_volume.proofs.Answers.{axis-bad, axes-good}
 use Rattle.stock_volume.proofs.measure_rays.Statement.{statement}

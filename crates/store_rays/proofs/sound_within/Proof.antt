@@ -6,8 +6,8 @@ use lib.ListN.{length}
 use Rattle.spans.specs.Spans.{sound}
 use Rattle.doubles.specs.Constants.{plusZero}
 use Rattle.store.specs.Store.{places}
-use Rattle.ray_validity.specs.Ray.{contained}
-use Rattle.doubles.proofs.Bools.{both}
+use Rattle.spans.specs.Rays.{contained}
+use Rattle.logic.proofs.Bools.{both}
 use Rattle.store_lists.specs.Reading.{Readable, listFrom}
 use Rattle.store_rays.specs.Lengths.{lengthFrom}
 use Rattle.store_lists.proofs.Steps.{step}

@@ -3,7 +3,7 @@ use mathlib.Core.Path.{sym, _∙_}
 use Rattle.store.specs.Updates.{cells}
 use Rattle.sweep_walk.specs.Entries.{setting}
 use Rattle.stock.proofs.Causes.{room-of}
-use Rattle.doubles.proofs.Bools.{not-false}
+use Rattle.logic.proofs.Bools.{not-false}
 use Rattle.sweep.proofs.Answers.{check-short, check-odd, check-bad, check-tool-bad, check-chords-bad, check-good}
 use Rattle.sweep.proofs.check_sweep.Statement.{statement}
 use Rattle.sweep.proofs.check_sweep.Tie as tie

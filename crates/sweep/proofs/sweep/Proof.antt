@@ -4,7 +4,7 @@ use Rattle.store.specs.Updates.{cells}
 use Rattle.frame.specs.Frame.{frameOf}
 use Rattle.sweep_kernel.specs.Lane.{profileOf}
 use Rattle.sweep_kernel.specs.declared.Kernel.{Kernel}
-use Rattle.grid_from_spec.proofs.Facts.{grid-facts}
+use Rattle.grid.proofs.Facts.{grid-facts}
 use Rattle.sweep.proofs.Answers.{sweep-refused, sweep-accepted, same-tool}
 use Rattle.sweep.proofs.sweep.Statement.{statement}
 use Rattle.sweep.proofs.sweep.Tie as tie

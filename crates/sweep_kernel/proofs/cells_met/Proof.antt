@@ -1,6 +1,6 @@
 use Rattle.sweep_kernel.specs.Lane.{cellsMet}
 use borrow.Author.Needs.{needs}
-use Rattle.grid_from_spec.proofs.Facts.{cells-positive}
+use Rattle.grid.proofs.Facts.{cells-positive}
 use Rattle.sweep_kernel.proofs.cells_met.Statement.{statement}
 use Rattle.sweep_kernel.proofs.cells_met.Tie as tie
 

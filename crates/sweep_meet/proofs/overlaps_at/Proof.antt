@@ -1,7 +1,7 @@
 use borrow.Author.Needs.{needs}
 use mathlib.Core.Path.{_≡_, refl, sym, _∙_}
 use lib.ListN.{length}
-use Rattle.doubles.proofs.Bools.{not-true, not-false}
+use Rattle.logic.proofs.Bools.{not-true, not-false}
 use Rattle.store.specs.Store.{places}
 use Rattle.store_lists.specs.Reading.{Readable, listFrom}
 use Rattle.store_lists.proofs.Steps.{step}

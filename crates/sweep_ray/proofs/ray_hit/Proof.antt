@@ -1,6 +1,6 @@
 use mathlib.Core.Path.{sym, _∙_}
 use Rattle.sweep_ray.proofs.Hitting.{hit-off, hit-miss, hit-clear, hit-on}
-use Rattle.doubles.proofs.Bools.{not-true, not-false}
+use Rattle.logic.proofs.Bools.{not-true, not-false}
 use borrow.Author.Needs.{needs}
 use Rattle.sweep_ray.proofs.ray_hit.Statement.{statement}
 use Rattle.sweep_ray.proofs.ray_hit.Tie as tie

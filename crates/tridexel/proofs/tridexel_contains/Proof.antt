@@ -1,5 +1,5 @@
 -- `tridexel::tridexel_contains` meets its contract.
-use Rattle.c_results.proofs.Handing.{answered, compare-above}
+use Rattle.c_results.proofs.Results.{answered, compare-above}
 use borrow.Author.Needs.{needs}
 use Rattle.tridexel.proofs.tridexel_contains.Statement.{statement}
 use Rattle.tridexel.proofs.tridexel_contains.Tie as tie

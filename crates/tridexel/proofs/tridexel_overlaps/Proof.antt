@@ -1,5 +1,5 @@
 -- `tridexel::tridexel_overlaps` meets its contract.
-use Rattle.c_results.proofs.Handing.{answered, compare-above}
+use Rattle.c_results.proofs.Results.{answered, compare-above}
 use borrow.Author.Needs.{needs}
 use Rattle.tridexel.proofs.tridexel_overlaps.Statement.{statement}
 use Rattle.tridexel.proofs.tridexel_overlaps.Tie as tie

@@ -1,5 +1,5 @@
 -- `tridexel::commits::tridexel_commit_changes` meets its contract.
-use Rattle.c_results.proofs.Handing.{answered, changes-above}
+use Rattle.c_results.proofs.Results.{answered, changes-above}
 use borrow.Author.Needs.{needs}
 use Rattle.tridexel.proofs.commits.tridexel_commit_changes.Statement.{statement}
 use Rattle.stock.specs.Stock.{stock}

@@ -1,5 +1,5 @@
 -- `tridexel::commits::tridexel_commit_log` meets its contract.
-use Rattle.c_results.proofs.Handing.{answered, commit-above}
+use Rattle.c_results.proofs.Results.{answered, commit-above}
 use borrow.Author.Needs.{needs}
 use Rattle.tridexel.proofs.commits.tridexel_commit_log.Statement.{statement}
 use Rattle.tridexel.proofs.commits.tridexel_commit_log.Tie as tie

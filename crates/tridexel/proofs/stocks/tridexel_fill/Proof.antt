@@ -1,5 +1,5 @@
 -- `tridexel::stocks::tridexel_fill` meets its contract.
-use Rattle.c_results.proofs.Handing.{answered, fill-above}
+use Rattle.c_results.proofs.Results.{answered, fill-above}
 use borrow.Author.Needs.{needs}
 use Rattle.tridexel.proofs.stocks.tridexel_fill.Statement.{statement}
 use Rattle.tridexel.proofs.stocks.tridexel_fill.Tie as tie

@@ -1,5 +1,5 @@
 -- `tridexel::stocks::tridexel_grid` meets its contract.
-use Rattle.c_results.proofs.Handing.{answered, grid-above}
+use Rattle.c_results.proofs.Results.{answered, grid-above}
 use borrow.Author.Needs.{needs}
 use Rattle.tridexel.proofs.stocks.tridexel_grid.Statement.{statement}
 use Rattle.tridexel.proofs.stocks.tridexel_grid.Tie as tie

@@ -1,5 +1,5 @@
 -- `tridexel::stocks::tridexel_volume` meets its contract.
-use Rattle.c_results.proofs.Handing.{answered, volume-above}
+use Rattle.c_results.proofs.Results.{answered, volume-above}
 use borrow.Author.Needs.{needs}
 use Rattle.tridexel.proofs.stocks.tridexel_volume.Statement.{statement}
 use Rattle.tridexel.proofs.stocks.tridexel_volume.Tie as tie

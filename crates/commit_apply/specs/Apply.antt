@@ -1,0 +1,35 @@
+-- What the cut of an accepted log finds in the cells, and what it leaves there.
+use mathlib.Core.Path.{_≡_}
+use mathlib.Core.List.{List}
+use Prim.Native.Nat.{ℕ, _*_, _/_, _≤_}
+use lib.ListN.{length, replicate}
+use lib.Ieee.{Float}
+use Rattle.doubles.specs.Constants.{plusZero}
+use Rattle.grid.specs.Rays.{rayCount}
+use Rattle.grid.specs.Causes.{GridFacts}
+use Rattle.grid.specs.declared.DexelStockSpec.{DexelStockSpec}
+use Rattle.grid.specs.declared.DexelGrid.{DexelGrid}
+use Rattle.store.specs.Updates.{Cells, Update, Room, applied}
+use Rattle.stock.specs.Stock.{SoundCells}
+use Rattle.log_model.specs.Logs.{entries, workNeeded}
+use Rattle.log_model.specs.Counts.{pairsAfter}
+use Rattle.log_model.specs.View.{listsIn}
+use Rattle.log_entries.specs.Named.{EachNamed}
+use Rattle.log_model.specs.Updates.{MergeUpdates}
+
+-- the grid, the cells and the log have passed the tests
+pub record ApplyPre (spec : DexelStockSpec) (g : DexelGrid) (c : Cells) (log work : List Float) : Type 0 where
+  pub facts : GridFacts spec g
+  pub room : Room (spec .«max_intervals») (2 * rayCount g) c
+  pub total : ℕ
+  pub sound : SoundCells spec g c total
+  pub work-room : workNeeded (spec .«max_intervals») log ≤ length work / 2
+  pub named : EachNamed g log
+  pub few-pairs : pairsAfter g (listsIn spec g c) (entries log) ≤ spec .«max_intervals»
+
+-- the log's updates are done, and the work buffer is all plus zero
+pub record ApplyPost (spec : DexelStockSpec) (g : DexelGrid) (c : Cells) (log work : List Float) (m : ℕ) (d : Cells) (work′ : List Float) : Type 0 where
+  pub updates : List Update
+  pub merges : MergeUpdates g (listsIn spec g c) (entries log) 0 updates m
+  pub left : d ≡ applied (spec .«max_intervals») c updates
+  pub cleared : work′ ≡ replicate (length work) plusZero

@@ -1,0 +1,99 @@
+-- The refusals of `grid` in document 01's own words, over whole numbers of cells and rays, and what an accepted grid is good for.
+use mathlib.Core.Path.{_≡_}
+use mathlib.Core.Bool.{true, false}
+use mathlib.Core.List.{List, [], _∷_}
+use mathlib.Core.Logic.{_⊎_}
+use Prim.Native.Nat.{ℕ, _*_, _^_, _≤_, _<_}
+use lib.Ieee.{Float, neg, lt}
+use lib.Ieee.Scale.{finite}
+use Rattle.doubles.specs.Constants.{million, millionth, plusZero}
+use Rattle.refusal.specs.Refusal.{Cause, cause, Due, NoneDue}
+use Rattle.grid.specs.Axes.{alongOf, cellsAlong, stepAlong}
+use Rattle.grid.specs.Grid.{whole}
+use Rattle.grid.specs.FromSpec.{leastSize, sizesOf, extentsOf, dimsOf, raysOf, gridWith, leastStep, gridOf}
+use Rattle.grid.specs.Rays.{rayCount}
+use Rattle.grid.specs.declared.Vec3.{Vec3}
+use Rattle.grid.specs.declared.WorldAxis.{WorldAxis}
+use Rattle.grid.specs.declared.DexelStockSpec.{DexelStockSpec}
+use Rattle.grid.specs.declared.DexelGrid.{DexelGrid}
+use Rattle.grid.specs.declared.GridAnswer.{GridAnswer}
+use Rattle.grid.specs.declared.GridAnswer.the-variants.{Accepted, Refused}
+
+-- the bytes of "mm"
+abbrev pub mm : List ℕ
+mm = 109 ∷ 109 ∷ []
+
+-- not finite, or below lo, or above hi
+unfoldable pub OutOf : (lo hi x : Float) → Type 0
+OutOf lo hi x = (finite x ≡ false) ⊎ ((lt x lo ≡ true) ⊎ (lt hi x ≡ true))
+
+-- 1 description: a constructor for each clause of document 01
+pub data Misdescribed (s : DexelStockSpec) (sizes : Vec3) (units : List ℕ) : Type 0 where
+  version-not-1 : (s .version ≡ 1 → ⊥) → Misdescribed s sizes units
+  units-not-mm : (units ≡ mm → ⊥) → Misdescribed s sizes units
+  min-out : (a : WorldAxis) → OutOf (neg million) million (alongOf (s .«min_mm») a) → Misdescribed s sizes units
+  max-out : (a : WorldAxis) → OutOf (neg million) million (alongOf (s .«max_mm») a) → Misdescribed s sizes units
+  size-out : (a : WorldAxis) → OutOf leastSize million (alongOf sizes a) → Misdescribed s sizes units
+  no-rays : s .«max_rays» ≡ 0 → Misdescribed s sizes units
+  too-many-rays : 4294967295 < s .«max_rays» → Misdescribed s sizes units
+  no-intervals : s .«max_intervals» ≡ 0 → Misdescribed s sizes units
+  thin : (a : WorldAxis) → lt (alongOf (extentsOf s) a) millionth ≡ true → Misdescribed s sizes units
+
+-- 2 an axis has more cells, or all grids more rays, than `max_rays`
+unfoldable pub Crowded : DexelStockSpec → DexelGrid → Type 0
+Crowded s g = ((a : WorldAxis) × (s .«max_rays» < cellsAlong g a)) ⊎ (s .«max_rays» < rayCount g)
+
+-- 3 twice the rays exceed `max_intervals`
+unfoldable pub OverBudget : DexelStockSpec → DexelGrid → Type 0
+OverBudget s g = s .«max_intervals» < 2 * rayCount g
+
+-- 4 a step below max (1e-6, 128 epsilon × magnitude)
+unfoldable pub TooFine : DexelStockSpec → DexelGrid → Type 0
+TooFine s g = (a : WorldAxis) × (lt (stepAlong g a) (leastStep (s .«min_mm») (s .«max_mm»)) ≡ true)
+
+-- the cells along each axis, as doubles; and the grid with them: cells = ceil (extent / cell size), at least 1, and step = extent / cells
+abbrev pub dimsIn : DexelStockSpec → Vec3
+dimsIn s = dimsOf (extentsOf s) (sizesOf s)
+
+abbrev pub gridIn : DexelStockSpec → DexelGrid
+gridIn s = gridWith (extentsOf s) (dimsIn s)
+
+-- document 01's order: 1, 2, 3, 4
+unfoldable pub gridCauses : DexelStockSpec → (units : List ℕ) → List Cause
+gridCauses s units =
+    cause 1 (Misdescribed s (sizesOf s) units)
+    ∷ cause 2 (Crowded s (gridIn s))
+    ∷ cause 3 (OverBudget s (gridIn s))
+    ∷ cause 4 (TooFine s (gridIn s))
+    ∷ []
+
+-- an answer of `grid` by these causes
+abbrev pub ByCauses : DexelStockSpec → (units : List ℕ) → GridAnswer → Type 0
+ByCauses s units (Refused k) = Due (gridCauses s units) k
+ByCauses s units (Accepted g) = NoneDue (gridCauses s units) × (g ≡ gridIn s)
+
+-- what `grid` promises: the Rust's answer, number for number, and that it is document 01's, by its causes
+pub record GridPost (s : DexelStockSpec) (units : List ℕ) (r : GridAnswer) : Type 0 where
+  pub is : r ≡ gridOf s units
+  pub by : ByCauses s units r
+
+-- what holds of a description and the grid that `grid` accepts it with
+pub record GridFacts (s : DexelStockSpec) (g : DexelGrid) : Type 0 where
+  pub is : g ≡ gridIn s
+  pub some0 : 1 ≤ g .c0
+  pub some1 : 1 ≤ g .c1
+  pub some2 : 1 ≤ g .c2
+  pub few0 : g .c0 ≤ s .«max_rays»
+  pub few1 : g .c1 ≤ s .«max_rays»
+  pub few2 : g .c2 ≤ s .«max_rays»
+  pub rays : rayCount g ≤ s .«max_rays»
+  pub budget : 2 * rayCount g ≤ s .«max_intervals»
+  pub ceiling : s .«max_rays» < 2 ^ 32
+  -- the casts to whole numbers lose nothing, and the total is the one that the Rust works out in doubles
+  pub exact : (a : WorldAxis) → whole (cellsAlong g a) ≡ alongOf (dimsIn s) a
+  pub total : whole (rayCount g) ≡ raysOf (dimsIn s)
+  pub min-finite : (a : WorldAxis) → finite (alongOf (s .«min_mm») a) ≡ true
+  pub max-finite : (a : WorldAxis) → finite (alongOf (s .«max_mm») a) ≡ true
+  pub box : (a : WorldAxis) → lt (alongOf (s .«min_mm») a) (alongOf (s .«max_mm») a) ≡ true
+  pub step-finite : (a : WorldAxis) → finite (stepAlong g a) ≡ true
+  pub step-above : (a : WorldAxis) → lt plusZero (stepAlong g a) ≡ true

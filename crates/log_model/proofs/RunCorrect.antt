@@ -1,0 +1,185 @@
+-- DEMAND 3: after any run from a sound store everything that `Settled` says holds, and two runs that are alike in the hits of their
+-- acceptedLogs logs leave equal lists and totals.
+use mathlib.Core.Path.{_≡_, refl, sym, ap, _∙_, subst, subst₂, fun-ext}
+use mathlib.Core.Bool.{Bool, true, false, not, _&&_, _||_}
+use mathlib.Core.List.{List, [], _∷_, _++_}
+use mathlib.Core.Logic.{inl, inr}
+use Prim.Native.Nat.{ℕ, _+_}
+use native.Mathlib.Nat.{add-zero, add-suc, suc-add}
+use lib.ListN.{length}
+use lib.Ieee.{Float}
+use Rattle.logic.proofs.Bools.{and-left, and-right, both, not-true, clash, by-cases}
+use Rattle.spans.specs.Spans.{holds, equal, ListOf}
+use Rattle.spans.proofs.Sets.{same-points}
+use Rattle.grid.specs.declared.DexelStockSpec.{DexelStockSpec}
+use Rattle.grid.specs.declared.DexelGrid.{DexelGrid}
+use Rattle.log_model.specs.Logs.{Ray, Kind, possible, certain, inner, outer, InHit, Alike, entries, removed, Commit}
+use Rattle.log_model.specs.Model.{Sets, Capacity, LogAnswer, changed, refused, Model, modelStep, ModelAnswers, modelAfter, acceptedLogs}
+use Rattle.log_model.specs.Runs.{StoreView, SoundView, pointSets, AcceptedEffect, CommitEffect, CommitStep, Run, done, next, modelStart, RunMeetsModel, StoresAgree, RunCorrect}
+use Rattle.log_model.proofs.Hits.{takenBy, takenBy-none, takenBy-more, to-inner, of-inner, to-either, of-either, alike-take}
+use Rattle.log_model.proofs.Unique.{one-list, pairs-same, judged-sound, modelled-unique}
+
+-- ---- Bool
+
+less-none : (x b : Bool) → b ≡ false → x ≡ (x && not b)
+less-none true true h = h
+less-none true false h = refl
+less-none false b h = refl
+
+less-more : (x a b c : Bool) → c ≡ (a || b) → ((x && not a) && not b) ≡ (x && not c)
+less-more x a b c h = go x a ∙ ap (λ (z : Bool). x && not z) (sym h)
+  where
+    go : (x a : Bool) → ((x && not a) && not b) ≡ (x && not (a || b))
+    go true true = refl
+    go true false = refl
+    go false a = refl
+
+-- ---- the model's sets and generation, in closed form
+
+module _ (g : DexelGrid) where
+  closed : (m : Model g) (cs : List Commit) (vs : List LogAnswer) (r : Ray g) (k : Kind) (p : Float)
+      → modelAfter g m cs vs .sets r k p ≡ (m .sets r k p && not (takenBy g (acceptedLogs cs vs) r k p))
+  unfolding modelAfter acceptedLogs
+  closed m [] vs r k p = less-none (m .sets r k p) (takenBy g [] r k p) (takenBy-none g r k p)
+  closed m (c ∷ cs) [] r k p = less-none (m .sets r k p) (takenBy g [] r k p) (takenBy-none g r k p)
+  closed m (c ∷ cs) (refused n ∷ vs) r k p = closed m cs vs r k p
+  closed m (c ∷ cs) (changed n ∷ vs) r k p =
+      closed (modelStep g m c (changed n)) cs vs r k p
+      ∙ less-more (m .sets r k p) (removed g (entries (c .log)) r k p) (takenBy g (acceptedLogs cs vs) r k p)
+      (takenBy g (c .log ∷ acceptedLogs cs vs) r k p) (takenBy-more g (c .log) (acceptedLogs cs vs) r k p)
+
+  grown : (m : Model g) (cs : List Commit) (vs : List LogAnswer) → modelAfter g m cs vs .generation ≡ m .generation + length (acceptedLogs cs vs)
+  unfolding modelAfter acceptedLogs
+  grown m [] vs = sym (add-zero (m .generation))
+  grown m (c ∷ cs) [] = sym (add-zero (m .generation))
+  grown m (c ∷ cs) (refused n ∷ vs) = grown m cs vs
+  grown m (c ∷ cs) (changed n ∷ vs) =
+      grown (modelStep g m c (changed n)) cs vs ∙ suc-add (m .generation) (length (acceptedLogs cs vs)) ∙ sym (add-suc (m .generation) (length (acceptedLogs cs vs)))
+
+-- ---- a run follows the model
+
+module _ (spec : DexelStockSpec) (g : DexelGrid) (R : StoreView g) where
+  record Follows (b : Capacity) (m : Model g) (cs : List Commit) (vs : List LogAnswer) (t : R .Store) : Type 0 where
+    modelled : ModelAnswers spec g b m cs vs
+    sets : pointSets g R t ≡ modelAfter g m cs vs .sets
+    generation : R .generation t ≡ modelAfter g m cs vs .generation
+    sound : R .Sound t
+
+  -- the store after an acceptedLogs log stands for the model's next state
+  restart : (s t : R .Store) (c : Commit) (n : ℕ) → AcceptedEffect g R s c t → modelStart g R t ≡ modelStep g (modelStart g R s) c (changed n)
+  unfolding modelStart modelStep
+  restart s t c n x =
+      λ i. record { sets = fun-ext (λ r. fun-ext (λ k. fun-ext (x .exactly r k))) i; generation = x .generation i }
+
+  more : (s t u : R .Store) (c : Commit) (v : LogAnswer) (cs : List Commit) (vs : List LogAnswer) → R .Sound s → CommitStep spec g R s c v t
+      → (R .Sound t → Follows (R .lent t) (modelStart g R t) cs vs u) → Follows (R .lent s) (modelStart g R s) (c ∷ cs) (v ∷ vs) u
+  unfolding CommitEffect modelAfter ModelAnswers modelStart
+  more s t u c (refused k) cs vs S x f =
+      let e : t ≡ s = x .leaves in
+      let h = subst (λ (z : R .Store). Follows (R .lent z) (modelStart g R z) cs vs u) e (f (subst (R .Sound) (sym e) S)) in
+      record {
+        modelled = (judged-sound spec g (R .lent s) (¬ R .Sound s) (λ n. n S) (pointSets g R s) (R .generation s) c (refused k) (x .answers), h .modelled);
+        sets = h .sets;
+        generation = h .generation;
+        sound = h .sound;
+      }
+  more s t u c (changed n) cs vs S x f =
+      let y : AcceptedEffect g R s c t = x .leaves in
+      let h = subst₂ (λ (b : Capacity) (m : Model g). Follows b m cs vs u) (y .lent) (restart s t c n y) (f (y .sound)) in
+      record {
+        modelled = (judged-sound spec g (R .lent s) (¬ R .Sound s) (λ n. n S) (pointSets g R s) (R .generation s) c (changed n) (x .answers), h .modelled);
+        sets = h .sets;
+        generation = h .generation;
+        sound = h .sound;
+      }
+
+  follows : {s t : R .Store} {cs : List Commit} {vs : List LogAnswer} → Run spec g R s cs vs t → R .Sound s → Follows (R .lent s) (modelStart g R s) cs vs t
+  follows {s} done S = record { modelled = unfold ModelAnswers in tt; sets = unfold modelAfter modelStart in refl; generation = unfold modelAfter modelStart in refl; sound = S }
+  follows (next {s} {t} {u} {c} {a} {cs} {vs} x r) S = more s t u c a cs vs S x (λ T. follows r T)
+
+-- ---- what follows from that
+
+module _ (spec : DexelStockSpec) (g : DexelGrid) (R : StoreView g) (L : SoundView g R) where
+  module _ (s : R .Store) (cs : List Commit) (vs : List LogAnswer) (t : R .Store) (F : Follows spec g R (R .lent s) (modelStart g R s) cs vs t) where
+    holding : (r : Ray g) (k : Kind) (p : Float) → holds (R .lists t r k) p ≡ (holds (R .lists s r k) p && not (takenBy g (acceptedLogs cs vs) r k p))
+    unfolding pointSets modelStart
+    holding r k p = ap (λ (z : Sets g). z r k p) (F .sets) ∙ closed g (modelStart g R s) cs vs r k p
+
+    kept : (r : Ray g) (k : Kind) (p : Float) → holds (R .lists t r k) p ≡ true → holds (R .lists s r k) p ≡ true
+    kept r k p x = and-left (holds (R .lists s r k) p) (not (takenBy g (acceptedLogs cs vs) r k p)) (sym (holding r k p) ∙ x)
+
+    not-taken : (r : Ray g) (k : Kind) (p : Float) → holds (R .lists t r k) p ≡ true → takenBy g (acceptedLogs cs vs) r k p ≡ true → ⊥
+    not-taken r k p x y =
+        clash (takenBy g (acceptedLogs cs vs) r k p) y
+        (not-true (takenBy g (acceptedLogs cs vs) r k p) (and-right (holds (R .lists s r k) p) (not (takenBy g (acceptedLogs cs vs) r k p)) (sym (holding r k p) ∙ x)))
+
+    still : (r : Ray g) (k : Kind) (p : Float) → holds (R .lists s r k) p ≡ true → (takenBy g (acceptedLogs cs vs) r k p ≡ true → ⊥) → holds (R .lists t r k) p ≡ true
+    still r k p x n = holding r k p ∙ elim (by-cases (takenBy g (acceptedLogs cs vs) r k p)) [
+      | inl y ↦ absurd (n y)
+      | inr y ↦ both (holds (R .lists s r k) p) (not (takenBy g (acceptedLogs cs vs) r k p)) x (ap not y)
+    ]
+
+    neither : (r : Ray g) (p : Float) → ¬ InHit g (acceptedLogs cs vs) r outer p → ¬ InHit g (acceptedLogs cs vs) r inner p → takenBy g (acceptedLogs cs vs) r certain p ≡ true → ⊥
+    neither r p a b x = elim (to-either g r p (acceptedLogs cs vs) x) [ inl y ↦ a y | inr y ↦ b y ]
+
+    list-of : (r : Ray g) (k : Kind) → ListOf (modelAfter g (modelStart g R s) cs vs .sets r k) (R .lists t r k)
+    unfolding pointSets
+    list-of r k = record { isSound = L .sound-list t (F .sound) r k; points = λ p. ap (λ (z : Sets g). z r k p) (F .sets) }
+
+    settled : RunMeetsModel spec g R s cs vs t
+    settled = record {
+      answers = F .modelled;
+      no-others = λ bs x. modelled-unique spec g (R .lent s) (modelStart g R s) cs bs vs x (F .modelled);
+      listed = list-of;
+      only-list = λ r k l dl dt sl x. same-points l (R .lists t r k) dl dt sl (list-of r k .isSound) (λ p h. x p h ∙ sym (list-of r k .points p));
+      all-pairs = L .all-pairs t (F .sound);
+      model-generation = F .generation;
+      generation = F .generation ∙ unfold modelStart in grown g (modelStart g R s) cs vs;
+      possible-is = λ r p. (
+        (λ x. (kept r possible p x, λ y. not-taken r possible p x (of-inner g r p (acceptedLogs cs vs) y))),
+        (λ x. still r possible p (x .0) (λ y. x .1 (to-inner g r p (acceptedLogs cs vs) y))),
+      );
+      certain-is = λ r p. (
+        (λ x. (
+          kept r certain p x,
+          (λ y. not-taken r certain p x (of-either g r p (acceptedLogs cs vs) (inl y))),
+          (λ y. not-taken r certain p x (of-either g r p (acceptedLogs cs vs) (inr y))),
+        )),
+        (λ x. still r certain p (x .0) (neither r p (x .1) (x .2))),
+      );
+      certain-within = L .within t (F .sound);
+      nothing-gains = kept;
+      sound = F .sound;
+    }
+
+  module _ (s t u : R .Store) (cs ds : List Commit) (vs ws : List LogAnswer) (F : Follows spec g R (R .lent s) (modelStart g R s) cs vs t) (G : Follows spec g R (R .lent s) (modelStart g R s) ds ws u)
+      (a : Alike g (acceptedLogs cs vs) (acceptedLogs ds ws)) where
+    same-sets : (r : Ray g) (k : Kind) (p : Float) → holds (R .lists u r k) p ≡ holds (R .lists t r k) p
+    same-sets r k p =
+        holding s ds ws u G r k p
+        ∙ ap (λ (b : Bool). holds (R .lists s r k) p && not b) (sym (alike-take g (acceptedLogs cs vs) (acceptedLogs ds ws) a r k p))
+        ∙ sym (holding s cs vs t F r k p)
+
+    same : (r : Ray g) (k : Kind) → equal (R .lists t r k) (R .lists u r k) ≡ true
+    same r k =
+        one-list (holds (R .lists t r k)) (R .lists t r k) (R .lists u r k) (record { isSound = L .sound-list t (F .sound) r k; points = λ p. refl })
+        (record { isSound = L .sound-list u (G .sound) r k; points = same-sets r k })
+
+    agree : StoresAgree g R t u
+    agree = record {
+      same-lists = same;
+      same-total = L .all-pairs t (F .sound) ∙ pairs-same g (R .lists t) (R .lists u) same ∙ sym (L .all-pairs u (G .sound));
+    }
+
+-- THE THEOREM, for every way to read a store
+pub demand3 : (spec : DexelStockSpec) (g : DexelGrid) (R : StoreView g) → SoundView g R → RunCorrect spec g R
+demand3 spec g R L = record {
+  settles = λ s t cs vs S x. settled spec g R L s cs vs t (follows spec g R x S);
+  agrees = λ s t u cs ds vs ws S x y a. agree spec g R L s t u cs ds vs ws (follows spec g R x S) (follows spec g R y S) a;
+}
+
+-- a run with one commit more at its end
+pub extend : (spec : DexelStockSpec) (g : DexelGrid) (R : StoreView g) {s t u : R .Store} {cs : List Commit} {vs : List LogAnswer} {c : Commit} {v : LogAnswer}
+    → Run spec g R s cs vs t → CommitStep spec g R t c v u → Run spec g R s (cs ++ c ∷ []) (vs ++ v ∷ []) u
+extend spec g R done y = next y done
+extend spec g R (next x r) y = next x (extend spec g R r y)

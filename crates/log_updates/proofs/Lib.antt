@@ -1,4 +1,0 @@
-pub mod Valid
-pub mod Asked
-pub mod Totals
-pub mod Leaves
