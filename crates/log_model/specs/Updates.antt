@@ -9,10 +9,10 @@ use Rattle.grid.specs.declared.DexelStockSpec.{DexelStockSpec}
 use Rattle.grid.specs.declared.DexelGrid.{DexelGrid}
 use Rattle.store.specs.Updates.{Update, update, applied, pairsFreed, pairsLaid}
 use Rattle.stock.specs.Stock.{Stock}
-use Rattle.ray_subtract.specs.Subtract.{MergedExactly}
 use Rattle.log_model.specs.Logs.{Ray, Kind, possible, certain, Entry, outer, inner, hitsOnRay}
 use Rattle.log_model.specs.Model.{Sets, setsAfter, RayChanges}
 use Rattle.log_model.specs.View.{listIn}
+use Rattle.spans.specs.Rays.{MergedExactly}
 
 -- the sets of these lists
 abbrev pub listSets : (g : DexelGrid) → (Ray g → Kind → List Float) → Sets g

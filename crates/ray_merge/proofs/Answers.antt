@@ -12,8 +12,8 @@ use Rattle.doubles.specs.Constants.{plusZero}
 use Rattle.refusal.specs.Refusal.{Due, NoneDue}
 use Rattle.logic.proofs.Bools.{and-left, and-right, or-neither, both, not-true}
 use Rattle.spans.specs.Spans.{holds, Within}
-use Rattle.spans.specs.Rays.{ValidRay}
-use Rattle.ray_subtract.specs.Subtract.{eitherHit, newCells, handedBack, ListAfterHits, MergedExactly}
+use Rattle.spans.specs.Rays.{ValidRay, MergedExactly}
+use Rattle.ray_subtract.specs.Subtract.{eitherHit, newCells, handedBack, ListAfterHits}
 use Rattle.ray_merge.specs.Merge.{MergePre, workPairs, MergePost}
 use Rattle.ray_subtract.specs.Steps.{cellsFrom, newList, MergeWithinPre, MergeWithinPost, PlacedAt, NormalizedAt, MergeInputs, MergeListsPost}
 use Rattle.spans.specs.Overlay.{lessOf}

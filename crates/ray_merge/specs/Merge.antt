@@ -7,8 +7,8 @@ use lib.Ieee.{Float}
 use Rattle.doubles.specs.Constants.{plusZero}
 use Rattle.refusal.specs.Refusal.{Cause, cause, Due, NoneDue}
 use Rattle.spans.specs.Spans.{holds}
-use Rattle.spans.specs.Rays.{ValidRay}
-use Rattle.ray_subtract.specs.Subtract.{eitherHit, newCells, handedBack, ListAfterHits, MergedExactly}
+use Rattle.spans.specs.Rays.{ValidRay, MergedExactly}
+use Rattle.ray_subtract.specs.Subtract.{eitherHit, newCells, handedBack, ListAfterHits}
 use Rattle.ray_subtract.specs.declared.MergedList.{MergedList}
 use Rattle.ray_merge.specs.declared.MergeAnswer.{MergeAnswer}
 use Rattle.ray_merge.specs.declared.MergeAnswer.the-variants.{Lists, Refused}

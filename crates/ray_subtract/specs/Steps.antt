@@ -9,9 +9,10 @@ use Rattle.spans.specs.Spans.{holds, sound, equal, NormalOf}
 use Rattle.spans.specs.declared.Place.{Place}
 use Rattle.spans.specs.Overlay.{lessOf}
 use Rattle.span_overlay.specs.Steps.{OverlayCutPost}
-use Rattle.ray_subtract.specs.Subtract.{eitherHit, newCells, ListAfterHits, MergedExactly}
+use Rattle.ray_subtract.specs.Subtract.{eitherHit, newCells, ListAfterHits}
 use Rattle.ray_subtract.specs.declared.MergedList.{MergedList}
 use Rattle.ray_subtract.specs.declared.MergedLists.{MergedLists}
+use Rattle.spans.specs.Rays.{MergedExactly}
 
 -- the n cells from cell `at` on
 abbrev pub cellsFrom : ℕ → ℕ → List Float → List Float

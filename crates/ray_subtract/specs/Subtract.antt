@@ -6,8 +6,7 @@ use Prim.Native.Nat.{ℕ, _+_, _*_}
 use lib.Dec.{leb}
 use lib.ListN.{length, take, drop}
 use lib.Ieee.{Float}
-use Rattle.spans.specs.Spans.{holds, equal, ListOf, NormalOf}
-use Rattle.spans.specs.Overlay.{lessOf}
+use Rattle.spans.specs.Spans.{holds, equal, ListOf}
 use Rattle.ray_subtract.specs.declared.MergedList.{MergedList}
 
 -- the points that certain loses; possible loses those of the inner hits alone
@@ -31,13 +30,3 @@ pub record ListAfterHits (before : List Float) (hit : Float → Bool) (part : Me
   pub moves : part .moved ≡ not (equal before after)
   pub list : ListOf (spared before hit) after
   pub pairs : length after ≡ 2 * part .pairs
-
--- Both lists after a merge, end by end: the old ones less the lists that normalising makes of the hits. The Rust takes of certain what it then
--- has in common with possible; that is all of it, since certain lies within possible and larger and smaller keep the first of two equal ends.
-pub record MergedExactly (possible certain outer inner possibleAfter certainAfter : List Float) : Type 0 where
-  pub outerNormal : List Float
-  pub innerNormal : List Float
-  pub outerIs : NormalOf outer outerNormal
-  pub innerIs : NormalOf inner innerNormal
-  pub possibleIs : possibleAfter ≡ lessOf possible innerNormal
-  pub certainIs : certainAfter ≡ lessOf (lessOf certain outerNormal) innerNormal

@@ -7,8 +7,8 @@ use lib.ListN.{length}
 use lib.Ieee.{Float, binary64, ofBits}
 use Rattle.refusal.specs.Refusal.{Cause, cause, Due, NoneDue}
 use Rattle.spans.specs.Spans.{holds, equal, ListOf}
-use Rattle.spans.specs.Rays.{ValidRay}
-use Rattle.ray_subtract.specs.Subtract.{eitherHit, spared, MergedExactly}
+use Rattle.spans.specs.Rays.{ValidRay, MergedExactly}
+use Rattle.ray_subtract.specs.Subtract.{eitherHit, spared}
 use Rattle.ray_input.specs.Format.{letterP, letterC, letterO, letterI, bitsAt, textPairs, total, readable}
 use Rattle.ray_output.specs.Output.{answerText, refusedText}
 use Rattle.ray_input.specs.Steps.{Appended}

@@ -3,7 +3,8 @@ use mathlib.Core.Path.{_≡_}
 use mathlib.Core.Bool.{Bool, true, false, cond, _&&_}
 use mathlib.Core.List.{List, [], _∷_}
 use lib.Ieee.{Float, lt, le}
-use Rattle.spans.specs.Spans.{holds, sound}
+use Rattle.spans.specs.Spans.{holds, sound, NormalOf}
+use Rattle.spans.specs.Overlay.{lessOf}
 
 -- each end is at least lo and at most hi; a NaN bound admits the empty list only
 unfoldable pub bounded : Float → Float → List Float → Bool
@@ -41,3 +42,13 @@ contained outer (lo ∷ hi ∷ inner) = covers (from hi outer) lo hi && containe
 unfoldable pub valid : Float → Float → List Float → List Float → Bool
 unfolding bounded contained
 valid lo hi possible certain = sound possible && (sound certain && (bounded lo hi possible && (bounded lo hi certain && contained possible certain)))
+
+-- Both lists after a merge, end by end: the old ones less the lists that normalising makes of the hits. The Rust takes of certain what it then
+-- has in common with possible; that is all of it, since certain lies within possible and larger and smaller keep the first of two equal ends.
+pub record MergedExactly (possible certain outer inner possibleAfter certainAfter : List Float) : Type 0 where
+  pub outerNormal : List Float
+  pub innerNormal : List Float
+  pub outerIs : NormalOf outer outerNormal
+  pub innerIs : NormalOf inner innerNormal
+  pub possibleIs : possibleAfter ≡ lessOf possible innerNormal
+  pub certainIs : certainAfter ≡ lessOf (lessOf certain outerNormal) innerNormal
