@@ -29,13 +29,13 @@ use Rattle.stock.proofs.Answers.{accepted, refused}
 use Rattle.sweep_kernel.specs.declared.Kernel.{Kernel}
 use Rattle.sweep_kernel.specs.declared.Profile.{Profile}
 use Rattle.store.specs.Updates.{Cells}
-use Rattle.sweep_visits.specs.Walk.{WalkPost, Stop}
+use Rattle.sweep_visits.specs.Walk.{Stop}
 use Rattle.sweep_visits.specs.declared.VisitCursor.{VisitCursor}
 use Rattle.sweep_visits.specs.declared.Progress.{Progress}
 use Rattle.sweep_visits.specs.declared.Progress.the-variants.{At, Stopped}
 use Rattle.sweep_visits.proofs.Walks.{walk-done, walk-stop, stop-is, done-no-stop}
 use Rattle.chords.specs.Limits.{chordsFit}
-use Rattle.sweep_walk.specs.Entries.{Setting, setting, sweepEntries, logOf, Sweepable}
+use Rattle.sweep_walk.specs.Entries.{Setting, setting, sweepEntries, logOf}
 use Rattle.sweep.specs.Answer.{SweepInputBad, settingCauses, walkOf, visitCauses, causesIn, sweepCauses, refusedLog, SweepPost, SweepCheckPost, endOf, loggedBy, endLog}
 use Rattle.sweep.specs.declared.SweepAnswer.{SweepAnswer}
 use Rattle.sweep.specs.declared.SweepAnswer.the-variants.{Accepted, Refused}
@@ -43,6 +43,8 @@ use Rattle.sweep.specs.declared.SweepCheck.{SweepCheck}
 use Rattle.sweep.specs.declared.SweepCheck.the-variants.{Admitted, Declined}
 use Rattle.sweep_walk.proofs.Chords.{sweep-length, log-length}
 use Rattle.logic.specs.Logic.{Decides}
+use Rattle.sweep_visits.specs.Steps.{WalkPost}
+use Rattle.sweep_walk.specs.Steps.{Sweepable}
 
 -- ---- the check of a setting
 module _ (s : Setting) (intervals : ℕ) (chords : List Float) where

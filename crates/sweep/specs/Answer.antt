@@ -24,12 +24,13 @@ use Rattle.sweep_visits.specs.Walk.{Walked, Stop, walk}
 use Rattle.sweep_visits.specs.declared.Progress.{Progress}
 use Rattle.sweep_visits.specs.declared.Progress.the-variants.{At, Stopped}
 use Rattle.chords.specs.Limits.{chordsFit}
-use Rattle.sweep_walk.specs.Entries.{Setting, setting, sweepEntries, logOf, visitTotal, Sweepable}
+use Rattle.sweep_walk.specs.Entries.{Setting, setting, sweepEntries, logOf, visitTotal}
 use Rattle.sweep.specs.declared.Totals.{Totals}
 use Rattle.sweep.specs.declared.SweepAnswer.{SweepAnswer}
 use Rattle.sweep.specs.declared.SweepAnswer.the-variants.{Accepted, Refused}
 use Rattle.sweep.specs.declared.SweepCheck.{SweepCheck}
 use Rattle.sweep.specs.declared.SweepCheck.the-variants.{Admitted, Declined}
+use Rattle.sweep_walk.specs.Steps.{Sweepable}
 
 -- the setting that the arguments of a sweep describe
 abbrev pub settingOf : DexelStockSpec → Axis → CutterShape → PreparedCutter → (guard : Float) → Cells → Setting

@@ -14,8 +14,9 @@ use Rattle.spans.proofs.Ends.{above-less, rising-tail, rising-above}
 use Rattle.spans.proofs.Points.{holds-above}
 use Rattle.spans.proofs.Sets.{sound-rising, sound-even, sound-numbers}
 use Rattle.frame.specs.declared.Pair.{Pair}
-use Rattle.sweep_meet.specs.Meets.{lastOf, spansMeet, overlapsOf, endsOf}
+use Rattle.sweep_meet.specs.Meets.{lastOf, spansMeet, overlapsOf}
 use Rattle.sweep_meet.proofs.Meeting.{last-above}
+use Rattle.sweep_meet.specs.Steps.{endsOf}
 
 -- a point of a rising list lies from its first end to its last
 between : (x p : Float) (l : List Float) → rising (x ∷ l) ≡ true → holds (x ∷ l) p ≡ true → (le x p ≡ true) × (lt p (lastOf x l) ≡ true)

@@ -16,18 +16,8 @@ unfolding lastOf
 spansMeet [] s = false
 spansMeet (lo ∷ l) s = lt lo (s .hi) && lt (s .lo) (lastOf lo l)
 
--- an upper end is above x
-unfoldable pub someAbove : List Float → Float → Bool
-someAbove [] x = false
-someAbove (lo ∷ []) x = false
-someAbove (lo ∷ hi ∷ l) x = lt x hi || someAbove l x
-
 -- the intersection with the one pair s is not empty: a pair of the list that does not end below s's upper end is the last one looked at
 unfoldable pub overlapsOf : List Float → Pair → Bool
 overlapsOf [] s = false
 overlapsOf (lo ∷ []) s = false
 overlapsOf (lo ∷ hi ∷ l) s = lt (largerOf lo (s .lo)) (smallerOf hi (s .hi)) || (lt hi (s .hi) && overlapsOf l s)
-
--- the pair as a list of its two ends, so that `holds` is its point set
-abbrev pub endsOf : Pair → List Float
-endsOf s = s .lo ∷ s .hi ∷ []

@@ -28,8 +28,9 @@ use Rattle.sweep_kernel.specs.declared.RayRect.the-variants.{Rays, NoRays}
 use Rattle.sweep_ray.specs.declared.RayHit.{RayHit}
 use Rattle.sweep_ray.specs.declared.RayHit.the-variants.{On, Off}
 use Rattle.sweep_visits.specs.Entries.{entryOf, entryFor, indexOf, possibleAt, rayEntry, each, sumEach, rowEntries, rectEntries, rectangleEntries, raysIn, joined, loggedEntries}
-use Rattle.sweep_visits.specs.Walk.{Walked, Done, Stop, walk, Went, Halted, WalkPost, RayReady, AxisReady}
+use Rattle.sweep_visits.specs.Walk.{Walked, Done, Stop, walk}
 use Rattle.sweep_visits.proofs.Cells.{put-take, put-length}
+use Rattle.sweep_visits.specs.Steps.{Went, Halted, WalkPost, RayReady, AxisReady}
 
 abbrev onward : Walked → (ℕ → List Float → Walked) → Walked
 onward (Done k l) f = f k l

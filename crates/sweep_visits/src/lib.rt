@@ -4,7 +4,7 @@ ghost use mathlib.Core.List.{_++_, _∷_, []};
 ghost use Prim.Native.Nat.{_+_, _<_, _≤_};
 ghost use lib.ListN.{length, take, drop};
 ghost use Rattle.sweep_visits.specs.Entries.{entryOf, rayEntry, rowEntries, rectEntries};
-ghost use Rattle.sweep_visits.specs.Walk.{WalkPost, RayReady, AxisReady};
+ghost use Rattle.sweep_visits.specs.Steps.{WalkPost, RayReady, AxisReady};
 use grid::WorldAxis;
 use sweep_kernel::ChordOnAxis;
 use sweep_kernel::Profile;

@@ -32,13 +32,14 @@ use Rattle.sweep_kernel.specs.declared.RayRange.{RayRange}
 use Rattle.sweep_kernel.specs.declared.RayRect.{RayRect}
 use Rattle.sweep_kernel.specs.declared.RayRect.the-variants.{Rays, NoRays}
 use Rattle.sweep_visits.specs.Entries.{rayEntry, rectEntries, rectangleEntries}
-use Rattle.sweep_visits.specs.Walk.{WalkPost, Went, AxisReady}
 use Rattle.sweep_visits.specs.declared.VisitCursor.{VisitCursor}
 use Rattle.sweep_visits.specs.declared.Progress.{Progress}
 use Rattle.sweep_visits.specs.declared.Progress.the-variants.{At}
 use Rattle.sweep_visits.specs.declared.AxisRays.{AxisRays}
 use Rattle.sweep_visits.proofs.Walks.{went-none}
-use Rattle.sweep_walk.specs.Entries.{trackOf, Setting, laneIn, axisEntries, firstAxis, secondAxis, Sweepable}
+use Rattle.sweep_walk.specs.Entries.{trackOf, Setting, laneIn, axisEntries, firstAxis, secondAxis}
+use Rattle.sweep_visits.specs.Steps.{WalkPost, Went, AxisReady}
+use Rattle.sweep_walk.specs.Steps.{Sweepable}
 
 -- ---- a sound store can be read along every axis
 module _ (spec : DexelStockSpec) (g : DexelGrid) (c : CellRange) (s : Sweepable spec g c) where

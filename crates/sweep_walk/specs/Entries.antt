@@ -4,15 +4,13 @@ use Prim.Native.Nat.{ℕ, _+_, _/_}
 use lib.Ieee.{Float}
 use lib.ListN.{length}
 use Rattle.grid.specs.Axes.{byDigit, worldAxis, cellsAlong, crossOf}
-use Rattle.grid.specs.Rays.{rayCount, offset}
-use Rattle.grid.specs.Causes.{GridFacts}
+use Rattle.grid.specs.Rays.{offset}
 use Rattle.grid.specs.declared.WorldAxis.{WorldAxis}
 use Rattle.grid.specs.declared.DexelStockSpec.{DexelStockSpec}
 use Rattle.grid.specs.declared.DexelGrid.{DexelGrid}
 use Rattle.frame.specs.Frame.{localAxis, worldAxisOf}
 use Rattle.frame.specs.declared.Frame.{Frame}
 use Rattle.store.specs.Updates.{Cells}
-use Rattle.stock.specs.Stock.{ChainsInRoom, ValidTo}
 use Rattle.sweep_kernel.specs.Lane.{laneOf, rectangleOf}
 use Rattle.sweep_kernel.specs.declared.Profile.{Profile}
 use Rattle.sweep_kernel.specs.declared.Kernel.{Kernel}
@@ -79,9 +77,3 @@ chordVisits s c = raysIn (rectangleIn s c (firstAxis (s .kernel .frame))) + rays
 
 unfoldable pub visitTotal : Setting → (chords : List Float) → ℕ
 visitTotal s chords = sumEach (λ i. chordVisits s (chordIn s chords i)) 0 (length chords / 8)
-
--- a store that can be swept: an accepted grid, and sound cells
-pub record Sweepable (spec : DexelStockSpec) (g : DexelGrid) (c : Cells) : Type 0 where
-  pub facts : GridFacts spec g
-  pub chained : ChainsInRoom spec g c
-  pub valid : ValidTo spec g c (rayCount g)

@@ -4,9 +4,9 @@ use lib.ListN.{length}
 use Rattle.store.specs.Store.{places}
 use Rattle.store_lists.specs.Reading.{Readable, listFrom}
 use Rattle.store_lists.proofs.Steps.{step}
-use Rattle.sweep_meet.specs.Meets.{someAbove}
 use Rattle.sweep_meet.proofs.Meeting.{above-here, above-later, above-none}
 use Rattle.sweep_meet.proofs.some_above.Statement.{statement}
+use Rattle.sweep_meet.specs.Steps.{someAbove}
 use Rattle.sweep_meet.proofs.some_above.Tie as tie
 
 abbrev Inv-loop : tie.InvT-loop

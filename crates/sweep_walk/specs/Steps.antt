@@ -1,0 +1,13 @@
+-- What a walk over the chords of a sweep asks.
+use Rattle.grid.specs.Rays.{rayCount}
+use Rattle.grid.specs.Causes.{GridFacts}
+use Rattle.grid.specs.declared.DexelStockSpec.{DexelStockSpec}
+use Rattle.grid.specs.declared.DexelGrid.{DexelGrid}
+use Rattle.store.specs.Updates.{Cells}
+use Rattle.stock.specs.Stock.{ChainsInRoom, ValidTo}
+
+-- a store that can be swept: an accepted grid, and sound cells
+pub record Sweepable (spec : DexelStockSpec) (g : DexelGrid) (c : Cells) : Type 0 where
+  pub facts : GridFacts spec g
+  pub chained : ChainsInRoom spec g c
+  pub valid : ValidTo spec g c (rayCount g)
