@@ -13,7 +13,7 @@ use Rattle.cutter.specs.declared.PreparedCutter.{PreparedCutter}
 use Rattle.refusal.specs.Refusal.{Due}
 use Rattle.store.specs.Updates.{Cells}
 use Rattle.sweep.specs.Answer.{settingOf, sweepCauses, SweepPost}
-use Rattle.sweep_walk.specs.Entries.{Setting}
+use Rattle.sweep_model.specs.SweepEntries.{Setting}
 use Rattle.sweep.specs.declared.Totals.{Totals}
 use Rattle.sweep.specs.declared.SweepAnswer.{SweepAnswer}
 use Rattle.c_results.specs.Numbers.{AnsweredBy, HandedAs, sweptNumbers}

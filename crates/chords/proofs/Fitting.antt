@@ -11,9 +11,9 @@ use lib.ListN.{length}
 use borrow.Author.Tests.{ltb-true, ltb-false}
 use Rattle.logic.proofs.Bools.{both, and-false, not-true, not-false}
 use Rattle.frame.specs.declared.Frame.{Frame}
-use Rattle.sweep_kernel.specs.declared.Chord.{Chord}
-use Rattle.chords.specs.Chords.{chordOf}
-use Rattle.chords.specs.Limits.{guardFits, endsFit, numbersFit, chordFits, every, chordsFit}
+use Rattle.sweep_model.specs.declared.Chord.{Chord}
+use Rattle.sweep_model.specs.Chords.{chordOf}
+use Rattle.sweep_model.specs.ChordLimits.{guardFits, endsFit, numbersFit, chordFits, every, chordsFit}
 
 module _ (test : ℕ → Bool) where
   pub every-none : every test 0 ≡ true

@@ -1,2 +1,0 @@
-pub mod Chords
-pub mod Limits

@@ -2,11 +2,11 @@
 ghost use mathlib.Core.Path.{_≡_};
 ghost use Prim.Native.Nat.{_+_, _*_, _≤_};
 ghost use lib.ListN.{length};
-ghost use Rattle.chords.specs.Chords.{pointAt, chordOf};
-ghost use Rattle.chords.specs.Limits.{guardFits, endsFit, planSize, lengthFits, numbersFit, chordFits, chordsFit};
+ghost use Rattle.sweep_model.specs.Chords.{pointAt, chordOf};
+ghost use Rattle.sweep_model.specs.ChordLimits.{guardFits, endsFit, planSize, lengthFits, numbersFit, chordFits, chordsFit};
 use frame::Frame;
 use grid::Vec3;
-use sweep_kernel::Chord;
+use sweep_model::Chord;
 
 fn point_at(chords: &[f64], i: usize) -> Vec3
     requires { ⌜ i + 3 ≤ length (now chords) ⌝ }

@@ -26,16 +26,16 @@ use Rattle.stock.specs.Stock.{SoundCells, isShort}
 use Rattle.stock.proofs.Causes.{due-first, due-second, none-in-both, room-of}
 use Rattle.stock.proofs.Rays.{sound-chained}
 use Rattle.stock.proofs.Answers.{accepted, refused}
-use Rattle.sweep_kernel.specs.declared.Kernel.{Kernel}
-use Rattle.sweep_kernel.specs.declared.Profile.{Profile}
+use Rattle.sweep_model.specs.declared.Kernel.{Kernel}
+use Rattle.sweep_model.specs.declared.Profile.{Profile}
 use Rattle.store.specs.Updates.{Cells}
-use Rattle.sweep_visits.specs.Walk.{Stop}
+use Rattle.sweep_model.specs.Walk.{Stop}
 use Rattle.sweep_visits.specs.declared.VisitCursor.{VisitCursor}
 use Rattle.sweep_visits.specs.declared.Progress.{Progress}
 use Rattle.sweep_visits.specs.declared.Progress.the-variants.{At, Stopped}
 use Rattle.sweep_visits.proofs.Walks.{walk-done, walk-stop, stop-is, done-no-stop}
-use Rattle.chords.specs.Limits.{chordsFit}
-use Rattle.sweep_walk.specs.Entries.{Setting, setting, sweepEntries, logOf}
+use Rattle.sweep_model.specs.ChordLimits.{chordsFit}
+use Rattle.sweep_model.specs.SweepEntries.{Setting, setting, sweepEntries, logOf}
 use Rattle.sweep.specs.Answer.{SweepInputBad, settingCauses, walkOf, visitCauses, causesIn, sweepCauses, refusedLog, SweepPost, SweepCheckPost, endOf, loggedBy, endLog}
 use Rattle.sweep.specs.declared.SweepAnswer.{SweepAnswer}
 use Rattle.sweep.specs.declared.SweepAnswer.the-variants.{Accepted, Refused}

@@ -28,16 +28,16 @@ use Rattle.stock_fill.specs.Uncut.{recordAt, uncutSpans, uncutLinks, uncutHeads
 use Rattle.stock.proofs.Causes.{none-in-both, room-of}
 use Rattle.stock.proofs.Answers.{accepted}
 use Rattle.stock_fill.proofs.UncutSound.{uncut-sound}
-use Rattle.sweep_meet.specs.Meets.{lastOf, spansMeet, overlapsOf}
-use Rattle.sweep_kernel.specs.Lane.{planPoint, reachOf, sideOf, laneOf, spanOver, cellsMet, cellsAcross, rectangleOf}
-use Rattle.sweep_ray.specs.Section.{localCenter, sectionWith, sectionOf}
-use Rattle.sweep_ray.specs.Across.{outerFrom, outerOf, innerFrom, innerOf, rayHitOf}
-use Rattle.sweep_visits.specs.Entries.{entryOf, entryFor, rayEntry, each, rowEntries, rectEntries, raysIn, sumEach}
-use Rattle.sweep_visits.specs.Walk.{walk}
+use Rattle.sweep_model.specs.Meets.{lastOf, spansMeet, overlapsOf}
+use Rattle.sweep_model.specs.Kernel.{planPoint, reachOf, sideOf, laneOf, spanOver, cellsMet, cellsAcross, rectangleOf}
+use Rattle.sweep_model.specs.Section.{localCenter, sectionWith, sectionOf}
+use Rattle.sweep_model.specs.Across.{outerFrom, outerOf, innerFrom, innerOf, rayHitOf}
+use Rattle.sweep_model.specs.Entries.{entryOf, entryFor, rayEntry, each, rowEntries, rectEntries, raysIn, sumEach}
+use Rattle.sweep_model.specs.Walk.{walk}
 use Rattle.sweep_visits.proofs.Walks.{done-no-stop}
-use Rattle.chords.specs.Chords.{chordOf}
-use Rattle.chords.specs.Limits.{guardFits, endsFit, planSize, lengthFits, numbersFit, chordFits, every, chordsFit}
-use Rattle.sweep_walk.specs.Entries.{trackOf, axisEntries, firstAxis, secondAxis, chordEntries, sweepEntries, visitTotal}
+use Rattle.sweep_model.specs.Chords.{chordOf}
+use Rattle.sweep_model.specs.ChordLimits.{guardFits, endsFit, planSize, lengthFits, numbersFit, chordFits, every, chordsFit}
+use Rattle.sweep_model.specs.SweepEntries.{trackOf, axisEntries, firstAxis, secondAxis, chordEntries, sweepEntries, visitTotal}
 use Rattle.sweep.specs.Answer.{SweepInputBad, causesIn, sweepCauses}
 use Rattle.sweep.specs.Examples.{SweepExamplesRight, halves, lent, blank, flat, sweeping, threeChords, fourEntries, sweepExamples}
 

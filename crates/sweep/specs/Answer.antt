@@ -18,13 +18,13 @@ use Rattle.cutter.specs.declared.CutterShape.{CutterShape}
 use Rattle.cutter.specs.declared.PreparedCutter.{PreparedCutter}
 use Rattle.store.specs.Updates.{Cells}
 use Rattle.stock.specs.Stock.{SoundCells, isShort}
-use Rattle.sweep_kernel.specs.Lane.{profileOf}
-use Rattle.sweep_visits.specs.Entries.{loggedEntries}
-use Rattle.sweep_visits.specs.Walk.{Walked, Stop, walk}
+use Rattle.sweep_model.specs.Kernel.{profileOf}
+use Rattle.sweep_model.specs.Entries.{loggedEntries}
+use Rattle.sweep_model.specs.Walk.{Walked, Stop, walk}
 use Rattle.sweep_visits.specs.declared.Progress.{Progress}
 use Rattle.sweep_visits.specs.declared.Progress.the-variants.{At, Stopped}
-use Rattle.chords.specs.Limits.{chordsFit}
-use Rattle.sweep_walk.specs.Entries.{Setting, setting, sweepEntries, logOf, visitTotal}
+use Rattle.sweep_model.specs.ChordLimits.{chordsFit}
+use Rattle.sweep_model.specs.SweepEntries.{Setting, setting, sweepEntries, logOf, visitTotal}
 use Rattle.sweep.specs.declared.Totals.{Totals}
 use Rattle.sweep.specs.declared.SweepAnswer.{SweepAnswer}
 use Rattle.sweep.specs.declared.SweepAnswer.the-variants.{Accepted, Refused}

@@ -16,8 +16,8 @@ use Rattle.grid.specs.declared.DexelStockSpec.{DexelStockSpec}
 use Rattle.grid.specs.Causes.{gridIn}
 use Rattle.store.specs.Updates.{Cells, cells}
 use Rattle.stock_fill.specs.Uncut.{uncut}
-use Rattle.sweep_visits.specs.Walk.{Walked, Done, Stop}
-use Rattle.sweep_walk.specs.Entries.{Setting}
+use Rattle.sweep_model.specs.Walk.{Walked, Done, Stop}
+use Rattle.sweep_model.specs.SweepEntries.{Setting}
 use Rattle.sweep.specs.Answer.{settingOf, walkOf}
 
 -- n / 2 and -n / 2

@@ -4,7 +4,7 @@ ghost use Prim.Native.Nat.{_≤_};
 ghost use lib.ListN.{length};
 ghost use Rattle.grid.specs.Causes.{GridFacts};
 ghost use Rattle.store.specs.Updates.{cells};
-ghost use Rattle.sweep_walk.specs.Entries.{setting};
+ghost use Rattle.sweep_model.specs.SweepEntries.{setting};
 ghost use Rattle.sweep.specs.Answer.{settingOf, causesIn, sweepCauses, SweepPost, SweepCheckPost, endOf, loggedBy, endLog};
 use cutter::CutterShape;
 use cutter::PreparedCutter;
@@ -13,8 +13,8 @@ use frame::Axis;
 use grid::DexelGrid;
 use grid::DexelStockSpec;
 use grid::GridAnswer;
-use sweep_kernel::Kernel;
-use sweep_kernel::Profile;
+use sweep_model::Kernel;
+use sweep_model::Profile;
 use sweep_visits::Progress;
 
 // The number of entries in the log, and document 01's visit total.

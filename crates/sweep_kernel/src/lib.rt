@@ -1,7 +1,7 @@
 // What a chord has in common for all rays of a world axis, and the rectangle of rays that it visits (sweep.rs: `Kernel::rays`).
 ghost use mathlib.Core.Path.{_≡_};
 ghost use Rattle.grid.specs.Causes.{GridFacts};
-ghost use Rattle.sweep_kernel.specs.Lane.{planPoint, reachOf, sideOf, profileOf, laneOf, spanOver, cellsMet, cellsAcross, rectangleOf};
+ghost use Rattle.sweep_model.specs.Kernel.{planPoint, reachOf, sideOf, profileOf, laneOf, spanOver, cellsMet, cellsAcross, rectangleOf};
 use cutter::CutterShape;
 use cutter::PreparedCutter;
 use frame::Frame;
@@ -12,69 +12,14 @@ use grid::DexelStockSpec;
 use grid::Vec3;
 use grid::WorldAxis;
 use polygons::Point;
-
-// The cutting part; `radius` is half the diameter.
-pub struct Profile {
-    pub shape: CutterShape,
-    pub cutter: PreparedCutter,
-    pub radius: f64,
-}
-
-pub struct Kernel {
-    pub frame: Frame,
-    pub guard: f64,
-}
-
-// A chord in the tool's frame, with its error and its plan length.
-pub struct Chord {
-    pub a: Vec3,
-    pub b: Vec3,
-    pub e: f64,
-    pub length: f64,
-}
-
-// The cells along a world axis across a ray: the sign of its local axis, the box's end and the step.
-pub struct AxisScale {
-    pub sign: f64,
-    pub min: f64,
-    pub step: f64,
-}
-
-// What a chord has in common for all rays of a world axis.
-pub struct ChordOnAxis {
-    pub frame: Frame,
-    pub la: LocalAxis,
-    pub guard: f64,
-    pub a: Point,
-    pub b: Point,
-    pub length: f64,
-    pub e: f64,
-    pub z_lo: f64,
-    pub z_hi: f64,
-    pub reach: Pair,
-    pub u: AxisScale,
-    pub v: AxisScale,
-    pub u_is_tool: bool,
-}
-
-// CellRange from the first to the second, or none.
-pub enum CellRange {
-    Met(u64, u64),
-    Missed,
-}
-
-// Rays from u0 to u1 and from v0 to v1.
-pub struct RayRange {
-    pub u0: u64,
-    pub u1: u64,
-    pub v0: u64,
-    pub v1: u64,
-}
-
-pub enum RayRect {
-    Rays(RayRange),
-    NoRays,
-}
+use sweep_model::AxisScale;
+use sweep_model::CellRange;
+use sweep_model::Chord;
+use sweep_model::ChordOnAxis;
+use sweep_model::Kernel;
+use sweep_model::Profile;
+use sweep_model::RayRange;
+use sweep_model::RayRect;
 
 pub fn profile_of(shape: CutterShape, cutter: PreparedCutter) -> Profile
     ensures { λ r. ⌜ r ≡ profileOf shape cutter ⌝ }

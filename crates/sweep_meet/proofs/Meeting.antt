@@ -13,7 +13,7 @@ use Rattle.store.specs.Store.{loAt, hiAt, nextAt, endsAt}
 use Rattle.store_lists.specs.Reading.{listFrom, Readable}
 use Rattle.store_lists.proofs.Steps.{Step, link-step, no-ends}
 use Rattle.frame.specs.declared.Pair.{Pair}
-use Rattle.sweep_meet.specs.Meets.{lastOf, spansMeet, overlapsOf}
+use Rattle.sweep_model.specs.Meets.{lastOf, spansMeet, overlapsOf}
 use Rattle.sweep_meet.specs.Steps.{someAbove}
 
 above-cons : (lo hi x : Float) (l : List Float) → someAbove (lo ∷ hi ∷ l) x ≡ (lt x hi || someAbove l x)

@@ -14,7 +14,7 @@ use Rattle.spans.proofs.Ends.{above-less, rising-tail, rising-above}
 use Rattle.spans.proofs.Points.{holds-above}
 use Rattle.spans.proofs.Sets.{sound-rising, sound-even, sound-numbers}
 use Rattle.frame.specs.declared.Pair.{Pair}
-use Rattle.sweep_meet.specs.Meets.{lastOf, spansMeet, overlapsOf}
+use Rattle.sweep_model.specs.Meets.{lastOf, spansMeet, overlapsOf}
 use Rattle.sweep_meet.proofs.Meeting.{last-above}
 use Rattle.sweep_meet.specs.Steps.{endsOf}
 

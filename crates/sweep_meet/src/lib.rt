@@ -3,7 +3,7 @@ ghost use mathlib.Core.Path.{_≡_};
 ghost use mathlib.Core.Bool.{true};
 ghost use Rattle.spans.specs.Spans.{sound};
 ghost use Rattle.store_lists.specs.Reading.{listFrom, Readable};
-ghost use Rattle.sweep_meet.specs.Meets.{spansMeet, overlapsOf};
+ghost use Rattle.sweep_model.specs.Meets.{spansMeet, overlapsOf};
 ghost use Rattle.sweep_meet.specs.Steps.{someAbove};
 use frame::Pair;
 

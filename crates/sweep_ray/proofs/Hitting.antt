@@ -4,12 +4,12 @@ use mathlib.Core.Bool.{true, false}
 use mathlib.Core.List.{List}
 use lib.Ieee.{Float}
 use Rattle.polygons.specs.declared.Strip.the-variants.{Hit, Miss}
-use Rattle.sweep_kernel.specs.declared.Profile.{Profile}
-use Rattle.sweep_kernel.specs.declared.ChordOnAxis.{ChordOnAxis}
-use Rattle.sweep_ray.specs.declared.Section.{Section}
-use Rattle.sweep_ray.specs.declared.RayHit.the-variants.{On, Off}
-use Rattle.sweep_meet.specs.Meets.{spansMeet, overlapsOf}
-use Rattle.sweep_ray.specs.Across.{pair, outerOf, innerOf, rayHitOf}
+use Rattle.sweep_model.specs.declared.Profile.{Profile}
+use Rattle.sweep_model.specs.declared.ChordOnAxis.{ChordOnAxis}
+use Rattle.sweep_model.specs.declared.Section.{Section}
+use Rattle.sweep_model.specs.declared.RayHit.the-variants.{On, Off}
+use Rattle.sweep_model.specs.Meets.{spansMeet, overlapsOf}
+use Rattle.sweep_model.specs.Across.{pair, outerOf, innerOf, rayHitOf}
 
 module _ (p : Profile) (l : ChordOnAxis) (s : Section) (possible : List Float) where
   pub hit-off : spansMeet possible (l .reach) ≡ false → Off ≡ rayHitOf p l s possible

@@ -1,2 +1,0 @@
-pub mod Section
-pub mod Across

@@ -3,33 +3,17 @@ ghost use mathlib.Core.Path.{_≡_};
 ghost use mathlib.Core.Bool.{true};
 ghost use Rattle.spans.specs.Spans.{sound};
 ghost use Rattle.store_lists.specs.Reading.{listFrom, Readable};
-ghost use Rattle.sweep_ray.specs.Section.{localCenter, sectionWith, sectionOf};
-ghost use Rattle.sweep_ray.specs.Across.{outerFrom, outerOf, innerFrom, innerOf, rayHitOf};
+ghost use Rattle.sweep_model.specs.Section.{localCenter, sectionWith, sectionOf};
+ghost use Rattle.sweep_model.specs.Across.{outerFrom, outerOf, innerFrom, innerOf, rayHitOf};
 use cutter::Radius;
 use frame::Pair;
 use polygons::Strip;
-use sweep_kernel::AxisScale;
-use sweep_kernel::ChordOnAxis;
-use sweep_kernel::Profile;
-
-// A ray's cross-section: the band from y0 to y1, and the window of tool heights from w0 to w1.
-pub struct Section {
-    pub y0: f64,
-    pub y1: f64,
-    pub w0: f64,
-    pub w1: f64,
-}
-
-// What a hit ray is given.
-pub struct HitPairs {
-    pub outer: Pair,
-    pub inner: Pair,
-}
-
-pub enum RayHit {
-    On(HitPairs),
-    Off,
-}
+use sweep_model::AxisScale;
+use sweep_model::ChordOnAxis;
+use sweep_model::HitPairs;
+use sweep_model::Profile;
+use sweep_model::RayHit;
+use sweep_model::Section;
 
 fn center_of(s: AxisScale, i: u64) -> f64
     ensures { λ r. ⌜ r ≡ localCenter s i ⌝ }

@@ -15,20 +15,20 @@ use Rattle.logic.proofs.Bools.{clash}
 use Rattle.sweep_visits.specs.declared.VisitCursor.{VisitCursor}
 use Rattle.sweep_visits.specs.declared.Progress.{Progress}
 use Rattle.sweep_visits.specs.declared.Progress.the-variants.{At, Stopped}
-use Rattle.sweep_visits.specs.declared.AxisRays.{AxisRays}
+use Rattle.sweep_model.specs.declared.AxisRays.{AxisRays}
 use Rattle.grid.specs.declared.WorldAxis.{WorldAxis}
-use Rattle.sweep_ray.specs.Across.{rayHitOf}
-use Rattle.sweep_ray.specs.Section.{sectionOf}
-use Rattle.sweep_kernel.specs.declared.Profile.{Profile}
-use Rattle.sweep_kernel.specs.declared.ChordOnAxis.{ChordOnAxis}
-use Rattle.sweep_ray.specs.declared.HitPairs.{HitPairs}
-use Rattle.sweep_kernel.specs.declared.RayRange.{RayRange}
-use Rattle.sweep_kernel.specs.declared.RayRect.{RayRect}
-use Rattle.sweep_kernel.specs.declared.RayRect.the-variants.{Rays, NoRays}
-use Rattle.sweep_ray.specs.declared.RayHit.{RayHit}
-use Rattle.sweep_ray.specs.declared.RayHit.the-variants.{On, Off}
-use Rattle.sweep_visits.specs.Entries.{entryOf, entryFor, indexOf, possibleAt, rayEntry, each, sumEach, rowEntries, rectEntries, rectangleEntries, raysIn, joined, loggedEntries}
-use Rattle.sweep_visits.specs.Walk.{Walked, Done, Stop, walk}
+use Rattle.sweep_model.specs.Across.{rayHitOf}
+use Rattle.sweep_model.specs.Section.{sectionOf}
+use Rattle.sweep_model.specs.declared.Profile.{Profile}
+use Rattle.sweep_model.specs.declared.ChordOnAxis.{ChordOnAxis}
+use Rattle.sweep_model.specs.declared.HitPairs.{HitPairs}
+use Rattle.sweep_model.specs.declared.RayRange.{RayRange}
+use Rattle.sweep_model.specs.declared.RayRect.{RayRect}
+use Rattle.sweep_model.specs.declared.RayRect.the-variants.{Rays, NoRays}
+use Rattle.sweep_model.specs.declared.RayHit.{RayHit}
+use Rattle.sweep_model.specs.declared.RayHit.the-variants.{On, Off}
+use Rattle.sweep_model.specs.Entries.{entryOf, entryFor, indexOf, possibleAt, rayEntry, each, sumEach, rowEntries, rectEntries, rectangleEntries, raysIn, joined, loggedEntries}
+use Rattle.sweep_model.specs.Walk.{Walked, Done, Stop, walk}
 use Rattle.sweep_visits.proofs.Cells.{put-take, put-length}
 use Rattle.sweep_visits.specs.Steps.{Went, Halted, WalkPost, RayReady, AxisReady}
 

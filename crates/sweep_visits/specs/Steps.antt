@@ -10,9 +10,9 @@ use Rattle.store_lists.specs.Reading.{listFrom, Readable}
 use Rattle.sweep_visits.specs.declared.VisitCursor.{VisitCursor}
 use Rattle.sweep_visits.specs.declared.Progress.{Progress}
 use Rattle.sweep_visits.specs.declared.Progress.the-variants.{At, Stopped}
-use Rattle.sweep_visits.specs.declared.AxisRays.{AxisRays}
-use Rattle.sweep_visits.specs.Entries.{indexOf}
-use Rattle.sweep_visits.specs.Walk.{Done, Stop, walk}
+use Rattle.sweep_model.specs.declared.AxisRays.{AxisRays}
+use Rattle.sweep_model.specs.Entries.{indexOf}
+use Rattle.sweep_model.specs.Walk.{Done, Stop, walk}
 
 -- from cursor c with this log to the cursor d with that one all these rays are visited
 pub record Went (budget : ℕ) (rays : List (List Float)) (c : VisitCursor) (log : List Float) (d : VisitCursor) (after : List Float) : Type 0 where

@@ -3,14 +3,15 @@ ghost use mathlib.Core.Path.{_≡_};
 ghost use mathlib.Core.List.{_++_, _∷_, []};
 ghost use Prim.Native.Nat.{_+_, _<_, _≤_};
 ghost use lib.ListN.{length, take, drop};
-ghost use Rattle.sweep_visits.specs.Entries.{entryOf, rayEntry, rowEntries, rectEntries};
+ghost use Rattle.sweep_model.specs.Entries.{entryOf, rayEntry, rowEntries, rectEntries};
 ghost use Rattle.sweep_visits.specs.Steps.{WalkPost, RayReady, AxisReady};
 use grid::WorldAxis;
-use sweep_kernel::ChordOnAxis;
-use sweep_kernel::Profile;
-use sweep_kernel::RayRange;
-use sweep_ray::HitPairs;
-use sweep_ray::RayHit;
+use sweep_model::AxisRays;
+use sweep_model::ChordOnAxis;
+use sweep_model::HitPairs;
+use sweep_model::Profile;
+use sweep_model::RayHit;
+use sweep_model::RayRange;
 
 // The place of a walk: the rays visited, and where the next entry goes in the log.
 pub struct VisitCursor {
@@ -21,14 +22,6 @@ pub struct VisitCursor {
 pub enum Progress {
     At(VisitCursor),
     Stopped(u32),
-}
-
-// The rays of a world axis: the number of the first, the rays of a row and the rows.
-pub struct AxisRays {
-    pub axis: WorldAxis,
-    pub first: u64,
-    pub row: u64,
-    pub rows: u64,
 }
 
 // Writes an entry at cell `at`.

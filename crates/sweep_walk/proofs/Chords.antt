@@ -6,13 +6,13 @@ use native.Mathlib.Omega.{arith}
 use lib.Ieee.{Float}
 use lib.ListN.{length, length-append}
 use Rattle.grid.specs.declared.WorldAxis.{WorldAxis}
-use Rattle.sweep_kernel.specs.declared.Chord.{Chord}
-use Rattle.sweep_visits.specs.Entries.{each, rayEntry, raysIn, loggedEntries}
+use Rattle.sweep_model.specs.declared.Chord.{Chord}
+use Rattle.sweep_model.specs.Entries.{each, rayEntry, raysIn, loggedEntries}
 use Rattle.sweep_visits.specs.declared.VisitCursor.{VisitCursor}
 use Rattle.sweep_visits.specs.declared.Progress.{Progress}
 use Rattle.sweep_visits.specs.declared.Progress.the-variants.{At, Stopped}
 use Rattle.sweep_visits.proofs.Walks.{went-then, went-halt, halt-before, Sweeping, sweeping-next, sweeping-halt, sweeping-all, each-length, sum-same, rectangle-length, Sixes, sixes-append, sixes-each, rectangle-sixes, sixes-count}
-use Rattle.sweep_walk.specs.Entries.{Setting, trackOf, laneIn, rectangleIn, axisEntries, firstAxis, secondAxis, chordEntries, chordIn, sweepEntries, logOf, chordVisits, visitTotal}
+use Rattle.sweep_model.specs.SweepEntries.{Setting, trackOf, laneIn, rectangleIn, axisEntries, firstAxis, secondAxis, chordEntries, chordIn, sweepEntries, logOf, chordVisits, visitTotal}
 use Rattle.sweep_visits.specs.Steps.{WalkPost, Went, Halted}
 
 -- the log keeps its length

@@ -22,22 +22,22 @@ use Rattle.frame.specs.declared.Frame.{Frame}
 use Rattle.frame.specs.declared.Pair.{Pair}
 use Rattle.store.specs.Updates.{Cells}
 use Rattle.stock.proofs.Rays.{list-readable}
-use Rattle.sweep_kernel.specs.Lane.{cellsMet, cellsAcross, rectangle, rectangleOf}
-use Rattle.sweep_kernel.specs.declared.CellRange.{CellRange as Range}
-use Rattle.sweep_kernel.specs.declared.CellRange.the-variants.{Met, Missed}
-use Rattle.sweep_kernel.specs.declared.Profile.{Profile}
-use Rattle.sweep_kernel.specs.declared.Chord.{Chord}
-use Rattle.sweep_kernel.specs.declared.ChordOnAxis.{ChordOnAxis}
-use Rattle.sweep_kernel.specs.declared.RayRange.{RayRange}
-use Rattle.sweep_kernel.specs.declared.RayRect.{RayRect}
-use Rattle.sweep_kernel.specs.declared.RayRect.the-variants.{Rays, NoRays}
-use Rattle.sweep_visits.specs.Entries.{rayEntry, rectEntries, rectangleEntries}
+use Rattle.sweep_model.specs.Kernel.{cellsMet, cellsAcross, rectangle, rectangleOf}
+use Rattle.sweep_model.specs.declared.CellRange.{CellRange as Range}
+use Rattle.sweep_model.specs.declared.CellRange.the-variants.{Met, Missed}
+use Rattle.sweep_model.specs.declared.Profile.{Profile}
+use Rattle.sweep_model.specs.declared.Chord.{Chord}
+use Rattle.sweep_model.specs.declared.ChordOnAxis.{ChordOnAxis}
+use Rattle.sweep_model.specs.declared.RayRange.{RayRange}
+use Rattle.sweep_model.specs.declared.RayRect.{RayRect}
+use Rattle.sweep_model.specs.declared.RayRect.the-variants.{Rays, NoRays}
+use Rattle.sweep_model.specs.Entries.{rayEntry, rectEntries, rectangleEntries}
 use Rattle.sweep_visits.specs.declared.VisitCursor.{VisitCursor}
 use Rattle.sweep_visits.specs.declared.Progress.{Progress}
 use Rattle.sweep_visits.specs.declared.Progress.the-variants.{At}
-use Rattle.sweep_visits.specs.declared.AxisRays.{AxisRays}
+use Rattle.sweep_model.specs.declared.AxisRays.{AxisRays}
 use Rattle.sweep_visits.proofs.Walks.{went-none}
-use Rattle.sweep_walk.specs.Entries.{trackOf, Setting, laneIn, axisEntries, firstAxis, secondAxis}
+use Rattle.sweep_model.specs.SweepEntries.{trackOf, Setting, laneIn, axisEntries, firstAxis, secondAxis}
 use Rattle.sweep_visits.specs.Steps.{WalkPost, Went, AxisReady}
 use Rattle.sweep_walk.specs.Steps.{Sweepable}
 

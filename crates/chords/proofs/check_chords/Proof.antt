@@ -3,7 +3,7 @@ use native.Mathlib.Omega.{arith}
 use mathlib.Core.Path.{_≡_}
 use mathlib.Core.Bool.{true}
 use Prim.Native.Nat.{_-_, _≤_}
-use Rattle.chords.specs.Limits.{chordFits, every}
+use Rattle.sweep_model.specs.ChordLimits.{chordFits, every}
 use Rattle.chords.proofs.Fitting.{every-none, every-more, guard-out, chord-out, all-fit}
 use Rattle.chords.proofs.check_chords.Statement.{statement}
 use Rattle.chords.proofs.check_chords.Tie as tie

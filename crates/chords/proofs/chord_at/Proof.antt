@@ -1,4 +1,4 @@
-use Rattle.chords.specs.Chords.{chordOf}
+use Rattle.sweep_model.specs.Chords.{chordOf}
 use borrow.Author.Needs.{needs}
 use Rattle.chords.proofs.chord_at.Statement.{statement}
 use Rattle.chords.proofs.chord_at.Tie as tie

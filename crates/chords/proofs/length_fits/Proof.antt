@@ -1,4 +1,4 @@
-use Rattle.chords.specs.Limits.{lengthFits}
+use Rattle.sweep_model.specs.ChordLimits.{lengthFits}
 use borrow.Author.Needs.{needs}
 use Rattle.chords.proofs.length_fits.Statement.{statement}
 use Rattle.chords.proofs.length_fits.Tie as tie

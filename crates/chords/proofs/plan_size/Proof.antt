@@ -1,4 +1,4 @@
-use Rattle.chords.specs.Limits.{planSize}
+use Rattle.sweep_model.specs.ChordLimits.{planSize}
 use borrow.Author.Needs.{needs}
 use Rattle.chords.proofs.plan_size.Statement.{statement}
 use Rattle.chords.proofs.plan_size.Tie as tie

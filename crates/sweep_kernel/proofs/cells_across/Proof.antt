@@ -1,4 +1,4 @@
-use Rattle.sweep_kernel.specs.Lane.{cellsAcross}
+use Rattle.sweep_model.specs.Kernel.{cellsAcross}
 use borrow.Author.Needs.{needs}
 use Rattle.sweep_kernel.proofs.cells_across.Statement.{statement}
 use Rattle.sweep_kernel.proofs.cells_across.Tie as tie

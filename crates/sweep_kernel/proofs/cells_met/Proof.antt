@@ -1,4 +1,4 @@
-use Rattle.sweep_kernel.specs.Lane.{cellsMet}
+use Rattle.sweep_model.specs.Kernel.{cellsMet}
 use borrow.Author.Needs.{needs}
 use Rattle.grid.proofs.Facts.{cells-positive}
 use Rattle.sweep_kernel.proofs.cells_met.Statement.{statement}

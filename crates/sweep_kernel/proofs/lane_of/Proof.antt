@@ -1,4 +1,4 @@
-use Rattle.sweep_kernel.specs.Lane.{laneOf}
+use Rattle.sweep_model.specs.Kernel.{laneOf}
 use borrow.Author.Needs.{needs}
 use Rattle.sweep_kernel.proofs.lane_of.Statement.{statement}
 use Rattle.sweep_kernel.proofs.lane_of.Tie as tie

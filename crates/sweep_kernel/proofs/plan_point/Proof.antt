@@ -1,4 +1,4 @@
-use Rattle.sweep_kernel.specs.Lane.{planPoint}
+use Rattle.sweep_model.specs.Kernel.{planPoint}
 use borrow.Author.Tests.{eq-eqb, ne-eqb}
 use Rattle.sweep_kernel.proofs.plan_point.Statement.{statement}
 use Rattle.sweep_kernel.proofs.plan_point.Tie as tie

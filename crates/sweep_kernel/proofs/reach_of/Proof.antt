@@ -1,4 +1,4 @@
-use Rattle.sweep_kernel.specs.Lane.{reachOf}
+use Rattle.sweep_model.specs.Kernel.{reachOf}
 use borrow.Author.Needs.{needs}
 use Rattle.sweep_kernel.proofs.reach_of.Statement.{statement}
 use Rattle.sweep_kernel.proofs.reach_of.Tie as tie

@@ -1,4 +1,4 @@
-use Rattle.sweep_kernel.specs.Lane.{rectangleOf}
+use Rattle.sweep_model.specs.Kernel.{rectangleOf}
 use borrow.Author.Needs.{needs}
 use Rattle.sweep_kernel.proofs.rectangle_of.Statement.{statement}
 use Rattle.sweep_kernel.proofs.rectangle_of.Tie as tie

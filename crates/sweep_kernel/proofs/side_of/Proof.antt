@@ -1,4 +1,4 @@
-use Rattle.sweep_kernel.specs.Lane.{sideOf}
+use Rattle.sweep_model.specs.Kernel.{sideOf}
 use borrow.Author.Needs.{needs}
 use Rattle.sweep_kernel.proofs.side_of.Statement.{statement}
 use Rattle.sweep_kernel.proofs.side_of.Tie as tie

@@ -1,4 +1,4 @@
-use Rattle.sweep_kernel.specs.Lane.{spanOver}
+use Rattle.sweep_model.specs.Kernel.{spanOver}
 use borrow.Author.Tests.{eq-eqb, ne-eqb}
 use borrow.Author.Needs.{needs}
 use Rattle.sweep_kernel.proofs.span_over.Statement.{statement}

@@ -5,7 +5,7 @@ use Rattle.logic.proofs.Bools.{not-true, not-false}
 use Rattle.store.specs.Store.{places}
 use Rattle.store_lists.specs.Reading.{Readable, listFrom}
 use Rattle.store_lists.proofs.Steps.{step}
-use Rattle.sweep_meet.specs.Meets.{overlapsOf}
+use Rattle.sweep_model.specs.Meets.{overlapsOf}
 use Rattle.sweep_meet.proofs.Meeting.{overlaps-here, overlaps-no, overlaps-later, overlaps-none}
 use Rattle.sweep_meet.proofs.overlaps_at.Statement.{statement}
 use Rattle.sweep_meet.proofs.overlaps_at.Tie as tie

@@ -1,4 +1,4 @@
-use Rattle.sweep_ray.specs.Section.{localCenter}
+use Rattle.sweep_model.specs.Section.{localCenter}
 use borrow.Author.Needs.{needs}
 use Rattle.sweep_ray.proofs.center_of.Statement.{statement}
 use Rattle.sweep_ray.proofs.center_of.Tie as tie

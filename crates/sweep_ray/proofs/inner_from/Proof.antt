@@ -1,4 +1,4 @@
-use Rattle.sweep_ray.specs.Across.{innerFrom}
+use Rattle.sweep_model.specs.Across.{innerFrom}
 use borrow.Author.Needs.{needs}
 use Rattle.sweep_ray.proofs.inner_from.Statement.{statement}
 use Rattle.sweep_ray.proofs.inner_from.Tie as tie

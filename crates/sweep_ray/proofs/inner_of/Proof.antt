@@ -1,4 +1,4 @@
-use Rattle.sweep_ray.specs.Across.{innerOf}
+use Rattle.sweep_model.specs.Across.{innerOf}
 use borrow.Author.Needs.{needs}
 use Rattle.sweep_ray.proofs.inner_of.Statement.{statement}
 use Rattle.sweep_ray.proofs.inner_of.Tie as tie

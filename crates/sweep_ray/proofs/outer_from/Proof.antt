@@ -1,4 +1,4 @@
-use Rattle.sweep_ray.specs.Across.{outerFrom}
+use Rattle.sweep_model.specs.Across.{outerFrom}
 use borrow.Author.Needs.{needs}
 use Rattle.sweep_ray.proofs.outer_from.Statement.{statement}
 use Rattle.sweep_ray.proofs.outer_from.Tie as tie

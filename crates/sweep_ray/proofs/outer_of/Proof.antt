@@ -1,4 +1,4 @@
-use Rattle.sweep_ray.specs.Across.{outerOf}
+use Rattle.sweep_model.specs.Across.{outerOf}
 use borrow.Author.Needs.{needs}
 use Rattle.sweep_ray.proofs.outer_of.Statement.{statement}
 use Rattle.sweep_ray.proofs.outer_of.Tie as tie

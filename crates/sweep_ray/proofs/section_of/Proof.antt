@@ -1,4 +1,4 @@
-use Rattle.sweep_ray.specs.Section.{sectionOf}
+use Rattle.sweep_model.specs.Section.{sectionOf}
 use borrow.Author.Needs.{needs}
 use Rattle.sweep_ray.proofs.section_of.Statement.{statement}
 use Rattle.sweep_ray.proofs.section_of.Tie as tie

@@ -1,5 +1,5 @@
 use mathlib.Core.Path.{refl}
-use Rattle.sweep_ray.specs.Section.{sectionWith}
+use Rattle.sweep_model.specs.Section.{sectionWith}
 use Rattle.sweep_ray.proofs.section_with.Statement.{statement}
 use Rattle.sweep_ray.proofs.section_with.Tie as tie
 

@@ -1,6 +1,6 @@
 use native.Mathlib.Omega.{arith}
 use lib.ListN.{length-set}
-use Rattle.sweep_visits.specs.Entries.{entryOf}
+use Rattle.sweep_model.specs.Entries.{entryOf}
 use Rattle.sweep_visits.proofs.Cells.{six-stores}
 use borrow.Author.Needs.{needs}
 use Rattle.sweep_visits.proofs.put.Statement.{statement}

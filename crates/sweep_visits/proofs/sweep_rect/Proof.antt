@@ -2,7 +2,7 @@ use borrow.Author.Needs.{needs}
 use native.Mathlib.Omega.{arith}
 use mathlib.Core.Path.{_∙_}
 use Prim.Native.Nat.{_+_, _-_}
-use Rattle.sweep_visits.specs.Entries.{rayEntry, rowEntries, rectEntries}
+use Rattle.sweep_model.specs.Entries.{rayEntry, rowEntries, rectEntries}
 use Rattle.sweep_visits.proofs.Walks.{Sweeping, sweeping-start, sweeping-next, sweeping-halt, sweeping-all, halted-of, went-of}
 use Rattle.sweep_visits.proofs.sweep_rect.Statement.{statement}
 use Rattle.sweep_visits.proofs.sweep_rect.Tie as tie

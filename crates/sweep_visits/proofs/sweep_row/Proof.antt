@@ -4,7 +4,7 @@ use native.Mathlib.Omega.{arith}
 use mathlib.Core.Path.{_∙_}
 use mathlib.Core.List.{[], _∷_}
 use Prim.Native.Nat.{ℕ, _+_, _-_}
-use Rattle.sweep_visits.specs.Entries.{rayEntry, rowEntries}
+use Rattle.sweep_model.specs.Entries.{rayEntry, rowEntries}
 use Rattle.sweep_visits.proofs.sweep_row.Statement.{statement}
 use Rattle.sweep_visits.proofs.sweep_row.Tie as tie
 

@@ -1,6 +1,6 @@
 use borrow.Author.Needs.{needs}
 use Rattle.store.specs.Updates.{cells}
-use Rattle.sweep_walk.specs.Entries.{setting}
+use Rattle.sweep_model.specs.SweepEntries.{setting}
 use Rattle.sweep_walk.proofs.Tracks.{few-rays, rect-ready, axis-none, axis-some}
 use Rattle.sweep_walk.proofs.Chords.{logged-same}
 use Rattle.sweep_walk.proofs.sweep_axis.Statement.{statement}

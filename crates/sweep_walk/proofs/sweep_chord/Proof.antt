@@ -1,7 +1,7 @@
 use borrow.Author.Needs.{needs}
 use mathlib.Core.Path.{_∙_}
 use Rattle.store.specs.Updates.{cells}
-use Rattle.sweep_walk.specs.Entries.{setting}
+use Rattle.sweep_model.specs.SweepEntries.{setting}
 use Rattle.sweep_visits.proofs.Walks.{halted-of, went-of}
 use Rattle.sweep_walk.proofs.Chords.{first-halts, both-walked, logged-same}
 use Rattle.sweep_walk.proofs.sweep_chord.Statement.{statement}

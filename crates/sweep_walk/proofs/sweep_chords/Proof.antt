@@ -4,7 +4,7 @@ use mathlib.Core.Path.{_∙_}
 use Rattle.store.specs.Updates.{cells}
 use Prim.Native.Nat.{_-_, _/_}
 use lib.ListN.{length}
-use Rattle.sweep_walk.specs.Entries.{setting}
+use Rattle.sweep_model.specs.SweepEntries.{setting}
 use Rattle.sweep_visits.proofs.Walks.{Sweeping, sweeping-start, halted-of, went-of}
 use Rattle.sweep_walk.proofs.Chords.{entriesAt, chord-next, chord-halts, chords-done}
 use Rattle.sweep_walk.proofs.sweep_chords.Statement.{statement}

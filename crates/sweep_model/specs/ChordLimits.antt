@@ -8,8 +8,8 @@ use Rattle.doubles.specs.Constants.{one, plusZero, two}
 use Rattle.doubles.specs.Doubles.{largerOf, absOf}
 use Rattle.grid.specs.Grid.{isBetween, allBetween}
 use Rattle.frame.specs.declared.Frame.{Frame}
-use Rattle.sweep_kernel.specs.declared.Chord.{Chord}
-use Rattle.chords.specs.Chords.{fromAt, toAt, chordOf}
+use Rattle.sweep_model.specs.declared.Chord.{Chord}
+use Rattle.sweep_model.specs.Chords.{fromAt, toAt, chordOf}
 
 -- 2e6 and 1000
 abbrev pub twoMillion : Float

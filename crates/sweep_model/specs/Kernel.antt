@@ -17,15 +17,15 @@ use Rattle.grid.specs.declared.WorldAxis.{WorldAxis}
 use Rattle.grid.specs.declared.DexelStockSpec.{DexelStockSpec}
 use Rattle.grid.specs.declared.DexelGrid.{DexelGrid}
 use Rattle.polygons.specs.declared.Point.{Point}
-use Rattle.sweep_kernel.specs.declared.Profile.{Profile}
-use Rattle.sweep_kernel.specs.declared.Kernel.{Kernel}
-use Rattle.sweep_kernel.specs.declared.Chord.{Chord}
-use Rattle.sweep_kernel.specs.declared.AxisScale.{AxisScale}
-use Rattle.sweep_kernel.specs.declared.ChordOnAxis.{ChordOnAxis}
-use Rattle.sweep_kernel.specs.declared.CellRange.{CellRange}
-use Rattle.sweep_kernel.specs.declared.CellRange.the-variants.{Met, Missed}
-use Rattle.sweep_kernel.specs.declared.RayRect.{RayRect}
-use Rattle.sweep_kernel.specs.declared.RayRect.the-variants.{Rays, NoRays}
+use Rattle.sweep_model.specs.declared.Profile.{Profile}
+use Rattle.sweep_model.specs.declared.Kernel.{Kernel}
+use Rattle.sweep_model.specs.declared.Chord.{Chord}
+use Rattle.sweep_model.specs.declared.AxisScale.{AxisScale}
+use Rattle.sweep_model.specs.declared.ChordOnAxis.{ChordOnAxis}
+use Rattle.sweep_model.specs.declared.CellRange.{CellRange}
+use Rattle.sweep_model.specs.declared.CellRange.the-variants.{Met, Missed}
+use Rattle.sweep_model.specs.declared.RayRect.{RayRect}
+use Rattle.sweep_model.specs.declared.RayRect.the-variants.{Rays, NoRays}
 
 -- the radius that visits go by is half the diameter
 abbrev pub profileOf : CutterShape → PreparedCutter → Profile

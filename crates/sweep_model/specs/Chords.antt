@@ -6,7 +6,7 @@ use lib.ListN.{getD}
 use Rattle.grid.specs.declared.Vec3.{Vec3}
 use Rattle.frame.specs.Frame.{localOf}
 use Rattle.frame.specs.declared.Frame.{Frame}
-use Rattle.sweep_kernel.specs.declared.Chord.{Chord}
+use Rattle.sweep_model.specs.declared.Chord.{Chord}
 
 -- three doubles as a point
 abbrev pub pointAt : List Float → ℕ → Vec3

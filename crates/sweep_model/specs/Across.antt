@@ -12,12 +12,12 @@ use Rattle.frame.specs.declared.Pair.{Pair}
 use Rattle.strips.specs.Strip.{stadiumStrip}
 use Rattle.polygons.specs.declared.Strip.{Strip}
 use Rattle.polygons.specs.declared.Strip.the-variants.{Hit, Miss}
-use Rattle.sweep_kernel.specs.declared.Profile.{Profile}
-use Rattle.sweep_kernel.specs.declared.ChordOnAxis.{ChordOnAxis}
-use Rattle.sweep_ray.specs.declared.Section.{Section}
-use Rattle.sweep_ray.specs.declared.RayHit.{RayHit}
-use Rattle.sweep_ray.specs.declared.RayHit.the-variants.{On, Off}
-use Rattle.sweep_meet.specs.Meets.{spansMeet, overlapsOf}
+use Rattle.sweep_model.specs.declared.Profile.{Profile}
+use Rattle.sweep_model.specs.declared.ChordOnAxis.{ChordOnAxis}
+use Rattle.sweep_model.specs.declared.Section.{Section}
+use Rattle.sweep_model.specs.declared.RayHit.{RayHit}
+use Rattle.sweep_model.specs.declared.RayHit.the-variants.{On, Off}
+use Rattle.sweep_model.specs.Meets.{spansMeet, overlapsOf}
 
 -- document 01's "no inner is [0, 0]"
 abbrev pub noPair : Pair

@@ -11,15 +11,15 @@ use Rattle.grid.specs.declared.DexelGrid.{DexelGrid}
 use Rattle.frame.specs.Frame.{localAxis, worldAxisOf}
 use Rattle.frame.specs.declared.Frame.{Frame}
 use Rattle.store.specs.Updates.{Cells}
-use Rattle.sweep_kernel.specs.Lane.{laneOf, rectangleOf}
-use Rattle.sweep_kernel.specs.declared.Profile.{Profile}
-use Rattle.sweep_kernel.specs.declared.Kernel.{Kernel}
-use Rattle.sweep_kernel.specs.declared.Chord.{Chord}
-use Rattle.sweep_kernel.specs.declared.ChordOnAxis.{ChordOnAxis}
-use Rattle.sweep_kernel.specs.declared.RayRect.{RayRect}
-use Rattle.sweep_visits.specs.Entries.{each, sumEach, rayEntry, rectangleEntries, raysIn, joined}
-use Rattle.sweep_visits.specs.declared.AxisRays.{AxisRays}
-use Rattle.chords.specs.Chords.{chordOf}
+use Rattle.sweep_model.specs.Kernel.{laneOf, rectangleOf}
+use Rattle.sweep_model.specs.declared.Profile.{Profile}
+use Rattle.sweep_model.specs.declared.Kernel.{Kernel}
+use Rattle.sweep_model.specs.declared.Chord.{Chord}
+use Rattle.sweep_model.specs.declared.ChordOnAxis.{ChordOnAxis}
+use Rattle.sweep_model.specs.declared.RayRect.{RayRect}
+use Rattle.sweep_model.specs.Entries.{each, sumEach, rayEntry, rectangleEntries, raysIn, joined}
+use Rattle.sweep_model.specs.declared.AxisRays.{AxisRays}
+use Rattle.sweep_model.specs.Chords.{chordOf}
 
 -- the rays of a world axis: the number of the first, the cells of a row and the rows
 unfoldable pub trackOf : DexelGrid → WorldAxis → AxisRays

@@ -6,17 +6,17 @@ use lib.ListN.{getD}
 use Rattle.grid.specs.Grid.{whole}
 use Rattle.grid.specs.declared.WorldAxis.{WorldAxis}
 use Rattle.store_lists.specs.Reading.{listFrom}
-use Rattle.sweep_ray.specs.Section.{sectionOf}
-use Rattle.sweep_ray.specs.Across.{rayHitOf}
-use Rattle.sweep_kernel.specs.declared.Profile.{Profile}
-use Rattle.sweep_kernel.specs.declared.ChordOnAxis.{ChordOnAxis}
-use Rattle.sweep_kernel.specs.declared.RayRange.{RayRange}
-use Rattle.sweep_kernel.specs.declared.RayRect.{RayRect}
-use Rattle.sweep_kernel.specs.declared.RayRect.the-variants.{Rays, NoRays}
-use Rattle.sweep_ray.specs.declared.HitPairs.{HitPairs}
-use Rattle.sweep_ray.specs.declared.RayHit.{RayHit}
-use Rattle.sweep_ray.specs.declared.RayHit.the-variants.{On, Off}
-use Rattle.sweep_visits.specs.declared.AxisRays.{AxisRays}
+use Rattle.sweep_model.specs.Section.{sectionOf}
+use Rattle.sweep_model.specs.Across.{rayHitOf}
+use Rattle.sweep_model.specs.declared.Profile.{Profile}
+use Rattle.sweep_model.specs.declared.ChordOnAxis.{ChordOnAxis}
+use Rattle.sweep_model.specs.declared.RayRange.{RayRange}
+use Rattle.sweep_model.specs.declared.RayRect.{RayRect}
+use Rattle.sweep_model.specs.declared.RayRect.the-variants.{Rays, NoRays}
+use Rattle.sweep_model.specs.declared.HitPairs.{HitPairs}
+use Rattle.sweep_model.specs.declared.RayHit.{RayHit}
+use Rattle.sweep_model.specs.declared.RayHit.the-variants.{On, Off}
+use Rattle.sweep_model.specs.declared.AxisRays.{AxisRays}
 
 -- document 01's log entry: axis, index, outer, inner
 unfoldable pub entryOf : WorldAxis → (index : ℕ) → HitPairs → List Float

@@ -5,9 +5,9 @@ use lib.Ieee.{Float, binary64, add, sub, mul, div}
 use Rattle.doubles.specs.Constants.{two}
 use Rattle.grid.specs.Grid.{whole}
 use Rattle.grid.specs.Rays.{half}
-use Rattle.sweep_kernel.specs.declared.AxisScale.{AxisScale}
-use Rattle.sweep_kernel.specs.declared.ChordOnAxis.{ChordOnAxis}
-use Rattle.sweep_ray.specs.declared.Section.{Section}
+use Rattle.sweep_model.specs.declared.AxisScale.{AxisScale}
+use Rattle.sweep_model.specs.declared.ChordOnAxis.{ChordOnAxis}
+use Rattle.sweep_model.specs.declared.Section.{Section}
 
 -- the local coordinate of the centre of cell i
 unfoldable pub localCenter : AxisScale → ℕ → Float

@@ -1,0 +1,9 @@
+pub mod Chords
+pub mod ChordLimits
+pub mod Kernel
+pub mod Meets
+pub mod Section
+pub mod Across
+pub mod Entries
+pub mod Walk
+pub mod SweepEntries
