@@ -1,2 +1,3 @@
 -- The definitions that the contracts of `cutter_check` cite.
 pub mod Limits
+pub mod Steps

@@ -4,12 +4,10 @@ use mathlib.Core.Bool.{Bool, true, false, not, _&&_}
 use mathlib.Core.List.{List, [], _∷_}
 use lib.Ieee.{Float, lt, le, isNan}
 use Rattle.doubles.specs.Constants.{million, millionth, plusZero}
-use Rattle.refusal.specs.Refusal.{Cause, cause, Due, NoneDue}
+use Rattle.refusal.specs.Refusal.{Cause, cause}
 use Rattle.cutter.specs.declared.CutterShape.{CutterShape}
 use Rattle.cutter.specs.declared.CutterShape.the-variants.{Flat, Ball, Bull, Drill, Chamfer, Beam, Probe, Lollipop, Dovetail}
 use Rattle.cutter.specs.declared.PreparedCutter.{PreparedCutter}
-use Rattle.cutter_check.specs.declared.ToolCheck.{ToolCheck}
-use Rattle.cutter_check.specs.declared.ToolCheck.the-variants.{Accepted, Refused}
 
 -- in (0, 1e6]
 unfoldable pub aboveZero : Float → Bool
@@ -64,8 +62,3 @@ isBeam (Dovetail angle) = false
 -- refusals 5 and 6, in document 01's order
 abbrev pub toolCauses : CutterShape → PreparedCutter → List Cause
 toolCauses shape c = cause 5 (isBeam shape ≡ true) ∷ cause 6 (withinLimits shape c ≡ false) ∷ []
-
--- what each answer says of the tool
-abbrev pub ToolCheckPost : CutterShape → PreparedCutter → ToolCheck → Type 0
-ToolCheckPost shape c Accepted = NoneDue (toolCauses shape c)
-ToolCheckPost shape c (Refused k) = Due (toolCauses shape c) k

@@ -10,7 +10,7 @@ use Rattle.logic.proofs.Bools.{clash}
 use Rattle.doubles.proofs.Order.{lt-irrefl, le-refl, lt→le}
 use Rattle.grid.specs.declared.DexelGrid.{DexelGrid}
 use Rattle.spans.specs.Spans.{holds, sound}
-use Rattle.store_lists.specs.Reading.{listFrom, Readable}
+use Rattle.store_lists.specs.Reading.{Readable}
 use Rattle.log_keys.specs.Keys.{pairsPast}
 use Rattle.log_keys.proofs.Past.{past-falls}
 use Rattle.log_left.specs.Steps.{StartPost}
@@ -21,6 +21,7 @@ use Rattle.log_count.specs.declared.ListCount.{ListCount}
 use Rattle.log_count.specs.declared.RayWalks.{RayWalks}
 use Rattle.log_count.proofs.Infinity.{top-number, bottom-top}
 use Rattle.log_count.proofs.Wholes.{taken-none, taken-all}
+use Rattle.store.specs.Store.{listFrom}
 
 -- the lists from the records h and k have lost what lies below b, and the buffers have the sizes that they had
 pub record TakenTo (g : DexelGrid) (n : ℕ) (spans : List Float) (links : List ℕ) (log : List Float) (ray h k : ℕ)

@@ -7,7 +7,6 @@ use Prim.Native.Nat.{ℕ}
 use lib.Ieee.{Float, lt, le, neg}
 use Rattle.logic.proofs.Bools.{and-true, and-right, same-if, clash}
 use Rattle.spans.specs.Spans.{holds, sound, less}
-use Rattle.store_lists.specs.Reading.{listFrom}
 use Rattle.log_keys.specs.Keys.{Stretch}
 use Rattle.log_left.specs.ListLeft.{ListWalked}
 use Rattle.log_left.specs.declared.Rest.{Rest}
@@ -15,6 +14,7 @@ use Rattle.log_left.specs.Steps.{StartPost}
 use Rattle.log_stretches.specs.Stretches.{Taken, TakeHitsPost}
 use Rattle.log_count.specs.Steps.{top}
 use Rattle.log_count.proofs.Infinity.{none-below, bottom-top, held-below}
+use Rattle.store.specs.Store.{listFrom}
 
 module _ (n : ℕ) (spans : List Float) (links : List ℕ) (l : List Float) where
   walked-same : {s t : Float → Bool} {last : Float} {r : Rest} → ((p : Float) → s p ≡ t p) → ListWalked n spans links l s last r

@@ -11,7 +11,7 @@ use Rattle.grid.specs.Rays.{rayCount}
 use Rattle.grid.specs.declared.DexelStockSpec.{DexelStockSpec}
 use Rattle.grid.specs.declared.DexelGrid.{DexelGrid}
 use Rattle.store.specs.Updates.{Cells}
-use Rattle.store_lists.specs.Reading.{listFrom, Readable}
+use Rattle.store_lists.specs.Reading.{Readable}
 use Rattle.log_model.specs.Logs.{entries, entryAt, entryCount, entryRay, outer, inner}
 use Rattle.log_model.specs.Counts.{isHitBy, startsLeft}
 use Rattle.log_entries.specs.Named.{EachNamed, hitsOnRayNumber}
@@ -24,6 +24,7 @@ use Rattle.log_count.specs.Totals.{Counting, Prefixed}
 use Rattle.log_count.specs.declared.ListCount.{ListCount}
 use Rattle.log_count.specs.declared.RayTotals.{RayTotals}
 use Rattle.log_count.specs.declared.RayWalks.{RayWalks}
+use Rattle.store.specs.Store.{listFrom}
 
 -- plus infinity, which no hit reaches past
 abbrev pub top : Float

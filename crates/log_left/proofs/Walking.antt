@@ -16,8 +16,8 @@ use Rattle.spans.specs.Steps.{pairIf}
 use Rattle.spans.proofs.Ends.{AtMost, Above, all-append, above-less, upTo-more, rising-right, rising-above}
 use Rattle.spans.proofs.Sets.{oddN-mod, sound-rising}
 use Rattle.spans.proofs.Points.{holds-append, holds-upTo, holds-above}
-use Rattle.store.specs.Store.{hiAt, nextAt, places}
-use Rattle.store_lists.specs.Reading.{listFrom, Readable}
+use Rattle.store.specs.Store.{hiAt, nextAt, places, listFrom}
+use Rattle.store_lists.specs.Reading.{Readable}
 use Rattle.store_lists.proofs.Steps.{step, no-ends, ends-length}
 use Rattle.log_model.specs.Counts.{isHitBy}
 use Rattle.log_model.proofs.Meets.{kept-unhit, hit-at}

@@ -8,10 +8,10 @@ use lib.ListN.{length}
 use lib.Ieee.{Float}
 use Rattle.spans.specs.Spans.{within, holds, less, ListOf}
 use Rattle.spans.specs.Steps.{UpTo}
-use Rattle.store_lists.specs.Reading.{listFrom}
 use Rattle.log_model.specs.Counts.{isHitBy, startsLeft}
 use Rattle.log_left.specs.declared.Rest.{Rest}
 use Rattle.log_left.specs.declared.ListLeft.{ListLeft}
+use Rattle.store.specs.Store.{listFrom}
 
 -- the list with its first end replaced
 abbrev pub startingAt : Float → List Float → List Float

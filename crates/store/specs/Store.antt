@@ -117,3 +117,7 @@ filledLinks links o (i ∷ ps) = filledLinks (putLink links i (headOf ps) o) o p
 unfoldable pub filledSpans : List Float → List ℕ → List Float → List Float
 filledSpans spans [] pairs = spans
 filledSpans spans (i ∷ ps) pairs = filledSpans (putSpan spans i (getD pairs 0 nan) (getD pairs 1 nan)) ps (drop 2 pairs)
+
+-- the list whose first record is number k, as a flat list; of an empty list k is zero
+abbrev pub listFrom : ℕ → List Float → List ℕ → ℕ → List Float
+listFrom n spans links k = endsAt spans (places links n k)

@@ -12,8 +12,8 @@ use lib.Seq.{sets, sets-eq, drop-cons}
 use borrow.Author.Tests.{eq-eqb, ne-eqb, eqb-true}
 use Rattle.logic.proofs.Bools.{same-if, and-false}
 use Rattle.spans.specs.Spans.{equal}
-use Rattle.store.specs.Store.{loAt, hiAt, nextAt}
-use Rattle.store_lists.specs.Reading.{listFrom, ReadListPost}
+use Rattle.store.specs.Store.{loAt, hiAt, nextAt, listFrom}
+use Rattle.store_lists.specs.Reading.{ReadListPost}
 use Rattle.store_lists.proofs.Steps.{Step, no-ends}
 
 -- ---- `read_list`: the cells from t on get the rest of the list

@@ -5,9 +5,9 @@ use Prim.Native.Nat.{ℕ, suc, _-_, _*_, _≤_, _<_}
 use native.Mathlib.Omega.{arith}
 use lib.Ieee.{Float}
 use lib.ListN.{length, getD}
-use Rattle.store.specs.Store.{loAt, hiAt, nextAt, places, endsAt, ChainsSound}
+use Rattle.store.specs.Store.{loAt, hiAt, nextAt, places, endsAt, ChainsSound, listFrom}
 use Rattle.store.proofs.Chains.{chain-step, less-step, places-zero}
-use Rattle.store_lists.specs.Reading.{listFrom, Linked, Readable}
+use Rattle.store_lists.specs.Reading.{Linked, Readable}
 
 pub record LinkStep (n : ℕ) (links : List ℕ) (k : ℕ) : Type 0 where
   pub counted : k - 1 < n

@@ -4,11 +4,7 @@ use mathlib.Core.List.{List, _++_}
 use Prim.Native.Nat.{ℕ, _+_, _*_, _≤_}
 use lib.ListN.{length, take, drop}
 use lib.Ieee.{Float}
-use Rattle.store.specs.Store.{places, RecordChain, endsAt}
-
--- the list whose first record is number k, as a flat list; of an empty list k is zero
-abbrev pub listFrom : ℕ → List Float → List ℕ → ℕ → List Float
-listFrom n spans links k = endsAt spans (places links n k)
+use Rattle.store.specs.Store.{places, RecordChain}
 
 -- from record number k a chain of one owner runs over counted records, as from each head of a sound store
 pub record Linked (n : ℕ) (links : List ℕ) (k : ℕ) : Type 0 where

@@ -3,8 +3,8 @@ ghost use mathlib.Core.Path.{_≡_};
 ghost use Prim.Native.Nat.{_+_, _≤_};
 ghost use lib.ListN.{length};
 ghost use Rattle.spans.specs.Spans.{equal};
-ghost use Rattle.store.specs.Store.{places};
-ghost use Rattle.store_lists.specs.Reading.{listFrom, Linked, Readable, ReadListPost};
+ghost use Rattle.store.specs.Store.{places, listFrom};
+ghost use Rattle.store_lists.specs.Reading.{Linked, Readable, ReadListPost};
 // How many pairs the list has.
 pub fn list_pairs(links: &[u64], n: usize, head: u64) -> usize
     requires { ⌜ Linked n (now links) head ⌝ }

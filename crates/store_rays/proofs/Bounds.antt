@@ -14,10 +14,9 @@ use Rattle.doubles.specs.Doubles.{Number}
 use Rattle.doubles.proofs.Order.{lt-number, lt→le, le-trans, le-nan, lt-not-le, zero-over-zero}
 use Rattle.spans.specs.Spans.{rising, sound}
 use Rattle.doubles.specs.Constants.{plusZero}
-use Rattle.store.specs.Store.{loAt, hiAt, nextAt}
+use Rattle.store.specs.Store.{loAt, hiAt, nextAt, listFrom}
 use Rattle.spans.specs.Rays.{bounded, from, covers, contained, valid}
 use Rattle.spans.proofs.Containment.{from-skip, from-stop, valid-ray, ray-valid}
-use Rattle.store_lists.specs.Reading.{listFrom}
 use Rattle.store_rays.specs.Lengths.{lengthFrom, startsIn, ListSumPost, RaySumsPost}
 use Rattle.store_rays.specs.declared.ListSum.{ListSum}
 use Rattle.store_lists.proofs.Steps.{Step, no-ends}

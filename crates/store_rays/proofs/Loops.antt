@@ -5,10 +5,9 @@ use mathlib.Core.List.{List, [], _∷_}
 use Prim.Native.Nat.{ℕ, _-_}
 use lib.Ieee.{Float, binary64, add, sub, lt, le}
 use Rattle.logic.proofs.Bools.{not-true, not-false}
-use Rattle.store.specs.Store.{loAt, hiAt, nextAt}
+use Rattle.store.specs.Store.{loAt, hiAt, nextAt, listFrom}
 use Rattle.spans.specs.Rays.{from, covers, contained}
 use Rattle.spans.proofs.Containment.{from-skip, from-stop}
-use Rattle.store_lists.specs.Reading.{listFrom}
 use Rattle.store_lists.proofs.Steps.{Step, no-ends}
 use Rattle.store_rays.specs.Lengths.{lengthFrom, ReachPost}
 

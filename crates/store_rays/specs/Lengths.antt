@@ -6,9 +6,10 @@ use Prim.Native.Nat.{ℕ}
 use lib.Ieee.{Float, binary64, add, sub, le}
 use Rattle.doubles.specs.Constants.{plusZero}
 use Rattle.spans.specs.Rays.{from, ValidRay}
-use Rattle.store_lists.specs.Reading.{listFrom, Readable}
+use Rattle.store_lists.specs.Reading.{Readable}
 use Rattle.store_rays.specs.declared.ListSum.{ListSum}
 use Rattle.store_rays.specs.declared.RaySums.{RaySums}
+use Rattle.store.specs.Store.{listFrom}
 
 -- document 01's length of a list: the sum of the pairs' hi - lo in order, each operation rounded, begun with a given sum
 unfoldable pub lengthFrom : Float → List Float → Float

@@ -5,9 +5,9 @@ ghost use Prim.Native.Nat.{_+_, _*_, _<_};
 ghost use lib.ListN.{length};
 ghost use lib.Ieee.{lt, le};
 ghost use Rattle.spans.specs.Spans.{sound};
-ghost use Rattle.store.specs.Store.{loAt, hiAt};
+ghost use Rattle.store.specs.Store.{loAt, hiAt, listFrom};
 ghost use Rattle.spans.specs.Rays.{ValidRay, bounded, covers, contained};
-ghost use Rattle.store_lists.specs.Reading.{listFrom, Readable};
+ghost use Rattle.store_lists.specs.Reading.{Readable};
 ghost use Rattle.store_rays.specs.Lengths.{startsIn, ListSumPost, RaySumsPost, ReachPost};
 // Whether the pair at place i does not begin at x or below, and has lo < hi.
 fn follows(spans: &[f64], i: usize, x: f64) -> bool

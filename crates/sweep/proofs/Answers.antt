@@ -19,7 +19,7 @@ use Rattle.grid.specs.declared.DexelStockSpec.{DexelStockSpec}
 use Rattle.grid.specs.declared.DexelGrid.{DexelGrid}
 use Rattle.grid.specs.declared.GridAnswer.the-variants.{Accepted as Griddable, Refused as NoGrid}
 use Rattle.frame.specs.declared.Frame.{Frame}
-use Rattle.cutter_check.specs.Limits.{toolCauses, ToolCheckPost}
+use Rattle.cutter_check.specs.Limits.{toolCauses}
 use Rattle.cutter_check.specs.declared.ToolCheck.{ToolCheck}
 use Rattle.cutter_check.specs.declared.ToolCheck.the-variants.{Accepted as Usable, Refused as Unusable}
 use Rattle.stock.specs.Stock.{SoundCells, isShort}
@@ -45,6 +45,7 @@ use Rattle.sweep_walk.proofs.Chords.{sweep-length, log-length}
 use Rattle.logic.specs.Logic.{Decides}
 use Rattle.sweep_visits.specs.Steps.{WalkPost}
 use Rattle.sweep_walk.specs.Steps.{Sweepable}
+use Rattle.cutter_check.specs.Steps.{ToolCheckPost}
 
 -- ---- the check of a setting
 module _ (s : Setting) (intervals : ℕ) (chords : List Float) where

@@ -9,8 +9,8 @@ use Rattle.doubles.proofs.Order.{lt-trans}
 use Rattle.doubles.specs.Doubles.{largerOf, smallerOf}
 use Rattle.spans.specs.Spans.{rising, sound}
 use Rattle.spans.proofs.Sets.{sound-rising}
-use Rattle.store.specs.Store.{loAt, hiAt, nextAt, endsAt}
-use Rattle.store_lists.specs.Reading.{listFrom, Readable}
+use Rattle.store.specs.Store.{loAt, hiAt, nextAt, endsAt, listFrom}
+use Rattle.store_lists.specs.Reading.{Readable}
 use Rattle.store_lists.proofs.Steps.{Step, link-step, no-ends}
 use Rattle.frame.specs.declared.Pair.{Pair}
 use Rattle.sweep_model.specs.Meets.{lastOf, spansMeet, overlapsOf}

@@ -2,9 +2,10 @@
 ghost use mathlib.Core.Path.{_≡_};
 ghost use mathlib.Core.Bool.{true};
 ghost use Rattle.spans.specs.Spans.{sound};
-ghost use Rattle.store_lists.specs.Reading.{listFrom, Readable};
+ghost use Rattle.store_lists.specs.Reading.{Readable};
 ghost use Rattle.sweep_model.specs.Meets.{spansMeet, overlapsOf};
 ghost use Rattle.sweep_meet.specs.Steps.{someAbove};
+ghost use Rattle.store.specs.Store.{listFrom};
 use frame::Pair;
 
 // Whether an upper end of the list is above x. In a sound list that tells whether the last one is, and most lists answer at their first pair.

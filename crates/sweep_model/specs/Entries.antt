@@ -5,7 +5,6 @@ use lib.Ieee.{Float}
 use lib.ListN.{getD}
 use Rattle.grid.specs.Grid.{whole}
 use Rattle.grid.specs.declared.WorldAxis.{WorldAxis}
-use Rattle.store_lists.specs.Reading.{listFrom}
 use Rattle.sweep_model.specs.Section.{sectionOf}
 use Rattle.sweep_model.specs.Across.{rayHitOf}
 use Rattle.sweep_model.specs.declared.Profile.{Profile}
@@ -17,6 +16,7 @@ use Rattle.sweep_model.specs.declared.HitPairs.{HitPairs}
 use Rattle.sweep_model.specs.declared.RayHit.{RayHit}
 use Rattle.sweep_model.specs.declared.RayHit.the-variants.{On, Off}
 use Rattle.sweep_model.specs.declared.AxisRays.{AxisRays}
+use Rattle.store.specs.Store.{listFrom}
 
 -- document 01's log entry: axis, index, outer, inner
 unfoldable pub entryOf : WorldAxis → (index : ℕ) → HitPairs → List Float

@@ -2,9 +2,10 @@
 ghost use mathlib.Core.Path.{_≡_};
 ghost use mathlib.Core.Bool.{true};
 ghost use Rattle.spans.specs.Spans.{sound};
-ghost use Rattle.store_lists.specs.Reading.{listFrom, Readable};
+ghost use Rattle.store_lists.specs.Reading.{Readable};
 ghost use Rattle.sweep_model.specs.Section.{localCenter, sectionWith, sectionOf};
 ghost use Rattle.sweep_model.specs.Across.{outerFrom, outerOf, innerFrom, innerOf, rayHitOf};
+ghost use Rattle.store.specs.Store.{listFrom};
 use cutter::Radius;
 use frame::Pair;
 use polygons::Strip;

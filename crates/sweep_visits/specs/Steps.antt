@@ -6,13 +6,14 @@ use Prim.Native.Nat.{ℕ, _+_, _*_, _^_, _≤_, _<_}
 use lib.Ieee.{Float}
 use lib.ListN.{length, take, getD}
 use Rattle.spans.specs.Spans.{sound}
-use Rattle.store_lists.specs.Reading.{listFrom, Readable}
+use Rattle.store_lists.specs.Reading.{Readable}
 use Rattle.sweep_visits.specs.declared.VisitCursor.{VisitCursor}
 use Rattle.sweep_visits.specs.declared.Progress.{Progress}
 use Rattle.sweep_visits.specs.declared.Progress.the-variants.{At, Stopped}
 use Rattle.sweep_model.specs.declared.AxisRays.{AxisRays}
 use Rattle.sweep_model.specs.Entries.{indexOf}
 use Rattle.sweep_model.specs.Walk.{Done, Stop, walk}
+use Rattle.store.specs.Store.{listFrom}
 
 -- from cursor c with this log to the cursor d with that one all these rays are visited
 pub record Went (budget : ℕ) (rays : List (List Float)) (c : VisitCursor) (log : List Float) (d : VisitCursor) (after : List Float) : Type 0 where

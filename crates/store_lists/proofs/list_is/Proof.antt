@@ -5,8 +5,8 @@ use native.Mathlib.Omega.{arith}
 use lib.ListN.{length, drop}
 use Rattle.logic.proofs.Bools.{not-true, not-false}
 use Rattle.spans.specs.Spans.{equal}
-use Rattle.store.specs.Store.{places}
-use Rattle.store_lists.specs.Reading.{Readable, listFrom}
+use Rattle.store.specs.Store.{places, listFrom}
+use Rattle.store_lists.specs.Reading.{Readable}
 use Rattle.store_lists.proofs.Steps.{step}
 use Rattle.store_lists.proofs.Loops.{is-few, is-other-lo, is-other-hi, is-same, is-end}
 use Rattle.store_lists.proofs.list_is.Statement.{statement}

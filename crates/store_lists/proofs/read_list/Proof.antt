@@ -4,8 +4,8 @@ use mathlib.Core.Path.{_≡_, refl, _∙_}
 use native.Mathlib.Omega.{arith}
 use lib.ListN.{length, length-set}
 use lib.Seq.{sets}
-use Rattle.store.specs.Store.{places}
-use Rattle.store_lists.specs.Reading.{Readable, listFrom}
+use Rattle.store.specs.Store.{places, listFrom}
+use Rattle.store_lists.specs.Reading.{Readable}
 use Rattle.store_lists.proofs.Steps.{step}
 use Rattle.store_lists.proofs.Loops.{copy-step, list-length-step, copy-end}
 use Rattle.store_lists.proofs.read_list.Statement.{statement}

@@ -2,9 +2,9 @@ use borrow.Author.Needs.{needs}
 use mathlib.Core.Path.{_≡_, refl, sym, _∙_}
 use lib.ListN.{length}
 use Rattle.logic.proofs.Bools.{not-true, not-false}
-use Rattle.store.specs.Store.{places}
+use Rattle.store.specs.Store.{places, listFrom}
 use Rattle.spans.specs.Rays.{from}
-use Rattle.store_lists.specs.Reading.{Readable, listFrom}
+use Rattle.store_lists.specs.Reading.{Readable}
 use Rattle.store_lists.proofs.Steps.{step}
 use Rattle.store_rays.proofs.Loops.{reach-here, reach-later, reach-none}
 use Rattle.store_rays.proofs.first_reaching.Statement.{statement}

@@ -2,8 +2,8 @@ use borrow.Author.Needs.{needs}
 use mathlib.Core.Path.{_≡_, refl, _∙_}
 use lib.ListN.{length}
 use Rattle.doubles.specs.Constants.{plusZero}
-use Rattle.store.specs.Store.{places}
-use Rattle.store_lists.specs.Reading.{Readable, listFrom}
+use Rattle.store.specs.Store.{places, listFrom}
+use Rattle.store_lists.specs.Reading.{Readable}
 use Rattle.store_rays.specs.Lengths.{lengthFrom}
 use Rattle.store_lists.proofs.Steps.{step}
 use Rattle.store_rays.proofs.Loops.{length-step, length-end}

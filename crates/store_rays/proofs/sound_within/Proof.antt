@@ -5,10 +5,10 @@ use native.Mathlib.Omega.{arith}
 use lib.ListN.{length}
 use Rattle.spans.specs.Spans.{sound}
 use Rattle.doubles.specs.Constants.{plusZero}
-use Rattle.store.specs.Store.{places}
+use Rattle.store.specs.Store.{places, listFrom}
 use Rattle.spans.specs.Rays.{contained}
 use Rattle.logic.proofs.Bools.{both}
-use Rattle.store_lists.specs.Reading.{Readable, listFrom}
+use Rattle.store_lists.specs.Reading.{Readable}
 use Rattle.store_rays.specs.Lengths.{lengthFrom}
 use Rattle.store_lists.proofs.Steps.{step}
 use Rattle.store_rays.proofs.Loops.{length-step, length-end, all-contained, lies-out, lies-in}

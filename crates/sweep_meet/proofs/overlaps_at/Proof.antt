@@ -2,8 +2,8 @@ use borrow.Author.Needs.{needs}
 use mathlib.Core.Path.{_≡_, refl, sym, _∙_}
 use lib.ListN.{length}
 use Rattle.logic.proofs.Bools.{not-true, not-false}
-use Rattle.store.specs.Store.{places}
-use Rattle.store_lists.specs.Reading.{Readable, listFrom}
+use Rattle.store.specs.Store.{places, listFrom}
+use Rattle.store_lists.specs.Reading.{Readable}
 use Rattle.store_lists.proofs.Steps.{step}
 use Rattle.sweep_model.specs.Meets.{overlapsOf}
 use Rattle.sweep_meet.proofs.Meeting.{overlaps-here, overlaps-no, overlaps-later, overlaps-none}

@@ -1,8 +1,8 @@
 use borrow.Author.Needs.{needs}
 use mathlib.Core.Path.{_≡_, refl, sym, _∙_}
 use lib.ListN.{length}
-use Rattle.store.specs.Store.{places}
-use Rattle.store_lists.specs.Reading.{Readable, listFrom}
+use Rattle.store.specs.Store.{places, listFrom}
+use Rattle.store_lists.specs.Reading.{Readable}
 use Rattle.store_lists.proofs.Steps.{step}
 use Rattle.sweep_meet.proofs.Meeting.{above-here, above-later, above-none}
 use Rattle.sweep_meet.proofs.some_above.Statement.{statement}
