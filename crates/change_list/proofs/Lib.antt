@@ -1,3 +1,3 @@
-pub mod Tests
 pub mod Sums
 pub mod Applying
+pub mod ListTests

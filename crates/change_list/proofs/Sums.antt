@@ -21,7 +21,7 @@ use Rattle.change_list.specs.declared.ChangeHead.{ChangeHead}
 use Rattle.change_list.specs.declared.ChangeCursor.{ChangeCursor}
 use Rattle.change_list.specs.declared.ChangeCheck.the-variants.{Next, Bad}
 use Rattle.spans.proofs.Sets.{equal-length}
-use Rattle.change_list.proofs.Tests.{bad-due, due-bad}
+use Rattle.change_list.proofs.ListTests.{bad-due, due-bad}
 
 pub part-length : (pairs : List Float) (at n : ℕ) → at + 2 * n ≤ length pairs → length (pairsFrom pairs at n) ≡ 2 * n
 part-length pairs at n h = length-take-le (2 * n) (drop at pairs) (omega (arith, length-drop at pairs))

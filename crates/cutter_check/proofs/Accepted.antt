@@ -10,7 +10,7 @@ use Rattle.cutter.specs.declared.CutterShape.{CutterShape}
 use Rattle.cutter.specs.declared.PreparedCutter.{PreparedCutter}
 use Rattle.cutter.specs.declared.ProfileSlice.the-variants.{Cutting}
 use Rattle.cutter.specs.Cutter.{isFinite, offTool, cuttingRadius, radiusAt, radiusOf, cutRadius}
-use Rattle.cutter_check.specs.Limits.{aboveZero, sizesFit, heightsFit, lengthsFit, diametersFit, shapeFits, withinLimits}
+use Rattle.cutter.specs.Limits.{aboveZero, sizesFit, heightsFit, lengthsFit, diametersFit, shapeFits, withinLimits}
 
 finite-between : (x : Float) → le plusZero x ≡ true → le x million ≡ true → isFinite x ≡ true
 unfolding isFinite lt eq le ofBits

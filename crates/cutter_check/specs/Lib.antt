@@ -1,3 +1,2 @@
 -- The definitions that the contracts of `cutter_check` cite.
-pub mod Limits
 pub mod Steps

@@ -4,7 +4,7 @@ use Rattle.cutter.specs.declared.CutterShape.{CutterShape}
 use Rattle.cutter.specs.declared.PreparedCutter.{PreparedCutter}
 use Rattle.cutter_check.specs.declared.ToolCheck.{ToolCheck}
 use Rattle.cutter_check.specs.declared.ToolCheck.the-variants.{Accepted, Refused}
-use Rattle.cutter_check.specs.Limits.{toolCauses}
+use Rattle.cutter.specs.Limits.{toolCauses}
 
 -- what each answer says of the tool
 abbrev pub ToolCheckPost : CutterShape → PreparedCutter → ToolCheck → Type 0

@@ -1,1 +1,1 @@
-pub mod Rays
+pub mod FreeRays

@@ -4,7 +4,7 @@ ghost use Prim.Native.Nat.{_+_, _*_, _≤_};
 ghost use lib.ListN.{length};
 ghost use Rattle.store.specs.Store.{RecordChain, places, freedSpans, freedLinks};
 ghost use Rattle.store.specs.Updates.{cells, freedList, FreeListPre};
-ghost use Rattle.store_free.specs.Rays.{FreeRayPre};
+ghost use Rattle.store_free.specs.FreeRays.{FreeRayPre};
 // Frees the records of a chain.
 fn free_chain(spans: &mut [f64], links: &mut [u64], n: usize, owner: u64, head: u64)
     requires { ⌜ (2 * n ≤ length (now spans)) × (2 * n ≤ length (now links)) × RecordChain (now links) n owner head (places (now links) n head) ⌝ }

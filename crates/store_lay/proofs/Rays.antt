@@ -6,7 +6,7 @@ use lib.Ieee.{Float}
 use lib.ListN.{take, drop}
 use Rattle.store.specs.Updates.{Cells, update, pairsFrom, LayListPre, LayListPost, laidList}
 use Rattle.store.proofs.Laying.{part-is}
-use Rattle.store_lay.specs.Rays.{LayRayPre, LayRayPost}
+use Rattle.store_lay.specs.LayRays.{LayRayPre, LayRayPost}
 
 module _ (n : ℕ) (c : Cells) (ray : ℕ) (pairs : List Float) (at possible certain : ℕ) where
   -- the parts as the calls lend them

@@ -5,7 +5,7 @@ ghost use lib.ListN.{length};
 ghost use Rattle.store.specs.Store.{freeFrom, putSpan, putLink};
 ghost use Rattle.store.specs.Fills.{NextFree, FreeCursor, FillListPre, FillListPost};
 ghost use Rattle.store.specs.Updates.{cells, update, pairsFrom, LayListPre, LayListPost};
-ghost use Rattle.store_lay.specs.Rays.{LayRayPre, LayRayPost};
+ghost use Rattle.store_lay.specs.LayRays.{LayRayPre, LayRayPost};
 // The first free place from `from` on, of which there is one.
 fn next_free(spans: &[f64], links: &[u64], n: usize, from: usize) -> usize
     requires { ⌜ (2 * n ≤ length (now spans)) × (2 * n ≤ length (now links)) × (0 < length (freeFrom (now spans) (now links) from (n - from))) ⌝ }

@@ -1,2 +1,2 @@
-pub mod Loops
 pub mod Bounds
+pub mod RayLoops

@@ -19,7 +19,7 @@ use Rattle.grid.specs.declared.DexelStockSpec.{DexelStockSpec}
 use Rattle.grid.specs.declared.DexelGrid.{DexelGrid}
 use Rattle.grid.specs.declared.GridAnswer.the-variants.{Accepted as Griddable, Refused as NoGrid}
 use Rattle.frame.specs.declared.Frame.{Frame}
-use Rattle.cutter_check.specs.Limits.{toolCauses}
+use Rattle.cutter.specs.Limits.{toolCauses}
 use Rattle.cutter_check.specs.declared.ToolCheck.{ToolCheck}
 use Rattle.cutter_check.specs.declared.ToolCheck.the-variants.{Accepted as Usable, Refused as Unusable}
 use Rattle.stock.specs.Stock.{SoundCells, isShort}

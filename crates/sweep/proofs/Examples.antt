@@ -19,7 +19,7 @@ use Rattle.grid.specs.Rays.{rayCount, raysAlong, offset, rayAxis, boundsOf, cel
 use Rattle.frame.specs.declared.Axis.the-variants.{PosZ}
 use Rattle.frame.specs.Frame.{frameOf, axisDigit, worldAxisOf, localAxisOf, signAlong, localAt, localOf, turned, worldOf}
 use Rattle.cutter.specs.Cutter.{isFinite, cuttingRadius, offTool, radiusAt, cutRadius, cutMax, cutMin}
-use Rattle.cutter_check.specs.Limits.{aboveZero, fromZero, isNotNan, sizesFit, heightsFit, lengthsFit, diametersFit, shapeFits, withinLimits, isBeam}
+use Rattle.cutter.specs.Limits.{aboveZero, fromZero, isNotNan, sizesFit, heightsFit, lengthsFit, diametersFit, shapeFits, withinLimits, isBeam}
 use Rattle.cutter.specs.declared.CutterShape.the-variants.{Flat}
 use Rattle.strips.specs.Strip.{bandDistance, halfChord, chordStrip, diskStrip, stadiumStrip, hull, sideStrip}
 use Rattle.store.specs.Store.{places, endsAt}

@@ -13,7 +13,7 @@ use Rattle.grid.specs.Causes.{gridCauses, gridIn}
 use Rattle.grid.specs.declared.DexelStockSpec.{DexelStockSpec}
 use Rattle.frame.specs.Frame.{frameOf}
 use Rattle.frame.specs.declared.Axis.{Axis}
-use Rattle.cutter_check.specs.Limits.{toolCauses}
+use Rattle.cutter.specs.Limits.{toolCauses}
 use Rattle.cutter.specs.declared.CutterShape.{CutterShape}
 use Rattle.cutter.specs.declared.PreparedCutter.{PreparedCutter}
 use Rattle.store.specs.Updates.{Cells}

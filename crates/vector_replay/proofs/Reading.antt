@@ -10,7 +10,7 @@ use lib.Seq.{getD-set-same, getD-set-other}
 use Rattle.hex_text.specs.Hex.{hexAt}
 use Rattle.hex_text.specs.declared.Word.{Word}
 use Rattle.hex_text.specs.declared.Word.the-variants.{Value, Missing}
-use Rattle.vector_replay.specs.Words.{valueOr, isMissing, Reads, all-read, one-missing}
+use Rattle.vector_replay.specs.ReadWords.{valueOr, isMissing, Reads, all-read, one-missing}
 
 pub record ReadTo (text : List ℕ) (at size : ℕ) (out : List ℕ) (i : ℕ) : Type 0 where
   pub same : length out ≡ size

@@ -1,3 +1,3 @@
 -- The definitions that the contracts of `vector_replay` cite.
 pub mod Tallies
-pub mod Words
+pub mod ReadWords

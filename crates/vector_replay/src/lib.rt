@@ -3,7 +3,7 @@ ghost use mathlib.Core.Path.{_≡_};
 ghost use Prim.Native.Nat.{_+_, _*_, _^_, _<_};
 ghost use lib.ListN.{length};
 ghost use Rattle.vector_replay.specs.Tallies.{none, up, firstDiffering, agreed, differed, missed, counted, outcomeOf};
-ghost use Rattle.vector_replay.specs.Words.{valueOr, isMissing, Reads};
+ghost use Rattle.vector_replay.specs.ReadWords.{valueOr, isMissing, Reads};
 use hex_text::Word;
 
 // What a row showed of the function of this number, or that it can't be read.

@@ -1,6 +1,6 @@
 use native.Mathlib.Omega.{arith}
 use Rattle.store.specs.Updates.{cells}
-use Rattle.change_check.proofs.Tests.{old-sound, cuts-no, cuts-rest}
+use Rattle.change_check.proofs.ChangeTests.{old-sound, cuts-no, cuts-rest}
 use Rattle.stock.proofs.Rays.{sound-chained}
 use Rattle.change_check.proofs.cuts.Statement.{statement}
 use Rattle.change_check.proofs.cuts.Tie as tie

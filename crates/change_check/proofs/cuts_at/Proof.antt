@@ -2,7 +2,7 @@ use borrow.Author.Needs.{needs}
 use Prim.Native.Nat.{_+_, _*_}
 use Rattle.store.specs.Updates.{cells}
 use Rattle.store.proofs.Laying.{part-is}
-use Rattle.change_check.proofs.Tests.{cuts-parts}
+use Rattle.change_check.proofs.ChangeTests.{cuts-parts}
 use Rattle.change_check.proofs.cuts_at.Statement.{statement}
 use Rattle.change_check.proofs.cuts_at.Tie as tie
 

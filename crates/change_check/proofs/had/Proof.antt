@@ -3,7 +3,7 @@ use native.Mathlib.Omega.{arith}
 use Prim.Native.Nat.{_+_, _*_}
 use Rattle.store.specs.Updates.{cells}
 use Rattle.stock.proofs.Rays.{list-readable}
-use Rattle.change_check.proofs.Tests.{had-no, had-second}
+use Rattle.change_check.proofs.ChangeTests.{had-no, had-second}
 use Rattle.change_check.proofs.had.Statement.{statement}
 use Rattle.change_check.proofs.had.Tie as tie
 

@@ -1,6 +1,6 @@
 use borrow.Author.Needs.{needs}
 use Rattle.stock.proofs.Rays.{tells-good}
-use Rattle.change_check.proofs.Tests.{covers-good, only-1, only-2, only-3, only-4, only-5}
+use Rattle.change_check.proofs.ChangeTests.{covers-good, only-1, only-2, only-3, only-4, only-5}
 use Rattle.change_check.proofs.only_loses.Statement.{statement}
 use Rattle.change_check.proofs.only_loses.Tie as tie
 

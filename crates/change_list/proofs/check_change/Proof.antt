@@ -8,7 +8,7 @@ use Rattle.grid.specs.Axes.{worldAxis}
 use Rattle.grid.specs.Rays.{rayCount}
 use Rattle.grid.proofs.Numbering.{number-lt}
 use Rattle.stock.proofs.Rays.{tells-good}
-use Rattle.change_list.proofs.Tests.{cell-fits, ray-fits, change-long, change-fits, change-unnamed, change-uncut, change-done}
+use Rattle.change_list.proofs.ListTests.{cell-fits, ray-fits, change-long, change-fits, change-unnamed, change-uncut, change-done}
 use Rattle.change_list.proofs.check_change.Statement.{statement}
 use Rattle.change_list.proofs.check_change.Tie as tie
 

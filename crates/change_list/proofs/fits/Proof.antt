@@ -1,4 +1,4 @@
-use Rattle.change_list.proofs.Tests.{fits-1, fits-2, fits-3, fits-4}
+use Rattle.change_list.proofs.ListTests.{fits-1, fits-2, fits-3, fits-4}
 use Rattle.change_list.proofs.fits.Statement.{statement}
 use Rattle.change_list.proofs.fits.Tie as tie
 

@@ -1,6 +1,6 @@
 use borrow.Author.Needs.{needs}
 use native.Mathlib.Omega.{arith}
-use Rattle.change_list.proofs.Tests.{no-axis, no-ray, a-ray}
+use Rattle.change_list.proofs.ListTests.{no-axis, no-ray, a-ray}
 use Rattle.change_list.proofs.names.Statement.{statement}
 use Rattle.change_list.proofs.names.Tie as tie
 

@@ -6,7 +6,7 @@ use native.Mathlib.Omega.{arith}
 use lib.ListN.{length}
 use lib.Seq.{take-suc-set}
 use borrow.Author.Needs.{needs}
-use Rattle.polygons.proofs.Laws.{length-field}
+use Rattle.polygons.proofs.PolygonLaws.{length-field}
 use Rattle.polygons.proofs.push.Statement.{statement}
 use Rattle.polygons.proofs.push.Tie as tie
 

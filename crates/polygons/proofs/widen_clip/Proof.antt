@@ -8,7 +8,7 @@ use lib.ListN.{length, getD, take, drop, drop-of-length-le}
 use lib.Seq.{length-take-le}
 use mathlib.Core.Logic.{⊎-elim}
 use Rattle.polygons.specs.Polygon.{widenAll, edges, headOr}
-use Rattle.polygons.proofs.Laws.{length-field, step, next-in, next-out, clip-edges}
+use Rattle.polygons.proofs.PolygonLaws.{length-field, step, next-in, next-out, clip-edges}
 use Rattle.polygons.proofs.widen_clip.Statement.{statement}
 use Rattle.polygons.proofs.widen_clip.Tie as tie
 

@@ -8,7 +8,7 @@ use Rattle.spans.specs.Spans.{equal}
 use Rattle.store.specs.Store.{places, listFrom}
 use Rattle.store_lists.specs.Reading.{Readable}
 use Rattle.store_lists.proofs.Steps.{step}
-use Rattle.store_lists.proofs.Loops.{is-few, is-other-lo, is-other-hi, is-same, is-end}
+use Rattle.store_lists.proofs.ListLoops.{is-few, is-other-lo, is-other-hi, is-same, is-end}
 use Rattle.store_lists.proofs.list_is.Statement.{statement}
 use Rattle.store_lists.proofs.list_is.Tie as tie
 

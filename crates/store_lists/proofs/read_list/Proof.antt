@@ -7,7 +7,7 @@ use lib.Seq.{sets}
 use Rattle.store.specs.Store.{places, listFrom}
 use Rattle.store_lists.specs.Reading.{Readable}
 use Rattle.store_lists.proofs.Steps.{step}
-use Rattle.store_lists.proofs.Loops.{copy-step, list-length-step, copy-end}
+use Rattle.store_lists.proofs.ListLoops.{copy-step, list-length-step, copy-end}
 use Rattle.store_lists.proofs.read_list.Statement.{statement}
 use Rattle.store_lists.proofs.read_list.Tie as tie
 

@@ -6,7 +6,7 @@ use Rattle.store.specs.Store.{places, listFrom}
 use Rattle.spans.specs.Rays.{from}
 use Rattle.store_lists.specs.Reading.{Readable}
 use Rattle.store_lists.proofs.Steps.{step}
-use Rattle.store_rays.proofs.Loops.{reach-here, reach-later, reach-none}
+use Rattle.store_rays.proofs.RayLoops.{reach-here, reach-later, reach-none}
 use Rattle.store_rays.proofs.first_reaching.Statement.{statement}
 use Rattle.store_rays.proofs.first_reaching.Tie as tie
 

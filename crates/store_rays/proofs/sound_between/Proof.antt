@@ -6,7 +6,7 @@ use Rattle.store.specs.Store.{places, listFrom}
 use Rattle.store_lists.specs.Reading.{Readable}
 use Rattle.store_rays.specs.Lengths.{lengthFrom}
 use Rattle.store_lists.proofs.Steps.{step}
-use Rattle.store_rays.proofs.Loops.{length-step, length-end}
+use Rattle.store_rays.proofs.RayLoops.{length-step, length-end}
 use Rattle.store_rays.proofs.Bounds.{after, lastEnd, zero-nan, sound-after, starts-bad, after-none, after-bad, after-good, last-step, last-none, none-between, all-between, left-bad, sum-bad, sum-good}
 use Rattle.store_rays.proofs.sound_between.Statement.{statement}
 use Rattle.store_rays.proofs.sound_between.Tie as tie

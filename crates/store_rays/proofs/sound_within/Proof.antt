@@ -11,7 +11,7 @@ use Rattle.logic.proofs.Bools.{both}
 use Rattle.store_lists.specs.Reading.{Readable}
 use Rattle.store_rays.specs.Lengths.{lengthFrom}
 use Rattle.store_lists.proofs.Steps.{step}
-use Rattle.store_rays.proofs.Loops.{length-step, length-end, all-contained, lies-out, lies-in}
+use Rattle.store_rays.proofs.RayLoops.{length-step, length-end, all-contained, lies-out, lies-in}
 use Rattle.store_rays.proofs.Bounds.{after, sound-after, zero-nan, after-none, after-bad, after-good, sum-bad, sum-good, left-bad, out-bad, both-same, left-same}
 use Rattle.store_rays.proofs.sound_within.Statement.{statement}
 use Rattle.store_rays.proofs.sound_within.Tie as tie

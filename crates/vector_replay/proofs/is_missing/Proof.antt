@@ -1,5 +1,5 @@
 -- `vector_replay::is_missing` meets its contract.
-use Rattle.vector_replay.specs.Words.{isMissing}
+use Rattle.vector_replay.specs.ReadWords.{isMissing}
 use borrow.Author.Needs.{needs}
 use Rattle.vector_replay.proofs.is_missing.Statement.{statement}
 use Rattle.vector_replay.proofs.is_missing.Tie as tie

@@ -1,5 +1,5 @@
 -- `vector_replay::value_or` meets its contract.
-use Rattle.vector_replay.specs.Words.{valueOr}
+use Rattle.vector_replay.specs.ReadWords.{valueOr}
 use borrow.Author.Needs.{needs}
 use Rattle.vector_replay.proofs.value_or.Statement.{statement}
 use Rattle.vector_replay.proofs.value_or.Tie as tie
