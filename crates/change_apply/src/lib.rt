@@ -25,7 +25,7 @@ fn free_changes(
     while k < count {
         let h = change_list::head(changes, k);
         let ray = change_list::ray_named(g, h);
-        store_free::free_ray(
+        store_lay::free_ray(
             spans,
             links,
             heads,

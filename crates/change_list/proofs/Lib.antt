@@ -1,3 +1,5 @@
 pub mod Sums
 pub mod Applying
 pub mod ListTests
+pub mod Lists
+pub mod ChangeTests

@@ -17,8 +17,8 @@ use Rattle.grid.specs.Rays.{raysAlong}
 use Rattle.grid.specs.declared.DexelStockSpec.{DexelStockSpec}
 use Rattle.grid.specs.declared.DexelGrid.{DexelGrid}
 use Rattle.store.specs.Updates.{Cells}
-use Rattle.change_check.specs.Cuts.{ChangeAllowed}
-use Rattle.change_check.proofs.ChangeTests.{never}
+use Rattle.change_list.specs.Cuts.{ChangeAllowed}
+use Rattle.change_list.proofs.ChangeTests.{never}
 use Rattle.change_list.specs.Changes.{end4, changeRay, Names, changeBy, Good}
 use Rattle.change_list.specs.Steps.{pairsIn, cursorOf, checkNumber, badCauses, CheckChangePost}
 use Rattle.change_list.specs.declared.ChangeHead.{ChangeHead}

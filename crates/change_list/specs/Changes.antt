@@ -9,7 +9,7 @@ use Rattle.grid.specs.Rays.{raysAlong, rayNumber}
 use Rattle.grid.specs.declared.DexelStockSpec.{DexelStockSpec}
 use Rattle.grid.specs.declared.DexelGrid.{DexelGrid}
 use Rattle.store.specs.Updates.{Cells, Update, update, pairsFrom}
-use Rattle.change_check.specs.Cuts.{ChangeAllowed}
+use Rattle.change_list.specs.Cuts.{ChangeAllowed}
 use Rattle.change_list.specs.declared.ChangeHead.{ChangeHead}
 
 -- the six numbers of change k

@@ -7,8 +7,8 @@
 // For each entry it writes how many rows agree and how many differ, and how many runs were started, then how many rows can't be read, and the number
 // of the first row that differs.
 use stock::CommitAnswer;
-use vector_replay::RowCounts;
-use vector_replay::RowOutcome;
+use vector_words::RowCounts;
+use vector_words::RowOutcome;
 
 // The store of a run and its small record.
 struct Store {
@@ -171,7 +171,7 @@ fn commit_step(w: &[u64; 170], s: Store) -> Shown {
         store_agrees(w, &spans, &links, &heads),
     );
     Shown {
-        outcome: vector_replay::told(w[0], 2, agrees),
+        outcome: vector_words::told(w[0], 2, agrees),
         store: Store {
             spans,
             links,
@@ -204,7 +204,7 @@ fn start_step(w: &[u64; 170]) -> Shown {
 
 fn shown_by(text: &[u8], s: Store) -> Shown {
     let mut w = [0; 170];
-    if !vector_replay::read_words(text, 0, &mut w) {
+    if !vector_words::read_words(text, 0, &mut w) {
         return Shown {
             outcome: RowOutcome::Unread,
             store: s,
@@ -234,17 +234,17 @@ fn no_store() -> Store {
 
 // The turns are counted down, since a proved loop has to end and nothing says that the input does.
 fn counted() -> RowCounts {
-    let mut t = vector_replay::start();
+    let mut t = vector_words::start();
     let mut store = no_store();
     let mut turns = u64::MAX;
     while turns > 0 {
         let mut text = [0u8; 2890];
-        if !vector_replay::read_row(&mut text) {
+        if !vector_words::read_row(&mut text) {
             break;
         }
         let s = shown_by(&text, store);
         let outcome = s.outcome;
-        t = vector_replay::count(t, outcome);
+        t = vector_words::count(t, outcome);
         let left = s.store;
         store = left;
         turns -= 1;
@@ -253,5 +253,5 @@ fn counted() -> RowCounts {
 }
 
 fn main() {
-    vector_replay::print(b"commit_changes commit_log runs", counted());
+    vector_words::print(b"commit_changes commit_log runs", counted());
 }

@@ -7,10 +7,10 @@
 use cutter::ProfileSlice;
 use cutter::Radius;
 use cutter_check::ToolCheck;
-use polygons::Point;
-use polygons::Strip;
-use vector_replay::RowCounts;
-use vector_replay::RowOutcome;
+use strips::Point;
+use strips::Strip;
+use vector_words::RowCounts;
+use vector_words::RowOutcome;
 
 struct Answer {
     kind: u64,
@@ -100,7 +100,7 @@ fn answer_strips(op: u64, w: &[u64; 17]) -> Answer {
         ));
     }
     if op == 1 {
-        return strip_answer(polygons::polygon_strip(
+        return strip_answer(strips::polygon_strip(
             point(w[0], w[1]),
             point(w[2], w[3]),
             point(w[4], w[5]),
@@ -171,31 +171,31 @@ fn answer_of(op: u64, w: &[u64; 17]) -> Answer {
 }
 
 fn compared(text: &[u8]) -> RowOutcome {
-    let k = vector_replay::value_or(hex_text::hex_at(text, 0, 2), 256);
+    let k = vector_words::value_or(hex_text::hex_at(text, 0, 2), 256);
     let mut w = [0; 17];
-    if !vector_replay::read_words(text, 3, &mut w) {
+    if !vector_words::read_words(text, 3, &mut w) {
         return RowOutcome::Unread;
     }
-    vector_replay::told(k, 8, agrees(answer_of(k, &w), &w))
+    vector_words::told(k, 8, agrees(answer_of(k, &w), &w))
 }
 
 // The turns are counted down, since a proved loop has to end and nothing says that the input does.
 fn counted() -> RowCounts {
-    let mut t = vector_replay::start();
+    let mut t = vector_words::start();
     let mut turns = u64::MAX;
     while turns > 0 {
         let mut text = [0u8; 292];
-        if !vector_replay::read_row(&mut text) {
+        if !vector_words::read_row(&mut text) {
             break;
         }
-        t = vector_replay::count(t, compared(&text));
+        t = vector_words::count(t, compared(&text));
         turns -= 1;
     }
     t
 }
 
 fn main() {
-    vector_replay::print(
+    vector_words::print(
         b"disk_strip polygon_strip stadium_strip radius_at cut_radius cut_max cut_min check_tool",
         counted(),
     );

@@ -10,8 +10,8 @@ use grid::DexelGrid;
 use grid::DexelStockSpec;
 use grid::GridAnswer;
 use grid::WorldAxis;
-use vector_replay::RowCounts;
-use vector_replay::RowOutcome;
+use vector_words::RowCounts;
+use vector_words::RowOutcome;
 
 // The answer of `grid` for the units of this number.
 fn gridded(spec: DexelStockSpec, units: u64) -> GridAnswer
@@ -105,27 +105,27 @@ fn agrees(w: &[u64; 29]) -> bool {
 // Rows are counted by the number of the refusal that they ask for, or 0.
 fn compared(text: &[u8]) -> RowOutcome {
     let mut w = [0; 29];
-    if !vector_replay::read_words(text, 0, &mut w) {
+    if !vector_words::read_words(text, 0, &mut w) {
         return RowOutcome::Unread;
     }
-    vector_replay::told(w[15], 5, agrees(&w))
+    vector_words::told(w[15], 5, agrees(&w))
 }
 
 // The turns are counted down, since a proved loop has to end and nothing says that the input does.
 fn counted() -> RowCounts {
-    let mut t = vector_replay::start();
+    let mut t = vector_words::start();
     let mut turns = u64::MAX;
     while turns > 0 {
         let mut text = [0u8; 493];
-        if !vector_replay::read_row(&mut text) {
+        if !vector_words::read_row(&mut text) {
             break;
         }
-        t = vector_replay::count(t, compared(&text));
+        t = vector_words::count(t, compared(&text));
         turns -= 1;
     }
     t
 }
 
 fn main() {
-    vector_replay::print(b"accepted 1 2 3 4", counted());
+    vector_words::print(b"accepted 1 2 3 4", counted());
 }

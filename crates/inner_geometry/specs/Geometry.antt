@@ -3,8 +3,8 @@ use mathlib.Core.Path.{_≡_}
 use mathlib.Core.Logic.{_⊎_}
 use Prim.Native.Nat.{ℕ}
 use Rattle.doubles.specs.Constants.{plusZero}
-use Rattle.polygons.specs.declared.Strip.{Strip}
-use Rattle.polygons.specs.declared.Strip.the-variants.{Hit, Miss}
+use Rattle.strips.specs.declared.Strip.{Strip}
+use Rattle.strips.specs.declared.Strip.the-variants.{Hit, Miss}
 use Rattle.cutter.specs.declared.ProfileSlice.{ProfileSlice}
 use Rattle.cutter.specs.declared.ProfileSlice.the-variants.{Cutting, NonCutting}
 use Rattle.cutter.specs.declared.Radius.{Radius}

@@ -1,2 +1,3 @@
 -- The definitions that the contracts of `inner_geometry` cite.
 pub mod Geometry
+pub mod Orderings

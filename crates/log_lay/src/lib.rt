@@ -22,7 +22,7 @@ fn free_ray(
     if log_numbers::number_at(work, sizes + 2 * ray) == 0 {
         return;
     }
-    store_free::free_ray(spans, links, heads, n, ray);
+    store_lay::free_ray(spans, links, heads, n, ray);
 }
 
 // Frees the lists of all rays that change, wherever their new lists stand.

@@ -30,13 +30,13 @@ fn print_merged(
                 out,
                 0,
                 b'P',
-                ray_lists::possible_of(possible, &work, answer),
+                ray_merge::possible_of(possible, &work, answer),
             );
             let m = ray_output::put_lines(
                 out,
                 n,
                 b'C',
-                ray_lists::certain_of(certain, &work, answer),
+                ray_merge::certain_of(certain, &work, answer),
             );
             ray_output::put_end(out, m, p.moved, c.moved)
         }

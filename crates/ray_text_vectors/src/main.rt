@@ -3,8 +3,8 @@
 // A case is a head of ten bytes, the input and the output that it must give. The head has the two lengths in four hexadecimal digits each, with a
 // space between them and a newline behind. It writes how many cases agree and differ, how many can't be read, and the
 // number of the first that differs.
-use vector_replay::RowCounts;
-use vector_replay::RowOutcome;
+use vector_words::RowCounts;
+use vector_words::RowOutcome;
 
 // The most bytes of an input or an output.
 const MOST: usize = 16384;
@@ -37,27 +37,27 @@ fn ran(n: usize, m: usize) -> RowOutcome {
         return RowOutcome::Unread;
     }
     let s = vector_words::first_bytes(&input, n);
-    vector_replay::told(0, 1, gives(s, vector_words::first_bytes(&wanted, m)))
+    vector_words::told(0, 1, gives(s, vector_words::first_bytes(&wanted, m)))
 }
 
 // Where the head can't be read, a length is more than the most.
 fn compared(head: &[u8]) -> RowOutcome {
-    let n = vector_replay::value_or(hex_text::hex_at(head, 0, 4), 65536);
-    let m = vector_replay::value_or(hex_text::hex_at(head, 5, 4), 65536);
+    let n = vector_words::value_or(hex_text::hex_at(head, 0, 4), 65536);
+    let m = vector_words::value_or(hex_text::hex_at(head, 5, 4), 65536);
     ran(n as usize, m as usize)
 }
 
 // What follows a case that can't be read is not looked at.
 // The turns are counted down, since a proved loop has to end and nothing says that the input does.
 fn counted() -> RowCounts {
-    let mut t = vector_replay::start();
+    let mut t = vector_words::start();
     let mut turns = u64::MAX;
     while turns > 0 {
         let mut head = [0u8; 10];
-        if !vector_replay::read_row(&mut head) {
+        if !vector_words::read_row(&mut head) {
             break;
         }
-        t = vector_replay::count(t, compared(&head));
+        t = vector_words::count(t, compared(&head));
         if t.unread > 0 {
             break;
         }
@@ -67,5 +67,5 @@ fn counted() -> RowCounts {
 }
 
 fn main() {
-    vector_replay::print(b"cases", counted());
+    vector_words::print(b"cases", counted());
 }

@@ -7,8 +7,8 @@
 // differs.
 use span_compare::BoolAnswer;
 use spans::ListAnswer;
-use vector_replay::RowCounts;
-use vector_replay::RowOutcome;
+use vector_words::RowCounts;
+use vector_words::RowOutcome;
 
 // A refusal's number or 0, and the number of pairs, or 1 for yes.
 struct Reply {
@@ -102,27 +102,27 @@ fn agrees(w: &[u64; 35]) -> bool {
 
 fn compared(text: &[u8]) -> RowOutcome {
     let mut w = [0; 35];
-    if !vector_replay::read_words(text, 0, &mut w) {
+    if !vector_words::read_words(text, 0, &mut w) {
         return RowOutcome::Unread;
     }
-    vector_replay::told(w[0], 5, agrees(&w))
+    vector_words::told(w[0], 5, agrees(&w))
 }
 
 // The turns are counted down, since a proved loop has to end and nothing says that the input does.
 fn counted() -> RowCounts {
-    let mut t = vector_replay::start();
+    let mut t = vector_words::start();
     let mut turns = u64::MAX;
     while turns > 0 {
         let mut text = [0u8; 595];
-        if !vector_replay::read_row(&mut text) {
+        if !vector_words::read_row(&mut text) {
             break;
         }
-        t = vector_replay::count(t, compared(&text));
+        t = vector_words::count(t, compared(&text));
         turns -= 1;
     }
     t
 }
 
 fn main() {
-    vector_replay::print(b"normalize subtract intersect contains overlaps", counted());
+    vector_words::print(b"normalize subtract intersect contains overlaps", counted());
 }

@@ -9,8 +9,8 @@ use ray_subtract::MergedList;
 use stock_fill::FillAnswer;
 use stock_volume::DexelVolume;
 use stock_volume::VolumeAnswer;
-use vector_replay::RowCounts;
-use vector_replay::RowOutcome;
+use vector_words::RowCounts;
+use vector_words::RowOutcome;
 
 // Words 1 to 5: the cells of possible, certain, outer, inner and the work buffer; 6, 7: the bounds; the lists from 8, 14, 20 and 26 on.
 fn merge_on(w: &[u64; 87], work: &mut [f64]) -> MergeAnswer {
@@ -194,27 +194,27 @@ fn agrees(w: &[u64; 87]) -> bool {
 
 fn compared(text: &[u8]) -> RowOutcome {
     let mut w = [0; 87];
-    if !vector_replay::read_words(text, 0, &mut w) {
+    if !vector_words::read_words(text, 0, &mut w) {
         return RowOutcome::Unread;
     }
-    vector_replay::told(w[0], 3, agrees(&w))
+    vector_words::told(w[0], 3, agrees(&w))
 }
 
 // The turns are counted down, since a proved loop has to end and nothing says that the input does.
 fn counted() -> RowCounts {
-    let mut t = vector_replay::start();
+    let mut t = vector_words::start();
     let mut turns = u64::MAX;
     while turns > 0 {
         let mut text = [0u8; 1479];
-        if !vector_replay::read_row(&mut text) {
+        if !vector_words::read_row(&mut text) {
             break;
         }
-        t = vector_replay::count(t, compared(&text));
+        t = vector_words::count(t, compared(&text));
         turns -= 1;
     }
     t
 }
 
 fn main() {
-    vector_replay::print(b"merge fill volume", counted());
+    vector_words::print(b"merge fill volume", counted());
 }

@@ -1,1 +1,2 @@
 pub mod LayRays
+pub mod FreeRays

@@ -1,11 +1,14 @@
 // Lays lists in the lowest free records of a store: one list, and both lists of a ray.
+// Frees the lists of a store: one list, and both lists of a ray.
 ghost use mathlib.Core.Path.{_≡_};
 ghost use Prim.Native.Nat.{_+_, _-_, _*_, _<_, _≤_};
 ghost use lib.ListN.{length};
-ghost use Rattle.store.specs.Store.{freeFrom, putSpan, putLink};
+ghost use Rattle.store.specs.Store.{freeFrom, putSpan, putLink, RecordChain, places, freedSpans, freedLinks};
 ghost use Rattle.store.specs.Fills.{NextFree, FreeCursor, FillListPre, FillListPost};
-ghost use Rattle.store.specs.Updates.{cells, update, pairsFrom, LayListPre, LayListPost};
+ghost use Rattle.store.specs.Updates.{cells, update, pairsFrom, LayListPre, LayListPost, freedList, FreeListPre};
 ghost use Rattle.store_lay.specs.LayRays.{LayRayPre, LayRayPost};
+ghost use Rattle.store_lay.specs.FreeRays.{FreeRayPre};
+
 // The first free place from `from` on, of which there is one.
 fn next_free(spans: &[f64], links: &[u64], n: usize, from: usize) -> usize
     requires { ⌜ (2 * n ≤ length (now spans)) × (2 * n ≤ length (now links)) × (0 < length (freeFrom (now spans) (now links) from (n - from))) ⌝ }
@@ -122,4 +125,42 @@ pub fn lay_ray(
     let f = e + 2 * certain;
     let next = lay_list(spans, links, heads, n, from, j, &pairs[at..e]);
     lay_list(spans, links, heads, n, next, j + 1, &pairs[e..f])
+}
+
+// Frees the records of a chain.
+fn free_chain(spans: &mut [f64], links: &mut [u64], n: usize, owner: u64, head: u64)
+    requires { ⌜ (2 * n ≤ length (now spans)) × (2 * n ≤ length (now links)) × RecordChain (now links) n owner head (places (now links) n head) ⌝ }
+    ensures { λ _. ⌜ (now (spans .exit) ≡ freedSpans (now (spans .entry)) (places (now (links .entry)) n head))
+        × (now (links .exit) ≡ freedLinks (now (links .entry)) (places (now (links .entry)) n head)) ⌝ }
+{
+    let mut k = head;
+    while k != 0 {
+        let i = (k - 1) as usize;
+        k = links[2 * i];
+        spans[2 * i] = 0.0;
+        spans[2 * i + 1] = 0.0;
+        links[2 * i] = 0;
+        links[2 * i + 1] = 0;
+    }
+}
+
+// Frees list j: its records and its head.
+fn free_list(spans: &mut [f64], links: &mut [u64], heads: &mut [u64], n: usize, j: usize)
+    requires { ⌜ FreeListPre n (cells (now spans) (now links) (now heads)) j ⌝ }
+    ensures { λ _. ⌜ cells (now (spans .exit)) (now (links .exit)) (now (heads .exit)) ≡ freedList n (cells (now (spans .entry)) (now (links .entry)) (now (heads .entry))) j ⌝ }
+{
+    let head = heads[j];
+    free_chain(spans, links, n, (j as u64) + 1, head);
+    heads[j] = 0;
+}
+
+// Frees both lists of a ray.
+pub fn free_ray(spans: &mut [f64], links: &mut [u64], heads: &mut [u64], n: usize, ray: usize)
+    requires { ⌜ FreeRayPre n (cells (now spans) (now links) (now heads)) ray ⌝ }
+    ensures { λ _. ⌜ cells (now (spans .exit)) (now (links .exit)) (now (heads .exit))
+        ≡ freedList n (freedList n (cells (now (spans .entry)) (now (links .entry)) (now (heads .entry))) (2 * ray)) (2 * ray + 1) ⌝ }
+{
+    let j = 2 * ray;
+    free_list(spans, links, heads, n, j);
+    free_list(spans, links, heads, n, j + 1);
 }

@@ -19,7 +19,7 @@ use Rattle.spans.specs.Rays.{bounded, from, covers, contained, valid}
 use Rattle.spans.proofs.Containment.{from-skip, from-stop, valid-ray, ray-valid}
 use Rattle.store_rays.specs.Lengths.{lengthFrom, startsIn, ListSumPost, RaySumsPost}
 use Rattle.store_rays.specs.declared.ListSum.{ListSum}
-use Rattle.store_lists.proofs.Steps.{Step, no-ends}
+use Rattle.store_rays.proofs.Steps.{Step, no-ends}
 
 cons-some : {x : Float} {l : List Float} → x ∷ l ≡ [] → ⊥
 cons-some {x} {l} e = let none : length (x ∷ l) ≡ 0 = ap length e in omega arith

@@ -1,2 +1,4 @@
 pub mod Bounds
 pub mod RayLoops
+pub mod Steps
+pub mod ListLoops

@@ -8,7 +8,7 @@ use Rattle.logic.proofs.Bools.{not-true, not-false}
 use Rattle.store.specs.Store.{loAt, hiAt, nextAt, listFrom}
 use Rattle.spans.specs.Rays.{from, covers, contained}
 use Rattle.spans.proofs.Containment.{from-skip, from-stop}
-use Rattle.store_lists.proofs.Steps.{Step, no-ends}
+use Rattle.store_rays.proofs.Steps.{Step, no-ends}
 use Rattle.store_rays.specs.Lengths.{lengthFrom, ReachPost}
 
 -- ---- the sum of the pairs' lengths

@@ -6,7 +6,7 @@ use Prim.Native.Nat.{ℕ}
 use lib.Ieee.{Float, binary64, add, sub, le}
 use Rattle.doubles.specs.Constants.{plusZero}
 use Rattle.spans.specs.Rays.{from, ValidRay}
-use Rattle.store_lists.specs.Reading.{Readable}
+use Rattle.store_rays.specs.Reading.{Readable}
 use Rattle.store_rays.specs.declared.ListSum.{ListSum}
 use Rattle.store_rays.specs.declared.RaySums.{RaySums}
 use Rattle.store.specs.Store.{listFrom}

@@ -4,10 +4,10 @@ use lib.Ieee.{Float, binary64, add, sub, mul, div, neg, lt, le}
 use Rattle.doubles.specs.Constants.{plusZero}
 use Rattle.doubles.specs.Doubles.{largerOf, smallerOf}
 use Rattle.doubles_sqrt.specs.Root.{squareRoot}
-use Rattle.polygons.specs.declared.Point.{Point}
-use Rattle.polygons.specs.declared.Strip.{Strip}
-use Rattle.polygons.specs.declared.Strip.the-variants.{Hit, Miss}
-use Rattle.polygons.specs.Polygon.{polygonStrip}
+use Rattle.strips.specs.declared.Point.{Point}
+use Rattle.strips.specs.declared.Strip.{Strip}
+use Rattle.strips.specs.declared.Strip.the-variants.{Hit, Miss}
+use Rattle.strips.specs.Polygon.{polygonStrip}
 
 -- how far y lies outside the band from y0 to y1
 unfoldable pub bandDistance : Float → Float → Float → Float

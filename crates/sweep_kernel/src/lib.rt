@@ -11,7 +11,7 @@ use grid::DexelGrid;
 use grid::DexelStockSpec;
 use grid::Vec3;
 use grid::WorldAxis;
-use polygons::Point;
+use strips::Point;
 use sweep_model::AxisScale;
 use sweep_model::CellRange;
 use sweep_model::Chord;

@@ -10,8 +10,8 @@ use Rattle.cutter.specs.declared.Radius.the-variants.{Is}
 use Rattle.frame.specs.Frame.{worldOf}
 use Rattle.frame.specs.declared.Pair.{Pair}
 use Rattle.strips.specs.Strip.{stadiumStrip}
-use Rattle.polygons.specs.declared.Strip.{Strip}
-use Rattle.polygons.specs.declared.Strip.the-variants.{Hit, Miss}
+use Rattle.strips.specs.declared.Strip.{Strip}
+use Rattle.strips.specs.declared.Strip.the-variants.{Hit, Miss}
 use Rattle.sweep_model.specs.declared.Profile.{Profile}
 use Rattle.sweep_model.specs.declared.ChordOnAxis.{ChordOnAxis}
 use Rattle.sweep_model.specs.declared.Section.{Section}

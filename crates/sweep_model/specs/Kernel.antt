@@ -16,7 +16,7 @@ use Rattle.grid.specs.declared.Vec3.{Vec3}
 use Rattle.grid.specs.declared.WorldAxis.{WorldAxis}
 use Rattle.grid.specs.declared.DexelStockSpec.{DexelStockSpec}
 use Rattle.grid.specs.declared.DexelGrid.{DexelGrid}
-use Rattle.polygons.specs.declared.Point.{Point}
+use Rattle.strips.specs.declared.Point.{Point}
 use Rattle.sweep_model.specs.declared.Profile.{Profile}
 use Rattle.sweep_model.specs.declared.Kernel.{Kernel}
 use Rattle.sweep_model.specs.declared.Chord.{Chord}

@@ -6,7 +6,7 @@ use frame::LocalAxis;
 use frame::Pair;
 use grid::Vec3;
 use grid::WorldAxis;
-use polygons::Point;
+use strips::Point;
 
 // The cutting part; `radius` is half the diameter.
 pub struct Profile {

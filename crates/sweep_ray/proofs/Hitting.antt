@@ -3,7 +3,7 @@ use mathlib.Core.Path.{_≡_}
 use mathlib.Core.Bool.{true, false}
 use mathlib.Core.List.{List}
 use lib.Ieee.{Float}
-use Rattle.polygons.specs.declared.Strip.the-variants.{Hit, Miss}
+use Rattle.strips.specs.declared.Strip.the-variants.{Hit, Miss}
 use Rattle.sweep_model.specs.declared.Profile.{Profile}
 use Rattle.sweep_model.specs.declared.ChordOnAxis.{ChordOnAxis}
 use Rattle.sweep_model.specs.declared.Section.{Section}

@@ -1,2 +1,4 @@
 pub mod Hitting
 pub mod Material
+pub mod Sharing
+pub mod Meeting

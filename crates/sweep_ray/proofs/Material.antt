@@ -11,19 +11,19 @@ use Rattle.cutter.specs.Cutter.{cutMax}
 use Rattle.cutter.specs.declared.Radius.{Radius}
 use Rattle.cutter.specs.declared.Radius.the-variants.{Is}
 use Rattle.frame.specs.Frame.{signAlong, turned, worldOf}
-use Rattle.polygons.specs.declared.Strip.{Strip}
-use Rattle.polygons.specs.declared.Strip.the-variants.{Hit, Miss}
+use Rattle.strips.specs.declared.Strip.{Strip}
+use Rattle.strips.specs.declared.Strip.the-variants.{Hit, Miss}
 use Rattle.sweep_model.specs.declared.Profile.{Profile}
 use Rattle.sweep_model.specs.declared.ChordOnAxis.{ChordOnAxis}
 use Rattle.sweep_model.specs.Meets.{spansMeet, overlapsOf}
-use Rattle.sweep_meet.proofs.Sharing.{overlaps-share, share-overlaps}
+use Rattle.sweep_ray.proofs.Sharing.{overlaps-share, share-overlaps}
 use Rattle.sweep_model.specs.declared.Section.{Section}
 use Rattle.sweep_model.specs.declared.HitPairs.{HitPairs}
 use Rattle.sweep_model.specs.declared.RayHit.{RayHit}
 use Rattle.sweep_model.specs.declared.RayHit.the-variants.{On, Off}
 use Rattle.sweep_model.specs.Across.{pair, outerFrom, outerAt, outerOf, innerOf, hitWith, rayHitOf}
 use Rattle.sweep_ray.proofs.Hitting.{hit-on}
-use Rattle.sweep_meet.specs.Steps.{endsOf}
+use Rattle.sweep_ray.specs.Steps.{endsOf}
 
 -- ---- the ends of the outer interval are doubles
 

@@ -7,8 +7,8 @@
 // row that differs.
 use frame::Axis;
 use sweep::SweepAnswer;
-use vector_replay::RowCounts;
-use vector_replay::RowOutcome;
+use vector_words::RowCounts;
+use vector_words::RowOutcome;
 
 // A sweep's answer as numbers, 0 for no refusal, and whether the store and the chords are as they were.
 struct Answer {
@@ -192,27 +192,27 @@ fn kind_of(refusal: u64) -> u64 {
 
 fn compared(text: &[u8]) -> RowOutcome {
     let mut w = [0; 243];
-    if !vector_replay::read_words(text, 0, &mut w) {
+    if !vector_words::read_words(text, 0, &mut w) {
         return RowOutcome::Unread;
     }
-    vector_replay::told(kind_of(w[35]), 2, agrees(&w))
+    vector_words::told(kind_of(w[35]), 2, agrees(&w))
 }
 
 // The turns are counted down, since a proved loop has to end and nothing says that the input does.
 fn counted() -> RowCounts {
-    let mut t = vector_replay::start();
+    let mut t = vector_words::start();
     let mut turns = u64::MAX;
     while turns > 0 {
         let mut text = [0u8; 4131];
-        if !vector_replay::read_row(&mut text) {
+        if !vector_words::read_row(&mut text) {
             break;
         }
-        t = vector_replay::count(t, compared(&text));
+        t = vector_words::count(t, compared(&text));
         turns -= 1;
     }
     t
 }
 
 fn main() {
-    vector_replay::print(b"accepted refused", counted());
+    vector_words::print(b"accepted refused", counted());
 }

@@ -15,7 +15,7 @@ use Rattle.grid.specs.declared.DexelGrid.{DexelGrid}
 use Rattle.grid.specs.declared.GridAnswer.the-variants.{Accepted}
 use Rattle.grid.specs.Causes.{mm}
 use Rattle.grid.specs.FromSpec.{gridOf}
-use Rattle.polygons.specs.declared.Strip.the-variants.{Hit}
+use Rattle.strips.specs.declared.Strip.the-variants.{Hit}
 use Rattle.strips.specs.Strip.{diskStrip}
 use Rattle.cutter.specs.declared.CutterShape.{CutterShape}
 use Rattle.cutter.specs.declared.CutterShape.the-variants.{Ball}

@@ -4,8 +4,8 @@ use lib.ListN.{length}
 use Rattle.logic.proofs.Bools.{not-true, not-false}
 use Rattle.store.specs.Store.{places, listFrom}
 use Rattle.spans.specs.Rays.{from}
-use Rattle.store_lists.specs.Reading.{Readable}
-use Rattle.store_lists.proofs.Steps.{step}
+use Rattle.store_rays.specs.Reading.{Readable}
+use Rattle.store_rays.proofs.Steps.{step}
 use Rattle.store_rays.proofs.RayLoops.{reach-here, reach-later, reach-none}
 use Rattle.store_rays.proofs.first_reaching.Statement.{statement}
 use Rattle.store_rays.proofs.first_reaching.Tie as tie

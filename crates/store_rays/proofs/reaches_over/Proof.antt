@@ -1,5 +1,5 @@
 use borrow.Author.Needs.{needs}
-use Rattle.store_lists.proofs.Steps.{step}
+use Rattle.store_rays.proofs.Steps.{step}
 use Rattle.store_rays.proofs.RayLoops.{over-none, over-both, over-begin}
 use Rattle.store_rays.proofs.reaches_over.Statement.{statement}
 use Rattle.store_rays.proofs.reaches_over.Tie as tie

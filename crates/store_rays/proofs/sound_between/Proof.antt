@@ -3,9 +3,9 @@ use mathlib.Core.Path.{_≡_, refl, _∙_}
 use lib.ListN.{length}
 use Rattle.doubles.specs.Constants.{plusZero}
 use Rattle.store.specs.Store.{places, listFrom}
-use Rattle.store_lists.specs.Reading.{Readable}
+use Rattle.store_rays.specs.Reading.{Readable}
 use Rattle.store_rays.specs.Lengths.{lengthFrom}
-use Rattle.store_lists.proofs.Steps.{step}
+use Rattle.store_rays.proofs.Steps.{step}
 use Rattle.store_rays.proofs.RayLoops.{length-step, length-end}
 use Rattle.store_rays.proofs.Bounds.{after, lastEnd, zero-nan, sound-after, starts-bad, after-none, after-bad, after-good, last-step, last-none, none-between, all-between, left-bad, sum-bad, sum-good}
 use Rattle.store_rays.proofs.sound_between.Statement.{statement}

@@ -1,5 +1,5 @@
 use borrow.Author.Needs.{needs}
-use Rattle.store_lists.proofs.Steps.{step}
+use Rattle.store_rays.proofs.Steps.{step}
 use Rattle.store_rays.proofs.Bounds.{starts-none, starts-some}
 use Rattle.store_rays.proofs.starts_within.Statement.{statement}
 use Rattle.store_rays.proofs.starts_within.Tie as tie

@@ -1,3 +1,0 @@
--- The definitions that the contracts of `vector_replay` cite.
-pub mod Tallies
-pub mod ReadWords
