@@ -15,8 +15,8 @@ use Rattle.change_list.specs.Changes.{headAt, end2, end3, end4, Change, changeB
 use Rattle.change_list.specs.declared.ChangeHead.{ChangeHead}
 use Rattle.change_list.proofs.Sums.{rest-is}
 use Rattle.change_list.proofs.Applying.{good-ascend}
-use Rattle.store_lay.specs.FreeRays.{FreeRayPre}
-use Rattle.store_lay.specs.LayRays.{LayRayPre, LayRayPost}
+use Rattle.store_write.specs.FreeRays.{FreeRayPre}
+use Rattle.store_write.specs.LayRays.{LayRayPre, LayRayPost}
 use Rattle.change_apply.specs.Passes.{updatesIn, ChangesFit}
 
 -- ---- one update of a list of updates that is split before it

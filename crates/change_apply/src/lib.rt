@@ -25,7 +25,7 @@ fn free_changes(
     while k < count {
         let h = change_list::head(changes, k);
         let ray = change_list::ray_named(g, h);
-        store_lay::free_ray(
+        store_write::free_ray(
             spans,
             links,
             heads,
@@ -66,7 +66,7 @@ fn lay_changes(
         let h = change_list::head(changes, k);
         let ray = change_list::ray_named(g, h);
         let after = past_lists(at, h.before_possible, h.before_certain);
-        from = store_lay::lay_ray(
+        from = store_write::lay_ray(
             spans,
             links,
             heads,

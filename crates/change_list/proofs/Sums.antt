@@ -13,7 +13,7 @@ use Rattle.grid.specs.declared.DexelStockSpec.{DexelStockSpec}
 use Rattle.grid.specs.declared.DexelGrid.{DexelGrid}
 use Rattle.store.specs.Store.{placesOf}
 use Rattle.store.specs.Updates.{Cells, pairsFrom, pairsFreed, pairsLaid}
-use Rattle.store_rays.proofs.Steps.{ends-length}
+use Rattle.store_read.proofs.Steps.{ends-length}
 use Rattle.stock.specs.Stock.{possibleIn, certainIn}
 use Rattle.change_list.specs.Changes.{headAt, end1, end2, end3, end4, Change, changeBy, changesFrom, changesOf, changeRay, Good, AllGood, updatesOf}
 use Rattle.change_list.specs.Steps.{onward, cursorOf, Stands, CheckChangePost, CheckChangesPost}

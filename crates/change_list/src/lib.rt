@@ -243,10 +243,10 @@ fn had(
 {
     let n = spec.max_intervals as usize;
     let j = 2 * (ray as usize);
-    if !store_rays::list_is(spans, links, n, heads[j], p) {
+    if !store_read::list_is(spans, links, n, heads[j], p) {
         return false;
     }
-    store_rays::list_is(spans, links, n, heads[j + 1], q)
+    store_read::list_is(spans, links, n, heads[j + 1], q)
 }
 
 // Whether the new lists of a ray are valid, gain no point of the old ones and differ from them.

@@ -7,8 +7,8 @@
 // For each entry it writes how many rows agree and how many differ, and how many runs were started, then how many rows can't be read, and the number
 // of the first row that differs.
 use stock::CommitAnswer;
-use vector_words::RowCounts;
-use vector_words::RowOutcome;
+use vector_rows::RowCounts;
+use vector_rows::RowOutcome;
 
 // The store of a run and its small record.
 struct Store {
@@ -36,20 +36,20 @@ fn changes_in(
     heads: &mut [u64],
 ) -> stock::RowOutcome {
     let mut changes = [0; 36];
-    vector_words::numbers_at(w, 94, &mut changes);
+    vector_rows::numbers_at(w, 94, &mut changes);
     let mut pairs = [0.0; 40];
-    vector_words::doubles_at(w, 130, &mut pairs);
+    vector_rows::doubles_at(w, 130, &mut pairs);
     commit_changes::commit_changes_on(
         generation,
         intervals,
-        vector_words::spec_at(w, 1, 3),
+        vector_rows::spec_at(w, 1, 3),
         units,
         spans,
         links,
         heads,
         w[15],
-        vector_words::first_numbers(&changes, w[16] as usize),
-        vector_words::first(&pairs, w[17] as usize),
+        vector_rows::first_numbers(&changes, w[16] as usize),
+        vector_rows::first(&pairs, w[17] as usize),
     )
 }
 
@@ -65,18 +65,18 @@ fn log_in(
     work: &mut [f64],
 ) -> stock::RowOutcome {
     let mut log = [0.0; 36];
-    vector_words::doubles_at(w, 94, &mut log);
+    vector_rows::doubles_at(w, 94, &mut log);
     commit_log::commit_log_on(
         generation,
         intervals,
-        vector_words::spec_at(w, 1, 3),
+        vector_rows::spec_at(w, 1, 3),
         units,
         spans,
         links,
         heads,
-        vector_words::first(&log, w[16] as usize),
+        vector_rows::first(&log, w[16] as usize),
         w[15],
-        vector_words::first_mut(work, w[17] as usize),
+        vector_rows::first_mut(work, w[17] as usize),
     )
 }
 
@@ -90,7 +90,7 @@ fn commit_on(
     heads: &mut [u64],
     work: &mut [f64],
 ) -> stock::RowOutcome {
-    let units = vector_words::units_of(w[2]);
+    let units = vector_rows::units_of(w[2]);
     if w[0] == 0 {
         return changes_in(w, generation, intervals, &units, spans, links, heads);
     }
@@ -99,18 +99,18 @@ fn commit_on(
 
 // Whether each cell below `cleared` is plus zero, which every word past the row is, and each other one still 7.
 fn work_agrees(w: &[u64; 170], work: &[f64], cleared: usize) -> bool {
-    vector_words::cells_agree(work, w, 170, 0, cleared)
+    vector_rows::cells_agree(work, w, 170, 0, cleared)
 }
 
 // The spans from word 22 on, the links from 52, the heads from 82.
 fn store_agrees(w: &[u64; 170], spans: &[f64], links: &[u64], heads: &[u64]) -> bool {
-    if !vector_words::cells_agree(spans, w, 22, 0, 30) {
+    if !vector_rows::cells_agree(spans, w, 22, 0, 30) {
         return false;
     }
-    if !vector_words::numbers_agree(links, w, 52, 30) {
+    if !vector_rows::numbers_agree(links, w, 52, 30) {
         return false;
     }
-    vector_words::numbers_agree(heads, w, 82, 12)
+    vector_rows::numbers_agree(heads, w, 82, 12)
 }
 
 // Words 18 to 21: the refusal, 0 for none, the changed rays, the generation and the interval total. An accepted log commit clears the work buffer.
@@ -161,9 +161,9 @@ fn commit_step(w: &[u64; 170], s: Store) -> Shown {
         w,
         s.generation,
         s.intervals,
-        vector_words::first_mut(&mut spans, w[12] as usize),
-        vector_words::first_numbers_mut(&mut links, w[13] as usize),
-        vector_words::first_numbers_mut(&mut heads, w[14] as usize),
+        vector_rows::first_mut(&mut spans, w[12] as usize),
+        vector_rows::first_numbers_mut(&mut links, w[13] as usize),
+        vector_rows::first_numbers_mut(&mut heads, w[14] as usize),
         &mut work,
     );
     let agrees = both(
@@ -171,7 +171,7 @@ fn commit_step(w: &[u64; 170], s: Store) -> Shown {
         store_agrees(w, &spans, &links, &heads),
     );
     Shown {
-        outcome: vector_words::told(w[0], 2, agrees),
+        outcome: vector_rows::told(w[0], 2, agrees),
         store: Store {
             spans,
             links,
@@ -185,11 +185,11 @@ fn commit_step(w: &[u64; 170], s: Store) -> Shown {
 // The store that a run starts with.
 fn start_step(w: &[u64; 170]) -> Shown {
     let mut spans = [0.0; 30];
-    vector_words::doubles_at(w, 22, &mut spans);
+    vector_rows::doubles_at(w, 22, &mut spans);
     let mut links = [0; 30];
-    vector_words::numbers_at(w, 52, &mut links);
+    vector_rows::numbers_at(w, 52, &mut links);
     let mut heads = [0; 12];
-    vector_words::numbers_at(w, 82, &mut heads);
+    vector_rows::numbers_at(w, 82, &mut heads);
     Shown {
         outcome: RowOutcome::Agrees(2),
         store: Store {
@@ -204,7 +204,7 @@ fn start_step(w: &[u64; 170]) -> Shown {
 
 fn shown_by(text: &[u8], s: Store) -> Shown {
     let mut w = [0; 170];
-    if !vector_words::read_words(text, 0, &mut w) {
+    if !vector_rows::read_words(text, 0, &mut w) {
         return Shown {
             outcome: RowOutcome::Unread,
             store: s,
@@ -234,17 +234,17 @@ fn no_store() -> Store {
 
 // The turns are counted down, since a proved loop has to end and nothing says that the input does.
 fn counted() -> RowCounts {
-    let mut t = vector_words::start();
+    let mut t = vector_rows::start();
     let mut store = no_store();
     let mut turns = u64::MAX;
     while turns > 0 {
         let mut text = [0u8; 2890];
-        if !vector_words::read_row(&mut text) {
+        if !vector_rows::read_row(&mut text) {
             break;
         }
         let s = shown_by(&text, store);
         let outcome = s.outcome;
-        t = vector_words::count(t, outcome);
+        t = vector_rows::count(t, outcome);
         let left = s.store;
         store = left;
         turns -= 1;
@@ -253,5 +253,5 @@ fn counted() -> RowCounts {
 }
 
 fn main() {
-    vector_words::print(b"commit_changes commit_log runs", counted());
+    vector_rows::print(b"commit_changes commit_log runs", counted());
 }

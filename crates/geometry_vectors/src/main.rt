@@ -9,8 +9,8 @@ use cutter::Radius;
 use cutter_check::ToolCheck;
 use strips::Point;
 use strips::Strip;
-use vector_words::RowCounts;
-use vector_words::RowOutcome;
+use vector_rows::RowCounts;
+use vector_rows::RowOutcome;
 
 struct Answer {
     kind: u64,
@@ -120,8 +120,8 @@ fn answer_strips(op: u64, w: &[u64; 17]) -> Answer {
 }
 
 fn answer_cutter(op: u64, w: &[u64; 17]) -> Answer {
-    let shape = vector_words::shape_at(w, 0);
-    let c = vector_words::cutter_at(w, 3);
+    let shape = vector_rows::shape_at(w, 0);
+    let c = vector_rows::cutter_at(w, 3);
     let h0 = doubles_bits::of_bits(w[12]);
     let h1 = doubles_bits::of_bits(w[13]);
     if op == 3 {
@@ -171,31 +171,31 @@ fn answer_of(op: u64, w: &[u64; 17]) -> Answer {
 }
 
 fn compared(text: &[u8]) -> RowOutcome {
-    let k = vector_words::value_or(hex_text::hex_at(text, 0, 2), 256);
+    let k = vector_rows::value_or(hex_text::hex_at(text, 0, 2), 256);
     let mut w = [0; 17];
-    if !vector_words::read_words(text, 3, &mut w) {
+    if !vector_rows::read_words(text, 3, &mut w) {
         return RowOutcome::Unread;
     }
-    vector_words::told(k, 8, agrees(answer_of(k, &w), &w))
+    vector_rows::told(k, 8, agrees(answer_of(k, &w), &w))
 }
 
 // The turns are counted down, since a proved loop has to end and nothing says that the input does.
 fn counted() -> RowCounts {
-    let mut t = vector_words::start();
+    let mut t = vector_rows::start();
     let mut turns = u64::MAX;
     while turns > 0 {
         let mut text = [0u8; 292];
-        if !vector_words::read_row(&mut text) {
+        if !vector_rows::read_row(&mut text) {
             break;
         }
-        t = vector_words::count(t, compared(&text));
+        t = vector_rows::count(t, compared(&text));
         turns -= 1;
     }
     t
 }
 
 fn main() {
-    vector_words::print(
+    vector_rows::print(
         b"disk_strip polygon_strip stadium_strip radius_at cut_radius cut_max cut_min check_tool",
         counted(),
     );

@@ -10,8 +10,8 @@ use grid::DexelGrid;
 use grid::DexelStockSpec;
 use grid::GridAnswer;
 use grid::WorldAxis;
-use vector_words::RowCounts;
-use vector_words::RowOutcome;
+use vector_rows::RowCounts;
+use vector_rows::RowOutcome;
 
 // The answer of `grid` for the units of this number.
 fn gridded(spec: DexelStockSpec, units: u64) -> GridAnswer
@@ -88,7 +88,7 @@ fn answer(
 fn answer_to(w: &[u64; 29]) -> [u64; 14] {
     let axis = WorldAxis((w[11] % 3) as u8);
     answer(
-        vector_words::spec_at(w, 0, 2),
+        vector_rows::spec_at(w, 0, 2),
         w[1],
         axis,
         w[12],
@@ -99,33 +99,33 @@ fn answer_to(w: &[u64; 29]) -> [u64; 14] {
 
 fn agrees(w: &[u64; 29]) -> bool {
     let got = answer_to(w);
-    vector_words::numbers_agree(&got, w, 15, 14)
+    vector_rows::numbers_agree(&got, w, 15, 14)
 }
 
 // Rows are counted by the number of the refusal that they ask for, or 0.
 fn compared(text: &[u8]) -> RowOutcome {
     let mut w = [0; 29];
-    if !vector_words::read_words(text, 0, &mut w) {
+    if !vector_rows::read_words(text, 0, &mut w) {
         return RowOutcome::Unread;
     }
-    vector_words::told(w[15], 5, agrees(&w))
+    vector_rows::told(w[15], 5, agrees(&w))
 }
 
 // The turns are counted down, since a proved loop has to end and nothing says that the input does.
 fn counted() -> RowCounts {
-    let mut t = vector_words::start();
+    let mut t = vector_rows::start();
     let mut turns = u64::MAX;
     while turns > 0 {
         let mut text = [0u8; 493];
-        if !vector_words::read_row(&mut text) {
+        if !vector_rows::read_row(&mut text) {
             break;
         }
-        t = vector_words::count(t, compared(&text));
+        t = vector_rows::count(t, compared(&text));
         turns -= 1;
     }
     t
 }
 
 fn main() {
-    vector_words::print(b"accepted 1 2 3 4", counted());
+    vector_rows::print(b"accepted 1 2 3 4", counted());
 }

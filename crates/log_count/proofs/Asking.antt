@@ -11,8 +11,8 @@ use Rattle.grid.specs.declared.DexelGrid.{DexelGrid}
 use Rattle.spans.specs.Spans.{sound}
 use Rattle.store.specs.Updates.{Cells}
 use Rattle.stock.specs.Stock.{possibleIn, certainIn}
-use Rattle.store_rays.specs.Reading.{Readable}
-use Rattle.store_rays.proofs.Steps.{readable}
+use Rattle.store_read.specs.Reading.{Readable}
+use Rattle.store_read.proofs.Steps.{readable}
 use Rattle.log_model.specs.Logs.{entryCount}
 use Rattle.log_keys.specs.Keys.{hitsTo}
 use Rattle.log_count.specs.Totals.{Prefixed}

@@ -18,7 +18,7 @@ use Rattle.store.specs.Store.{placesOf}
 use Rattle.store.specs.Updates.{Cells}
 use Rattle.store.proofs.FreePlaces.{free-records}
 use Rattle.stock.specs.Stock.{Stock, possibleIn, certainIn, SoundStock}
-use Rattle.store_rays.proofs.Steps.{ends-length}
+use Rattle.store_read.proofs.Steps.{ends-length}
 use Rattle.log_model.specs.Logs.{possible, certain, entryAt, entryCount, entries, entryRay, HitKind, outer, inner}
 use Rattle.log_model.specs.Model.{pairTotal}
 use Rattle.log_model.specs.Counts.{isHitBy, startsLeft, hitsOnList, isRayChanged, changedRayCount, pairsAfter}

@@ -10,7 +10,7 @@ use Rattle.logic.proofs.Bools.{clash}
 use Rattle.doubles.proofs.Order.{lt-irrefl, le-refl, lt→le}
 use Rattle.grid.specs.declared.DexelGrid.{DexelGrid}
 use Rattle.spans.specs.Spans.{holds, sound}
-use Rattle.store_rays.specs.Reading.{Readable}
+use Rattle.store_read.specs.Reading.{Readable}
 use Rattle.log_keys.specs.Keys.{pairsPast}
 use Rattle.log_keys.proofs.Past.{past-falls}
 use Rattle.log_left.specs.Steps.{StartPost}

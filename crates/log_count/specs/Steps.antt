@@ -11,7 +11,7 @@ use Rattle.grid.specs.Rays.{rayCount}
 use Rattle.grid.specs.declared.DexelStockSpec.{DexelStockSpec}
 use Rattle.grid.specs.declared.DexelGrid.{DexelGrid}
 use Rattle.store.specs.Updates.{Cells}
-use Rattle.store_rays.specs.Reading.{Readable}
+use Rattle.store_read.specs.Reading.{Readable}
 use Rattle.log_model.specs.Logs.{entries, entryAt, entryCount, entryRay, outer, inner}
 use Rattle.log_model.specs.Counts.{isHitBy, startsLeft}
 use Rattle.log_entries.specs.Named.{EachNamed, hitsOnRayNumber}

@@ -4,7 +4,7 @@ ghost use mathlib.Core.Path.{_≡_};
 ghost use Prim.Native.Nat.{_+_, _<_};
 ghost use lib.ListN.{length};
 ghost use Rattle.store.specs.Updates.{cells};
-ghost use Rattle.store_rays.specs.Reading.{Readable};
+ghost use Rattle.store_read.specs.Reading.{Readable};
 ghost use Rattle.log_model.specs.Logs.{entryCount};
 ghost use Rattle.log_keys.specs.Keys.{hitsTo};
 ghost use Rattle.log_gather.specs.Gathering.{Shaped};
@@ -42,7 +42,7 @@ fn end_list(spans: &[f64], links: &[u64], n: usize, head: u64, r: Rest) -> ListC
     let left = log_left::finish(spans, links, n, r);
     ListCount {
         changes: left.moved,
-        before: store_rays::list_pairs(links, n, head) as u64,
+        before: store_read::list_pairs(links, n, head) as u64,
         after: left.pairs,
     }
 }

@@ -13,7 +13,7 @@ use Rattle.grid.specs.declared.DexelGrid.{DexelGrid}
 use Rattle.log_model.specs.Logs.{entryAt, entries, entryCount, HitKind, outer, inner, hitLo, hitHi}
 use Rattle.log_entries.specs.Named.{namedFrom, hitsOnRayNumber, pairsAt}
 use Rattle.log_entries.proofs.Places.{pairs-named, pairs-at}
-use Rattle.store_rays.specs.Reading.{ReadListPost}
+use Rattle.store_read.specs.Reading.{ReadListPost}
 use Rattle.log_group.specs.Groups.{PlaceChain, ends, more, Grouped, columnOf}
 use Rattle.log_group.proofs.Chains.{chain-kept}
 

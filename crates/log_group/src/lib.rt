@@ -7,7 +7,7 @@ ghost use Rattle.log_numbers.specs.Numbers.{numberCell};
 ghost use Rattle.grid.specs.Rays.{rayCount};
 ghost use Rattle.log_model.specs.Logs.{entries, entryCount};
 ghost use Rattle.log_entries.specs.Named.{EachNamed, hitsOnRayNumber};
-ghost use Rattle.store_rays.specs.Reading.{ReadListPost};
+ghost use Rattle.store_read.specs.Reading.{ReadListPost};
 ghost use Rattle.log_group.specs.Groups.{Grouped, GroupPost, hitKindOf, columnOf};
 use grid::DexelGrid;
 

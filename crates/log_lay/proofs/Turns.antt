@@ -8,7 +8,7 @@ use lib.Ieee.{Float}
 use borrow.Author.Tests.{eq-eqb, ne-eqb}
 use Rattle.log_numbers.specs.Numbers.{numberAt}
 use Rattle.store.specs.Updates.{Cells, Update, update, pairsFrom, LayListPre, freedList, freedAll, laidList, laidAll}
-use Rattle.store_lay.specs.LayRays.{LayRayPre, LayRayPost}
+use Rattle.store_write.specs.LayRays.{LayRayPre, LayRayPost}
 use Rattle.log_lay.specs.Updates.{firstSize, updatesFrom, listsEnd}
 use Rattle.log_lay.specs.Steps.{EachLayable, RaysLayable, RaysLaid}
 use Rattle.log_lay.specs.declared.LayPlace.{LayPlace}

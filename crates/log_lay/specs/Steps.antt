@@ -6,7 +6,7 @@ use lib.ListN.{length}
 use lib.Ieee.{Float}
 use Rattle.store.specs.Fills.{FreeCursor}
 use Rattle.store.specs.Updates.{Cells, Update, Room, CellsChainsSound, LayListPre, laidList, laidAll}
-use Rattle.store_lay.specs.FreeRays.{FreeRayPre}
+use Rattle.store_write.specs.FreeRays.{FreeRayPre}
 use Rattle.log_lay.specs.Updates.{updatesFrom, listsEnd}
 use Rattle.log_lay.specs.declared.LayPlace.{LayPlace}
 

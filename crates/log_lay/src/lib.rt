@@ -22,7 +22,7 @@ fn free_ray(
     if log_numbers::number_at(work, sizes + 2 * ray) == 0 {
         return;
     }
-    store_lay::free_ray(spans, links, heads, n, ray);
+    store_write::free_ray(spans, links, heads, n, ray);
 }
 
 // Frees the lists of all rays that change, wherever their new lists stand.
@@ -77,7 +77,7 @@ fn lay_ray(
     let certain = second as usize;
     let middle = at + 2 * possible;
     let end = middle + 2 * certain;
-    let from = store_lay::lay_ray(
+    let from = store_write::lay_ray(
         spans,
         links,
         heads,

@@ -17,8 +17,8 @@ use Rattle.spans.proofs.Ends.{AtMost, Above, all-append, above-less, upTo-more,
 use Rattle.spans.proofs.Sets.{oddN-mod, sound-rising}
 use Rattle.spans.proofs.Points.{holds-append, holds-upTo, holds-above}
 use Rattle.store.specs.Store.{hiAt, nextAt, places, listFrom}
-use Rattle.store_rays.specs.Reading.{Readable}
-use Rattle.store_rays.proofs.Steps.{step, no-ends, ends-length}
+use Rattle.store_read.specs.Reading.{Readable}
+use Rattle.store_read.proofs.Steps.{step, no-ends, ends-length}
 use Rattle.log_model.specs.Counts.{isHitBy}
 use Rattle.log_model.proofs.Meets.{kept-unhit, hit-at}
 use Rattle.log_model.proofs.Starts.{pairs-left}

@@ -7,7 +7,7 @@ use lib.ListN.{length, getD}
 use lib.Ieee.{Float, nan, lt, le}
 use Rattle.spans.specs.Spans.{holds, sound, less}
 use Rattle.store.specs.Store.{loAt, hiAt, nextAt, places, listFrom}
-use Rattle.store_rays.specs.Reading.{Readable}
+use Rattle.store_read.specs.Reading.{Readable}
 use Rattle.log_left.specs.ListLeft.{ListWalked, withoutPair, ListLeftPost}
 use Rattle.log_left.specs.declared.Rest.{Rest}
 use Rattle.log_left.specs.declared.ListLeft.{ListLeft}

@@ -4,7 +4,7 @@ ghost use mathlib.Core.Path.{_≡_};
 ghost use mathlib.Core.Bool.{true};
 ghost use lib.ListN.{length, getD};
 ghost use lib.Ieee.{lt, nan};
-ghost use Rattle.store_rays.specs.Reading.{Readable};
+ghost use Rattle.store_read.specs.Reading.{Readable};
 ghost use Rattle.log_left.specs.Steps.{StartPost, BeginPost, ClosePairPost, CutPairPost, PassPost, TakePost, FinishPost};
 
 // A list that is being walked. What comes before `from` is decided: whether a point of it was taken, and how many pairs are left of it.
@@ -122,7 +122,7 @@ pub fn finish(spans: &[f64], links: &[u64], n: usize, r: Rest) -> ListLeft
     requires { ⌜ Readable n (now spans) (now links) (r .at) ⌝ }
     ensures { λ t. ⌜ FinishPost n (now (spans .entry)) (now (links .entry)) r t ⌝ }
 {
-    let rest = store_rays::list_pairs(links, n, r.at) as u64;
+    let rest = store_read::list_pairs(links, n, r.at) as u64;
     ListLeft {
         moved: r.moved,
         pairs: std::num::wrapping_add_u64(r.left, rest),

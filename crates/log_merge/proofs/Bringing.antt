@@ -17,8 +17,8 @@ use Rattle.log_model.proofs.Entries.{entries-length}
 use Rattle.store.specs.Store.{places}
 use Rattle.store.specs.Updates.{Cells, storeList}
 use Rattle.store.proofs.Chains.{places-within}
-use Rattle.store_rays.specs.Reading.{ReadListPost, Readable}
-use Rattle.store_rays.proofs.Steps.{ends-length}
+use Rattle.store_read.specs.Reading.{ReadListPost, Readable}
+use Rattle.store_read.proofs.Steps.{ends-length}
 use Rattle.stock.specs.Stock.{possibleIn, certainIn}
 use Rattle.stock.proofs.Rays.{list-readable}
 use Rattle.log_entries.specs.Named.{hitsOnRayNumber}

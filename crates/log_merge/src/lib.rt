@@ -103,8 +103,8 @@ fn bring(
 {
     let n = spec.max_intervals as usize;
     let j = 2 * ray;
-    let c = store_rays::read_list(spans, links, n, heads[j], work, s);
-    let o = store_rays::read_list(spans, links, n, heads[j + 1], work, c);
+    let c = store_read::read_list(spans, links, n, heads[j], work, s);
+    let o = store_read::read_list(spans, links, n, heads[j + 1], work, c);
     let no = bring_hits(g, log, work, ray, false, o);
     let ni = bring_hits(g, log, work, ray, true, o + no);
     Sizes {

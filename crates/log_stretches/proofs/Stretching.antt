@@ -13,7 +13,7 @@ use Rattle.doubles.proofs.Order.{le-refl, le-trans, lt→le, lt-le-trans, le-nu
 use Rattle.spans.specs.Spans.{within, holds, NormalOf}
 use Rattle.spans.specs.Steps.{FilledFront}
 use Rattle.spans.proofs.Sets.{sound-mod}
-use Rattle.store_rays.specs.Reading.{Readable}
+use Rattle.store_read.specs.Reading.{Readable}
 use Rattle.log_keys.specs.Keys.{Stretch, pairsPast}
 use Rattle.log_keys.proofs.Past.{past-holds, past-above, past-falls}
 use Rattle.log_gather.specs.Gathering.{WholePairs, Gathers, GatherPost}

@@ -15,7 +15,7 @@ use Rattle.spans.specs.Spans.{within, holds, sound}
 use Rattle.spans.proofs.Ends.{rising-at}
 use Rattle.spans.proofs.Sets.{sound-rising, sound-mod}
 use Rattle.spans.proofs.Points.{or-false, empty-pair, holds-more, front-only, in-pair, pair-rises, number-at}
-use Rattle.store_rays.specs.Reading.{Readable}
+use Rattle.store_read.specs.Reading.{Readable}
 use Rattle.log_keys.specs.Keys.{Stretch}
 use Rattle.log_gather.specs.Gathering.{WholePairs}
 use Rattle.log_left.specs.ListLeft.{ListWalked, withoutPair}

@@ -6,7 +6,7 @@ use Prim.Native.Nat.{ℕ}
 use lib.ListN.{length}
 use lib.Ieee.{Float, lt, le}
 use Rattle.spans.specs.Spans.{holds, sound}
-use Rattle.store_rays.specs.Reading.{Readable}
+use Rattle.store_read.specs.Reading.{Readable}
 use Rattle.log_keys.specs.Keys.{Stretch}
 use Rattle.log_left.specs.ListLeft.{ListWalked}
 use Rattle.log_left.specs.declared.Rest.{Rest}

@@ -2,7 +2,7 @@
 // each with as many hits as a lent buffer holds. Of the hits that begin at or before a stretch only how far they reach counts.
 ghost use Prim.Native.Nat.{_<_};
 ghost use lib.ListN.{length, take};
-ghost use Rattle.store_rays.specs.Reading.{Readable};
+ghost use Rattle.store_read.specs.Reading.{Readable};
 ghost use Rattle.log_model.specs.Logs.{entryCount};
 ghost use Rattle.log_keys.specs.Keys.{hitsTo};
 ghost use Rattle.log_gather.specs.Gathering.{Shaped, WholePairs};

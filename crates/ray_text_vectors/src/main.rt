@@ -3,20 +3,20 @@
 // A case is a head of ten bytes, the input and the output that it must give. The head has the two lengths in four hexadecimal digits each, with a
 // space between them and a newline behind. It writes how many cases agree and differ, how many can't be read, and the
 // number of the first that differs.
-use vector_words::RowCounts;
-use vector_words::RowOutcome;
+use vector_rows::RowCounts;
+use vector_rows::RowOutcome;
 
 // The most bytes of an input or an output.
 const MOST: usize = 16384;
 
 // Reads n bytes to the front of a buffer, and answers whether they were there.
 fn read_text(buf: &mut [u8], n: usize) -> bool {
-    io::read_full(libc::STDIN_FILENO, vector_words::first_bytes_mut(buf, n)) == n
+    io::read_full(libc::STDIN_FILENO, vector_rows::first_bytes_mut(buf, n)) == n
 }
 
 // Whether the first n bytes of the buffer are these.
 fn wrote(out: &[u8; 65536], n: usize, wanted: &[u8]) -> bool {
-    check::same(vector_words::first_bytes(out, n), wanted)
+    check::same(vector_rows::first_bytes(out, n), wanted)
 }
 
 // Whether an input gives this output.
@@ -36,28 +36,28 @@ fn ran(n: usize, m: usize) -> RowOutcome {
     if !read_text(&mut wanted, m) {
         return RowOutcome::Unread;
     }
-    let s = vector_words::first_bytes(&input, n);
-    vector_words::told(0, 1, gives(s, vector_words::first_bytes(&wanted, m)))
+    let s = vector_rows::first_bytes(&input, n);
+    vector_rows::told(0, 1, gives(s, vector_rows::first_bytes(&wanted, m)))
 }
 
 // Where the head can't be read, a length is more than the most.
 fn compared(head: &[u8]) -> RowOutcome {
-    let n = vector_words::value_or(hex_text::hex_at(head, 0, 4), 65536);
-    let m = vector_words::value_or(hex_text::hex_at(head, 5, 4), 65536);
+    let n = vector_rows::value_or(hex_text::hex_at(head, 0, 4), 65536);
+    let m = vector_rows::value_or(hex_text::hex_at(head, 5, 4), 65536);
     ran(n as usize, m as usize)
 }
 
 // What follows a case that can't be read is not looked at.
 // The turns are counted down, since a proved loop has to end and nothing says that the input does.
 fn counted() -> RowCounts {
-    let mut t = vector_words::start();
+    let mut t = vector_rows::start();
     let mut turns = u64::MAX;
     while turns > 0 {
         let mut head = [0u8; 10];
-        if !vector_words::read_row(&mut head) {
+        if !vector_rows::read_row(&mut head) {
             break;
         }
-        t = vector_words::count(t, compared(&head));
+        t = vector_rows::count(t, compared(&head));
         if t.unread > 0 {
             break;
         }
@@ -67,5 +67,5 @@ fn counted() -> RowCounts {
 }
 
 fn main() {
-    vector_words::print(b"cases", counted());
+    vector_rows::print(b"cases", counted());
 }

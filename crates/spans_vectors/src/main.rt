@@ -7,8 +7,8 @@
 // differs.
 use span_compare::BoolAnswer;
 use spans::ListAnswer;
-use vector_words::RowCounts;
-use vector_words::RowOutcome;
+use vector_rows::RowCounts;
+use vector_rows::RowOutcome;
 
 // A refusal's number or 0, and the number of pairs, or 1 for yes.
 struct Reply {
@@ -66,14 +66,14 @@ fn reply_of(op: u64, a: &[f64], b: &[f64], out: &mut [f64]) -> Reply {
 // Words 1 to 3: the cells of the two lists, which stand from 4 and 11 on, and of the buffer.
 fn reply_to(w: &[u64; 35], out: &mut [f64]) -> Reply {
     let mut a = [0.0; 7];
-    vector_words::doubles_at(w, 4, &mut a);
+    vector_rows::doubles_at(w, 4, &mut a);
     let mut b = [0.0; 7];
-    vector_words::doubles_at(w, 11, &mut b);
+    vector_rows::doubles_at(w, 11, &mut b);
     reply_of(
         w[0],
-        vector_words::first(&a, w[1] as usize),
-        vector_words::first(&b, w[2] as usize),
-        vector_words::first_mut(out, w[3] as usize),
+        vector_rows::first(&a, w[1] as usize),
+        vector_rows::first(&b, w[2] as usize),
+        vector_rows::first_mut(out, w[3] as usize),
     )
 }
 
@@ -97,32 +97,32 @@ fn agrees(w: &[u64; 35]) -> bool {
     if r.count != w[19] {
         return false;
     }
-    vector_words::cells_agree(&out, w, 20, ends_of(w[0], r), 15)
+    vector_rows::cells_agree(&out, w, 20, ends_of(w[0], r), 15)
 }
 
 fn compared(text: &[u8]) -> RowOutcome {
     let mut w = [0; 35];
-    if !vector_words::read_words(text, 0, &mut w) {
+    if !vector_rows::read_words(text, 0, &mut w) {
         return RowOutcome::Unread;
     }
-    vector_words::told(w[0], 5, agrees(&w))
+    vector_rows::told(w[0], 5, agrees(&w))
 }
 
 // The turns are counted down, since a proved loop has to end and nothing says that the input does.
 fn counted() -> RowCounts {
-    let mut t = vector_words::start();
+    let mut t = vector_rows::start();
     let mut turns = u64::MAX;
     while turns > 0 {
         let mut text = [0u8; 595];
-        if !vector_words::read_row(&mut text) {
+        if !vector_rows::read_row(&mut text) {
             break;
         }
-        t = vector_words::count(t, compared(&text));
+        t = vector_rows::count(t, compared(&text));
         turns -= 1;
     }
     t
 }
 
 fn main() {
-    vector_words::print(b"normalize subtract intersect contains overlaps", counted());
+    vector_rows::print(b"normalize subtract intersect contains overlaps", counted());
 }

@@ -11,8 +11,8 @@ use Rattle.grid.specs.declared.DexelGrid.{DexelGrid}
 use Rattle.grid.specs.declared.RayBounds.{RayBounds}
 use Rattle.store.specs.Updates.{Cells, Room, CellsChainsSound}
 use Rattle.spans.specs.Rays.{ValidRay}
-use Rattle.store_rays.specs.Reading.{Readable}
-use Rattle.store_rays.proofs.Steps.{readable}
+use Rattle.store_read.specs.Reading.{Readable}
+use Rattle.store_read.proofs.Steps.{readable}
 use Rattle.stock.specs.Stock.{possibleIn, certainIn, ValidAt, ValidTo, SoundCells, ChainsInRoom}
 use Rattle.logic.specs.Logic.{Decides}
 

@@ -43,7 +43,7 @@ fn check_ray(
     let n = spec.max_intervals as usize;
     let j = 2 * (ray as usize);
     let bounds = grid_rays::ray_bounds(spec, g, ray);
-    store_rays::valid_ray_at(
+    store_read::valid_ray_at(
         spans,
         links,
         n,

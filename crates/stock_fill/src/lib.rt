@@ -53,7 +53,7 @@ fn fill_records(
     let mut i: usize = 0;
     while i < n {
         let record = uncut_record(spec, g, m, i);
-        store_lay::put_record(spans, links, i, record.lo, record.hi, 0, record.owner);
+        store_write::put_record(spans, links, i, record.lo, record.hi, 0, record.owner);
         i += 1;
     }
 }

@@ -9,27 +9,27 @@ use ray_subtract::MergedList;
 use stock_fill::FillAnswer;
 use stock_volume::DexelVolume;
 use stock_volume::VolumeAnswer;
-use vector_words::RowCounts;
-use vector_words::RowOutcome;
+use vector_rows::RowCounts;
+use vector_rows::RowOutcome;
 
 // Words 1 to 5: the cells of possible, certain, outer, inner and the work buffer; 6, 7: the bounds; the lists from 8, 14, 20 and 26 on.
 fn merge_on(w: &[u64; 87], work: &mut [f64]) -> MergeAnswer {
     let mut p = [0.0; 6];
-    vector_words::doubles_at(w, 8, &mut p);
+    vector_rows::doubles_at(w, 8, &mut p);
     let mut c = [0.0; 6];
-    vector_words::doubles_at(w, 14, &mut c);
+    vector_rows::doubles_at(w, 14, &mut c);
     let mut o = [0.0; 6];
-    vector_words::doubles_at(w, 20, &mut o);
+    vector_rows::doubles_at(w, 20, &mut o);
     let mut i = [0.0; 6];
-    vector_words::doubles_at(w, 26, &mut i);
+    vector_rows::doubles_at(w, 26, &mut i);
     ray_merge::merge(
-        vector_words::first(&p, w[1] as usize),
-        vector_words::first(&c, w[2] as usize),
+        vector_rows::first(&p, w[1] as usize),
+        vector_rows::first(&c, w[2] as usize),
         doubles_bits::of_bits(w[6]),
         doubles_bits::of_bits(w[7]),
-        vector_words::first(&o, w[3] as usize),
-        vector_words::first(&i, w[4] as usize),
-        vector_words::first_mut(work, w[5] as usize),
+        vector_rows::first(&o, w[3] as usize),
+        vector_rows::first(&i, w[4] as usize),
+        vector_rows::first_mut(work, w[5] as usize),
     )
 }
 
@@ -58,13 +58,13 @@ fn merge_agrees(w: &[u64; 87]) -> bool {
             if !part_agrees(c, w[34], w[36]) {
                 return false;
             }
-            vector_words::cells_agree(&work, w, 37, 24, w[5] as usize)
+            vector_rows::cells_agree(&work, w, 37, 24, w[5] as usize)
         }
         MergeAnswer::Refused(k) => {
             if k as u64 != w[32] {
                 return false;
             }
-            vector_words::cells_agree(&work, w, 37, 0, 0)
+            vector_rows::cells_agree(&work, w, 37, 0, 0)
         }
     }
 }
@@ -79,13 +79,13 @@ fn store_agrees(
     m: usize,
     h: usize,
 ) -> bool {
-    if !vector_words::cells_agree(spans, w, 29, 0, n) {
+    if !vector_rows::cells_agree(spans, w, 29, 0, n) {
         return false;
     }
-    if !vector_words::numbers_agree(links, w, 53, m) {
+    if !vector_rows::numbers_agree(links, w, 53, m) {
         return false;
     }
-    vector_words::numbers_agree(heads, w, 77, h)
+    vector_rows::numbers_agree(heads, w, 77, h)
 }
 
 // Words 1, 3 to 11: the description; 2: the units; 12 to 14: the cells of the spans, the links and the heads; 16 to 18: the
@@ -94,13 +94,13 @@ fn fill_agrees(w: &[u64; 87]) -> bool {
     let mut spans = [7.0; 24];
     let mut links = [7; 24];
     let mut heads = [7; 10];
-    let units = vector_words::units_of(w[2]);
+    let units = vector_rows::units_of(w[2]);
     let f = stock_fill::fill(
-        vector_words::spec_at(w, 1, 3),
+        vector_rows::spec_at(w, 1, 3),
         &units,
-        vector_words::first_mut(&mut spans, w[12] as usize),
-        vector_words::first_numbers_mut(&mut links, w[13] as usize),
-        vector_words::first_numbers_mut(&mut heads, w[14] as usize),
+        vector_rows::first_mut(&mut spans, w[12] as usize),
+        vector_rows::first_numbers_mut(&mut links, w[13] as usize),
+        vector_rows::first_numbers_mut(&mut heads, w[14] as usize),
     );
     match f {
         FillAnswer::Accepted(t) => {
@@ -135,18 +135,18 @@ fn fill_agrees(w: &[u64; 87]) -> bool {
 // Word 15: the interval total that goes in.
 fn measured(w: &[u64; 87]) -> VolumeAnswer {
     let mut spans = [0.0; 24];
-    vector_words::doubles_at(w, 29, &mut spans);
+    vector_rows::doubles_at(w, 29, &mut spans);
     let mut links = [0; 24];
-    vector_words::numbers_at(w, 53, &mut links);
+    vector_rows::numbers_at(w, 53, &mut links);
     let mut heads = [0; 10];
-    vector_words::numbers_at(w, 77, &mut heads);
-    let units = vector_words::units_of(w[2]);
+    vector_rows::numbers_at(w, 77, &mut heads);
+    let units = vector_rows::units_of(w[2]);
     stock_volume::volume(
-        vector_words::spec_at(w, 1, 3),
+        vector_rows::spec_at(w, 1, 3),
         &units,
-        vector_words::first(&spans, w[12] as usize),
-        vector_words::first_numbers(&links, w[13] as usize),
-        vector_words::first_numbers(&heads, w[14] as usize),
+        vector_rows::first(&spans, w[12] as usize),
+        vector_rows::first_numbers(&links, w[13] as usize),
+        vector_rows::first_numbers(&heads, w[14] as usize),
         w[15],
     )
 }
@@ -165,7 +165,7 @@ fn ten_agree(w: &[u64; 87], v: DexelVolume) -> bool {
         v.removed_lower_mm3,
         v.removed_upper_mm3,
     ];
-    vector_words::cells_agree(&ten, w, 19, 10, 10)
+    vector_rows::cells_agree(&ten, w, 19, 10, 10)
 }
 
 fn volume_agrees(w: &[u64; 87]) -> bool {
@@ -194,27 +194,27 @@ fn agrees(w: &[u64; 87]) -> bool {
 
 fn compared(text: &[u8]) -> RowOutcome {
     let mut w = [0; 87];
-    if !vector_words::read_words(text, 0, &mut w) {
+    if !vector_rows::read_words(text, 0, &mut w) {
         return RowOutcome::Unread;
     }
-    vector_words::told(w[0], 3, agrees(&w))
+    vector_rows::told(w[0], 3, agrees(&w))
 }
 
 // The turns are counted down, since a proved loop has to end and nothing says that the input does.
 fn counted() -> RowCounts {
-    let mut t = vector_words::start();
+    let mut t = vector_rows::start();
     let mut turns = u64::MAX;
     while turns > 0 {
         let mut text = [0u8; 1479];
-        if !vector_words::read_row(&mut text) {
+        if !vector_rows::read_row(&mut text) {
             break;
         }
-        t = vector_words::count(t, compared(&text));
+        t = vector_rows::count(t, compared(&text));
         turns -= 1;
     }
     t
 }
 
 fn main() {
-    vector_words::print(b"merge fill volume", counted());
+    vector_rows::print(b"merge fill volume", counted());
 }

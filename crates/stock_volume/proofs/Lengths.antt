@@ -15,8 +15,8 @@ use Rattle.grid.specs.declared.DexelStockSpec.{DexelStockSpec}
 use Rattle.grid.specs.declared.DexelGrid.{DexelGrid}
 use Rattle.grid.specs.declared.RayBounds.{RayBounds}
 use Rattle.store.specs.Updates.{Cells}
-use Rattle.store_rays.specs.Lengths.{lengthFrom, RaySumsPost as RayMeasures}
-use Rattle.store_rays.specs.declared.RaySums.{RaySums}
+use Rattle.store_read.specs.Lengths.{lengthFrom, RaySumsPost as RayMeasures}
+use Rattle.store_read.specs.declared.RaySums.{RaySums}
 use Rattle.stock.specs.Stock.{possibleIn, certainIn, ValidTo}
 use Rattle.stock_volume.specs.Volume.{areaOf, addRay, volumeTo, volumeAlong, AddVolumePost, AxisVolumePost}
 use Rattle.stock_volume.specs.declared.AxisSums.{AxisSums}

@@ -15,7 +15,7 @@ use Rattle.grid.specs.declared.WorldAxis.{WorldAxis}
 use Rattle.grid.specs.declared.DexelStockSpec.{DexelStockSpec}
 use Rattle.grid.specs.declared.DexelGrid.{DexelGrid}
 use Rattle.store.specs.Updates.{Cells}
-use Rattle.store_rays.specs.Lengths.{lengthFrom}
+use Rattle.store_read.specs.Lengths.{lengthFrom}
 use Rattle.stock.specs.Stock.{possibleIn, certainIn, ValidAt, ValidTo, SoundCells, isShort}
 use Rattle.stock_volume.specs.declared.AxisVolume.{AxisVolume}
 use Rattle.stock_volume.specs.declared.AxisSums.{AxisSums}

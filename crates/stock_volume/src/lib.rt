@@ -60,7 +60,7 @@ fn add_ray(
     let n = spec.max_intervals as usize;
     let j = 2 * (ray as usize);
     let bounds = grid_rays::ray_bounds(spec, g, ray);
-    let r = store_rays::measure_ray(
+    let r = store_read::measure_ray(
         spans,
         links,
         n,

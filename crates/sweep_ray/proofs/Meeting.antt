@@ -10,8 +10,8 @@ use Rattle.doubles.specs.Doubles.{largerOf, smallerOf}
 use Rattle.spans.specs.Spans.{rising, sound}
 use Rattle.spans.proofs.Sets.{sound-rising}
 use Rattle.store.specs.Store.{loAt, hiAt, nextAt, endsAt, listFrom}
-use Rattle.store_rays.specs.Reading.{Readable}
-use Rattle.store_rays.proofs.Steps.{Step, link-step, no-ends}
+use Rattle.store_read.specs.Reading.{Readable}
+use Rattle.store_read.proofs.Steps.{Step, link-step, no-ends}
 use Rattle.frame.specs.declared.Pair.{Pair}
 use Rattle.sweep_model.specs.Meets.{lastOf, spansMeet, overlapsOf}
 use Rattle.sweep_ray.specs.Steps.{someAbove}

@@ -3,7 +3,7 @@
 ghost use mathlib.Core.Path.{_≡_};
 ghost use mathlib.Core.Bool.{true};
 ghost use Rattle.spans.specs.Spans.{sound};
-ghost use Rattle.store_rays.specs.Reading.{Readable};
+ghost use Rattle.store_read.specs.Reading.{Readable};
 ghost use Rattle.sweep_model.specs.Section.{localCenter, sectionWith, sectionOf};
 ghost use Rattle.sweep_model.specs.Across.{outerFrom, outerOf, innerFrom, innerOf, rayHitOf};
 ghost use Rattle.store.specs.Store.{listFrom};

@@ -7,8 +7,8 @@
 // row that differs.
 use frame::Axis;
 use sweep::SweepAnswer;
-use vector_words::RowCounts;
-use vector_words::RowOutcome;
+use vector_rows::RowCounts;
+use vector_rows::RowOutcome;
 
 // A sweep's answer as numbers, 0 for no refusal, and whether the store and the chords are as they were.
 struct Answer {
@@ -54,21 +54,21 @@ fn sweep_on(
 ) -> SweepAnswer {
     let units = [byte_of(w[2]), byte_of(w[3]), byte_of(w[4])];
     let axis = axis_of(w[18]);
-    let shape = vector_words::shape_at(w, 19);
+    let shape = vector_rows::shape_at(w, 19);
     sweep::sweep(
-        vector_words::spec_at(w, 0, 5),
-        vector_words::first_bytes(&units, w[1] as usize),
+        vector_rows::spec_at(w, 0, 5),
+        vector_rows::first_bytes(&units, w[1] as usize),
         spans,
         links,
         heads,
         w[17],
         axis,
         shape,
-        vector_words::cutter_at(w, 22),
+        vector_rows::cutter_at(w, 22),
         doubles_bits::of_bits(w[31]),
         chords,
         w[33],
-        vector_words::first_mut(log, w[34] as usize),
+        vector_rows::first_mut(log, w[34] as usize),
     )
 }
 
@@ -80,16 +80,16 @@ fn store_agrees(
     links: &[u64],
     heads: &[u64],
 ) -> bool {
-    if !vector_words::cells_agree(chords, w, 38, 0, 25) {
+    if !vector_rows::cells_agree(chords, w, 38, 0, 25) {
         return false;
     }
-    if !vector_words::cells_agree(spans, w, 63, 0, 48) {
+    if !vector_rows::cells_agree(spans, w, 63, 0, 48) {
         return false;
     }
-    if !vector_words::numbers_agree(links, w, 111, 48) {
+    if !vector_rows::numbers_agree(links, w, 111, 48) {
         return false;
     }
-    vector_words::numbers_agree(heads, w, 159, 24)
+    vector_rows::numbers_agree(heads, w, 159, 24)
 }
 
 fn answer_of(s: SweepAnswer, kept: bool) -> Answer {
@@ -120,10 +120,10 @@ fn swept_on(
 ) -> Answer {
     let s = sweep_on(
         w,
-        vector_words::first(spans, w[14] as usize),
-        vector_words::first_numbers(links, w[15] as usize),
-        vector_words::first_numbers(heads, w[16] as usize),
-        vector_words::first(chords, w[32] as usize),
+        vector_rows::first(spans, w[14] as usize),
+        vector_rows::first_numbers(links, w[15] as usize),
+        vector_rows::first_numbers(heads, w[16] as usize),
+        vector_rows::first(chords, w[32] as usize),
         log,
     );
     answer_of(s, store_agrees(w, chords, spans, links, heads))
@@ -131,13 +131,13 @@ fn swept_on(
 
 fn swept(w: &[u64; 243], log: &mut [f64]) -> Answer {
     let mut chords = [0.0; 25];
-    vector_words::doubles_at(w, 38, &mut chords);
+    vector_rows::doubles_at(w, 38, &mut chords);
     let mut spans = [0.0; 48];
-    vector_words::doubles_at(w, 63, &mut spans);
+    vector_rows::doubles_at(w, 63, &mut spans);
     let mut links = [0; 48];
-    vector_words::numbers_at(w, 111, &mut links);
+    vector_rows::numbers_at(w, 111, &mut links);
     let mut heads = [0; 24];
-    vector_words::numbers_at(w, 159, &mut heads);
+    vector_rows::numbers_at(w, 159, &mut heads);
     swept_on(w, &spans, &links, &heads, &chords, log)
 }
 
@@ -152,15 +152,15 @@ fn cells_of(entries: u64) -> usize {
 // The log from word 183 on. Refusals 8 and 16 leave it zero, the others as it was.
 fn log_agrees(w: &[u64; 243], log: &[f64], refusal: u64) -> bool {
     if refusal == 0 {
-        return vector_words::cells_agree(log, w, 183, cells_of(w[36]), w[34] as usize);
+        return vector_rows::cells_agree(log, w, 183, cells_of(w[36]), w[34] as usize);
     }
     if refusal == 8 {
-        return vector_words::cells_agree(log, w, 183, 0, w[34] as usize);
+        return vector_rows::cells_agree(log, w, 183, 0, w[34] as usize);
     }
     if refusal == 16 {
-        return vector_words::cells_agree(log, w, 183, 0, w[34] as usize);
+        return vector_rows::cells_agree(log, w, 183, 0, w[34] as usize);
     }
-    vector_words::cells_agree(log, w, 183, 0, 0)
+    vector_rows::cells_agree(log, w, 183, 0, 0)
 }
 
 // Words 35 to 37: the refusal, the number of entries and the visit total.
@@ -192,27 +192,27 @@ fn kind_of(refusal: u64) -> u64 {
 
 fn compared(text: &[u8]) -> RowOutcome {
     let mut w = [0; 243];
-    if !vector_words::read_words(text, 0, &mut w) {
+    if !vector_rows::read_words(text, 0, &mut w) {
         return RowOutcome::Unread;
     }
-    vector_words::told(kind_of(w[35]), 2, agrees(&w))
+    vector_rows::told(kind_of(w[35]), 2, agrees(&w))
 }
 
 // The turns are counted down, since a proved loop has to end and nothing says that the input does.
 fn counted() -> RowCounts {
-    let mut t = vector_words::start();
+    let mut t = vector_rows::start();
     let mut turns = u64::MAX;
     while turns > 0 {
         let mut text = [0u8; 4131];
-        if !vector_words::read_row(&mut text) {
+        if !vector_rows::read_row(&mut text) {
             break;
         }
-        t = vector_words::count(t, compared(&text));
+        t = vector_rows::count(t, compared(&text));
         turns -= 1;
     }
     t
 }
 
 fn main() {
-    vector_words::print(b"accepted refused", counted());
+    vector_rows::print(b"accepted refused", counted());
 }

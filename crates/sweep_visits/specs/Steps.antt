@@ -6,7 +6,7 @@ use Prim.Native.Nat.{ℕ, _+_, _*_, _^_, _≤_, _<_}
 use lib.Ieee.{Float}
 use lib.ListN.{length, take, getD}
 use Rattle.spans.specs.Spans.{sound}
-use Rattle.store_rays.specs.Reading.{Readable}
+use Rattle.store_read.specs.Reading.{Readable}
 use Rattle.sweep_visits.specs.declared.VisitCursor.{VisitCursor}
 use Rattle.sweep_visits.specs.declared.Progress.{Progress}
 use Rattle.sweep_visits.specs.declared.Progress.the-variants.{At, Stopped}

@@ -2,7 +2,7 @@
 use borrow.Author.Needs.{needs}
 use native.Mathlib.Omega.{arith}
 use Rattle.store.specs.Store.{places}
-use Rattle.store_rays.proofs.Steps.{ends-length}
+use Rattle.store_read.proofs.Steps.{ends-length}
 use Rattle.log_count.proofs.end_list.Statement.{statement}
 use Rattle.log_count.proofs.end_list.Tie as tie
 

@@ -1,7 +1,7 @@
 -- The record's start is read where there is a record.
 use borrow.Author.Needs.{needs}
 use mathlib.Core.Path.{refl}
-use Rattle.store_rays.proofs.Steps.{step}
+use Rattle.store_read.proofs.Steps.{step}
 use Rattle.log_left.proofs.begin.Statement.{statement}
 use Rattle.log_left.proofs.begin.Tie as tie
 

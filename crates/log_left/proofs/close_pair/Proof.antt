@@ -1,6 +1,6 @@
 -- The walk stands at the next record of the chain.
 use borrow.Author.Needs.{needs}
-use Rattle.store_rays.proofs.Steps.{step}
+use Rattle.store_read.proofs.Steps.{step}
 use Rattle.log_left.proofs.close_pair.Statement.{statement}
 use Rattle.log_left.proofs.close_pair.Tie as tie
 

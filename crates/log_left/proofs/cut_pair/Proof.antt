@@ -3,7 +3,7 @@ use borrow.Author.Needs.{needs}
 use mathlib.Core.Path.{refl, _∙_}
 use mathlib.Core.Logic.{inl, inr}
 use Rattle.logic.proofs.Bools.{clash}
-use Rattle.store_rays.proofs.Steps.{step}
+use Rattle.store_read.proofs.Steps.{step}
 use Rattle.log_left.proofs.cut_pair.Statement.{statement}
 use Rattle.log_left.proofs.cut_pair.Tie as tie
 

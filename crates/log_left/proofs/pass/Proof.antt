@@ -7,8 +7,8 @@ use lib.ListN.{length}
 use lib.Ieee.{Float, le}
 use Rattle.logic.proofs.Bools.{not-true, not-false}
 use Rattle.store.specs.Store.{places}
-use Rattle.store_rays.specs.Reading.{Readable}
-use Rattle.store_rays.proofs.Steps.{step}
+use Rattle.store_read.specs.Reading.{Readable}
+use Rattle.store_read.proofs.Steps.{step}
 use Rattle.log_left.specs.ListLeft.{ListWalked}
 use Rattle.log_left.proofs.Walking.{walked-later, closes}
 use Rattle.log_left.proofs.pass.Statement.{statement}

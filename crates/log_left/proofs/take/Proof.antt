@@ -7,7 +7,7 @@ use mathlib.Core.Path.{_≡_}
 use mathlib.Core.List.{List}
 use lib.Ieee.{Float, lt}
 use Rattle.logic.proofs.Bools.{not-true, not-false}
-use Rattle.store_rays.specs.Reading.{Readable}
+use Rattle.store_read.specs.Reading.{Readable}
 use Rattle.log_left.specs.ListLeft.{ListWalked}
 use Rattle.log_left.proofs.Walking.{Taking, toTake, cut-readable, cut-less, taking-starts, taking-on, taking-ends}
 use Rattle.log_left.proofs.take.Statement.{statement}

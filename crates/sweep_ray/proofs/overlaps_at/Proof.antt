@@ -3,8 +3,8 @@ use mathlib.Core.Path.{_≡_, refl, sym, _∙_}
 use lib.ListN.{length}
 use Rattle.logic.proofs.Bools.{not-true, not-false}
 use Rattle.store.specs.Store.{places, listFrom}
-use Rattle.store_rays.specs.Reading.{Readable}
-use Rattle.store_rays.proofs.Steps.{step}
+use Rattle.store_read.specs.Reading.{Readable}
+use Rattle.store_read.proofs.Steps.{step}
 use Rattle.sweep_model.specs.Meets.{overlapsOf}
 use Rattle.sweep_ray.proofs.Meeting.{overlaps-here, overlaps-no, overlaps-later, overlaps-none}
 use Rattle.sweep_ray.proofs.overlaps_at.Statement.{statement}

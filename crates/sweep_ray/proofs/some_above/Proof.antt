@@ -2,8 +2,8 @@ use borrow.Author.Needs.{needs}
 use mathlib.Core.Path.{_≡_, refl, sym, _∙_}
 use lib.ListN.{length}
 use Rattle.store.specs.Store.{places, listFrom}
-use Rattle.store_rays.specs.Reading.{Readable}
-use Rattle.store_rays.proofs.Steps.{step}
+use Rattle.store_read.specs.Reading.{Readable}
+use Rattle.store_read.proofs.Steps.{step}
 use Rattle.sweep_ray.proofs.Meeting.{above-here, above-later, above-none}
 use Rattle.sweep_ray.proofs.some_above.Statement.{statement}
 use Rattle.sweep_ray.specs.Steps.{someAbove}

@@ -1,5 +1,5 @@
 use mathlib.Core.Path.{sym, _∙_}
-use Rattle.store_rays.proofs.Steps.{step}
+use Rattle.store_read.proofs.Steps.{step}
 use Rattle.sweep_ray.proofs.Meeting.{meet-empty, meet-above, meet-some}
 use borrow.Author.Needs.{needs}
 use Rattle.sweep_ray.proofs.spans_meet.Statement.{statement}

@@ -1,0 +1,3 @@
+-- The definitions that the contracts of `inner` cite.
+pub mod Geometry
+pub mod Orderings

@@ -1,0 +1,46 @@
+-- One record of a chain that is read: its pair, and the list from the next record on.
+use mathlib.Core.Path.{_≡_, refl, ap}
+use mathlib.Core.List.{List, [], _∷_}
+use Prim.Native.Nat.{ℕ, suc, _-_, _*_, _≤_, _<_}
+use native.Mathlib.Omega.{arith}
+use lib.Ieee.{Float}
+use lib.ListN.{length, getD}
+use Rattle.store.specs.Store.{loAt, hiAt, nextAt, places, endsAt, ChainsSound, listFrom}
+use Rattle.store.proofs.Chains.{chain-step, less-step, places-zero}
+use Rattle.store_read.specs.Reading.{Linked, Readable}
+
+pub record LinkStep (n : ℕ) (links : List ℕ) (k : ℕ) : Type 0 where
+  pub counted : k - 1 < n
+  pub more : places links n k ≡ (k - 1) ∷ places links n (nextAt links (k - 1))
+  pub next : Linked n links (nextAt links (k - 1))
+  pub less : length (places links n (nextAt links (k - 1))) < length (places links n k)
+
+pub link-step : {n : ℕ} {links : List ℕ} {k : ℕ} → Linked n links k → (k ≡ 0 → ⊥) → LinkStep n links k
+link-step {n} {links} {k} r ne =
+    let s = chain-step links n (r .owner) k (r .chain) ne in
+    record { counted = s .counted; more = s .read; next = record { in-links = r .in-links; owner = r .owner; chain = s .next }; less = less-step links n (r .owner) k (r .chain) ne }
+
+pub record Step (n : ℕ) (spans : List Float) (links : List ℕ) (k : ℕ) : Type 0 where
+  pub counted : k - 1 < n
+  pub read : listFrom n spans links k ≡ loAt spans (k - 1) ∷ hiAt spans (k - 1) ∷ listFrom n spans links (nextAt links (k - 1))
+  pub next : Readable n spans links (nextAt links (k - 1))
+  pub less : length (places links n (nextAt links (k - 1))) < length (places links n k)
+
+pub step : {n : ℕ} {spans : List Float} {links : List ℕ} {k : ℕ} → Readable n spans links k → (k ≡ 0 → ⊥) → Step n spans links k
+unfolding endsAt
+step {n} {spans} {links} {k} r ne =
+    let s = link-step (r .linked) ne in
+    record { counted = s .counted; read = ap (endsAt spans) (s .more); next = record { in-spans = r .in-spans; linked = s .next }; less = s .less }
+
+pub no-ends : (n : ℕ) (spans : List Float) (links : List ℕ) (k : ℕ) → k ≡ 0 → listFrom n spans links k ≡ []
+unfolding endsAt
+no-ends n spans links k e = ap (endsAt spans) (places-zero links n k e)
+
+pub ends-length : (spans : List Float) (ps : List ℕ) → length (endsAt spans ps) ≡ 2 * length ps
+unfolding endsAt
+ends-length spans [] = refl
+ends-length spans (i ∷ ps) = omega (arith, ends-length spans ps)
+
+-- each list of a sound store can be read
+pub readable : {n m total : ℕ} {spans : List Float} {links heads : List ℕ} → ChainsSound n m total spans links heads → 2 * n ≤ length spans → 2 * n ≤ length links → (j : ℕ) → j < m → Readable n spans links (getD heads j 0)
+readable s hs hl j h = record { in-spans = hs; linked = record { in-links = hl; owner = suc j; chain = s .chains j h } }

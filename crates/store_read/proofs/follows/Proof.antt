@@ -1,0 +1,27 @@
+use borrow.Author.Needs.{needs}
+use Rattle.store_read.proofs.Bounds.{begins-before, begins-past}
+use Rattle.store_read.proofs.follows.Statement.{statement}
+use Rattle.store_read.proofs.follows.Tie as tie
+
+returns : tie.Need-returns
+returns c = begins-before _ _ (c .if1 .taken)
+
+returns-2 : tie.Need-returns-2
+returns-2 c = begins-past _ _ (c .before .before .if1 .left)
+
+pub follows-spec : {M : Type 1} → statement M
+follows-spec =
+    tie.close
+    (tie.spec
+    (λ c. search needs)
+    (λ c. search needs)
+    (λ c. search needs)
+    returns
+    (λ c. search needs)
+    (λ c. search needs)
+    (λ c. search needs)
+    (λ c. search needs)
+    (λ c. search needs)
+    (λ c. search needs)
+    (λ c. search needs)
+    returns-2)

@@ -1,5 +1,0 @@
--- The definitions that the contracts of `vector_words` cite.
-pub mod Words
-pub mod Agreement
-pub mod Tallies
-pub mod ReadWords
