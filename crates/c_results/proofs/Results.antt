@@ -47,7 +47,7 @@ module _ {A S : Type 0} (numbers : A → S → Type 0) (refused : ℕ → A) (pr
   answered a zero before after above p (inr h) = absurd (not-below (above 0 (subst promise (h .0) p)))
   answered a (suc k) before after above p (inr h) = (subst promise (h .0) p, h .1)
 
--- ---- the logCommitCauses of each entry are numbered from 1 up
+-- ---- the causes of each entry are numbered from 1 up
 
 -- those of the list functions and of merge, 12 and 11
 pub list-above : (short bad : Type 0) (k : ℕ) → Due (listCauses short bad) k → 0 < k

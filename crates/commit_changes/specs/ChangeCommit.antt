@@ -45,7 +45,7 @@ changeCauses spec g base s changes pairs =
 abbrev pub changeCommitCauses : DexelStockSpec → (units : List ℕ) → (base : ℕ) → Stock → List ℕ → List Float → List Cause
 changeCommitCauses spec units base s changes pairs = gridCauses spec units ++ changeCauses spec (gridIn spec) base s changes pairs
 
--- the stock past the changes: the lists of all changedStock rays are freed, then laid in ray order; the generation steps even with no change
+-- the stock past the changes: the lists of all changed rays are freed, then laid in ray order; the generation steps even with no change
 abbrev pub changedStock : DexelStockSpec → DexelGrid → Stock → List ℕ → List Float → Stock
 changedStock spec g s changes pairs =
     record {
@@ -54,7 +54,7 @@ changedStock spec g s changes pairs =
       intervals = intervalsAfter spec g s changes pairs;
     }
 
--- what an accepted commit leaves: that stock, which is sound; a changedStock ray has the change's new lists, any other its own; the cells past the records and heads are kept
+-- what an accepted commit leaves: that stock, which is sound; a changed ray has the change's new lists, any other its own; the cells past the records and heads are kept
 pub record ChangesEffect (spec : DexelStockSpec) (g : DexelGrid) (changes : List ℕ) (pairs : List Float) (before after : Stock) : Type 0 where
   pub is : after ≡ changedStock spec g before changes pairs
   pub isSound : SoundStock spec g after
@@ -64,7 +64,7 @@ pub record ChangesEffect (spec : DexelStockSpec) (g : DexelGrid) (changes : List
       → (possibleIn spec (after .cells) ray ≡ possibleIn spec (before .cells) ray) × (certainIn spec (after .cells) ray ≡ certainIn spec (before .cells) ray)
   pub kept : CellsPastKept (spec .«max_intervals») (2 * rayCount g) (before .cells) (after .cells)
 
--- a refused call gives the number that is due and leaves the stock as it was; an accepted one, with no cause, answers how many rays changedStock
+-- a refused call gives the number that is due and leaves the stock as it was; an accepted one, with no cause, answers how many rays changed
 abbrev pub ChangesPostBy : List Cause → DexelStockSpec → DexelGrid → List ℕ → List Float → (before after : Stock) → CommitAnswer → Type 0
 ChangesPostBy causes spec g changes pairs before after (Refused k) = Due causes k × (after ≡ before)
 ChangesPostBy causes spec g changes pairs before after (Changed n) = NoneDue causes × (n ≡ length changes / 6) × ChangesEffect spec g changes pairs before after

@@ -74,7 +74,7 @@ module _ (a n c l : ℕ) where
       go false p true q = absurd (ten-none (sym (e ∙ by-rays false p true q)))
       go false p false q = (p, q)
 
--- ---- the logCommitCauses one after the other
+-- ---- the causes one after the other
 module _ (spec : DexelStockSpec) (g : DexelGrid) (s : Stock) (log : List Float) (allowance : ℕ) (work : List Float) where
   min-left : (a b n : ℕ) → a < n → min a b < n
   min-left a b n h = omega arith
@@ -106,7 +106,7 @@ module _ (spec : DexelStockSpec) (g : DexelGrid) (s : Stock) (log : List Float) 
   good w sound (inl h) = h w
   good w sound (inr h) = h sound
 
-  -- each list is the sound list of its pointSets
+  -- each list is the sound list of its points
   lists : SoundStock spec g s → (r : Ray g) (k : Kind) → ListOf (pointSets g (lentStore spec g) s r k) (stockLists spec g s r k)
   unfolding pointSets
   lists sound r k = record { isSound = lent-laws spec g .sound-list s sound r k; points = λ p. refl }

@@ -29,7 +29,7 @@ pub record LogChecked (spec : DexelStockSpec) (g : DexelGrid) (s : Stock) (log :
   pub few-rays : changedRayCount g (stockLists spec g s) (entries log) ≤ allowance
   pub few-pairs : pairsAfter g (stockLists spec g s) (entries log) ≤ spec .«max_intervals»
 
--- the logCommitCauses of a log commit on a stock
+-- the causes of a log commit on a stock
 abbrev pub stockLogCauses : (spec : DexelStockSpec) (g : DexelGrid) → Stock → Commit → List Cause
 stockLogCauses spec g s c = logCommitCauses spec g (lentStore spec g .lent s) (¬ SoundStock spec g s) (pointSets g (lentStore spec g) s) (s .generation) c
 

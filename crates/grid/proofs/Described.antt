@@ -75,7 +75,7 @@ pub not-above : (p : Vec3) (limit : Float) → anyAbove p limit ≡ false → (a
 unfolding anyAbove
 not-above p limit = no-axis (λ x. lt limit x) p
 
--- ---- isBetween bounds
+-- ---- within bounds
 
 pub finite-number : (x : Float) → finite x ≡ true → Number x
 unfolding isNan

@@ -1,4 +1,4 @@
--- One digit of a hexNumber in a text: what it adds, and where the text has none. Assumes nothing.
+-- One digit of a number in a text: what it adds, and where the text has none. Assumes nothing.
 use mathlib.Core.Path.{_≡_, refl, sym, ap, _∙_, subst}
 use mathlib.Core.Bool.{Bool, true, false, cond}
 use mathlib.Core.List.{List, _∷_}

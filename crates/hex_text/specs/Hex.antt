@@ -11,12 +11,12 @@ use Rattle.hex_text.specs.declared.Word.the-variants.{Value, Missing}
 unfoldable pub hexDigit : ℕ → ℕ
 hexDigit c = cond (ltb c 48) 16 (cond (ltb c 58) (c - 48) (cond (ltb c 97) 16 (cond (ltb c 103) (c - 87) 16)))
 
--- The hexNumber of these digits, after digits that count `before`: each moves what stands before it up by one place.
+-- The number of these digits, after digits that count `before`: each moves what stands before it up by one place.
 unfoldable pub hexNumber : (before : ℕ) → List ℕ → Word
 hexNumber before [] = Value before
 hexNumber before (c ∷ cs) = cond (ltb (hexDigit c) 16) (hexNumber (before * 16 + hexDigit c) cs) Missing
 
--- the hexNumber of the n digits, at most 16, at place k of the text
+-- the number of the n digits, at most 16, at place k of the text
 unfoldable pub hexAt : List ℕ → ℕ → ℕ → Word
 unfolding hexNumber
 hexAt text k n = cond (leb n 16) (cond (leb (k + n) (length text)) (hexNumber 0 (take n (drop k text))) Missing) Missing

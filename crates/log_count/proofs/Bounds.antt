@@ -93,7 +93,7 @@ module _ (spec : DexelStockSpec) (g : DexelGrid) (c : Cells) (intervals : ℕ) (
   unfolding stock
   isStock = ok .isSound
 
-  -- the interval total is the sumBelow of the pairTotal of all rays
+  -- the interval total is the sum of the pairs of all rays
   pub total-is : intervals ≡ sumBelow (pairsOf spec c) (rayCount g)
   unfolding stock pairTotal pairsOf listIn listNumber
   total-is = lent-laws spec g .all-pairs stock isStock
@@ -138,7 +138,7 @@ module _ (spec : DexelStockSpec) (g : DexelGrid) (c : Cells) (intervals : ℕ) (
   unfolding entriesOf
   all-entries = shared-out g log 0 (entryCount log) (λ j _ h. each-below g log (ok .named) j (omega arith))
 
-  -- three pairTotal more for each entry: one on possible, two on certain
+  -- three pairs more for each entry: one on possible, two on certain
   pub left-le : (ray : ℕ) → leftOf spec g c log ray ≤ pairsOf spec c ray + 3 * entriesOf ray
   unfolding leftOf pairsOf
   left-le ray =
@@ -207,7 +207,7 @@ module _ (spec : DexelStockSpec) (g : DexelGrid) (c : Cells) (intervals : ℕ) (
         (λ ray _. left-le ray),
   )
 
-  -- a ray's pairTotal fit, before and after
+  -- a ray's pairs fit, before and after
   pub pairs-fit : (ray : ℕ) → ray < rayCount g → pairsOf spec c ray ≤ spec .«max_intervals»
   pairs-fit ray h = omega (arith, total-is, total-fits, sum-at (pairsOf spec c) (rayCount g) ray h)
 

@@ -11,7 +11,7 @@ use Rattle.log_model.specs.Logs.{Ray}
 use Rattle.log_model.specs.Model.{sumTo, sumOver}
 use Rattle.log_count.specs.Totals.{sumBelow}
 
--- a sumBelow over rays goes by their numbers
+-- a sum over rays goes by their numbers
 sum-to : (g : DexelGrid) (f : Ray g → ℕ) (h : ℕ → ℕ) → ((r : Ray g) → f r ≡ h (r .0)) → (i : ℕ) (l : i ≤ rayCount g)
     → sumTo g f i l ≡ sumBelow h i
 unfolding sumTo sumBelow
@@ -54,7 +54,7 @@ sum-at f (suc n) j l = elim (decLt j n) [
     same : (j n : ℕ) → j < suc n → (j < n → ⊥) → j ≡ n
     same j n l h = omega arith
 
--- part of a sumBelow
+-- part of a sum
 pub sum-prefix : (f : ℕ → ℕ) (n i : ℕ) → i ≤ n → sumBelow f i ≤ sumBelow f n
 unfolding sumBelow
 sum-prefix f zero i l = let e : i ≡ 0 = omega arith in let q : sumBelow f i ≡ sumBelow f 0 = ap (sumBelow f) e in omega arith

@@ -28,7 +28,7 @@ pub record Counting (spec : DexelStockSpec) (g : DexelGrid) (c : Cells) (log : L
   pub intervals : ℕ
   pub countable : Countable spec g c intervals log
 
--- the sumBelow of f over the first n numbers
+-- the sum of f over the first n numbers
 unfoldable pub sumBelow : (ℕ → ℕ) → ℕ → ℕ
 sumBelow f zero = 0
 sumBelow f (suc i) = sumBelow f i + f i

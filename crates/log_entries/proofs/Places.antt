@@ -25,12 +25,12 @@ all-first i k f = f i (omega arith) (omega arith)
 pub all-rest : {P : ℕ → Type 0} (i k : ℕ) → AllFrom P i (suc k) → AllFrom P (suc i) k
 all-rest i k f j a b = f j (omega arith) (omega arith)
 
--- the ray of an entry that namesRay one is below the count of all rays
+-- the ray of an entry that names one is below the count of all rays
 pub each-below : (g : DexelGrid) (log : List Float) → EachNamed g log → (i : ℕ) → i < entryCount log → entryRay g (entryAt log i) < rayCount g
 unfolding EachNamed
 each-below g log all i h = named-below g (entryAt log i) (all i h)
 
--- 17 is absent where each entry namesRay a ray
+-- 17 is absent where each entry names a ray
 pub each-no : (g : DexelGrid) (log : List Float) → EachNamed g log → ¬ NamesNoRay g (entries log)
 unfolding EachNamed NamesNoRay
 each-no g log all (e, m, n) =

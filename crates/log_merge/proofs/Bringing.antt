@@ -51,7 +51,7 @@ module _ (l before : List Float) (at : ℕ) (after : List Float) (r : ℕ) (fit 
       copied-from : drop at after ≡ l ++ drop (at + length l) before
       copied-from = ap (drop at) is ∙ drop-at (take at before) (l ++ drop (at + length l) before) at (length-take-le at before (omega arith))
 
--- hits that were copied, then made their sound list in the cellsFrom from their place on
+-- hits that were copied, then made their sound list in the part from their place on
 pub hits-brought : (hits before w ys : List Float) (at e r : ℕ) → at + length hits ≤ length before → ReadListPost hits before at w e
     → length ys ≡ length (take (length w - at) (drop at w))
     → FilledFront (NormalOf (take (e - at) (take (length w - at) (drop at w)))) (take (length w - at) (drop at w)) (e - at) ys r

@@ -1,4 +1,4 @@
--- One ray: its lists and hits brought, then cut in the cellsFrom of the buffer that the new lists go to.
+-- One ray: its lists and hits brought, then cut in the part of the buffer that the new lists go to.
 use mathlib.Core.Path.{_≡_, refl, sym, ap, _∙_, subst₂}
 use mathlib.Core.Bool.{true, false, not}
 use mathlib.Core.List.{List, []}
@@ -53,7 +53,7 @@ module _ (q : ℕ) (w : List Float) where
   there : take (length w - q) (drop q w) ≡ drop q w
   there = take-all (length w - q) (drop q w) (omega (arith, length-drop q w))
 
-  -- a cellsFrom of it that stands at cell p of the whole buffer
+  -- a part of it that stands at cell p of the whole buffer
   seen : (p n at : ℕ) → q ≤ p → at ≡ p - q → cellsFrom at n (take (length w - q) (drop q w)) ≡ cellsFrom p n w
   seen p n at h e = ap (cellsFrom at n) there ∙ ap (λ (x : ℕ). cellsFrom x n (drop q w)) e ∙ part-drop q p n w h
 

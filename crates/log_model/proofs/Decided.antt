@@ -1,4 +1,4 @@
--- The logCommitCauses of a log commit as tests over the lists of a sound store: 9 by `raysChanged`, 10 by `pairsLeft`. So each cause is decided before
+-- The causes of a log commit as tests over the lists of a sound store: 9 by `changedRayCount`, 10 by `pairsAfter`. So each cause is decided before
 -- anything is written, and the order always has an answer.
 use mathlib.Core.Path.{_≡_, refl, sym, ap, ap₂, _∙_, subst, fun-ext}
 use mathlib.Core.Bool.{Bool, true, false, cond, not, _&&_, _||_, true≢false, false≢true}
@@ -78,7 +78,7 @@ less-than a b = (ltb-true a b, λ h k. no a b (ltb-false a b h) k)
 
 -- ---- 17
 
--- an entry namesRay no ray
+-- an entry names no ray
 unfoldable pub unnamed : DexelGrid → List Entry → Bool
 unfolding namesSomeRay
 unnamed g [] = false
@@ -152,7 +152,7 @@ module _ (g : DexelGrid) (s : Sets g) (lists : Ray g → Kind → List Float) (e
       same-list (λ p. s r k p && not (holds (hitsOnList g es r k) p)) (setsAfter g s es r k) (less (lists r k) (hitsOnList g es r k))
       (λ p. sym (without-hits g r s es k p)) (less-list (s r k) (lists r k) (hitsOnList g es r k) (each r k))
 
-  -- and whichever they are, their number of pairTotal
+  -- and whichever they are, their number of pairs
   one-count : (r : Ray g) (k : Kind) → length (less (lists r k) (hitsOnList g es r k)) / 2 ≡ startsLeft (lists r k) (hitsOnList g es r k)
   one-count r k =
       pairs-left (lists r k) (hitsOnList g es r k) (less (lists r k) (hitsOnList g es r k)) (each r k .isSound)
@@ -168,7 +168,7 @@ module _ (g : DexelGrid) (s : Sets g) (lists : Ray g → Kind → List Float) (e
   }
 
   -- where the ends of the lists and of the hits are doubles, the points alone settle this number: whichever sound lists of doubles have
-  -- the points of the sets as they would be, it is the number of their pairTotal
+  -- the points of the sets as they would be, it is the number of their pairs
   pub left-number : Doubles g lists es → {n : ℕ} → IntervalTotal g (setsAfter g s es) n
       → (others : Ray g → Kind → List Float) → ((r : Ray g) (k : Kind) → All Double (others r k))
       → ((r : Ray g) (k : Kind) → sound (others r k) ≡ true)
@@ -208,7 +208,7 @@ due-by (c ∷ cs) (false ∷ bs) a d = elim (due-by cs bs a (d .1)) [
 ]
 
 module _ (spec : DexelStockSpec) (g : DexelGrid) (b : Capacity) where
-  -- the logCommitCauses of the order on a sound store with these lists, each as its test
+  -- the causes of the order on a sound store with these lists, each as its test
   unfoldable pub tests : (Ray g → Kind → List Float) → ℕ → Commit → List Bool
   unfolding changedRayCount pairsAfter unnamed entries
   tests lists n c =

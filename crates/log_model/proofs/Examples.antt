@@ -83,12 +83,12 @@ full : (n : ℕ) → Valid exampleGrid (uncut n)
 unfolding sound lt ofInt all-fit fits
 full n = record { isSound = λ r k. refl; doubles = λ r k. fit-doubles (num 0 ∷ num 10 ∷ []) refl; within = λ r p t. t }
 
--- the ray changes once; the same log again is acceptedLogs and changes nothing, even with no ray allowed
+-- the ray changes once; the same log again is accepted and changes nothing, even with no ray allowed
 twice : answers (exampleBox 8) exampleGrid (uncut 8) (exampleCommit 0 1 66 ∷ exampleCommit 0 0 66 ∷ []) ≡ changed 1 ∷ changed 0 ∷ []
 unfolding answers rayCount byDigit eq lt le
 twice = refl
 
--- one work pair short; part of an entry over; no such ray; no ray allowed; and after those refusals the log is acceptedLogs
+-- one work pair short; part of an entry over; no such ray; no ray allowed; and after those refusals the log is accepted
 refusals : answers (exampleBox 8) exampleGrid (uncut 8) (exampleCommit 0 1 65 ∷ record { log = num 1 ∷ []; allowance = 1; work = 66 } ∷ exampleCommit 1 1 66 ∷ exampleCommit 0 0 66 ∷ exampleCommit 0 1 66 ∷ [])
     ≡ refused 12 ∷ refused 11 ∷ refused 17 ∷ refused 9 ∷ changed 1 ∷ []
 unfolding answers rayCount byDigit eq lt le
@@ -204,13 +204,13 @@ whole-ray : ValidRay (num 0) (num 10) (num 0 ∷ num 10 ∷ []) (num 0 ∷ num 1
 unfolding sound bounded lt le ofInt
 whole-ray = record { possible-sound = refl; certain-sound = refl; possible-bounded = refl; certain-bounded = refl; inside = λ p t. t }
 
--- certain lies isBetween possible, by a test at the ends
+-- certain lies within possible, by a test at the ends
 inside-of : (P C : List Float) → agree (C ++ P) (λ (q : Float). holds C q && holds P q) (holds C) ≡ true → (p : Float) → holds C p ≡ true → holds P p ≡ true
 inside-of P C h p t =
     and-right (holds C p) (holds P p)
     (by-ends (C ++ P) (λ (q : Float). holds C q && holds P q) (holds C) (both-of (C ++ P) (holds C) (holds P) (in-left C P (holds C) (of-list C)) (in-right C P (holds P) (of-list P))) (in-left C P (holds C) (of-list C)) h p ∙ t)
 
--- the ray that was cut: 0 to 1 and 4 to 10 lie isBetween 0 to 2 and 3 to 10
+-- the ray that was cut: 0 to 1 and 4 to 10 lie within 0 to 2 and 3 to 10
 cut-whole : ValidRay (num 0) (num 10) (num 0 ∷ num 2 ∷ num 3 ∷ num 10 ∷ []) (num 0 ∷ num 1 ∷ num 4 ∷ num 10 ∷ [])
 unfolding sound bounded holds lt le ofInt
 cut-whole = record {
@@ -221,7 +221,7 @@ cut-whole = record {
   inside = inside-of (num 0 ∷ num 2 ∷ num 3 ∷ num 10 ∷ []) (num 0 ∷ num 1 ∷ num 4 ∷ num 10 ∷ []) refl;
 }
 
--- and cut again: 0 to 1 lies isBetween 0 to 2 and 3 to 4
+-- and cut again: 0 to 1 lies within 0 to 2 and 3 to 4
 again-whole : ValidRay (num 0) (num 10) (num 0 ∷ num 2 ∷ num 3 ∷ num 4 ∷ []) (num 0 ∷ num 1 ∷ [])
 unfolding sound bounded holds lt le ofInt
 again-whole = record {
@@ -268,7 +268,7 @@ again-sound = record {
   valid = λ ray h. three (λ r. ValidAt (exampleBox 8) exampleGrid (cut-again .cells) (r .0)) (λ h. whole-ray) (λ h. again-whole) (λ h. whole-ray) (ray, h);
 }
 
--- the answer that the order gives to a exampleCommit on a sound stock, worked out
+-- the answer that the order gives to a commit on a sound stock, worked out
 abbrev answer-on : Stock → Commit → LogAnswer
 answer-on s c =
     answerBy (logCommitCauses (exampleBox 8) exampleGrid (lentStore (exampleBox 8) exampleGrid .lent s) ⊥ (pointSets exampleGrid (lentStore (exampleBox 8) exampleGrid) s) (s .generation) c)
@@ -445,7 +445,7 @@ module _ (vs : List LogAnswer) (t : Stock) (x : Run (exampleBox 8) exampleGrid (
     intervals = same-end .same-total;
   }
 
--- the uncut store of the exampleBox
+-- the uncut store of the box
 fill-lays : uncutCells (exampleBox 8) exampleGrid (cells (replicate 16 (num 7)) (replicate 16 7) (replicate 6 7)) ≡ exampleStock .cells
 unfolding uncutSpans uncutLinks uncutHeads recordAt rayCount boundsOf rayAxis offset raysAlong byDigit ofInt ofBits
 fill-lays = refl

@@ -21,7 +21,7 @@ within-same lo hi lo′ hi′ p a b t =
     both (le lo′ p) (lt p hi′) (le-trans lo′ lo p (eq→ge lo lo′ a) (and-left (le lo p) (lt p hi) t))
     (lt-le-trans p hi hi′ (and-right (le lo p) (lt p hi) t) (eq→le hi hi′ b))
 
--- an entry that takes p, and that namesRay the ray r
+-- an entry that takes p, and that names the ray r
 record Taker (g : DexelGrid) (es : List Entry) (r : Ray g) (w : HitKind) (p : Float) : Type 0 where
   entry : Entry
   in-log : List·Memᴰ entry es

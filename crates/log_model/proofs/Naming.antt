@@ -76,7 +76,7 @@ whole-is x n h = (to, from)
 -- ---- entries
 
 module _ (g : DexelGrid) (e : Entry) where
-  -- the facts of an entry that namesRay a ray
+  -- the facts of an entry that names a ray
   pub record Named : Type 0 where
     pub axis-whole : isWhole (e .axis) ≡ true
     pub axis-digit : wholeOf (e .axis) < 3
@@ -110,7 +110,7 @@ module _ (g : DexelGrid) (e : Entry) where
       (both b (c && d) (lt-ltb (wholeOf (e .axis)) 3 (n .axis-digit))
       (both c d (n .index-whole) (lt-ltb (wholeOf (e .index)) (raysAlong g (worldAxis (wholeOf (e .axis)))) (n .index-below))))
 
-  -- the ray that an entry namesRay is one
+  -- the ray that an entry names is one
   pub named-below : namesSomeRay g e ≡ true → entryRay g e < rayCount g
   unfolding entryRay rayNumber
   named-below h = omega (arith, offset-le g (worldAxis (wholeOf (e .axis))), named h .index-below)
@@ -124,7 +124,7 @@ module _ (g : DexelGrid) (e : Entry) where
   unfolding namesRay
   names-only r h = (and-left (namesSomeRay g e) (eqb (entryRay g e) (r .0)) h, eqb-true (entryRay g e) (r .0) (and-right (namesSomeRay g e) (eqb (entryRay g e) (r .0)) h))
 
-  -- THE LAW: an entry namesRay the ray r exactly when its axis and index, as numbers, are those of r
+  -- THE LAW: an entry names the ray r exactly when its axis and index, as numbers, are those of r
   pub names-is : rayCount g ≤ 2 ^ 53 → (r : Ray g)
       → (namesRay g e r ≡ true)
       ↔ ((a i : ℕ) × (a < 3) × (i < raysAlong g (worldAxis a)) × (eq (e .axis) (ofInt binary64 (pos a)) ≡ true) × (eq (e .index) (ofInt binary64 (pos i)) ≡ true) × (rayNumber g (worldAxis a) i ≡ r .0))

@@ -1,5 +1,5 @@
 -- DEMAND 3: after any run from a sound store everything that `Settled` says holds, and two runs that are alike in the hits of their
--- acceptedLogs logs leave equal lists and totals.
+-- accepted logs leave equal lists and totals.
 use mathlib.Core.Path.{_≡_, refl, sym, ap, _∙_, subst, subst₂, fun-ext}
 use mathlib.Core.Bool.{Bool, true, false, not, _&&_, _||_}
 use mathlib.Core.List.{List, [], _∷_, _++_}
@@ -65,7 +65,7 @@ module _ (spec : DexelStockSpec) (g : DexelGrid) (R : StoreView g) where
     generation : R .generation t ≡ modelAfter g m cs vs .generation
     sound : R .Sound t
 
-  -- the store after an acceptedLogs log stands for the model's next state
+  -- the store after an accepted log stands for the model's next state
   restart : (s t : R .Store) (c : Commit) (n : ℕ) → AcceptedEffect g R s c t → modelStart g R t ≡ modelStep g (modelStart g R s) c (changed n)
   unfolding modelStart modelStep
   restart s t c n x =

@@ -1,4 +1,4 @@
--- The sound list of (l less hits) has one pair for each countDistinct number memberEq the los of l and the his of the hits that is in l and in no hit.
+-- The sound list of (l less hits) has one pair for each distinct number among the los of l and the his of the hits that is in l and in no hit.
 use mathlib.Core.Path.{_≡_, refl, sym, ap, ap₂, _∙_}
 use mathlib.Core.Bool.{Bool, true, false, cond, not, _&&_, _||_, false≢true}
 use mathlib.Core.List.{List, [], _∷_, _++_}
@@ -15,7 +15,7 @@ use Rattle.spans.proofs.Ends.{All, Above, all-map, rising-tail, rising-above, r
 use Rattle.spans.proofs.Sets.{sound-rising}
 use Rattle.log_model.specs.Counts.{losOf, hisOf, memberEq, countDistinct, startsLeft}
 
--- ---- counting countDistinct numbers
+-- ---- counting distinct numbers
 
 -- equal numbers stand in the same lists
 pub among-eq : (x y : Float) (l : List Float) → eq x y ≡ true → memberEq x l ≡ true → memberEq y l ≡ true
@@ -99,7 +99,7 @@ module _ (test : Float → Bool) (number : (x : Float) → test x ≡ true → N
     | inr t ↦ rw t (none-left l (λ z a. f z (or-right (eq z y) (memberEq z l) a)))
   ]
 
-  -- a rising list with the same numbers that pass the test has as many as there are countDistinct ones
+  -- a rising list with the same numbers that pass the test has as many as there are distinct ones
   distinct-count : (a l : List Float) → rising a ≡ true → All (λ x. test x ≡ true) a → All (λ x. memberEq x l ≡ true) a
       → ((z : Float) → memberEq z l ≡ true → test z ≡ true → memberEq z a ≡ true) → countDistinct test l ≡ length a
   unfolding memberEq

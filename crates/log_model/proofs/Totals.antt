@@ -1,4 +1,4 @@
--- The interval total after the updates is the number of pairTotal that the log leaves.
+-- The interval total after the updates is the number of pairs that the log leaves.
 use mathlib.Core.Path.{_≡_, refl, sym, ap, ap₂, _∙_, subst}
 use mathlib.Core.Bool.{not, _&&_}
 use mathlib.Core.List.{List, [], _∷_}
@@ -57,7 +57,7 @@ module _ (spec : DexelStockSpec) (g : DexelGrid) (s : Stock) (sound : SoundStock
   pub each : (r : Ray g) (k : Kind) → ListOf (holds (listIn spec s (r .0) k)) (listIn spec s (r .0) k)
   each r k = record { isSound = lent-laws spec g .sound-list s sound r k; points = λ p. refl }
 
-  -- the pairTotal that a ray has, and those that it will have
+  -- the pairs that a ray has, and those that it will have
   old : Ray g → ℕ
   old r = length (listIn spec s (r .0) possible) / 2 + length (listIn spec s (r .0) certain) / 2
 

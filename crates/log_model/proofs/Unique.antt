@@ -31,7 +31,7 @@ count-unique {g} {P} (counted {i = i} h x t) (skipped h′ x′ t′) = absurd (
 count-unique {g} {P} (skipped {i = i} h x t) (counted h′ x′ t′) = absurd (x (same-ray g P i h′ h x′))
 count-unique (skipped h x t) (skipped h′ x′ t′) = count-unique t t′
 
--- equal lists have as many pairTotal in all
+-- equal lists have as many pairs in all
 pub pairs-same : (g : DexelGrid) (f h : Ray g → Kind → List Float) → ((r : Ray g) (k : Kind) → equal (f r k) (h r k) ≡ true) → pairTotal g f ≡ pairTotal g h
 unfolding pairTotal
 pairs-same g f h s =
@@ -43,13 +43,13 @@ intervals-unique g s a b =
     a .number ∙ pairs-same g (a .lists) (b .lists) (λ r k. one-list (s r k) (a .lists r k) (b .lists r k) (a .each r k) (b .each r k))
     ∙ sym (b .number)
 
--- two sound lists of doubles with the same points have as many pairTotal
+-- two sound lists of doubles with the same points have as many pairs
 pub points-pairs : (a b : List Float) → All Double a → All Double b → sound a ≡ true → sound b ≡ true
     → ((p : Float) → Point p → holds a p ≡ holds b p) → length a / 2 ≡ length b / 2
 points-pairs a b da db sa sb h = ap (λ (n : ℕ). n / 2) (equal-length a b (same-points a b da db sa sb h))
 
 -- so the number of intervals of lists of doubles is settled by the points alone: other sound lists of doubles with these points have as
--- many pairTotal
+-- many pairs
 pub intervals-points : (g : DexelGrid) (s : Sets g) {n : ℕ} (a : IntervalTotal g s n) → ((r : Ray g) (k : Kind) → All Double (a .lists r k))
     → (lists : Ray g → Kind → List Float) → ((r : Ray g) (k : Kind) → All Double (lists r k))
     → ((r : Ray g) (k : Kind) → sound (lists r k) ≡ true)

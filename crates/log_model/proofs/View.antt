@@ -87,7 +87,7 @@ module _ (spec : DexelStockSpec) (g : DexelGrid) (s : Stock) where
       group : (a b c : ℕ) → a + b + c ≡ a + (b + c)
       group a b c = omega arith
 
-  -- the chained records are the pairTotal of all lists
+  -- the chained records are the pairs of all lists
   counted : (i : ℕ) (h : i ≤ rayCount g)
       → total (2 * i) ≡ sumTo g (λ r. length (listIn spec s (r .0) possible) / 2 + length (listIn spec s (r .0) certain) / 2) i h
   unfolding sumTo listNumber

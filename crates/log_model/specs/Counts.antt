@@ -39,7 +39,7 @@ unfoldable pub memberEq : Float → List Float → Bool
 memberEq x [] = false
 memberEq x (y ∷ l) = eq x y || memberEq x l
 
--- how many countDistinct numbers of the list pass the test
+-- how many distinct numbers of the list pass the test
 unfoldable pub countDistinct : (Float → Bool) → List Float → ℕ
 unfolding memberEq
 countDistinct test [] = 0

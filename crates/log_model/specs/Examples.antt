@@ -1,6 +1,6 @@
 -- A worked run of logs on the lent store, every number of it given; `run-right` in proofs/Examples.antt claims all that `RunRight` says.
--- The blank is the exampleBox from 0 to 10 in one cell, so with one ray along each axis, and has room for eight records. On its uncut store come three logs:
--- one that cuts the ray along axis 1, one with no ray allowed where it would change one, and one whose inner exampleHit sticks out of its outer exampleHit.
+-- The blank is the box from 0 to 10 in one cell, so with one ray along each axis, and has room for eight records. On its uncut store come three logs:
+-- one that cuts the ray along axis 1, one with no ray allowed where it would change one, and one whose inner hit sticks out of its outer hit.
 use mathlib.Core.Path.{_≡_}
 use mathlib.Core.Bool.{true}
 use mathlib.Core.List.{List, [], _∷_}
@@ -25,7 +25,7 @@ use Rattle.log_model.specs.View.{listIn, lentStore}
 abbrev pub num : ℕ → Float
 num n = ofInt binary64 (pos n)
 
--- the exampleBox with room for n records, and its exampleGrid
+-- the box with room for n records, and its grid
 abbrev pub exampleBox : ℕ → DexelStockSpec
 exampleBox n = record {
   version = 1;
@@ -55,7 +55,7 @@ exampleStock = record {
 abbrev pub exampleHit : Float → Float → List Float
 exampleHit axis index = axis ∷ index ∷ num 1 ∷ num 4 ∷ num 2 ∷ num 3 ∷ []
 
--- index, allowance and work pairs of a exampleCommit
+-- index, allowance and work pairs of a commit
 abbrev pub exampleCommit : ℕ → ℕ → ℕ → Commit
 exampleCommit index allowance work = record { log = exampleHit (num 1) (num index); allowance = allowance; work = work }
 

@@ -70,7 +70,7 @@ isWhole x = eq x (ofInt binary64 (pos (toUnsigned 64 x)))
 abbrev pub wholeOf : Float → ℕ
 wholeOf x = toUnsigned 64 x
 
--- the entry namesRay a ray: its axis is 0, 1 or 2, and its index a whole number below the number of rays along that axis
+-- the entry names a ray: its axis is 0, 1 or 2, and its index a whole number below the number of rays along that axis
 unfoldable pub namesSomeRay : DexelGrid → Entry → Bool
 unfolding isWhole raysAlong
 namesSomeRay g e = isWhole (e .axis) && (ltb (wholeOf (e .axis)) 3 && (isWhole (e .index) && ltb (wholeOf (e .index)) (raysAlong g (worldAxis (wholeOf (e .axis))))))
@@ -80,7 +80,7 @@ unfoldable pub entryRay : DexelGrid → Entry → ℕ
 unfolding rayNumber
 entryRay g e = rayNumber g (worldAxis (wholeOf (e .axis))) (wholeOf (e .index))
 
--- the entry namesRay the ray r
+-- the entry names the ray r
 unfoldable pub namesRay : (g : DexelGrid) → Entry → Ray g → Bool
 unfolding namesSomeRay entryRay
 namesRay g e r = namesSomeRay g e && eqb (entryRay g e) (r .0)
@@ -114,7 +114,7 @@ removed g es r certain p = holds (hitsOnRay g es r outer) p || holds (hitsOnRay 
 
 -- ---- hits, for the claims about a whole list of logs
 
--- document 01's hit: an entry's outer or inner pair with lo < hi, on the ray that the entry namesRay, in one of the logs
+-- document 01's hit: an entry's outer or inner pair with lo < hi, on the ray that the entry names, in one of the logs
 pub record Hit (g : DexelGrid) (logs : List (List Float)) (r : Ray g) (w : HitKind) : Type 0 where
   pub log : List Float
   pub entry : Entry

@@ -1,4 +1,4 @@
--- The logCommitCauses of a log commit in document 01's order, and document 01's model of a list of log commits: it keeps two point sets per ray and the
+-- The causes of a log commit in document 01's order, and document 01's model of a list of log commits: it keeps two point sets per ray and the
 -- generation, and is fed the first stock and the commits alone.
 use mathlib.Core.Path.{_≡_}
 use mathlib.Core.Bool.{Bool, false, not, _&&_}
@@ -21,7 +21,7 @@ use Rattle.log_model.specs.Logs.{Ray, Kind, possible, certain, Entry, en
 abbrev pub Sets : DexelGrid → Type 0
 Sets g = Ray g → Kind → Float → Bool
 
--- the sets setsAfter the points that a log takes
+-- the sets without the points that a log takes
 unfoldable pub setsAfter : (g : DexelGrid) → Sets g → List Entry → Sets g
 unfolding removed
 setsAfter g s es r k p = s r k p && not (removed g es r k p)
@@ -46,25 +46,25 @@ sumTo g f (suc i) h = sumTo g f i (le-of-lt h) + f (i, h)
 abbrev pub sumOver : (g : DexelGrid) → (Ray g → ℕ) → ℕ
 sumOver g f = sumTo g f (rayCount g) (le-refl (rayCount g))
 
--- the number of all pairTotal of two lists for each ray
+-- the number of all pairs of two lists for each ray
 unfoldable pub pairTotal : (g : DexelGrid) → (Ray g → Kind → List Float) → ℕ
 unfolding sumTo
 pairTotal g lists = sumOver g (λ r. length (lists r possible) / 2 + length (lists r certain) / 2)
 
--- n is the number of pairTotal of the sound lists of all sets
+-- n is the number of pairs of the sound lists of all sets
 pub record IntervalTotal (g : DexelGrid) (s : Sets g) (n : ℕ) : Type 0 where
   pub lists : Ray g → Kind → List Float
   pub each : (r : Ray g) (k : Kind) → ListOf (s r k) (lists r k)
   pub number : n ≡ pairTotal g lists
 
--- ---- logCommitCauses
+-- ---- causes
 
 -- how many whole records and how many heads the store lends
 pub record Capacity : Type 0 where
   pub records : ℕ
   pub heads : ℕ
 
--- 12: too few records, heads or work pairTotal
+-- 12: too few records, heads or work pairs
 unfoldable pub LogBuffersShort : DexelStockSpec → DexelGrid → Capacity → Commit → Type 0
 LogBuffersShort spec g b c =
     (b .records < spec .«max_intervals») ⊎ (b .heads < 2 * rayCount g)
@@ -90,7 +90,7 @@ unfolding setsAfter entries
 TooManyIntervals spec g s c = (n : ℕ) × IntervalTotal g (setsAfter g s (entries (c .log))) n × (spec .«max_intervals» < n)
 
 -- Document 01's order for a log commit, on a store that lends b, whose lists hold the sets s, at generation n. `Unsound` says that the
--- store is not sound. The logCommitCauses 1 to 4 are those of `grid`, which has acceptedLogs the description.
+-- store is not sound. The causes 1 to 4 are those of `exampleGrid`, which has accepted the description.
 unfoldable pub logCommitCauses : DexelStockSpec → (g : DexelGrid) → Capacity → Type 0 → Sets g → ℕ → Commit → List Cause
 unfolding LogBuffersShort LogInputBad NamesNoRay TooManyRays TooManyIntervals
 logCommitCauses spec g b Unsound s n c =
@@ -102,7 +102,7 @@ logCommitCauses spec g b Unsound s n c =
     ∷ cause 10 (TooManyIntervals spec g s c)
     ∷ []
 
--- an acceptedLogs commit answers how many rays changed, a refused one its number
+-- an accepted commit answers how many rays changed, a refused one its number
 pub data LogAnswer : Type 0 where
   changed refused : ℕ → LogAnswer
 
@@ -120,7 +120,7 @@ pub record Model (g : DexelGrid) : Type 0 where
   pub sets : Sets g
   pub generation : ℕ
 
--- an acceptedLogs log takes its points and adds one to the generation; a refused log changes nothing
+-- an accepted log takes its points and adds one to the generation; a refused log changes nothing
 unfoldable pub modelStep : (g : DexelGrid) → Model g → Commit → LogAnswer → Model g
 unfolding setsAfter entries
 modelStep g m c (refused k) = m
@@ -141,7 +141,7 @@ modelAfter g m [] vs = m
 modelAfter g m (c ∷ cs) [] = m
 modelAfter g m (c ∷ cs) (a ∷ vs) = modelAfter g (modelStep g m c a) cs vs
 
--- the logs that were acceptedLogs
+-- the logs that were accepted
 unfoldable pub acceptedLogs : List Commit → List LogAnswer → List (List Float)
 acceptedLogs [] vs = []
 acceptedLogs (c ∷ cs) [] = []

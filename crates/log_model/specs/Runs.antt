@@ -32,7 +32,7 @@ unfoldable pub pointSets : (g : DexelGrid) (R : StoreView g) → R .Store → Se
 unfolding holds
 pointSets g R s r k p = holds (R .lists s r k) p
 
--- what an acceptedLogs log leaves of the store s
+-- what an accepted log leaves of the store s
 pub record AcceptedEffect (g : DexelGrid) (R : StoreView g) (s : R .Store) (c : Commit) (t : R .Store) : Type 0 where
   pub sound : R .Sound t
   pub exactly : (r : Ray g) (k : Kind) (p : Float) → pointSets g R t r k p ≡ setsAfter g (pointSets g R s) (entries (c .log)) r k p
@@ -62,23 +62,23 @@ modelStart g R s = record { sets = pointSets g R s; generation = R .generation s
 
 -- DEMAND 3, of a run from the sound store s with the commits cs and the answers vs to the store t
 pub record RunMeetsModel (spec : DexelStockSpec) (g : DexelGrid) (R : StoreView g) (s : R .Store) (cs : List Commit) (vs : List LogAnswer) (t : R .Store) : Type 0 where
-  -- the answers, acceptedLogs and refused, are the model's, and the model has no others
+  -- the answers, accepted and refused, are the model's, and the model has no others
   pub answers : ModelAnswers spec g (R .lent s) (modelStart g R s) cs vs
   pub no-others : (bs : List LogAnswer) → ModelAnswers spec g (R .lent s) (modelStart g R s) cs bs → bs ≡ vs
   -- each list is the one sound list of the model's set
   pub listed : (r : Ray g) (k : Kind) → ListOf (modelAfter g (modelStart g R s) cs vs .sets r k) (R .lists t r k)
-  -- and no other list of doubles is sound and has its pointSets
+  -- and no other list of doubles is sound and has its points
   pub only-list : (r : Ray g) (k : Kind) (l : List Float) → All Double l → All Double (R .lists t r k) → sound l ≡ true
       → ((p : Float) → Point p → holds l p ≡ modelAfter g (modelStart g R s) cs vs .sets r k p) → equal l (R .lists t r k) ≡ true
-  -- the interval total is the number of all their pairTotal, the generation the model's
+  -- the interval total is the number of all their pairs, the generation the model's
   pub all-pairs : R .intervals t ≡ pairTotal g (R .lists t)
   pub model-generation : R .generation t ≡ modelAfter g (modelStart g R s) cs vs .generation
-  -- the same setsAfter the model: the generation grows by one for each acceptedLogs log
+  -- the same without the model: the generation grows by one for each accepted log
   pub generation : R .generation t ≡ R .generation s + length (acceptedLogs cs vs)
-  -- possible holds exactly the pointSets it first held that lie in no inner hit of an acceptedLogs log
+  -- possible holds exactly the points it first held that lie in no inner hit of an accepted log
   pub possible-is : (r : Ray g) (p : Float)
       → (holds (R .lists t r possible) p ≡ true) ↔ ((holds (R .lists s r possible) p ≡ true) × (¬ InHit g (acceptedLogs cs vs) r inner p))
-  -- certain holds exactly the pointSets it first held that lie in no outer and no inner hit of an acceptedLogs log
+  -- certain holds exactly the points it first held that lie in no outer and no inner hit of an accepted log
   pub certain-is : (r : Ray g) (p : Float)
       → (holds (R .lists t r certain) p ≡ true)
       ↔ ((holds (R .lists s r certain) p ≡ true) × (¬ InHit g (acceptedLogs cs vs) r outer p) × (¬ InHit g (acceptedLogs cs vs) r inner p))
@@ -92,7 +92,7 @@ pub record StoresAgree (g : DexelGrid) (R : StoreView g) (t u : R .Store) : Type
   pub same-lists : (r : Ray g) (k : Kind) → equal (R .lists t r k) (R .lists u r k) ≡ true
   pub same-total : R .intervals t ≡ R .intervals u
 
--- DEMAND 3, whole: of every run from a sound store, and of every two that are alike in the hits of their acceptedLogs logs
+-- DEMAND 3, whole: of every run from a sound store, and of every two that are alike in the hits of their accepted logs
 pub record RunCorrect (spec : DexelStockSpec) (g : DexelGrid) (R : StoreView g) : Type 0 where
   pub settles : (s t : R .Store) (cs : List Commit) (vs : List LogAnswer) → R .Sound s → Run spec g R s cs vs t → RunMeetsModel spec g R s cs vs t
   pub agrees : (s t u : R .Store) (cs ds : List Commit) (vs ws : List LogAnswer) → R .Sound s → Run spec g R s cs vs t → Run spec g R s ds ws u

@@ -82,7 +82,7 @@ count c s (suc k) = count c s k + cond (eqb (letterOf s k) c) 1 0
 abbrev pub pairAt : ℕ → List ℕ → ℕ → List Float
 pairAt c s at = cond (eqb (getD s at 0) c) (ofBits binary64 (bitsAt s (at + 2)) ∷ ofBits binary64 (bitsAt s (at + 19)) ∷ []) []
 
--- the textPairs of those lines, as a span list; a NaN's bits give the one NaN
+-- the pairs of those lines, as a span list; a NaN's bits give the one NaN
 unfoldable pub textPairs : ℕ → List ℕ → ℕ → List Float
 textPairs c s zero = []
 textPairs c s (suc k) = textPairs c s k ++ pairAt c s (36 * k)

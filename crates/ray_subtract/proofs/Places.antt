@@ -22,7 +22,7 @@ part-length at n w h = length-take-le n (drop at w) (omega (arith, length-drop a
 pub part-cell : (at n : ℕ) (w : List Float) (q : ℕ) → q < n → getD (cellsFrom at n w) q nan ≡ getD w (at + q) nan
 part-cell at n w q h = getD-take n (drop at w) q nan h ∙ getD-drop at w q nan
 
--- a cellsFrom whose cells are as before is as before
+-- a part whose cells are as before is as before
 pub part-same : (at n : ℕ) (before after : List Float) → at + n ≤ length before → length after ≡ length before
     → ((q : ℕ) → at ≤ q → q < at + n → getD after q nan ≡ getD before q nan) → cellsFrom at n after ≡ cellsFrom at n before
 part-same at n before after fit size same =
@@ -46,14 +46,14 @@ lies-past from to before after b at n h l = record {
   isSound = rw (part-past from to before after b at n (l .room) h) (l .isSound);
 }
 
--- a cellsFrom of what stands from cell `to` on
+-- a part of what stands from cell `to` on
 pub part-drop : (to at n : ℕ) (w : List Float) → to ≤ at → cellsFrom (at - to) n (drop to w) ≡ cellsFrom at n w
 part-drop to at n w h = ap (take n) (drop-drop (at - to) to w ∙ ap (λ (k : ℕ). drop k w) (whole to at h))
   where
     whole : (to at : ℕ) → to ≤ at → to + (at - to) ≡ at
     whole to at h = omega arith
 
--- a cellsFrom as before, where the cells in front of k are
+-- a part as before, where the cells in front of k are
 pub part-kept : (k at n : ℕ) (before after : List Float) → at + n ≤ k → k ≤ length before → length after ≡ length before
     → ((q : ℕ) → q < k → getD after q nan ≡ getD before q nan) → cellsFrom at n after ≡ cellsFrom at n before
 part-kept k at n before after h fit size same = part-same at n before after (omega arith) size (λ q g f. same q (omega arith))
@@ -69,7 +69,7 @@ between-both t e u f from to a b c x y ht hu he hf = record {
 pub between-same : (from to : ℕ) (w : List Float) → ChangedBetween from to w w
 between-same from to w = record { size = refl; front = λ q h. refl; past = λ q h. refl }
 
--- ---- a cellsFrom from cell `at` on that was lent, and is back with the cells ys
+-- ---- a part from cell `at` on that was lent, and is back with the cells ys
 module _ (at : ℕ) (w ys : List Float) (fit : at ≤ length w) (size : length ys ≡ length (take (length w - at) (drop at w))) where
   lent : take (length w - at) (drop at w) ≡ drop at w
   lent = take-all (length w - at) (drop at w) (omega (arith, length-drop at w))
@@ -105,7 +105,7 @@ module _ (at : ℕ) (w ys : List Float) (fit : at ≤ length w) (size : length y
       whole : (a q : ℕ) → a ≤ q → q ≡ a + (q - a)
       whole a q h = omega arith
 
-  -- cells of the cellsFrom that are as before, seen from the whole buffer
+  -- cells of the part that are as before, seen from the whole buffer
   pub tail-past : (k : ℕ) → ((q : ℕ) → k ≤ q → getD ys q nan ≡ getD (drop at w) q nan) → (q : ℕ) → at + k ≤ q → getD back q nan ≡ getD w q nan
   tail-past k same q h = tail-cell q (omega arith) ∙ same (q - at) (omega arith) ∙ sym (before-cell q (omega arith))
 
@@ -145,7 +145,7 @@ module _ (at : ℕ) (w ys : List Float) (fit : at ≤ length w) (size : length y
     ends = rw (tail-drop, ← part-drop at a n w ha, ← part-drop at b m w hb, ← lent) (s .ends);
   }
 
--- ---- the list that is handedBack back
+-- ---- the list that is handed back
 module _ (p : MergedList) (before work : List Float) (at : ℕ) where
   pub handed-still : p .moved ≡ false → before ≡ handedBack p before work at
   handed-still h = rw h
@@ -153,7 +153,7 @@ module _ (p : MergedList) (before work : List Float) (at : ℕ) where
   pub handed-new : p .moved ≡ true → at + 2 * p .pairs ≤ length work → cellsFrom at (2 * p .pairs) work ≡ handedBack p before work at
   handed-new h k = rw (h, le-leb (at + 2 * p .pairs) (length work) k)
 
--- a list in the cellsFrom from cell `to` on
+-- a list in the part from cell `to` on
 pub lies-tail : (to at n : ℕ) (w : List Float) → to ≤ at → SoundListAt at n w → SoundListAt (at - to) n (take (length w - to) (drop to w))
 lies-tail to at n w h l =
     let whole : take (length w - to) (drop to w) ≡ drop to w = take-all (length w - to) (drop to w) (omega (arith, length-drop to w)) in

@@ -44,7 +44,7 @@ pub record WrittenAt (list : List Float) (to end limit : ℕ) (before after : Li
 abbrev pub lessHits : (c n o i : ℕ) → List Float → List Float
 lessHits c n o i w = lessOf (lessOf (cellsFrom c n w) (cellsFrom (c + n) o w)) (cellsFrom (c + n + o) i w)
 
--- what a cellsFrom says of a list and the one that becomes of it: whether a boundary moved, and how many pairs that one has
+-- what a part says of a list and the one that becomes of it: whether a boundary moved, and how many pairs that one has
 pub record Becomes (a list : List Float) (r : MergedList) : Type 0 where
   pub moves : r .moved ≡ not (equal a list)
   pub pairs : length list ≡ 2 * r .pairs

@@ -21,7 +21,7 @@ spared list hit p = holds list p && not (hit p)
 abbrev pub newCells : MergedList → ℕ
 newCells part = cond (part .moved) (2 * part .pairs) 0
 
--- the list that is handedBack back: the new one, from cell `at` of the work buffer on, or the caller's own
+-- the list that is handed back: the new one, from cell `at` of the work buffer on, or the caller's own
 abbrev pub handedBack : MergedList → List Float → List Float → ℕ → List Float
 handedBack part before work at = cond (part .moved && leb (at + 2 * part .pairs) (length work)) (take (2 * part .pairs) (drop at work)) before
 

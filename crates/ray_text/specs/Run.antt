@@ -71,7 +71,7 @@ pub record Printed (causes : List Cause) (lo hi : Float) (possible certain outer
 abbrev pub ProgramRan : List ℕ → List ℕ → List ℕ → ℕ → Type 0
 ProgramRan s before after r = Printed (runCauses s) (boundLo s) (boundHi s) (textPossible s) (textCertain s) (textOuter s) (textInner s) before after r
 
--- what is asked of the lists that are merged and printed: whole textPairs of hits, and as many as the buffers hold
+-- what is asked of the lists that are merged and printed: whole pairs of hits, and as many as the buffers hold
 pub record Small (possible certain outer inner : List Float) : Type 0 where
   pub outerWhole : length outer % 2 ≡ 0
   pub innerWhole : length inner % 2 ≡ 0

@@ -153,7 +153,7 @@ module _ (n : ℕ) (spans : List Float) (links heads : List ℕ) (j : ℕ) (pair
           ∙ ap (λ (l : List ℕ). cells (filledSpans spans ps pairs) l (set heads j head)) (f .links-left ∙ ap (λ (o : ℕ). filledLinks links o ps) (add-one j))
           ∙ ap (λ (h : ℕ). cells (filledSpans spans ps pairs) (filledLinks links (suc j) ps) (set heads j h)) (f .at)
 
--- a pairsFrom of the pairs as a call lends it
+-- a part of the pairs as a call lends it
 pub part-is : (pairs : List Float) (at n : ℕ) → take (at + 2 * n - at) (drop at pairs) ≡ pairsFrom pairs at n
 part-is pairs at n = ap (λ (k : ℕ). take k (drop at pairs)) (back at (2 * n))
   where

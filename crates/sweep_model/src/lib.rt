@@ -52,7 +52,7 @@ pub struct ChordOnAxis {
     pub u_is_tool: bool,
 }
 
-// CellRange from the first to the second, or none.
+// Cells from the first to the second, or none.
 pub enum CellRange {
     Met(u64, u64),
     Missed,

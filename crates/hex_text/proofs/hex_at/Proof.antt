@@ -23,7 +23,7 @@ returns : tie.Need-returns Inv-loop μ-loop
 unfolding hexAt
 returns c = simp (lt-leb _ _ (c .if1 .taken))
 
--- the text ends before the hexNumber does
+-- the text ends before the number does
 past : (text : List ℕ) (k n : ℕ) → n ≤ 16 → length text < k + n → Missing ≡ hexAt text k n
 unfolding hexAt
 past text k n l h = simp (le-leb n 16 l, lt-leb (k + n) (length text) h)
