@@ -6,13 +6,10 @@ use lib.Ieee.{Float}
 use Rattle.grid.specs.Rays.{rayCount}
 use Rattle.grid.specs.declared.DexelStockSpec.{DexelStockSpec}
 use Rattle.grid.specs.declared.DexelGrid.{DexelGrid}
-use Rattle.store.specs.Updates.{Cells, Update, Room, freedAll, pairsFreed, pairsLaid}
+use Rattle.store.specs.Updates.{Cells, freedAll, pairsFreed, pairsLaid}
 use Rattle.stock.specs.Stock.{SoundCells}
-use Rattle.change_list.specs.Changes.{changesOf, AllGood, updatesOf}
-
--- what a lent change list does to the store
-abbrev pub updatesIn : DexelGrid → List ℕ → List Float → List Update
-updatesIn g changes pairs = updatesOf g (changesOf changes pairs)
+use Rattle.change_list.specs.Changes.{changesOf, AllGood, updatesIn}
+use Rattle.store.specs.Steps.{Room}
 
 -- good changes of a sound store with that total, which stay within the budget
 pub record ChangesFit (spec : DexelStockSpec) (g : DexelGrid) (c : Cells) (total : ℕ) (changes : List ℕ) (pairs : List Float) : Type 0 where

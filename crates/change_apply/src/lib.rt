@@ -4,7 +4,8 @@ ghost use mathlib.Core.List.{List};
 ghost use Prim.Native.Nat.{ℕ, _+_, _*_, _^_, _<_};
 ghost use lib.Ieee.{Float};
 ghost use Rattle.store.specs.Updates.{cells, laidAll, applied};
-ghost use Rattle.change_apply.specs.Passes.{updatesIn, ChangesFit, FreeAllPost, ChangesFreed};
+ghost use Rattle.change_apply.specs.Passes.{ChangesFit, FreeAllPost, ChangesFreed};
+ghost use Rattle.change_list.specs.Changes.{updatesIn};
 use grid::DexelGrid;
 use grid::DexelStockSpec;
 

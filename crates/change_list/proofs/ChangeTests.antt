@@ -15,9 +15,10 @@ use Rattle.span_cover.specs.Cover.{Covers}
 use Rattle.spans.specs.Rays.{ValidRay}
 use Rattle.ray_check.proofs.Tests.{passes, covers-tells}
 use Rattle.stock.specs.Stock.{possibleIn, certainIn}
-use Rattle.change_list.specs.Cuts.{SoundWithRoom, IsRemoval, ChangeAllowed}
+use Rattle.change_list.specs.Cuts.{IsRemoval, ChangeAllowed}
 use Rattle.change_list.proofs.Lists.{sound-equal}
 use Rattle.logic.specs.Logic.{Decides}
+use Rattle.change_list.specs.Steps.{SoundWithRoom}
 
 -- a test that fails, of a Bool that P brings with it
 pub fails : (P : Type 0) (b r : Bool) → r ≡ b → not r ≡ true → (P → b ≡ true) → Decides P false

@@ -19,8 +19,8 @@ use Rattle.grid.specs.declared.DexelGrid.{DexelGrid}
 use Rattle.store.specs.Updates.{Cells}
 use Rattle.change_list.specs.Cuts.{ChangeAllowed}
 use Rattle.change_list.proofs.ChangeTests.{never}
-use Rattle.change_list.specs.Changes.{end4, changeRay, Names, changeBy, Good}
-use Rattle.change_list.specs.Steps.{pairsIn, cursorOf, checkNumber, badCauses, CheckChangePost}
+use Rattle.change_list.specs.Changes.{end4, changeRay, Names, changeBy, Good, badCauses}
+use Rattle.change_list.specs.Steps.{pairsIn, cursorOf, checkNumber, CheckChangePost}
 use Rattle.change_list.specs.declared.ChangeHead.{ChangeHead}
 use Rattle.change_list.specs.declared.ChangeCursor.{ChangeCursor}
 use Rattle.change_list.specs.declared.ChangeCheck.the-variants.{Next, Bad}

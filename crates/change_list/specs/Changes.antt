@@ -11,6 +11,7 @@ use Rattle.grid.specs.declared.DexelGrid.{DexelGrid}
 use Rattle.store.specs.Updates.{Cells, Update, update, pairsFrom}
 use Rattle.change_list.specs.Cuts.{ChangeAllowed}
 use Rattle.change_list.specs.declared.ChangeHead.{ChangeHead}
+use Rattle.refusal.specs.Refusal.{Cause, cause}
 
 -- the six numbers of change k
 unfoldable pub headAt : List ℕ → ℕ → ChangeHead
@@ -97,3 +98,11 @@ updatesOf g (d ∷ ds) =
     update (2 * changeRay g (d .axis) (d .index)) (d .possible-after)
     ∷ update (2 * changeRay g (d .axis) (d .index) + 1) (d .certain-after)
     ∷ updatesOf g ds
+
+-- what a lent change list does to the store
+abbrev pub updatesIn : DexelGrid → List ℕ → List Float → List Update
+updatesIn g changes pairs = updatesOf g (changesOf changes pairs)
+
+-- the cause of 13: not all that is asked of the changes holds
+abbrev pub badCauses : Type 0 → List Cause
+badCauses good = cause 13 (good → ⊥) ∷ []

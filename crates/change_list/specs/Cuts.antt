@@ -2,15 +2,15 @@
 use mathlib.Core.Path.{_≡_}
 use mathlib.Core.Bool.{true, false, _&&_}
 use mathlib.Core.List.{List}
-use Prim.Native.Nat.{ℕ, _*_}
+use Prim.Native.Nat.{ℕ}
 use lib.Ieee.{Float}
 use Rattle.spans.specs.Spans.{holds, equal}
-use Rattle.grid.specs.Rays.{rayCount, boundsOf}
+use Rattle.grid.specs.Rays.{boundsOf}
 use Rattle.grid.specs.declared.DexelStockSpec.{DexelStockSpec}
 use Rattle.grid.specs.declared.DexelGrid.{DexelGrid}
-use Rattle.store.specs.Updates.{Cells, Room}
+use Rattle.store.specs.Updates.{Cells}
 use Rattle.spans.specs.Rays.{ValidRay}
-use Rattle.stock.specs.Stock.{possibleIn, certainIn, SoundCells}
+use Rattle.stock.specs.Stock.{possibleIn, certainIn}
 
 -- the new lists make a valid ray, gain no point of the old ones and differ from them
 pub record IsRemoval (lo hi : Float) (p q p′ q′ : List Float) : Type 0 where
@@ -23,9 +23,3 @@ pub record IsRemoval (lo hi : Float) (p q p′ q′ : List Float) : Type 0 where
 pub record ChangeAllowed (spec : DexelStockSpec) (g : DexelGrid) (c : Cells) (ray : ℕ) (p q p′ q′ : List Float) : Type 0 where
   pub was : (equal (possibleIn spec c ray) p && equal (certainIn spec c ray) q) ≡ true
   pub loses : IsRemoval (boundsOf spec g ray .lo) (boundsOf spec g ray .hi) p q p′ q′
-
--- the store has room and is sound
-pub record SoundWithRoom (spec : DexelStockSpec) (g : DexelGrid) (c : Cells) : Type 0 where
-  pub room : Room (spec .«max_intervals») (2 * rayCount g) c
-  pub total : ℕ
-  pub isSound : SoundCells spec g c total

@@ -1,18 +1,21 @@
 -- What the functions that check a change list ask and answer.
 use mathlib.Core.Path.{_≡_}
-use mathlib.Core.List.{List, [], _∷_}
+use mathlib.Core.List.{List}
 use Prim.Native.Nat.{ℕ, _+_, _*_, _%_, _≤_}
 use lib.ListN.{length}
 use lib.Ieee.{Float}
-use Rattle.refusal.specs.Refusal.{Cause, cause, Due}
+use Rattle.refusal.specs.Refusal.{Due}
 use Rattle.grid.specs.declared.DexelStockSpec.{DexelStockSpec}
 use Rattle.grid.specs.declared.DexelGrid.{DexelGrid}
 use Rattle.store.specs.Updates.{Cells, pairsFreed, pairsLaid}
-use Rattle.change_list.specs.Changes.{Change, changeRay, end4, changeBy, Good, AllGood, updatesOf}
+use Rattle.change_list.specs.Changes.{Change, changeRay, end4, changeBy, Good, AllGood, updatesOf, badCauses}
 use Rattle.change_list.specs.declared.ChangeHead.{ChangeHead}
 use Rattle.change_list.specs.declared.ChangeCursor.{ChangeCursor}
 use Rattle.change_list.specs.declared.ChangeCheck.{ChangeCheck}
 use Rattle.change_list.specs.declared.ChangeCheck.the-variants.{Next, Bad}
+use Rattle.grid.specs.Rays.{rayCount}
+use Rattle.stock.specs.Stock.{SoundCells}
+use Rattle.store.specs.Steps.{Room}
 
 -- how many pairs the four lists of a change have
 abbrev pub pairsIn : ChangeHead → ℕ
@@ -39,10 +42,6 @@ abbrev pub checkNumber : ChangeCheck → ℕ
 checkNumber (Next n) = 0
 checkNumber Bad = 13
 
--- the cause of 13: not all that is asked of the changes holds
-abbrev pub badCauses : Type 0 → List Cause
-badCauses good = cause 13 (good → ⊥) ∷ []
-
 -- the answer on one change
 abbrev pub CheckChangePost : DexelStockSpec → DexelGrid → Cells → List Float → ChangeHead → ChangeCursor → ChangeCheck → Type 0
 CheckChangePost spec g c pairs h cur Bad = Due (badCauses (Good spec g c pairs (cur .from) (changeBy h pairs (cur .at)))) (checkNumber Bad)
@@ -53,3 +52,9 @@ abbrev pub CheckChangesPost : DexelStockSpec → DexelGrid → Cells → List Fl
 CheckChangesPost spec g c pairs ds Bad = Due (badCauses (AllGood spec g c pairs 0 ds)) (checkNumber Bad)
 CheckChangesPost spec g c pairs ds (Next n) =
     AllGood spec g c pairs 0 ds × (n .before ≡ pairsFreed (spec .«max_intervals») c (updatesOf g ds)) × (n .after ≡ pairsLaid (updatesOf g ds)) × (2 * n .after ≤ length pairs)
+
+-- the store has room and is sound
+pub record SoundWithRoom (spec : DexelStockSpec) (g : DexelGrid) (c : Cells) : Type 0 where
+  pub room : Room (spec .«max_intervals») (2 * rayCount g) c
+  pub total : ℕ
+  pub isSound : SoundCells spec g c total

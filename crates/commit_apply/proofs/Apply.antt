@@ -9,7 +9,7 @@ use Rattle.doubles.specs.Constants.{plusZero}
 use Rattle.grid.specs.Rays.{rayCount}
 use Rattle.grid.specs.declared.DexelStockSpec.{DexelStockSpec}
 use Rattle.grid.specs.declared.DexelGrid.{DexelGrid}
-use Rattle.store.specs.Updates.{Cells, Update, Room, CellsChainsSound, Ascending, pairsFreed, pairsLaid, freedAll, laidAll, applied}
+use Rattle.store.specs.Updates.{Cells, Update, CellsChainsSound, pairsFreed, pairsLaid, freedAll, laidAll, applied}
 use Rattle.store.proofs.Updating.{FreedAll, freed-all, all-empty, kept-room}
 use Rattle.stock.specs.Stock.{Stock}
 use Rattle.log_model.specs.Logs.{entries, entryCount}
@@ -24,6 +24,7 @@ use Rattle.log_model.specs.Updates.{MergeUpdates, stockLists}
 use Rattle.log_model.proofs.Leaves.{ascend, intervals-left}
 use Rattle.log_merge.specs.All.{MergeAllPre, MergeAllPost}
 use Rattle.commit_apply.specs.Apply.{ApplyPre, ApplyPost}
+use Rattle.store.specs.Steps.{Room, Ascending}
 
 module _ (spec : DexelStockSpec) (g : DexelGrid) (c : Cells) (log w : List Float) (ready : ApplyPre spec g c log w) where
   -- a stock with these cells: the laws of a cut speak of no generation

@@ -6,16 +6,17 @@ use lib.ListN.{length, replicate}
 use lib.Ieee.{Float}
 use Rattle.doubles.specs.Constants.{plusZero}
 use Rattle.grid.specs.Rays.{rayCount}
-use Rattle.grid.specs.Causes.{GridFacts}
 use Rattle.grid.specs.declared.DexelStockSpec.{DexelStockSpec}
 use Rattle.grid.specs.declared.DexelGrid.{DexelGrid}
-use Rattle.store.specs.Updates.{Cells, Update, Room, applied}
+use Rattle.store.specs.Updates.{Cells, Update, applied}
 use Rattle.stock.specs.Stock.{SoundCells}
 use Rattle.log_model.specs.Logs.{entries, workNeeded}
 use Rattle.log_model.specs.Counts.{pairsAfter}
 use Rattle.log_model.specs.View.{listsIn}
 use Rattle.log_entries.specs.Named.{EachNamed}
 use Rattle.log_model.specs.Updates.{MergeUpdates}
+use Rattle.grid.specs.Facts.{GridFacts}
+use Rattle.store.specs.Steps.{Room}
 
 -- the grid, the cells and the log have passed the tests
 pub record ApplyPre (spec : DexelStockSpec) (g : DexelGrid) (c : Cells) (log work : List Float) : Type 0 where

@@ -17,9 +17,9 @@ use Rattle.stock.specs.declared.CommitAnswer.{CommitAnswer}
 use Rattle.stock.specs.declared.CommitAnswer.the-variants.{Changed, Refused}
 use Rattle.stock.proofs.Causes.{due-first, due-second, none-in-both}
 use Rattle.stock.proofs.Answers.{accepted, refused}
-use Rattle.change_list.specs.Changes.{changesOf, changeRay}
+use Rattle.change_list.specs.Changes.{changesOf, changeRay, updatesIn}
 use Rattle.change_list.proofs.Applying.{changed-has, other-keeps, changes-update, changes-sound}
-use Rattle.change_apply.specs.Passes.{updatesIn, ChangesFit}
+use Rattle.change_apply.specs.Passes.{ChangesFit}
 use Rattle.commit_changes.specs.ChangeCommit.{changedStock, changeCauses, changeCommitCauses, ChangesEffect, ChangesPostBy}
 use Rattle.commit_changes.specs.Verdicts.{VerdictBy}
 use Rattle.commit_changes.specs.declared.ChangeVerdict.{ChangeVerdict}

@@ -12,23 +12,23 @@ use Rattle.refusal.specs.Refusal.{Due, NoneDue}
 use Rattle.grid.specs.Rays.{rayCount}
 use Rattle.grid.specs.declared.DexelStockSpec.{DexelStockSpec}
 use Rattle.grid.specs.declared.DexelGrid.{DexelGrid}
-use Rattle.store.specs.Updates.{Room, pairsFreed}
+use Rattle.store.specs.Updates.{pairsFreed}
 use Rattle.store.proofs.FreePlaces.{free-records}
 use Rattle.store.proofs.Updating.{freed-all}
 use Rattle.stock.specs.Stock.{Stock, SoundStock, isShort}
 use Rattle.stock.proofs.Causes.{due-first}
-use Rattle.change_list.specs.Changes.{changesOf, AllGood}
-use Rattle.change_list.specs.Steps.{badCauses, CheckChangesPost}
+use Rattle.change_list.specs.Changes.{changesOf, AllGood, updatesIn, badCauses}
+use Rattle.change_list.specs.Steps.{CheckChangesPost}
 use Rattle.change_list.specs.declared.ChangeCursor.{ChangeCursor}
 use Rattle.change_list.specs.declared.ChangeCheck.{ChangeCheck}
 use Rattle.change_list.specs.declared.ChangeCheck.the-variants.{Next, Bad}
 use Rattle.change_list.proofs.Applying.{good-ascend}
-use Rattle.change_apply.specs.Passes.{updatesIn}
 use Rattle.commit_changes.specs.ChangeCommit.{intervalsAfter, ChangeInputBad, changeListCauses, changeCauses}
 use Rattle.commit_changes.specs.Verdicts.{VerdictBy}
 use Rattle.commit_changes.specs.declared.ChangeVerdict.{ChangeVerdict}
 use Rattle.commit_changes.specs.declared.ChangeVerdict.the-variants.{Fits, Refused}
 use Rattle.logic.specs.Logic.{Decides}
+use Rattle.store.specs.Steps.{Room}
 
 module _ (spec : DexelStockSpec) (g : DexelGrid) (s : Stock) (changes : List ℕ) (pairs : List Float) where
   -- ---- 13, 10, 15

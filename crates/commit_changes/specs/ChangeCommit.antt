@@ -15,9 +15,7 @@ use Rattle.store.specs.Updates.{pairsFreed, pairsLaid, applied, CellsPastKept}
 use Rattle.stock.specs.Stock.{Stock, SoundStock, possibleIn, certainIn, isShort}
 use Rattle.stock.specs.declared.CommitAnswer.{CommitAnswer}
 use Rattle.stock.specs.declared.CommitAnswer.the-variants.{Changed, Refused}
-use Rattle.change_list.specs.Changes.{Change, changesOf, changeRay, AllGood}
-use Rattle.change_list.specs.Steps.{badCauses}
-use Rattle.change_apply.specs.Passes.{updatesIn}
+use Rattle.change_list.specs.Changes.{Change, changesOf, changeRay, AllGood, updatesIn, badCauses}
 
 -- the intervals after the changes
 abbrev pub intervalsAfter : DexelStockSpec → DexelGrid → Stock → List ℕ → List Float → ℕ
@@ -68,10 +66,6 @@ pub record ChangesEffect (spec : DexelStockSpec) (g : DexelGrid) (changes : List
 abbrev pub ChangesPostBy : List Cause → DexelStockSpec → DexelGrid → List ℕ → List Float → (before after : Stock) → CommitAnswer → Type 0
 ChangesPostBy causes spec g changes pairs before after (Refused k) = Due causes k × (after ≡ before)
 ChangesPostBy causes spec g changes pairs before after (Changed n) = NoneDue causes × (n ≡ length changes / 6) × ChangesEffect spec g changes pairs before after
-
--- the commit over a grid that is accepted
-abbrev pub ChangesPostOnGrid : DexelStockSpec → DexelGrid → (base : ℕ) → List ℕ → List Float → (before after : Stock) → CommitAnswer → Type 0
-ChangesPostOnGrid spec g base changes pairs before after answer = ChangesPostBy (changeCauses spec g base before changes pairs) spec g changes pairs before after answer
 
 -- the change commit of document 01
 abbrev pub ChangesPost : DexelStockSpec → (units : List ℕ) → (base : ℕ) → List ℕ → List Float → (before after : Stock) → CommitAnswer → Type 0

@@ -15,7 +15,6 @@ use Rattle.spans.specs.Spans.{ListOf}
 use Rattle.grid.specs.Rays.{rayCount}
 use Rattle.grid.specs.declared.DexelStockSpec.{DexelStockSpec}
 use Rattle.grid.specs.declared.DexelGrid.{DexelGrid}
-use Rattle.store.specs.Updates.{Room}
 use Rattle.stock.specs.Stock.{Stock, SoundStock, isShort}
 use Rattle.stock.proofs.Causes.{room-of}
 use Rattle.log_model.specs.Logs.{Ray, Kind, entries, workNeeded, commitOf}
@@ -34,6 +33,7 @@ use Rattle.log_budget.specs.declared.BudgetAnswer.{BudgetAnswer}
 use Rattle.log_budget.specs.declared.BudgetAnswer.the-variants.{Kept, Rays, Intervals}
 use Rattle.commit_check.specs.Tests.{LogChecked, stockLogCauses, LogCheckPost}
 use Rattle.logic.specs.Logic.{Decides}
+use Rattle.store.specs.Steps.{Room}
 
 -- ---- what `budget` says
 module _ (a n c l : ℕ) where

@@ -7,7 +7,6 @@ use lib.Ieee.{Float}
 use Rattle.grid.specs.Rays.{rayCount}
 use Rattle.grid.specs.declared.DexelStockSpec.{DexelStockSpec}
 use Rattle.grid.specs.declared.DexelGrid.{DexelGrid}
-use Rattle.store.specs.Updates.{Room}
 use Rattle.stock.specs.Stock.{Stock, SoundStock}
 use Rattle.refusal.specs.Refusal.{Cause, Due}
 use Rattle.log_model.specs.Logs.{entries, workNeeded, Commit, commitOf}
@@ -17,6 +16,7 @@ use Rattle.log_model.specs.Runs.{pointSets}
 use Rattle.log_model.specs.View.{lentStore}
 use Rattle.log_entries.specs.Named.{EachNamed}
 use Rattle.log_model.specs.Updates.{stockLists}
+use Rattle.store.specs.Steps.{Room}
 
 -- every test of the commit is passed
 pub record LogChecked (spec : DexelStockSpec) (g : DexelGrid) (s : Stock) (log : List Float) (allowance : ℕ) (work : List Float) : Type 0 where

@@ -5,7 +5,7 @@ use Prim.Native.Nat.{ℕ, suc, _+_, _-_, _*_}
 use native.Mathlib.Numerals.{add-one}
 use lib.Ieee.{Float}
 use Rattle.grid.specs.Rays.{rayCount}
-use Rattle.grid.specs.Causes.{GridFacts, ByCauses}
+use Rattle.grid.specs.Causes.{ByCauses}
 use Rattle.grid.proofs.Causes.{grid-by-causes}
 use Rattle.grid.specs.FromSpec.{gridOf}
 use Rattle.grid.specs.declared.GridAnswer.{GridAnswer}
@@ -28,8 +28,10 @@ use Rattle.log_model.proofs.Leaves.{changed-rays, all-updated, cut-sound, cut}
 use Rattle.commit_check.specs.Tests.{LogChecked, LogCheckPost}
 use Rattle.commit_check.proofs.Tests.{passes-none}
 use Rattle.commit_apply.specs.Apply.{ApplyPre, ApplyPost}
-use Rattle.commit_log.specs.LogCommit.{answerOf, LogCommitOnGrid, LogCellsOnAnyGrid, LogCommitPost}
+use Rattle.commit_log.specs.LogCommit.{answerOf, LogCellsOnAnyGrid, LogCommitPost}
 use Rattle.logic.specs.Logic.{countTo}
+use Rattle.commit_log.specs.Steps.{LogCommitOnGrid}
+use Rattle.grid.specs.Facts.{GridFacts}
 
 module _ (spec : DexelStockSpec) (g : DexelGrid) (s : Stock) (log : List Float) (allowance : ℕ) (work : List Float) where
   -- a refused commit

@@ -17,8 +17,7 @@ use Rattle.stock.specs.declared.CommitAnswer.{CommitAnswer}
 use Rattle.stock.specs.declared.CommitAnswer.the-variants.{Changed, Refused}
 use Rattle.log_model.specs.Logs.{entries, commitOf}
 use Rattle.log_model.specs.Model.{LogAnswer, changed, refused}
-use Rattle.log_model.specs.Runs.{CommitStep as CommitPromise}
-use Rattle.log_model.specs.View.{lentStore, CommitOnAnyGrid}
+use Rattle.log_model.specs.View.{CommitOnAnyGrid}
 use Rattle.log_model.specs.Updates.{MergeUpdates, committedStock, stockLists}
 
 -- the answer in the model's words: how many rays changed, or document 01's number
@@ -39,11 +38,6 @@ pub record AcceptedCells (spec : DexelStockSpec) (g : DexelGrid) (s : Stock) (lo
 abbrev pub LogCellsPost : (spec : DexelStockSpec) (g : DexelGrid) (s : Stock) (log work : List Float) → CommitAnswer → (t : Stock) (work′ : List Float) → Type 0
 LogCellsPost spec g s log work (Changed m) t work′ = AcceptedCells spec g s log work m t work′
 LogCellsPost spec g s log work (Refused k) t work′ = work′ ≡ work
-
--- a log commit on a stock whose description has the grid g
-pub record LogCommitOnGrid (spec : DexelStockSpec) (g : DexelGrid) (s : Stock) (log : List Float) (allowance : ℕ) (work : List Float) (a : CommitAnswer) (t : Stock) (work′ : List Float) : Type 0 where
-  pub promise : CommitPromise spec g (lentStore spec g) s (commitOf log allowance work) (answerOf a) t
-  pub left : LogCellsPost spec g s log work a t work′
 
 -- the same, whatever the description is
 abbrev pub LogCellsOnAnyGrid : GridAnswer → (spec : DexelStockSpec) (s : Stock) (log work : List Float) → CommitAnswer → (t : Stock) (work′ : List Float) → Type 0

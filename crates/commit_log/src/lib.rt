@@ -1,8 +1,9 @@
 // The log commit: merge and commit at once.
 ghost use Prim.Native.Nat.{_+_};
-ghost use Rattle.grid.specs.Causes.{GridFacts};
-ghost use Rattle.commit_log.specs.LogCommit.{LogCommitOnGrid, LogCommitPost};
+ghost use Rattle.commit_log.specs.LogCommit.{LogCommitPost};
 ghost use Rattle.stock.specs.Stock.{stock};
+ghost use Rattle.commit_log.specs.Steps.{LogCommitOnGrid};
+ghost use Rattle.grid.specs.Facts.{GridFacts};
 use grid::DexelGrid;
 use grid::DexelStockSpec;
 use grid::GridAnswer;

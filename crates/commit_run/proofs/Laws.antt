@@ -23,8 +23,9 @@ use Rattle.log_model.specs.Model.{LogAnswer, changed, refused, modelAfter}
 use Rattle.log_model.specs.Runs.{modelStart}
 use Rattle.log_model.specs.View.{listIn, lentStore, CommitOnAnyGrid}
 use Rattle.commit_log.specs.LogCommit.{answerOf, LogCellsOnAnyGrid}
-use Rattle.commit_run.specs.RunLogs.{commitsTo, answerBy, answersTo, answerCode, answerNumber, answered, CommitsTo, none, more, RunOnGridPost, AllRefused, RunLogsPost}
+use Rattle.commit_run.specs.RunLogs.{commitsTo, answerBy, answersTo, answerCode, answerNumber, answered, CommitsTo, none, more, RunOnGridPost, RunLogsPost}
 use Rattle.commit_run.proofs.Turns.{told-at}
+use Rattle.commit_run.specs.Refused.{AllRefused}
 
 -- ---- a refused description
 

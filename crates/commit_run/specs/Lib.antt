@@ -1,1 +1,2 @@
 pub mod RunLogs
+pub mod Refused

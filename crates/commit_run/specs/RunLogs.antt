@@ -85,14 +85,6 @@ pub record RunPost (spec : DexelStockSpec) (g : DexelGrid) (s : Stock) (cs : Lis
 unfoldable pub RunOnGridPost : (spec : DexelStockSpec) (units : List ℕ) → Stock → List Commit → List LogAnswer → Stock → Type 0
 RunOnGridPost spec units s cs vs t = NoneDue (gridCauses spec units) → RunPost spec (gridIn spec) s cs vs t
 
--- a description that `grid` refuses with the number k: nothing is written but k, as the answer to each of i commits
-pub record AllRefused (k i : ℕ) (s : Stock) (work : List Float) (answers : List ℕ) (t : Stock) (work′ : List Float)
-    (answers′ : List ℕ) : Type 0 where
-  pub stock-stays : t ≡ s
-  pub work-stays : work′ ≡ work
-  pub each : (j : ℕ) → j < i → answerBy (getD answers′ (2 * j) 0) (getD answers′ (2 * j + 1) 0) ≡ refused k
-  pub past : (q : ℕ) → 2 * i ≤ q → getD answers′ q 0 ≡ getD answers q 0
-
 -- ALL OF A RUN: every cell of every buffer, commit by commit, and what demand 3 says of the whole. So a refused description leaves all but
 -- the answers (`refused-all` in proofs/Laws), and each list that is left is the only one of doubles with its points (`only-one` there).
 pub record RunLogsPost (spec : DexelStockSpec) (units : List ℕ) (logs : List Float) (ends allowances : List ℕ) (s : Stock) (work : List Float) (answers : List ℕ) (t : Stock) (work′ : List Float) (answers′ : List ℕ) : Type 0 where

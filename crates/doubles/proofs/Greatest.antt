@@ -10,9 +10,10 @@ use lib.IntN.{ℤ}
 use lib.Ieee.{Float, nan, inf, fin, binary64, up, down, le, neg, fits}
 use lib.Ieee.Fits.{down-pos, round-fits, neg-fits}
 use lib.Ieee.Exact.{HasValue}
-use Rattle.doubles.specs.Doubles.{ceilDiv, floorOf, ceilOf, Whole, FloorOf, CeilOf}
+use Rattle.doubles.specs.Doubles.{ceilDiv, floorOf, ceilOf}
 use Rattle.doubles.proofs.Order.{le→side, side→le, le-neg, neg-neg, fin-number}
 use Rattle.doubles.proofs.Whole.{exact-div, ceil-below, floor-exact, floor-le, ceil-is}
+use Rattle.doubles.specs.Rounding.{Whole, FloorOf, CeilOf}
 
 -- ---- whole numbers c and q, with a and b the sizes of the doubles that hold them over the denominators d and j
 

@@ -1,7 +1,7 @@
 // Doubles by their bits: to a pattern and back, and the `total_cmp` order.
 ghost use mathlib.Core.Path.{_≡_};
 ghost use lib.Ieee.{binary64, ofBits, toBits};
-ghost use Rattle.doubles.specs.Doubles.{keyOf, totalOf};
+ghost use Rattle.doubles.specs.TotalOrder.{keyOf, totalOf};
 use doubles::Ordering;
 
 // The place of x in the `total_cmp` order, counted from 0. A NaN, of which no bits can be had, counts as the highest.

@@ -15,11 +15,12 @@ use lib.Ieee.Digits.{size-lt}
 use lib.Ieee.Fits.{two, two-le-pos, odd-fits, up-pos, down-pos}
 use lib.Ieee.Exact.{HasValue, units-val}
 use lib.Ieee.Positive.{positive, positive-of-value, values-of-le}
-use Rattle.doubles_sqrt.specs.Root.{wholeRoot, magnitude, rootOfUnits, squareRoot, NearestRoot}
+use Rattle.doubles_sqrt.specs.Root.{wholeRoot, magnitude, rootOfUnits, squareRoot}
 use Rattle.doubles.proofs.Held.{held}
 use Rattle.doubles_sqrt.proofs.WholeRoot.{whole-root, square-lt, square-le}
 use Rattle.doubles_sqrt.proofs.Rounded.{Compared, compared, dropped, kept, root-is, bracket, kept-ge, kept-under}
 use Rattle.doubles_sqrt.proofs.Patterns.{magnitude-at, units-is}
+use Rattle.doubles_sqrt.specs.Nearest.{NearestRoot}
 
 -- ---- a value that the format holds is M * 2 ^ i units, for an M of at most prec digits
 abbrev Shape : Format → ℕ → Type 0

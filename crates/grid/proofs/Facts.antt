@@ -17,7 +17,7 @@ use Rattle.grid.specs.Axes.{byDigit, worldAxis, alongOf, cellsAlong, ste
 use Rattle.grid.specs.Grid.{whole, isBetween}
 use Rattle.grid.specs.FromSpec.{sizesOf, extentsOf, misdescribed, leastStep, gridOf}
 use Rattle.grid.specs.Rays.{rayCount}
-use Rattle.grid.specs.Causes.{Misdescribed, Crowded, OverBudget, TooFine, dimsIn, gridIn, gridCauses, ByCauses, GridFacts}
+use Rattle.grid.specs.Causes.{Misdescribed, Crowded, OverBudget, TooFine, dimsIn, gridIn, gridCauses, ByCauses}
 use Rattle.grid.specs.declared.WorldAxis.{WorldAxis}
 use Rattle.grid.specs.declared.DexelStockSpec.{DexelStockSpec}
 use Rattle.grid.specs.declared.DexelGrid.{DexelGrid}
@@ -26,6 +26,7 @@ use Rattle.grid.proofs.Counts.{value}
 use Rattle.grid.proofs.Described.{each, and-both, finite-number, Passes, passes, clause}
 use Rattle.grid.proofs.Extents.{Sized, sized-finite, million-sized, sub-sized, step-sized, box, micro-number}
 use Rattle.grid.proofs.Causes.{Few, few-cells, rays-exact, grid-by-causes}
+use Rattle.grid.specs.Facts.{GridFacts}
 
 -- ---- along an axis
 

@@ -11,7 +11,6 @@ use Rattle.doubles.proofs.Order.{not-lt→le, fin-number, le-number}
 use Rattle.grid.specs.Axes.{alongOf, cellsAlong, stepAlong}
 use Rattle.grid.specs.Grid.{whole}
 use Rattle.grid.specs.Rays.{cellAt}
-use Rattle.grid.specs.Causes.{GridFacts}
 use Rattle.grid.specs.declared.WorldAxis.{WorldAxis}
 use Rattle.grid.specs.declared.DexelStockSpec.{DexelStockSpec}
 use Rattle.grid.specs.declared.DexelGrid.{DexelGrid}
@@ -19,6 +18,7 @@ use Rattle.grid.proofs.Counts.{value, le-wholes, count-of, above-inf}
 use Rattle.grid.proofs.Extents.{at-most}
 use Rattle.grid.proofs.Described.{each}
 use Rattle.grid.proofs.Facts.{cells-positive}
+use Rattle.grid.specs.Facts.{GridFacts}
 
 -- what is not above n is cut to at most n
 cut-le : (y : Float) (n : ℕ) → n ≤ 2 ^ 53 → lt (whole n) y ≡ false → toUnsigned 64 y ≤ n

@@ -6,9 +6,10 @@ use native.Mathlib.Omega.{arith}
 use lib.Dec.{ltb}
 use borrow.Author.Tests.{ltb-true, ltb-false, lt-ltb, le-ltb}
 use Rattle.grid.specs.Axes.{byDigit, worldAxis, crossOf}
-use Rattle.grid.specs.Rays.{rayCount, raysAlong, offset, rayNumber, rayAxis, rayIndex}
+use Rattle.grid.specs.Rays.{rayCount, raysAlong, offset, rayNumber, rayAxis}
 use Rattle.grid.specs.declared.WorldAxis.{WorldAxis}
 use Rattle.grid.specs.declared.DexelGrid.{DexelGrid}
+use Rattle.grid.specs.Centers.{rayIndex}
 
 -- ---- the rays along each axis, together all rays
 

@@ -3,14 +3,13 @@ use mathlib.Core.Path.{_≡_}
 use mathlib.Core.Bool.{true, false}
 use mathlib.Core.List.{List, [], _∷_}
 use mathlib.Core.Logic.{_⊎_}
-use Prim.Native.Nat.{ℕ, _*_, _^_, _≤_, _<_}
+use Prim.Native.Nat.{ℕ, _*_, _<_}
 use lib.Ieee.{Float, neg, lt}
 use lib.Ieee.Scale.{finite}
-use Rattle.doubles.specs.Constants.{million, millionth, plusZero}
+use Rattle.doubles.specs.Constants.{million, millionth}
 use Rattle.refusal.specs.Refusal.{Cause, cause, Due, NoneDue}
 use Rattle.grid.specs.Axes.{alongOf, cellsAlong, stepAlong}
-use Rattle.grid.specs.Grid.{whole}
-use Rattle.grid.specs.FromSpec.{leastSize, sizesOf, extentsOf, dimsOf, raysOf, gridWith, leastStep, gridOf}
+use Rattle.grid.specs.FromSpec.{leastSize, sizesOf, extentsOf, dimsOf, gridWith, leastStep, gridOf}
 use Rattle.grid.specs.Rays.{rayCount}
 use Rattle.grid.specs.declared.Vec3.{Vec3}
 use Rattle.grid.specs.declared.WorldAxis.{WorldAxis}
@@ -76,24 +75,3 @@ ByCauses s units (Accepted g) = NoneDue (gridCauses s units) × (g ≡ gridIn s)
 pub record GridPost (s : DexelStockSpec) (units : List ℕ) (r : GridAnswer) : Type 0 where
   pub is : r ≡ gridOf s units
   pub by : ByCauses s units r
-
--- what holds of a description and the grid that `grid` accepts it with
-pub record GridFacts (s : DexelStockSpec) (g : DexelGrid) : Type 0 where
-  pub is : g ≡ gridIn s
-  pub some0 : 1 ≤ g .c0
-  pub some1 : 1 ≤ g .c1
-  pub some2 : 1 ≤ g .c2
-  pub few0 : g .c0 ≤ s .«max_rays»
-  pub few1 : g .c1 ≤ s .«max_rays»
-  pub few2 : g .c2 ≤ s .«max_rays»
-  pub rays : rayCount g ≤ s .«max_rays»
-  pub budget : 2 * rayCount g ≤ s .«max_intervals»
-  pub ceiling : s .«max_rays» < 2 ^ 32
-  -- the casts to whole numbers lose nothing, and the total is the one that the Rust works out in doubles
-  pub exact : (a : WorldAxis) → whole (cellsAlong g a) ≡ alongOf (dimsIn s) a
-  pub total : whole (rayCount g) ≡ raysOf (dimsIn s)
-  pub min-finite : (a : WorldAxis) → finite (alongOf (s .«min_mm») a) ≡ true
-  pub max-finite : (a : WorldAxis) → finite (alongOf (s .«max_mm») a) ≡ true
-  pub box : (a : WorldAxis) → lt (alongOf (s .«min_mm») a) (alongOf (s .«max_mm») a) ≡ true
-  pub step-finite : (a : WorldAxis) → finite (stepAlong g a) ≡ true
-  pub step-above : (a : WorldAxis) → lt plusZero (stepAlong g a) ≡ true

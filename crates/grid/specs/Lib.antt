@@ -3,3 +3,5 @@ pub mod Grid
 pub mod Rays
 pub mod FromSpec
 pub mod Causes
+pub mod Facts
+pub mod Centers

@@ -1,15 +1,14 @@
 -- The rays of a grid: how many run along each axis, how they are numbered, and where each stands.
 use mathlib.Core.Bool.{cond}
-use Prim.Native.Nat.{ℕ, _+_, _-_, _*_, _/_, _%_}
-use lib.Dec.{eqb, ltb, leb}
-use lib.Ieee.{Float, binary64, ofBits, toUnsigned, add, sub, mul, div}
+use Prim.Native.Nat.{ℕ, _+_, _-_, _*_}
+use lib.Dec.{ltb}
+use lib.Ieee.{Float, binary64, ofBits, toUnsigned, sub, div}
 use Rattle.doubles.specs.Doubles.{clampOf, floorOf}
 use Rattle.grid.specs.Axes.{byAxis, worldAxis, alongOf, cellsAlong, stepAlong, crossOf}
 use Rattle.grid.specs.Grid.{whole}
 use Rattle.grid.specs.declared.WorldAxis.{WorldAxis}
 use Rattle.grid.specs.declared.DexelStockSpec.{DexelStockSpec}
 use Rattle.grid.specs.declared.DexelGrid.{DexelGrid}
-use Rattle.grid.specs.declared.RayCenter.{RayCenter}
 use Rattle.grid.specs.declared.RayBounds.{RayBounds}
 
 -- document 01: rays = c0·c1 + c1·c2 + c2·c0
@@ -34,10 +33,6 @@ unfoldable pub rayAxis : DexelGrid → (ray : ℕ) → WorldAxis
 unfolding offset
 rayAxis g ray = cond (ltb ray (offset g (worldAxis 1))) (worldAxis 0) (cond (ltb ray (offset g (worldAxis 2))) (worldAxis 1) (worldAxis 2))
 
-unfoldable pub rayIndex : DexelGrid → (ray : ℕ) → ℕ
-unfolding offset rayAxis
-rayIndex g ray = ray - offset g (rayAxis g ray)
-
 -- the two ends of the box along a ray
 unfoldable pub boundsOf : DexelStockSpec → DexelGrid → (ray : ℕ) → RayBounds
 unfolding rayAxis
@@ -46,24 +41,6 @@ boundsOf s g ray = record { lo = alongOf (s .«min_mm») (rayAxis g ray); hi = a
 -- 0.5
 abbrev pub half : Float
 half = ofBits binary64 0x3fe0_0000_0000_0000
-
--- the centre of cell i along an axis
-unfoldable pub cellCenter : DexelStockSpec → DexelGrid → WorldAxis → (i : ℕ) → Float
-cellCenter s g a i = add binary64 (alongOf (s .«min_mm») a) (mul binary64 (add binary64 (whole i) half) (stepAlong g a))
-
--- the centre of a ray's cross-section: its index is iv · cells[u] + iu
-unfoldable pub rayCenterOf : DexelStockSpec → DexelGrid → WorldAxis → (index : ℕ) → RayCenter
-unfolding cellCenter
-rayCenterOf s g a index =
-    let n = cellsAlong g (crossOf a .u) in
-    record { u = cellCenter s g (crossOf a .u) (index % n); v = cellCenter s g (crossOf a .v) (index / n) }
-
--- the boundary between the cells i - 1 and i along an axis: the box's own faces at both ends
-unfoldable pub cellBoundOf : DexelStockSpec → DexelGrid → WorldAxis → (i : ℕ) → Float
-cellBoundOf s g a i =
-    cond (eqb i 0) (alongOf (s .«min_mm») a)
-    (cond (leb (cellsAlong g a) i) (alongOf (s .«max_mm») a)
-    (add binary64 (alongOf (s .«min_mm») a) (mul binary64 (whole i) (stepAlong g a))))
 
 -- the cell along an axis that x lies in, or the nearest
 unfoldable pub cellAt : DexelStockSpec → DexelGrid → WorldAxis → (x : Float) → ℕ

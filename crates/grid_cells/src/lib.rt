@@ -2,7 +2,8 @@
 ghost use mathlib.Core.Path.{_≡_};
 ghost use Prim.Native.Nat.{_<_};
 ghost use Rattle.grid.specs.Axes.{cellsAlong, crossOf};
-ghost use Rattle.grid.specs.Rays.{rayCenterOf, cellBoundOf, cellAt};
+ghost use Rattle.grid.specs.Rays.{cellAt};
+ghost use Rattle.grid.specs.Centers.{rayCenterOf, cellBoundOf};
 use grid::DexelGrid;
 use grid::DexelStockSpec;
 use grid::RayCenter;

@@ -6,15 +6,16 @@ use Prim.Native.Nat.{ℕ, zero, suc, _+_, _*_, _/_}
 use lib.ListN.{length}
 use lib.Ieee.{Float}
 use Rattle.grid.specs.Rays.{rayCount}
-use Rattle.grid.specs.Causes.{GridFacts}
 use Rattle.grid.specs.declared.DexelStockSpec.{DexelStockSpec}
 use Rattle.grid.specs.declared.DexelGrid.{DexelGrid}
-use Rattle.store.specs.Updates.{Cells, Room}
+use Rattle.store.specs.Updates.{Cells}
 use Rattle.stock.specs.Stock.{SoundCells, possibleIn, certainIn}
 use Rattle.log_model.specs.Logs.{entries, outer, inner}
 use Rattle.log_model.specs.Counts.{isHitBy, startsLeft}
 use Rattle.log_entries.specs.Named.{EachNamed, hitsOnRayNumber}
 use Rattle.log_count.specs.declared.RayTotals.{RayTotals}
+use Rattle.grid.specs.Facts.{GridFacts}
+use Rattle.store.specs.Steps.{Room}
 
 -- a log whose entries each name a ray, on a sound store with room
 pub record Countable (spec : DexelStockSpec) (g : DexelGrid) (c : Cells) (intervals : ℕ) (log : List Float) : Type 0 where

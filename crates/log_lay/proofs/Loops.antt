@@ -8,7 +8,7 @@ use native.Mathlib.Omega.{arith}
 use lib.ListN.{length}
 use lib.Ieee.{Float}
 use Rattle.store.specs.Store.{placesOf}
-use Rattle.store.specs.Updates.{Cells, Update, Room, CellsChainsSound, CellsPastKept, FreeListPre, freedList, freedAll, laidList, laidAll}
+use Rattle.store.specs.Updates.{Cells, Update, CellsChainsSound, CellsPastKept, freedList, freedAll, laidList, laidAll}
 use Rattle.store.proofs.Replacing.{Replaced}
 use Rattle.store.proofs.Freeing.{freed-list, freed-kept}
 use Rattle.store.proofs.Updating.{kept-none, kept-then, kept-room, freed-append, laid-append}
@@ -17,6 +17,7 @@ use Rattle.log_lay.specs.Steps.{RayFreeable, AllFreeable, EachLayable, R
 use Rattle.log_lay.specs.declared.LayPlace.{LayPlace}
 use Rattle.log_lay.proofs.Lists.{updates-none, end-none, end-past, end-more, updates-more}
 use Rattle.log_lay.proofs.Turns.{freed-none, laid-none, no-update, freed-ray-new}
+use Rattle.store.specs.Steps.{Room, FreeListPre}
 
 -- ---- freeing
 -- the lists of the first rays are freed

@@ -6,12 +6,13 @@ use native.Mathlib.Omega.{arith}
 use lib.ListN.{length}
 use Rattle.store.specs.Store.{placesOf, freeFrom}
 use Rattle.store.specs.Fills.{FreeCursor}
-use Rattle.store.specs.Updates.{Cells, Update, CellsChainsSound, Room, CellsPastKept, Ascending, none, next, pairsLaid, lowestFree, laidList}
+use Rattle.store.specs.Updates.{Cells, Update, CellsChainsSound, CellsPastKept, pairsLaid, lowestFree, laidList}
 use Rattle.store.proofs.Replacing.{Replaced}
 use Rattle.store.proofs.FreePlaces.{free-records}
 use Rattle.store.proofs.Laying.{laid-list, laid-sound, laid-kept}
 use Rattle.store.proofs.Updating.{Empty, kept-room, ascending-at}
 use Rattle.log_lay.specs.Steps.{EachLayable}
+use Rattle.store.specs.Steps.{Room, Ascending, none, next}
 
 pub each-layable : {n m total k : ℕ} {c : Cells} {us : List Update} → CellsChainsSound n m total c → Room n m c → Ascending m k us → Empty n c us → total + pairsLaid us ≤ n → EachLayable n c us
 unfolding EachLayable pairsLaid

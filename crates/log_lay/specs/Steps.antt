@@ -5,10 +5,11 @@ use Prim.Native.Nat.{ℕ, _+_, _*_, _≤_, _<_}
 use lib.ListN.{length}
 use lib.Ieee.{Float}
 use Rattle.store.specs.Fills.{FreeCursor}
-use Rattle.store.specs.Updates.{Cells, Update, Room, CellsChainsSound, LayListPre, laidList, laidAll}
+use Rattle.store.specs.Updates.{Cells, Update, CellsChainsSound, laidList, laidAll}
 use Rattle.store_write.specs.FreeRays.{FreeRayPre}
 use Rattle.log_lay.specs.Updates.{updatesFrom, listsEnd}
 use Rattle.log_lay.specs.declared.LayPlace.{LayPlace}
+use Rattle.store.specs.Steps.{Room, LayListPre}
 
 -- both lists of a ray can be freed, and its first size can be read
 pub record RayFreeable (n : ℕ) (c : Cells) (w : List Float) (sizes ray : ℕ) : Type 0 where

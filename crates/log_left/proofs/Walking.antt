@@ -11,8 +11,7 @@ use lib.ListN.{length, length-append}
 use lib.Ieee.{Float, lt, le}
 use Rattle.logic.proofs.Bools.{and-left, and-right, and-true, and-false, by-cases, not-false}
 use Rattle.doubles.proofs.Order.{lt-number, lt→le, not-le→lt, not-lt→le, lt-trans, lt-le-trans, lt-irrefl}
-use Rattle.spans.specs.Spans.{within, holds, sound, less, ListOf}
-use Rattle.spans.specs.Steps.{pairIf}
+use Rattle.spans.specs.Spans.{within, holds, sound, less, ListOf, pairIf}
 use Rattle.spans.proofs.Ends.{AtMost, Above, all-append, above-less, upTo-more, rising-right, rising-above}
 use Rattle.spans.proofs.Sets.{oddN-mod, sound-rising}
 use Rattle.spans.proofs.Points.{holds-append, holds-upTo, holds-above}

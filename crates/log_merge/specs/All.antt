@@ -6,10 +6,9 @@ use Prim.Native.Nat.{ℕ, _+_, _*_, _≤_}
 use lib.ListN.{length}
 use lib.Ieee.{Float}
 use Rattle.grid.specs.Rays.{rayCount}
-use Rattle.grid.specs.Causes.{GridFacts}
 use Rattle.grid.specs.declared.DexelStockSpec.{DexelStockSpec}
 use Rattle.grid.specs.declared.DexelGrid.{DexelGrid}
-use Rattle.store.specs.Updates.{Cells, Room}
+use Rattle.store.specs.Updates.{Cells}
 use Rattle.stock.specs.Stock.{Stock, SoundStock}
 use Rattle.log_model.specs.Logs.{entries, entryCount}
 use Rattle.log_model.specs.Counts.{pairsAfter}
@@ -17,6 +16,8 @@ use Rattle.log_lay.specs.Updates.{updatesFrom, listsEnd}
 use Rattle.log_model.specs.Updates.{MergeUpdates, stockLists}
 use Rattle.log_group.specs.Groups.{Grouped}
 use Rattle.log_merge.specs.declared.RayUpdate.{RayUpdate}
+use Rattle.grid.specs.Facts.{GridFacts}
+use Rattle.store.specs.Steps.{Room}
 
 -- the first size of a ray: 0 where it does not change, else one more than the pairs of its new possible list
 abbrev pub firstSizeOf : RayUpdate → ℕ

@@ -12,12 +12,13 @@ use Rattle.grid.specs.declared.DexelStockSpec.{DexelStockSpec}
 use Rattle.grid.specs.declared.DexelGrid.{DexelGrid}
 use Rattle.log_model.specs.Logs.{entries, entryCount, outer, inner}
 use Rattle.store.specs.Updates.{Cells}
-use Rattle.stock.specs.Stock.{possibleIn, certainIn, ChainsInRoom, ValidTo}
+use Rattle.stock.specs.Stock.{possibleIn, certainIn, ValidTo}
 use Rattle.log_entries.specs.Named.{hitsOnRayNumber}
 use Rattle.log_group.specs.Groups.{Grouped}
 use Rattle.ray_subtract.specs.Steps.{cellsFrom}
 use Rattle.log_merge.specs.declared.RayUpdate.{RayUpdate}
 use Rattle.log_merge.specs.declared.Sizes.{Sizes}
+use Rattle.stock.specs.Steps.{ChainsInRoom}
 
 -- a boundary of one of the lists moves when the hits are taken away: of possible by the inner ones, of certain by both
 abbrev pub rayMoves : (possible certain outers inners : List Float) → Bool

@@ -13,7 +13,7 @@ use Rattle.spans.specs.Spans.{holds, sound, equal, ListOf}
 use Rattle.spans.proofs.Sets.{sound-mod}
 use Rattle.grid.specs.Rays.{rayCount}
 use Rattle.grid.specs.declared.DexelGrid.{DexelGrid}
-use Rattle.store.specs.Updates.{Update, update, Ascending, listAfter, none as no-more, next}
+use Rattle.store.specs.Updates.{Update, update}
 use Rattle.store.proofs.Updating.{after-below, after-here, after-other}
 use Rattle.spans.specs.Overlay.{lessOf}
 use Rattle.span_overlay.proofs.Less.{less-list}
@@ -26,7 +26,9 @@ use Rattle.log_model.specs.Counts.{isHitBy, hitsOnList, isRayChanged}
 use Rattle.log_model.specs.View.{listNumber}
 use Rattle.log_model.proofs.Meets.{moves-hit}
 use Rattle.log_model.proofs.Decided.{without-hits, changes-by, stays, not-left, not-right}
-use Rattle.log_model.specs.Updates.{listSets, ListAfterLog, MergedByLog, MergeUpdates, none, same, new}
+use Rattle.log_model.specs.Updates.{listSets, MergedByLog, MergeUpdates, none, same, new}
+use Rattle.log_model.specs.Steps.{ListAfterLog}
+use Rattle.store.specs.Steps.{Ascending, listAfter, none as no-more, next}
 
 -- a ray is its number
 pub moved : (g : DexelGrid) (P : Ray g → Type 0) (i j : ℕ) (h : i < rayCount g) → i ≡ j → (k : j < rayCount g) → P (i, h) → P (j, k)

@@ -10,7 +10,7 @@ use borrow.Author.Tests.{eqb-true}
 use lib.Dec.{T, lit<, eqb}
 use lib.ListN.{length, getD, replicate}
 use lib.Ieee.{Float, nan, inf, binary64, fits, lt, le, eq, neg, ofInt, ofBits, toUnsigned, isNan, sub, add, mul, div}
-use Rattle.doubles.specs.Doubles.{ratio, largerOf, ceilOf, absOf}
+use Rattle.doubles.specs.Doubles.{largerOf, ceilOf, absOf}
 use Rattle.logic.proofs.Bools.{or-cases, and-left, and-right, clash, not-true}
 use Rattle.spans.specs.Spans.{All, Double, holds, sound, equal, ListOf}
 use Rattle.doubles.proofs.Order.{lt-number, eq-refl}
@@ -22,10 +22,10 @@ use Rattle.grid.specs.Rays.{rayCount, raysAlong, offset, rayAxis, boundsOf}
 use Rattle.grid.specs.declared.GridAnswer.the-variants.{Accepted}
 use Rattle.store.specs.Store.{usedAt, places, RecordChain, ends, more, placesOf, chained, endsAt}
 use Rattle.spans.specs.Rays.{bounded, ValidRay}
-use Rattle.log_model.specs.Logs.{Ray, Kind, possible, certain, entries, namesSomeRay, hitLo, hitHi, HitsIncluded, Alike, Commit}
+use Rattle.log_model.specs.Logs.{Ray, Kind, possible, certain, entries, namesSomeRay, hitLo, hitHi, Commit}
 use Rattle.log_model.specs.Model.{LogAnswer, changed, refused, logCommitCauses, AnswerDue, acceptedLogs}
 use Rattle.log_model.specs.Counts.{hitsOnList, changedRayCount}
-use Rattle.log_model.specs.Runs.{pointSets, CommitEffect, CommitStep, Run, done, next, RunMeetsModel, StoresAgree}
+use Rattle.log_model.specs.Runs.{pointSets, CommitEffect, CommitStep, Run, done, next, RunMeetsModel}
 use Rattle.log_model.specs.Examples.{num, exampleBox, exampleGrid, exampleStock, exampleHit, exampleCommit, notAllowed, innerWider, threeLogs, threeAnswers, exampleListAfter, AtEnd, RunRight}
 use Rattle.store.specs.Updates.{cells}
 use Rattle.stock.specs.Stock.{Stock, ValidAt, SoundStock}
@@ -37,6 +37,8 @@ use Rattle.log_model.proofs.Doubles.{DoubleCells, all-doubles}
 use Rattle.log_model.proofs.Decided.{tests, answerBy, judged, left-list}
 use Rattle.log_model.proofs.View.{lent-laws, demand3-lent}
 use Rattle.log_model.proofs.Plain.{Plain, Valid, answers, final}
+use Rattle.doubles.specs.Rounding.{ratio}
+use Rattle.log_model.specs.RunCorrect.{HitsIncluded, Alike, StoresAgree}
 
 accepted-box : gridOf (exampleBox 8) (109 ∷ 109 ∷ []) ≡ Accepted exampleGrid
 unfolding gridOf isMm misdescribed allBetween isBetween anyBelow gridOver anyAbove cellCount tooFine leastStep magnitudeOf largerOf ceilOf absOf le lt neg ofBits ofInt toUnsigned isNan sub add mul div

@@ -8,7 +8,8 @@ use Rattle.logic.proofs.Bools.{or-cases, or-left, or-right, and-left, and-right
 use Rattle.doubles.proofs.Order.{le-trans, le-lt-trans, lt-le-trans, eq→le, eq→ge}
 use Rattle.spans.specs.Spans.{within, holds}
 use Rattle.grid.specs.declared.DexelGrid.{DexelGrid}
-use Rattle.log_model.specs.Logs.{Ray, Kind, possible, certain, Entry, entries, namesRay, HitKind, outer, inner, hitLo, hitHi, hitsOnRay, removed, InHit, HitsIncluded, Alike}
+use Rattle.log_model.specs.Logs.{Ray, Kind, possible, certain, Entry, entries, namesRay, HitKind, outer, inner, hitLo, hitHi, hitsOnRay, removed, InHit}
+use Rattle.log_model.specs.RunCorrect.{HitsIncluded, Alike}
 
 -- ---- pairs and points
 

@@ -8,7 +8,7 @@ use Rattle.spans.specs.Spans.{holds}
 use Rattle.grid.specs.Rays.{rayCount, boundsOf}
 use Rattle.grid.specs.declared.DexelStockSpec.{DexelStockSpec}
 use Rattle.grid.specs.declared.DexelGrid.{DexelGrid}
-use Rattle.store.specs.Updates.{Update, Room, Ascending, UpdatedStore, pairsFreed, pairsLaid, listAfter, applied}
+use Rattle.store.specs.Updates.{Update, pairsFreed, pairsLaid, applied}
 use Rattle.store.proofs.Updating.{freed-all, updated}
 use Rattle.stock.specs.Stock.{Stock, SoundStock, ValidAt}
 use Rattle.log_model.specs.Logs.{Ray, Kind, possible, certain, Entry, entries, Commit}
@@ -17,10 +17,12 @@ use Rattle.log_model.specs.Counts.{pairsAfter}
 use Rattle.log_model.specs.Runs.{pointSets, AcceptedEffect}
 use Rattle.log_model.specs.View.{listNumber, listIn, lentStore}
 use Rattle.log_model.proofs.Doubles.{Doubles}
-use Rattle.log_model.specs.Updates.{ListAfterLog, MergeUpdates, committedStock, stockLists}
+use Rattle.log_model.specs.Updates.{MergeUpdates, committedStock, stockLists}
 use Rattle.log_model.proofs.Valid.{still-valid}
 use Rattle.log_model.proofs.Asked.{merges-ascend, merges-count, merges-leave, number-possible, number-certain}
 use Rattle.log_model.proofs.Totals.{each, total-left}
+use Rattle.log_model.specs.Steps.{ListAfterLog}
+use Rattle.store.specs.Steps.{Room, Ascending, UpdatedStore, listAfter}
 
 module _ (spec : DexelStockSpec) (g : DexelGrid) (s : Stock) (sound : SoundStock spec g s) (room : Room (spec .«max_intervals») (2 * rayCount g) (s .cells))
     (es : List Entry) (d : Doubles g (stockLists spec g s) es) (us : List Update) (m : ℕ) (asked : MergeUpdates g (stockLists spec g s) es 0 us m) where

@@ -13,11 +13,12 @@ use Rattle.grid.specs.declared.DexelGrid.{DexelGrid}
 use Rattle.log_model.specs.Logs.{Ray, Kind, possible, certain, entries, outer, inner, hitsOnRay, removed, Commit}
 use Rattle.log_model.specs.Model.{setsAfter, pairTotal, Capacity, LogAnswer, changed, refused, logCommitCauses}
 use Rattle.log_model.specs.Counts.{hitsOnList, changedRayCount}
-use Rattle.log_model.specs.Runs.{StoreView, SoundView, pointSets, AcceptedEffect, CommitEffect, CommitStep, Run, done, next}
+use Rattle.log_model.specs.Runs.{StoreView, pointSets, AcceptedEffect, CommitEffect, CommitStep, Run, done, next}
 use Rattle.log_model.proofs.Unique.{judged-unsound}
 use Rattle.log_model.proofs.Less.{less}
 use Rattle.log_model.proofs.Doubles.{DoubleCells, Doubles, hits-doubles, less-doubles}
 use Rattle.log_model.proofs.Decided.{tests, answerBy, judged, left-list}
+use Rattle.log_model.specs.RunCorrect.{SoundView}
 
 pub record Plain (g : DexelGrid) : Type 0 where
   pub lists : Ray g → Kind → List Float

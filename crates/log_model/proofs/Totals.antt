@@ -24,8 +24,9 @@ use Rattle.log_model.proofs.Doubles.{Doubles}
 use Rattle.log_model.proofs.Less.{same-list}
 use Rattle.log_model.proofs.Starts.{pairs-left}
 use Rattle.log_model.proofs.View.{list-places, lent-laws}
-use Rattle.log_model.specs.Updates.{ListAfterLog, MergeUpdates, none, same, new}
+use Rattle.log_model.specs.Updates.{MergeUpdates, none, same, new}
 use Rattle.log_model.proofs.Asked.{number-possible, number-certain, exact-possible, exact-certain, kept-left}
+use Rattle.log_model.specs.Steps.{ListAfterLog}
 
 -- a sum over rays goes by their number
 pub sum-at : (g : DexelGrid) (f : Ray g → ℕ) (i j : ℕ) (h : i ≤ rayCount g) → i ≡ j → (k : j ≤ rayCount g) → sumTo g f i h ≡ sumTo g f j k

@@ -10,7 +10,7 @@ use Rattle.ray_merge.proofs.Rays.{bounded-within}
 use Rattle.grid.specs.declared.DexelGrid.{DexelGrid}
 use Rattle.log_model.specs.Logs.{Ray, Kind, possible, certain, Entry, outer, inner, hitsOnRay, removed}
 use Rattle.log_model.specs.Model.{setsAfter}
-use Rattle.log_model.specs.Updates.{ListAfterLog}
+use Rattle.log_model.specs.Steps.{ListAfterLog}
 
 module _ (g : DexelGrid) (lists : Ray g → Kind → List Float) (es : List Entry) (r : Ray g) where
   -- what is left of a list lies in it

@@ -13,9 +13,9 @@ use Rattle.stock.specs.Stock.{Stock}
 use Rattle.store.specs.Store.{placesOf, chained, endsAt}
 use Rattle.log_model.specs.Logs.{Kind, possible, certain}
 use Rattle.log_model.specs.Model.{sumTo, pairTotal}
-use Rattle.log_model.specs.Runs.{SoundView, RunCorrect}
 use Rattle.log_model.specs.View.{listNumber, listIn, lentStore}
 use Rattle.log_model.proofs.RunCorrect.{demand3}
+use Rattle.log_model.specs.RunCorrect.{SoundView, RunCorrect}
 
 -- a list has one pair for each of its places
 ends-pairs : (spans : List Float) (ps : List ℕ) → length (endsAt spans ps) / 2 ≡ length ps

@@ -5,3 +5,5 @@ pub mod Counts
 pub mod Examples
 pub mod Updates
 pub mod View
+pub mod RunCorrect
+pub mod Steps

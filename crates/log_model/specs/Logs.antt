@@ -128,17 +128,6 @@ unfoldable pub InHit : (g : DexelGrid) → List (List Float) → Ray g → HitKi
 unfolding hitLo hitHi
 InHit g logs r w p = (h : Hit g logs r w) × (within (hitLo w (h .entry)) (hitHi w (h .entry)) p ≡ true)
 
--- each hit of the first logs stands in the second, by ray, kind and ends as numbers
-unfoldable pub HitsIncluded : (g : DexelGrid) → List (List Float) → List (List Float) → Type 0
-unfolding hitLo hitHi
-HitsIncluded g ls ms = (r : Ray g) (w : HitKind) (h : Hit g ls r w)
-    → (i : Hit g ms r w) × (eq (hitLo w (h .entry)) (hitLo w (i .entry)) ≡ true) × (eq (hitHi w (h .entry)) (hitHi w (i .entry)) ≡ true)
-
--- document 01's "alike in hits", of the accepted logs of two lists of commits
-unfoldable pub Alike : (g : DexelGrid) → List (List Float) → List (List Float) → Type 0
-unfolding HitsIncluded
-Alike g ls ms = HitsIncluded g ls ms × HitsIncluded g ms ls
-
 -- ---- commits
 
 -- what a log commit brings: its log as it stands when the commit comes, how many rays it may change, and how many pairs its work buffer has room for

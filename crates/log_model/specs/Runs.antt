@@ -9,7 +9,7 @@ use lib.Ieee.{Float}
 use Rattle.spans.specs.Spans.{All, Double, Point, holds, sound, equal, ListOf}
 use Rattle.grid.specs.declared.DexelStockSpec.{DexelStockSpec}
 use Rattle.grid.specs.declared.DexelGrid.{DexelGrid}
-use Rattle.log_model.specs.Logs.{Ray, Kind, possible, certain, outer, inner, InHit, Alike, entries, Commit}
+use Rattle.log_model.specs.Logs.{Ray, Kind, possible, certain, outer, inner, InHit, entries, Commit}
 use Rattle.log_model.specs.Model.{Sets, setsAfter, pairTotal, Capacity, LogAnswer, changed, refused, AnswerDue, Model, ModelAnswers, modelAfter, acceptedLogs}
 
 -- How a store is read: its lists, the two numbers of the small record, what it lends and whether it is sound
@@ -20,12 +20,6 @@ pub record StoreView (g : DexelGrid) : Type 1 where
   pub generation : Store → ℕ
   pub lent : Store → Capacity
   pub Sound : Store → Type 0
-
--- what a run needs of the stores that are read as sound
-pub record SoundView (g : DexelGrid) (R : StoreView g) : Type 0 where
-  pub sound-list : (s : R .Store) → R .Sound s → (r : Ray g) (k : Kind) → sound (R .lists s r k) ≡ true
-  pub within : (s : R .Store) → R .Sound s → (r : Ray g) (p : Float) → holds (R .lists s r certain) p ≡ true → holds (R .lists s r possible) p ≡ true
-  pub all-pairs : (s : R .Store) → R .Sound s → R .intervals s ≡ pairTotal g (R .lists s)
 
 -- the sets that a store's lists hold
 unfoldable pub pointSets : (g : DexelGrid) (R : StoreView g) → R .Store → Sets g
@@ -86,14 +80,3 @@ pub record RunMeetsModel (spec : DexelStockSpec) (g : DexelGrid) (R : StoreView 
   pub certain-within : (r : Ray g) (p : Float) → holds (R .lists t r certain) p ≡ true → holds (R .lists t r possible) p ≡ true
   pub nothing-gains : (r : Ray g) (k : Kind) (p : Float) → holds (R .lists t r k) p ≡ true → holds (R .lists s r k) p ≡ true
   pub sound : R .Sound t
-
--- two stores with equal lists and interval totals
-pub record StoresAgree (g : DexelGrid) (R : StoreView g) (t u : R .Store) : Type 0 where
-  pub same-lists : (r : Ray g) (k : Kind) → equal (R .lists t r k) (R .lists u r k) ≡ true
-  pub same-total : R .intervals t ≡ R .intervals u
-
--- DEMAND 3, whole: of every run from a sound store, and of every two that are alike in the hits of their accepted logs
-pub record RunCorrect (spec : DexelStockSpec) (g : DexelGrid) (R : StoreView g) : Type 0 where
-  pub settles : (s t : R .Store) (cs : List Commit) (vs : List LogAnswer) → R .Sound s → Run spec g R s cs vs t → RunMeetsModel spec g R s cs vs t
-  pub agrees : (s t u : R .Store) (cs ds : List Commit) (vs ws : List LogAnswer) → R .Sound s → Run spec g R s cs vs t → Run spec g R s ds ws u
-      → Alike g (acceptedLogs cs vs) (acceptedLogs ds ws) → StoresAgree g R t u

@@ -3,24 +3,20 @@ use mathlib.Core.Path.{_≡_}
 use mathlib.Core.List.{List, [], _∷_}
 use Prim.Native.Nat.{ℕ, suc, _+_, _-_, _*_, _<_}
 use lib.Ieee.{Float}
-use Rattle.spans.specs.Spans.{holds, ListOf}
+use Rattle.spans.specs.Spans.{holds}
 use Rattle.grid.specs.Rays.{rayCount}
 use Rattle.grid.specs.declared.DexelStockSpec.{DexelStockSpec}
 use Rattle.grid.specs.declared.DexelGrid.{DexelGrid}
 use Rattle.store.specs.Updates.{Update, update, applied, pairsFreed, pairsLaid}
 use Rattle.stock.specs.Stock.{Stock}
 use Rattle.log_model.specs.Logs.{Ray, Kind, possible, certain, Entry, outer, inner, hitsOnRay}
-use Rattle.log_model.specs.Model.{Sets, setsAfter, RayChanges}
+use Rattle.log_model.specs.Model.{Sets, RayChanges}
 use Rattle.log_model.specs.View.{listIn}
 use Rattle.spans.specs.Rays.{MergedExactly}
 
 -- the sets of these lists
 abbrev pub listSets : (g : DexelGrid) → (Ray g → Kind → List Float) → Sets g
 listSets g lists r k = holds (lists r k)
-
--- l is the sound list of what the log leaves of a list of the ray
-abbrev pub ListAfterLog : (g : DexelGrid) → (Ray g → Kind → List Float) → List Entry → Ray g → Kind → List Float → Type 0
-ListAfterLog g lists es r k l = ListOf (setsAfter g (listSets g lists) es r k) l
 
 -- p and c are both lists of the ray after the log, end by end. They are the sound lists of what it leaves: `exact-possible` and
 -- `exact-certain` in proofs.

@@ -13,10 +13,11 @@ use Rattle.spans.specs.Spans.{sound}
 use Rattle.spans.specs.Results.{ListPost, listCauses}
 use Rattle.spans.specs.Steps.{FilledFront}
 use Rattle.spans.specs.declared.ListAnswer.the-variants.{Pairs, Refused}
-use Rattle.span_combine.specs.Combine.{CombineCheckPost, combineCauses}
+use Rattle.span_combine.specs.Combine.{combineCauses}
 use Rattle.logic.proofs.Bools.{and-false, by-cases}
 use Rattle.spans.proofs.Answers.{laid}
 use Rattle.spans.proofs.Sets.{sound-mod}
+use Rattle.span_combine.specs.Steps.{CombineCheckPost}
 
 -- no cause: both lists are sound, and there is room for both
 pub good-lists : (a b : List Float) (room : ℕ) → NoneDue (combineCauses a b room) → (sound a ≡ true) × (sound b ≡ true) × (length a + length b ≤ room)

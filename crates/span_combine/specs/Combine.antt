@@ -5,7 +5,7 @@ use mathlib.Core.List.{List}
 use Prim.Native.Nat.{ℕ, _+_, _/_, _<_}
 use lib.ListN.{length}
 use lib.Ieee.{Float}
-use Rattle.refusal.specs.Refusal.{Cause, Due, NoneDue}
+use Rattle.refusal.specs.Refusal.{Cause}
 use Rattle.spans.specs.Spans.{sound, less, common, ListOf}
 use Rattle.spans.specs.Results.{listCauses}
 use Rattle.spans.specs.Overlay.{lessOf, commonOf}
@@ -13,10 +13,6 @@ use Rattle.spans.specs.Overlay.{lessOf, commonOf}
 -- for two lists and a buffer of `room` cells; one is bad where it is not sound
 abbrev pub combineCauses : List Float → List Float → ℕ → List Cause
 combineCauses a b room = listCauses (room / 2 < length a / 2 + length b / 2) ((sound a && sound b) ≡ false)
-
--- 0 where no cause is present, else the number that is due
-abbrev pub CombineCheckPost : List Cause → ℕ → Type 0
-CombineCheckPost causes r = (r ≡ 0 → NoneDue causes) × ((r ≡ 0 → ⊥) → Due causes r)
 
 -- the sound list of a less b, end by end: which zero stands at an end is settled too
 pub record LessOf (a b l : List Float) : Type 0 where

@@ -1,7 +1,8 @@
 // What two sound lists leave of each other: one less the other, and the points in both.
 ghost use lib.ListN.{length};
 ghost use Rattle.spans.specs.Results.{ListPost};
-ghost use Rattle.span_combine.specs.Combine.{combineCauses, CombineCheckPost, LessOf, CommonOf};
+ghost use Rattle.span_combine.specs.Combine.{combineCauses, LessOf, CommonOf};
+ghost use Rattle.span_combine.specs.Steps.{CombineCheckPost};
 use spans::ListAnswer;
 
 // The number of a refusal of two lists and a buffer of `room` cells, 0 for none.

@@ -10,11 +10,12 @@ use Rattle.refusal.specs.Refusal.{Due, NoneDue}
 use Rattle.doubles.specs.Doubles.{Number}
 use Rattle.logic.proofs.Bools.{found, and-left, or-cases}
 use Rattle.doubles.proofs.Order.{le-number}
-use Rattle.spans.specs.Spans.{Double, EndOfEither, within, holds, sound}
+use Rattle.spans.specs.Spans.{Double, within, holds, sound}
 use Rattle.span_cover.specs.Cover.{Covers, Meets}
 use Rattle.spans.proofs.Answers.{bad-first, bad-second, good-both}
 use Rattle.span_compare.specs.Verdicts.{ComparePost, compareCauses, Contains, Overlaps}
 use Rattle.span_compare.specs.declared.BoolAnswer.the-variants.{Yes, No, Refused}
+use Rattle.spans.specs.Steps.{EndOfEither}
 
 -- r and s are the tests of the two lists
 module _ (a b : List Float) (tells : Bool → Type 0) (r : Bool) (er : r ≡ sound a) where

@@ -9,7 +9,7 @@ use native.Mathlib.Decide.{decLt}
 use lib.ListN.{length, getD, take}
 use lib.Seq.{take-all}
 use lib.Ieee.{Float, nan, lt, le}
-use Rattle.spans.specs.Spans.{EndOfEither, within, holds, sound, Within, Apart}
+use Rattle.spans.specs.Spans.{within, holds, sound, Within, Apart}
 use Rattle.span_cover.specs.Cover.{Covers, Meets}
 use Rattle.spans.proofs.Ends.{rising-at}
 use Rattle.spans.proofs.Sets.{sound-rising, sound-mod}
@@ -19,6 +19,7 @@ use Rattle.span_overlay.proofs.Less.{higher-first as top-first, higher-second a
 use Rattle.doubles.specs.Doubles.{Number}
 use Rattle.logic.proofs.Bools.{and-left, and-right, or-cases, by-cases, clash}
 use Rattle.doubles.proofs.Order.{lt-number, not-lt→le, not-le→lt, le-refl, le-trans, lt-trans, lt-le-trans}
+use Rattle.spans.specs.Steps.{EndOfEither}
 
 -- a cell of a list is one of its ends
 end-at : (l : List Float) (k : ℕ) → k < length l → List·Memᴰ (getD l k nan) l

@@ -11,8 +11,8 @@ use lib.Dec.{eqb}
 use lib.ListN.{length, getD, take, drop, set, take-append-drop, length-drop, length-append, length-set}
 use lib.Seq.{length-take-le, getD-take, getD-drop, getD-set-same, getD-set-other, take-suc, take-suc-set, take-set-le}
 use lib.Ieee.{Float, nan, lt, le}
-use Rattle.spans.specs.Spans.{within, holds, rising, sound}
-use Rattle.spans.specs.Steps.{PutPairPost, pairIf}
+use Rattle.spans.specs.Spans.{within, holds, rising, sound, pairIf}
+use Rattle.spans.specs.Steps.{PutPairPost}
 use Rattle.span_insert.specs.Steps.{EndsCounted, SplicePost, InsertPost, endIf, joinAt}
 use Rattle.doubles.specs.Doubles.{Number}
 use Rattle.logic.proofs.Bools.{and-left, and-right, and-true, and-false, both, by-cases, clash}

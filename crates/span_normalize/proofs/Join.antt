@@ -9,8 +9,8 @@ use lib.ListN.{length, take, drop, length-drop, length-append, take-append-drop}
 use lib.Seq.{length-take-le, drop-at, take-all, take-append-le}
 use borrow.Rule.Slice.PartMut.{putMid, postOf}
 use lib.Ieee.{Float}
-use Rattle.spans.specs.Spans.{within, holds, retained, NormalOf}
-use Rattle.spans.specs.Steps.{FilledFront, pairIf}
+use Rattle.spans.specs.Spans.{within, holds, retained, NormalOf, pairIf}
+use Rattle.spans.specs.Steps.{FilledFront}
 use Rattle.span_join.specs.Steps.{JoinedFromFront, JoinedFromBack, ListInFront}
 use Rattle.pair_moves.specs.Pairs.{Rearranged, same, keep, swap, then, SamePairs}
 use Rattle.spans.proofs.Normal.{retained-cons, retained-most, normal-same, normal-retained, normal-then, normal-swap}

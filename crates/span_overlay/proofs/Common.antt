@@ -7,8 +7,8 @@ use Prim.Native.Nat.{ℕ, _+_, _%_, _≤_, _<_}
 use native.Mathlib.Omega.{arith}
 use lib.ListN.{length, getD, take, drop, drop-of-length-le}
 use lib.Ieee.{Float, nan, lt}
-use Rattle.spans.specs.Spans.{sound}
-use Rattle.spans.specs.Steps.{PutPairPost, FilledFront, pairIf}
+use Rattle.spans.specs.Spans.{sound, pairIf}
+use Rattle.spans.specs.Steps.{PutPairPost, FilledFront}
 use Rattle.spans.specs.Overlay.{sharedBy, commonOf}
 use Rattle.doubles.specs.Doubles.{Number, largerOf, smallerOf}
 use Rattle.doubles.proofs.Order.{not-lt→le, le-lt-trans, lt-trans}

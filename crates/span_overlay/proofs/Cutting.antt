@@ -8,8 +8,8 @@ use native.Mathlib.Decide.{decLt}
 use lib.ListN.{length, getD, take, drop, length-drop, drop-of-length-le}
 use lib.Seq.{take-add}
 use lib.Ieee.{Float, nan, lt, le}
-use Rattle.spans.specs.Spans.{sound}
-use Rattle.spans.specs.Steps.{PutPairPost, FilledFront, pairIf}
+use Rattle.spans.specs.Spans.{sound, pairIf}
+use Rattle.spans.specs.Steps.{PutPairPost, FilledFront}
 use Rattle.spans.specs.Overlay.{higherOf, lowerOf, cutBy, lessOf}
 use Rattle.span_overlay.specs.Steps.{OverlayCutPre, OverlayCutPost}
 use Rattle.spans.specs.declared.Place.{Place}

@@ -7,8 +7,7 @@ use Prim.Native.Nat.{_%_}
 use native.Mathlib.Omega.{arith}
 use lib.ListN.{length, length-append}
 use lib.Ieee.{Float, lt, le}
-use Rattle.spans.specs.Spans.{within, holds, rising, sound, equal, less, ListOf, Apart}
-use Rattle.spans.specs.Steps.{pairIf}
+use Rattle.spans.specs.Spans.{within, holds, rising, sound, equal, less, ListOf, Apart, pairIf}
 use Rattle.spans.specs.Overlay.{higherOf, lowerOf, cutBy, lessOf}
 use Rattle.doubles.specs.Doubles.{Number}
 use Rattle.logic.proofs.Bools.{or-left, or-right, or-neither, and-left, and-right, and-true, both, by-cases, clash}

@@ -7,8 +7,7 @@ use Prim.Native.Nat.{_%_}
 use native.Mathlib.Omega.{arith}
 use lib.ListN.{length, length-append}
 use lib.Ieee.{Float, lt, le}
-use Rattle.spans.specs.Spans.{within, holds, rising, sound, common, ListOf}
-use Rattle.spans.specs.Steps.{pairIf}
+use Rattle.spans.specs.Spans.{within, holds, rising, sound, common, ListOf, pairIf}
 use Rattle.spans.specs.Overlay.{higherOf, lowerOf, sharedBy, commonOf}
 use Rattle.doubles.specs.Doubles.{Number, largerOf, smallerOf}
 use Rattle.logic.proofs.Bools.{and-left, and-right, and-false, both, by-cases, clash}

@@ -5,8 +5,7 @@ use mathlib.Core.Bool.{true, false, true≢false}
 use mathlib.Core.List.{List, [], _∷_, _++_}
 use lib.ListN.{length}
 use lib.Ieee.{Float, lt, le}
-use Rattle.spans.specs.Spans.{Double, Point, within, holds, rising, sound, less, Within}
-use Rattle.spans.specs.Steps.{pairIf}
+use Rattle.spans.specs.Spans.{Double, Point, within, holds, rising, sound, less, Within, pairIf}
 use Rattle.spans.specs.Overlay.{higherOf, lowerOf, cutBy, lessOf, sharedBy, commonOf}
 use Rattle.doubles.specs.Doubles.{largerOf, smallerOf, Number}
 use Rattle.logic.proofs.Bools.{or-left, or-right, or-cases, and-left, and-right, both, by-cases, clash, not-false}

@@ -9,7 +9,8 @@ use Rattle.doubles.proofs.Order.{lt-number, le-refl, le-trans, lt→le, lt-irre
 use Rattle.spans.specs.Spans.{within, holds, rising, sound}
 use Rattle.spans.proofs.Ends.{rising-first, rising-tail}
 use Rattle.spans.proofs.Sets.{sound-rising}
-use Rattle.spans.specs.Rays.{bounded, ValidRay, from, covers, contained, valid}
+use Rattle.spans.specs.Rays.{bounded, ValidRay}
+use Rattle.spans.specs.Containment.{from, covers, contained, valid}
 
 -- ---- rising lists
 -- each point of a list is past what the list rises from

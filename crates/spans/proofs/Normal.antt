@@ -7,8 +7,7 @@ use Prim.Native.Nat.{_%_, _≤_}
 use native.Mathlib.Omega.{arith}
 use lib.ListN.{length}
 use lib.Ieee.{Float, lt}
-use Rattle.spans.specs.Spans.{All, within, holds, rising, sound, retained, ListOf, NormalOf}
-use Rattle.spans.specs.Steps.{pairIf}
+use Rattle.spans.specs.Spans.{All, within, holds, rising, sound, retained, ListOf, NormalOf, pairIf}
 use Rattle.logic.proofs.Bools.{by-cases}
 use Rattle.spans.proofs.Ends.{not-not, oddN, all-map, rising-above, rising-tail}
 use Rattle.spans.proofs.Sets.{oddN-mod, sound-rising, sound-even, sound-mod}

@@ -3,8 +3,8 @@
 use mathlib.Core.Bool.{cond}
 use mathlib.Core.List.{List, [], _∷_, _++_}
 use lib.Ieee.{Float, lt}
-use Rattle.spans.specs.Steps.{pairIf}
 use Rattle.doubles.specs.Doubles.{largerOf, smallerOf}
+use Rattle.spans.specs.Spans.{pairIf}
 
 -- the end, or the other one where that is higher, lower: of two equal numbers the first is kept
 abbrev pub higherOf : Float → Float → Float

@@ -1,8 +1,8 @@
 -- Valid rays, and the test of containment that reads two lists once.
 use mathlib.Core.Path.{_≡_}
-use mathlib.Core.Bool.{Bool, true, false, cond, _&&_}
+use mathlib.Core.Bool.{Bool, true, _&&_}
 use mathlib.Core.List.{List, [], _∷_}
-use lib.Ieee.{Float, lt, le}
+use lib.Ieee.{Float, le}
 use Rattle.spans.specs.Spans.{holds, sound, NormalOf}
 use Rattle.spans.specs.Overlay.{lessOf}
 
@@ -18,30 +18,6 @@ pub record ValidRay (lo hi : Float) (possible certain : List Float) : Type 0 whe
   pub possible-bounded : bounded lo hi possible ≡ true
   pub certain-bounded : bounded lo hi certain ≡ true
   pub inside : (p : Float) → holds certain p ≡ true → holds possible p ≡ true
-
--- the list from its first pair whose upper end is not below x
-unfoldable pub from : Float → List Float → List Float
-from x [] = []
-from x (lo ∷ []) = []
-from x (lo ∷ hi ∷ l) = cond (lt hi x) (from x l) (lo ∷ hi ∷ l)
-
--- the first pair reaches from lo to hi
-abbrev pub covers : List Float → Float → Float → Bool
-covers [] lo hi = false
-covers (a ∷ []) lo hi = false
-covers (a ∷ b ∷ l) lo hi = le a lo && le hi b
-
--- each inner pair lies in one outer pair; outer pairs that end before an inner one does are not looked at again
-unfoldable pub contained : List Float → List Float → Bool
-unfolding from
-contained outer [] = true
-contained outer (lo ∷ []) = true
-contained outer (lo ∷ hi ∷ inner) = covers (from hi outer) lo hi && contained (from hi outer) inner
-
--- the test of a ray
-unfoldable pub valid : Float → Float → List Float → List Float → Bool
-unfolding bounded contained
-valid lo hi possible certain = sound possible && (sound certain && (bounded lo hi possible && (bounded lo hi certain && contained possible certain)))
 
 -- Both lists after a merge, end by end: the old ones less the lists that normalising makes of the hits. The Rust takes of certain what it then
 -- has in common with possible; that is all of it, since certain lies within possible and larger and smaller keep the first of two equal ends.

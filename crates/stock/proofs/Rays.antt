@@ -9,12 +9,14 @@ use Rattle.grid.specs.Rays.{rayCount, boundsOf}
 use Rattle.grid.specs.declared.DexelStockSpec.{DexelStockSpec}
 use Rattle.grid.specs.declared.DexelGrid.{DexelGrid}
 use Rattle.grid.specs.declared.RayBounds.{RayBounds}
-use Rattle.store.specs.Updates.{Cells, Room, CellsChainsSound}
+use Rattle.store.specs.Updates.{Cells, CellsChainsSound}
 use Rattle.spans.specs.Rays.{ValidRay}
 use Rattle.store_read.specs.Reading.{Readable}
 use Rattle.store_read.proofs.Steps.{readable}
-use Rattle.stock.specs.Stock.{possibleIn, certainIn, ValidAt, ValidTo, SoundCells, ChainsInRoom}
+use Rattle.stock.specs.Stock.{possibleIn, certainIn, ValidAt, ValidTo, SoundCells}
 use Rattle.logic.specs.Logic.{Decides}
+use Rattle.stock.specs.Steps.{ChainsInRoom}
+use Rattle.store.specs.Steps.{Room}
 
 -- a test that fails, of what P brings with it
 pub tells-bad : (P Q : Type 0) (r : Bool) → Decides Q r → not r ≡ true → (P → Q) → Decides P false

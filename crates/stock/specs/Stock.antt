@@ -8,7 +8,7 @@ use lib.ListN.{length}
 use Rattle.grid.specs.Rays.{rayCount, boundsOf}
 use Rattle.grid.specs.declared.DexelStockSpec.{DexelStockSpec}
 use Rattle.grid.specs.declared.DexelGrid.{DexelGrid}
-use Rattle.store.specs.Updates.{Cells, Room, CellsChainsSound, storeList, cells}
+use Rattle.store.specs.Updates.{Cells, CellsChainsSound, storeList, cells}
 use Rattle.spans.specs.Rays.{ValidRay}
 
 -- Document 01's store and small record. With a description that `grid` accepts they are a stock.
@@ -44,12 +44,6 @@ SoundStock spec g s = SoundCells spec g (s .cells) (s .intervals)
 -- 12: fewer whole records than `max_intervals`, or fewer heads than two per ray
 unfoldable pub isShort : DexelStockSpec → DexelGrid → Cells → Bool
 isShort spec g c = ltb (length (c .spans) / 2) (spec .«max_intervals») || (ltb (length (c .links) / 2) (spec .«max_intervals») || ltb (length (c .heads)) (2 * rayCount g))
-
--- the store has room and is sound, but for the validity of its rays
-pub record ChainsInRoom (spec : DexelStockSpec) (g : DexelGrid) (c : Cells) : Type 0 where
-  pub room : Room (spec .«max_intervals») (2 * rayCount g) c
-  pub total : ℕ
-  pub store : CellsChainsSound (spec .«max_intervals») (2 * rayCount g) total c
 
 -- a stock by its lent cells and its small record's numbers
 abbrev pub stock : (spans : List Float) (links heads : List ℕ) (generation intervals : ℕ) → Stock

@@ -2,10 +2,12 @@
 ghost use mathlib.Core.Path.{_≡_};
 ghost use Prim.Native.Nat.{_*_, _<_};
 ghost use Rattle.grid.specs.Rays.{rayCount};
-ghost use Rattle.grid.specs.Causes.{GridFacts};
-ghost use Rattle.store.specs.Updates.{cells, Room, CellsChainsSound};
-ghost use Rattle.stock.specs.Stock.{ValidAt, ValidTo, ChainsInRoom, SoundCells, isShort};
+ghost use Rattle.store.specs.Updates.{cells, CellsChainsSound};
+ghost use Rattle.stock.specs.Stock.{ValidAt, ValidTo, SoundCells, isShort};
 ghost use Rattle.logic.specs.Logic.{Decides};
+ghost use Rattle.grid.specs.Facts.{GridFacts};
+ghost use Rattle.stock.specs.Steps.{ChainsInRoom};
+ghost use Rattle.store.specs.Steps.{Room};
 use grid::DexelGrid;
 use grid::DexelStockSpec;
 

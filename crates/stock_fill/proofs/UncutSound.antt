@@ -19,11 +19,10 @@ use Rattle.logic.proofs.Bools.{both, clash}
 use Rattle.doubles.proofs.Order.{lt-number, le-refl, lt→le}
 use Rattle.spans.specs.Spans.{rising, sound}
 use Rattle.grid.specs.Rays.{rayCount, rayAxis, boundsOf}
-use Rattle.grid.specs.Causes.{GridFacts}
 use Rattle.grid.specs.declared.DexelStockSpec.{DexelStockSpec}
 use Rattle.grid.specs.declared.DexelGrid.{DexelGrid}
 use Rattle.store.specs.Store.{loAt, hiAt, ownerAt, usedAt, RecordChain, ends, more, placesOf, chained, endsAt, ChainsSound}
-use Rattle.store.specs.Updates.{Cells, Room, CellsPastKept, storeList}
+use Rattle.store.specs.Updates.{Cells, CellsPastKept, storeList}
 use Rattle.store.proofs.Records.{Written, written-same, put-other, put-here, Within, within-none, within-then, within-put, free-used}
 use Rattle.store.proofs.Chains.{chain-places}
 use Rattle.store.proofs.Replacing.{mem-to}
@@ -32,6 +31,8 @@ use Rattle.stock.specs.Stock.{possibleIn, certainIn, SoundStock}
 use Rattle.stock_fill.specs.Uncut.{recordAt, uncutSpans, uncutLinks, uncutHeads, uncut}
 use Rattle.stock_fill.specs.declared.UncutRecord.{UncutRecord}
 use Rattle.stock_fill.proofs.Uncut.{rec, record-listed, record-free, spans-length, links-length, heads-length}
+use Rattle.grid.specs.Facts.{GridFacts}
+use Rattle.store.specs.Steps.{Room}
 
 -- ---- the ray of one full pair
 full-valid : (lo hi : Float) → lt lo hi ≡ true → ValidRay lo hi (lo ∷ hi ∷ []) (lo ∷ hi ∷ [])

@@ -19,7 +19,7 @@ use Rattle.store.specs.Updates.{Cells, CellsChainsSound}
 use Rattle.stock.specs.Stock.{SoundCells, isShort}
 use Rattle.stock.proofs.Causes.{due-first, due-second, none-in-both}
 use Rattle.stock.proofs.Answers.{accepted, refused}
-use Rattle.stock_volume.specs.Volume.{volumeAlong, AxisVolumePost, boxVolume, boundsBy, VolumeRaysPost, storeCauses, volumeCauses, VolumePost}
+use Rattle.stock_volume.specs.Volume.{volumeAlong, boxVolume, boundsBy, storeCauses, volumeCauses, VolumePost}
 use Rattle.stock_volume.specs.declared.AxisVolume.{AxisVolume}
 use Rattle.stock_volume.specs.declared.AxisSums.{AxisSums}
 use Rattle.stock_volume.specs.declared.DexelVolume.{DexelVolume}
@@ -27,6 +27,7 @@ use Rattle.stock_volume.specs.declared.VolumeAnswer.{VolumeAnswer}
 use Rattle.stock_volume.specs.declared.VolumeAnswer.the-variants.{Accepted as Told, Refused as Declined}
 use Rattle.stock_volume.proofs.Lengths.{after-z}
 use Rattle.logic.specs.Logic.{Decides}
+use Rattle.stock_volume.specs.Steps.{AxisVolumePost, VolumeRaysPost}
 
 module _ (spec : DexelStockSpec) (g : DexelGrid) (c : Cells) (intervals : ℕ) where
   pub measure-short : (r : Bool) → r ≡ isShort spec g c → r ≡ true

@@ -15,13 +15,15 @@ use Rattle.grid.specs.declared.DexelStockSpec.{DexelStockSpec}
 use Rattle.grid.specs.declared.DexelGrid.{DexelGrid}
 use Rattle.grid.specs.declared.RayBounds.{RayBounds}
 use Rattle.store.specs.Updates.{Cells}
-use Rattle.store_read.specs.Lengths.{lengthFrom, RaySumsPost as RayMeasures}
+use Rattle.store_read.specs.Lengths.{lengthFrom}
 use Rattle.store_read.specs.declared.RaySums.{RaySums}
 use Rattle.stock.specs.Stock.{possibleIn, certainIn, ValidTo}
-use Rattle.stock_volume.specs.Volume.{areaOf, addRay, volumeTo, volumeAlong, AddVolumePost, AxisVolumePost}
+use Rattle.stock_volume.specs.Volume.{areaOf, addRay, volumeTo, volumeAlong}
 use Rattle.stock_volume.specs.declared.AxisSums.{AxisSums}
 use Rattle.stock.proofs.Rays.{valid-within, ray-good}
 use Rattle.stock_volume.specs.declared.AxisVolume.{AxisVolume}
+use Rattle.stock_volume.specs.Steps.{AddVolumePost, AxisVolumePost}
+use Rattle.store_read.specs.Steps.{RaySumsPost as RayMeasures}
 
 pub infinity-is : div binary64 one plusZero ≡ inf false
 unfolding div ofBits

@@ -9,20 +9,18 @@ use Rattle.doubles.specs.Doubles.{largerOf, smallerOf}
 use Rattle.refusal.specs.Refusal.{Cause, cause, Due, NoneDue}
 use Rattle.grid.specs.Axes.{worldAxis, stepAlong, crossOf}
 use Rattle.grid.specs.FromSpec.{extentsOf}
-use Rattle.grid.specs.Rays.{rayCount, raysAlong, offset}
+use Rattle.grid.specs.Rays.{raysAlong, offset}
 use Rattle.grid.specs.Causes.{gridCauses, gridIn}
 use Rattle.grid.specs.declared.WorldAxis.{WorldAxis}
 use Rattle.grid.specs.declared.DexelStockSpec.{DexelStockSpec}
 use Rattle.grid.specs.declared.DexelGrid.{DexelGrid}
 use Rattle.store.specs.Updates.{Cells}
 use Rattle.store_read.specs.Lengths.{lengthFrom}
-use Rattle.stock.specs.Stock.{possibleIn, certainIn, ValidAt, ValidTo, SoundCells, isShort}
+use Rattle.stock.specs.Stock.{possibleIn, certainIn, SoundCells, isShort}
 use Rattle.stock_volume.specs.declared.AxisVolume.{AxisVolume}
-use Rattle.stock_volume.specs.declared.AxisSums.{AxisSums}
 use Rattle.stock_volume.specs.declared.DexelVolume.{DexelVolume}
 use Rattle.stock_volume.specs.declared.VolumeAnswer.{VolumeAnswer}
 use Rattle.stock_volume.specs.declared.VolumeAnswer.the-variants.{Accepted, Refused}
-use Rattle.logic.specs.Logic.{Decides}
 
 -- the area of a ray's cell: the product of the steps on the two axes across it
 unfoldable pub areaOf : DexelGrid → WorldAxis → Float
@@ -45,16 +43,6 @@ volumeTo spec c area first (suc k) = addRay spec c area (first + k) (volumeTo sp
 -- all rays along an axis
 abbrev pub volumeAlong : DexelStockSpec → DexelGrid → Cells → WorldAxis → AxisVolume
 volumeAlong spec g c a = volumeTo spec c (areaOf g a) (offset g a) (raysAlong g a)
-
--- what is told of one ray more, and of all rays along an axis where those before are valid: whether they are valid, and if so the sums
-pub record AddVolumePost (spec : DexelStockSpec) (g : DexelGrid) (c : Cells) (area : Float) (ray : ℕ) (v : AxisVolume) (r : AxisSums) : Type 0 where
-  pub told : Decides (ValidAt spec g c ray) (r .valid)
-  pub added : r .valid ≡ true → r .volume ≡ addRay spec c area ray v
-
-pub record AxisVolumePost (spec : DexelStockSpec) (g : DexelGrid) (c : Cells) (a : WorldAxis) (r : AxisSums) : Type 0 where
-  pub is-valid : r .valid ≡ true → ValidTo spec g c (offset g a + raysAlong g a)
-  pub if-valid : ValidTo spec g c (rayCount g) → r .valid ≡ true
-  pub summed : r .valid ≡ true → r .volume ≡ volumeAlong spec g c a
 
 -- the volume of the box, the product of the extents begun with 1
 unfoldable pub boxVolume : DexelStockSpec → Float
@@ -81,11 +69,6 @@ boundsBy total x y z =
 -- the volume of a stock
 abbrev pub volumeOf : DexelStockSpec → DexelGrid → Cells → DexelVolume
 volumeOf spec g c = boundsBy (boxVolume spec) (volumeAlong spec g c (worldAxis 0)) (volumeAlong spec g c (worldAxis 1)) (volumeAlong spec g c (worldAxis 2))
-
--- of a store that is sound but for the validity of its rays: 11 where a ray is not valid, and the volume otherwise
-abbrev pub VolumeRaysPost : DexelStockSpec → DexelGrid → Cells → VolumeAnswer → Type 0
-VolumeRaysPost spec g c (Refused k) = (k ≡ 11) × (ValidTo spec g c (rayCount g) → ⊥)
-VolumeRaysPost spec g c (Accepted w) = ValidTo spec g c (rayCount g) × (w ≡ volumeOf spec g c)
 
 -- 12 and 11, once `grid` accepts
 abbrev pub storeCauses : DexelStockSpec → DexelGrid → Cells → ℕ → List Cause

@@ -2,10 +2,13 @@
 ghost use mathlib.Core.Path.{_≡_};
 ghost use Prim.Native.Nat.{_<_};
 ghost use Rattle.grid.specs.Rays.{rayCount, offset};
-ghost use Rattle.grid.specs.Causes.{GridFacts, gridIn};
+ghost use Rattle.grid.specs.Causes.{gridIn};
 ghost use Rattle.store.specs.Updates.{cells};
-ghost use Rattle.stock.specs.Stock.{ValidTo, ChainsInRoom};
-ghost use Rattle.stock_volume.specs.Volume.{AddVolumePost, AxisVolumePost, boxVolume, boundsBy, VolumeRaysPost, VolumePost, storeCauses, volumeCauses};
+ghost use Rattle.stock.specs.Stock.{ValidTo};
+ghost use Rattle.stock_volume.specs.Volume.{boxVolume, boundsBy, VolumePost, storeCauses, volumeCauses};
+ghost use Rattle.grid.specs.Facts.{GridFacts};
+ghost use Rattle.stock.specs.Steps.{ChainsInRoom};
+ghost use Rattle.stock_volume.specs.Steps.{AddVolumePost, AxisVolumePost, VolumeRaysPost};
 use grid::DexelGrid;
 use grid::DexelStockSpec;
 use grid::GridAnswer;

@@ -10,13 +10,14 @@ use lib.Ieee.{Float, nan}
 use lib.ListN.{length, getD, set, take, drop, length-set, length-drop}
 use lib.Seq.{getD-set-other, getD-set-same, drop-set-lt}
 use Rattle.store.specs.Store.{usedAt, placesOf, RecordChain, ends, more, endsAt, freeFrom, headOf, filledLinks, filledSpans, putSpan, putLink}
-use Rattle.store.specs.Updates.{Cells, cells, Update, update, pairsFrom, CellsChainsSound, storeList, Room, CellsPastKept, lowestFree, laidList, LayListPost}
+use Rattle.store.specs.Updates.{Cells, cells, Update, update, pairsFrom, CellsChainsSound, storeList, CellsPastKept, lowestFree, laidList}
 use Rattle.store.specs.Fills.{FreeCursor, FillListPost}
 use Rattle.store.proofs.Counting.{Distinct}
 use Rattle.store.proofs.Records.{Same, same-refl, same-trans, put-other, put-here, written-same, owned-used, Within, within-none, within-put, within-then}
 use Rattle.store.proofs.Chains.{chain-owner}
 use Rattle.store.proofs.FreePlaces.{free-records, lowest-free, lowest-distinct, lowest-length}
 use Rattle.store.proofs.Replacing.{Replaces, Replaced, replaced}
+use Rattle.store.specs.Steps.{Room, LayListPost}
 
 -- ---- the records at the places
 pub filled-other : (ps : List ℕ) (spans : List Float) (links : List ℕ) (o : ℕ) (pairs : List Float) (x : ℕ) → (List·Memᴰ x ps → ⊥) → Same spans (filledSpans spans ps pairs) links (filledLinks links o ps) x

@@ -15,11 +15,12 @@ use lib.Ieee.{Float}
 use lib.ListN.{length}
 use borrow.Author.Tests.{eq-eqb, ne-eqb}
 use Rattle.store.specs.Store.{placesOf, endsAt, freeFrom}
-use Rattle.store.specs.Updates.{Cells, Update, CellsChainsSound, storeList, Room, CellsPastKept, FreeListPre, LayListPre, Ascending, none, next, pairsFreed, pairsLaid, listAfter, freedList, freedAll, lowestFree, laidList, laidAll, applied, UpdatedStore}
+use Rattle.store.specs.Updates.{Cells, Update, CellsChainsSound, storeList, CellsPastKept, pairsFreed, pairsLaid, freedList, freedAll, lowestFree, laidList, laidAll, applied}
 use Rattle.store.proofs.Replacing.{Replaced}
 use Rattle.store.proofs.Freeing.{freed-list, freed-kept}
 use Rattle.store.proofs.FreePlaces.{free-records}
 use Rattle.store.proofs.Laying.{laid-list, laid-sound, laid-held, laid-kept}
+use Rattle.store.specs.Steps.{Room, FreeListPre, LayListPre, Ascending, none, next, listAfter, UpdatedStore}
 
 -- ---- sizes and the cells that do not count
 pub kept-none : (n m : ℕ) (c : Cells) → CellsPastKept n m c c

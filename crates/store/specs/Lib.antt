@@ -2,3 +2,4 @@ pub mod Store
 pub mod Walks
 pub mod Fills
 pub mod Updates
+pub mod Steps

@@ -15,11 +15,13 @@ use Rattle.doubles.proofs.Order.{lt-number, lt→le, le-trans, le-nan, lt-not-l
 use Rattle.spans.specs.Spans.{rising, sound}
 use Rattle.doubles.specs.Constants.{plusZero}
 use Rattle.store.specs.Store.{loAt, hiAt, nextAt, listFrom}
-use Rattle.spans.specs.Rays.{bounded, from, covers, contained, valid}
+use Rattle.spans.specs.Rays.{bounded}
 use Rattle.spans.proofs.Containment.{from-skip, from-stop, valid-ray, ray-valid}
-use Rattle.store_read.specs.Lengths.{lengthFrom, startsIn, ListSumPost, RaySumsPost}
+use Rattle.store_read.specs.Lengths.{lengthFrom}
 use Rattle.store_read.specs.declared.ListSum.{ListSum}
 use Rattle.store_read.proofs.Steps.{Step, no-ends}
+use Rattle.spans.specs.Containment.{from, covers, contained, valid}
+use Rattle.store_read.specs.Steps.{startsIn, ListSumPost, RaySumsPost}
 
 cons-some : {x : Float} {l : List Float} → x ∷ l ≡ [] → ⊥
 cons-some {x} {l} e = let none : length (x ∷ l) ≡ 0 = ap length e in omega arith

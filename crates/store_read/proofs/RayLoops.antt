@@ -6,10 +6,11 @@ use Prim.Native.Nat.{ℕ, _-_}
 use lib.Ieee.{Float, binary64, add, sub, lt, le}
 use Rattle.logic.proofs.Bools.{not-true, not-false}
 use Rattle.store.specs.Store.{loAt, hiAt, nextAt, listFrom}
-use Rattle.spans.specs.Rays.{from, covers, contained}
 use Rattle.spans.proofs.Containment.{from-skip, from-stop}
 use Rattle.store_read.proofs.Steps.{Step, no-ends}
-use Rattle.store_read.specs.Lengths.{lengthFrom, ReachPost}
+use Rattle.store_read.specs.Lengths.{lengthFrom}
+use Rattle.spans.specs.Containment.{from, covers, contained}
+use Rattle.store_read.specs.Steps.{ReachPost}
 
 -- ---- the sum of the pairs' lengths
 length-cons : (sum lo hi : Float) (l : List Float) → lengthFrom sum (lo ∷ hi ∷ l) ≡ lengthFrom (add binary64 sum (sub binary64 hi lo)) l

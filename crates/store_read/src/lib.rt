@@ -7,9 +7,10 @@ ghost use lib.ListN.{length};
 ghost use lib.Ieee.{lt, le};
 ghost use Rattle.spans.specs.Spans.{sound, equal};
 ghost use Rattle.store.specs.Store.{loAt, hiAt, listFrom, places};
-ghost use Rattle.spans.specs.Rays.{ValidRay, bounded, covers, contained};
+ghost use Rattle.spans.specs.Rays.{ValidRay, bounded};
 ghost use Rattle.store_read.specs.Reading.{Readable, Linked, ReadListPost};
-ghost use Rattle.store_read.specs.Lengths.{startsIn, ListSumPost, RaySumsPost, ReachPost};
+ghost use Rattle.spans.specs.Containment.{covers, contained};
+ghost use Rattle.store_read.specs.Steps.{startsIn, ListSumPost, RaySumsPost, ReachPost};
 
 // Whether the pair at place i does not begin at x or below, and has lo < hi.
 fn follows(spans: &[f64], i: usize, x: f64) -> bool

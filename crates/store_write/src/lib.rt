@@ -5,9 +5,10 @@ ghost use Prim.Native.Nat.{_+_, _-_, _*_, _<_, _≤_};
 ghost use lib.ListN.{length};
 ghost use Rattle.store.specs.Store.{freeFrom, putSpan, putLink, RecordChain, places, freedSpans, freedLinks};
 ghost use Rattle.store.specs.Fills.{NextFree, FreeCursor, FillListPre, FillListPost};
-ghost use Rattle.store.specs.Updates.{cells, update, pairsFrom, LayListPre, LayListPost, freedList, FreeListPre};
+ghost use Rattle.store.specs.Updates.{cells, update, pairsFrom, freedList};
 ghost use Rattle.store_write.specs.LayRays.{LayRayPre, LayRayPost};
 ghost use Rattle.store_write.specs.FreeRays.{FreeRayPre};
+ghost use Rattle.store.specs.Steps.{LayListPre, LayListPost, FreeListPre};
 
 // The first free place from `from` on, of which there is one.
 fn next_free(spans: &[f64], links: &[u64], n: usize, from: usize) -> usize

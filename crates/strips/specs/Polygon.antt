@@ -2,11 +2,9 @@
 -- Each operation is rounded. Corners may come in any order, and a corner that is NaN is inside no half plane.
 use mathlib.Core.Bool.{Bool, true, false, cond}
 use mathlib.Core.List.{List, [], _∷_, _++_}
-use lib.ListN.{take}
 use lib.Ieee.{Float, inf, binary64, add, sub, mul, div, le}
 use Rattle.doubles.specs.Doubles.{largerOf, smallerOf}
 use Rattle.strips.specs.declared.Point.{Point}
-use Rattle.strips.specs.declared.Points.{Points}
 use Rattle.strips.specs.declared.Extent.{Extent}
 use Rattle.strips.specs.declared.Strip.{Strip}
 use Rattle.strips.specs.declared.Strip.the-variants.{Hit, Miss}
@@ -59,7 +57,3 @@ extentStrip e = cond (e .any) (Hit (e .lo) (e .hi)) Miss
 -- clipped from below at y0, then from above at y1
 unfoldable pub polygonStrip : Point → Point → Point → Point → Float → Float → Strip
 polygonStrip p q r s y0 y1 = extentStrip (widenAll empty (clip false y1 (clip true y0 (p ∷ q ∷ r ∷ s ∷ []))))
-
--- the corners that a buffer holds
-abbrev pub corners : Points → List Point
-corners ps = take (ps .n) (ps .at)

@@ -4,7 +4,8 @@ ghost use mathlib.Core.Path.{_≡_};
 ghost use Rattle.strips.specs.Strip.{bandDistance, halfChord, chordStrip, diskStrip, hull, sideStrip, stadiumStrip};
 ghost use mathlib.Core.List.{_++_, _∷_, []};
 ghost use Prim.Native.Nat.{_+_, _<_, _≤_};
-ghost use Rattle.strips.specs.Polygon.{inside, crossing, edge, clip, widen, widenAll, empty, polygonStrip, corners};
+ghost use Rattle.strips.specs.Polygon.{inside, crossing, edge, clip, widen, widenAll, empty, polygonStrip};
+ghost use Rattle.strips.specs.Steps.{corners};
 
 fn band_distance(y: f64, y0: f64, y1: f64) -> f64
     ensures { λ r. ⌜ r ≡ bandDistance y y0 y1 ⌝ }

@@ -14,7 +14,7 @@ use Rattle.logic.proofs.Bools.{clash, not-true}
 use Rattle.refusal.specs.Refusal.{Cause, cause, Due, NoneDue}
 use Rattle.refusal.proofs.Laws.{first, later}
 use Rattle.grid.specs.FromSpec.{gridOf}
-use Rattle.grid.specs.Causes.{gridCauses, gridIn, GridFacts}
+use Rattle.grid.specs.Causes.{gridCauses, gridIn}
 use Rattle.grid.specs.declared.DexelStockSpec.{DexelStockSpec}
 use Rattle.grid.specs.declared.DexelGrid.{DexelGrid}
 use Rattle.grid.specs.declared.GridAnswer.the-variants.{Accepted as Griddable, Refused as NoGrid}
@@ -36,7 +36,7 @@ use Rattle.sweep_visits.specs.declared.Progress.the-variants.{At, Stopped}
 use Rattle.sweep_visits.proofs.Walks.{walk-done, walk-stop, stop-is, done-no-stop}
 use Rattle.sweep_model.specs.ChordLimits.{chordsFit}
 use Rattle.sweep_model.specs.SweepEntries.{Setting, setting, sweepEntries, logOf}
-use Rattle.sweep.specs.Answer.{SweepInputBad, settingCauses, walkOf, visitCauses, causesIn, sweepCauses, refusedLog, SweepPost, SweepCheckPost, endOf, loggedBy, endLog}
+use Rattle.sweep.specs.Answer.{SweepInputBad, settingCauses, walkOf, visitCauses, causesIn, sweepCauses, refusedLog, SweepPost}
 use Rattle.sweep.specs.declared.SweepAnswer.{SweepAnswer}
 use Rattle.sweep.specs.declared.SweepAnswer.the-variants.{Accepted, Refused}
 use Rattle.sweep.specs.declared.SweepCheck.{SweepCheck}
@@ -46,6 +46,8 @@ use Rattle.logic.specs.Logic.{Decides}
 use Rattle.sweep_visits.specs.Steps.{WalkPost}
 use Rattle.sweep_walk.specs.Steps.{Sweepable}
 use Rattle.cutter_check.specs.Steps.{ToolCheckPost}
+use Rattle.grid.specs.Facts.{GridFacts}
+use Rattle.sweep.specs.Steps.{SweepCheckPost, endOf, loggedBy, endLog}
 
 -- ---- the check of a setting
 module _ (s : Setting) (intervals : ℕ) (chords : List Float) where

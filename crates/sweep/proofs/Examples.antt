@@ -5,7 +5,7 @@ use mathlib.Core.Logic.{inl, inr}
 use Prim.Native.Nat.{ℕ, _*_, _%_}
 use lib.ListN.{length}
 use lib.Ieee.{ofBits, ofInt, toUnsigned, neg, add, sub, mul, div, lt, le, eq, isNan}
-use Rattle.doubles.specs.Doubles.{ratio, largerOf, smallerOf, absOf, clampOf, floorOf, ceilOf}
+use Rattle.doubles.specs.Doubles.{largerOf, smallerOf, absOf, clampOf, floorOf, ceilOf}
 use Rattle.doubles_sqrt.specs.Root.{squareRoot}
 use Rattle.grid.specs.Axes.{byDigit}
 use Rattle.grid.specs.Grid.{isBetween, allBetween}
@@ -40,6 +40,7 @@ use Rattle.sweep_model.specs.ChordLimits.{guardFits, endsFit, planSize, lengthF
 use Rattle.sweep_model.specs.SweepEntries.{trackOf, axisEntries, firstAxis, secondAxis, chordEntries, sweepEntries, visitTotal}
 use Rattle.sweep.specs.Answer.{SweepInputBad, causesIn, sweepCauses}
 use Rattle.sweep.specs.Examples.{SweepExamplesRight, halves, lent, blank, flat, sweeping, threeChords, fourEntries, sweepExamples}
+use Rattle.doubles.specs.Rounding.{ratio}
 
 pub examples-right : SweepExamplesRight sweepExamples
 unfolding sweepExamples blank flat sweeping threeChords fourEntries trackOf axisEntries firstAxis secondAxis chordEntries sweepEntries chordOf walk entryOf entryFor rayEntry each rowEntries rectEntries outerFrom outerOf innerFrom innerOf rayHitOf planPoint reachOf sideOf laneOf spanOver cellsMet cellsAcross rectangleOf localCenter sectionWith sectionOf lastOf spansMeet overlapsOf recordAt uncutSpans uncutLinks uncutHeads places endsAt bandDistance halfChord chordStrip diskStrip stadiumStrip hull sideStrip isFinite cuttingRadius offTool radiusAt cutRadius cutMax cutMin axisDigit worldAxisOf localAxisOf signAlong localAt localOf turned worldOf rayCount raysAlong offset rayAxis boundsOf cellAt cellCount byDigit squareRoot ratio largerOf smallerOf absOf clampOf floorOf ceilOf ofBits ofInt toUnsigned neg add sub mul div lt le eq isNan

@@ -3,10 +3,10 @@ use mathlib.Core.Path.{_≡_}
 use mathlib.Core.Bool.{true, false, cond, _||_}
 use mathlib.Core.List.{List, [], _∷_, _++_}
 use mathlib.Core.Logic.{_⊎_}
-use Prim.Native.Nat.{ℕ, _-_, _/_, _%_}
+use Prim.Native.Nat.{ℕ, _-_, _%_}
 use lib.Dec.{eqb}
 use lib.Ieee.{Float}
-use lib.ListN.{length, replicate, take}
+use lib.ListN.{length, replicate}
 use Rattle.doubles.specs.Constants.{plusZero}
 use Rattle.refusal.specs.Refusal.{Cause, cause, Due, NoneDue}
 use Rattle.grid.specs.Causes.{gridCauses, gridIn}
@@ -21,16 +21,11 @@ use Rattle.stock.specs.Stock.{SoundCells, isShort}
 use Rattle.sweep_model.specs.Kernel.{profileOf}
 use Rattle.sweep_model.specs.Entries.{loggedEntries}
 use Rattle.sweep_model.specs.Walk.{Walked, Stop, walk}
-use Rattle.sweep_visits.specs.declared.Progress.{Progress}
-use Rattle.sweep_visits.specs.declared.Progress.the-variants.{At, Stopped}
 use Rattle.sweep_model.specs.ChordLimits.{chordsFit}
 use Rattle.sweep_model.specs.SweepEntries.{Setting, setting, sweepEntries, logOf, visitTotal}
 use Rattle.sweep.specs.declared.Totals.{Totals}
 use Rattle.sweep.specs.declared.SweepAnswer.{SweepAnswer}
 use Rattle.sweep.specs.declared.SweepAnswer.the-variants.{Accepted, Refused}
-use Rattle.sweep.specs.declared.SweepCheck.{SweepCheck}
-use Rattle.sweep.specs.declared.SweepCheck.the-variants.{Admitted, Declined}
-use Rattle.sweep_walk.specs.Steps.{Sweepable}
 
 -- the setting that the arguments of a sweep describe
 abbrev pub settingOf : DexelStockSpec → Axis → CutterShape → PreparedCutter → (guard : Float) → Cells → Setting
@@ -77,23 +72,3 @@ pub record SweepLogged (s : Setting) (intervals : ℕ) (chords before after : Li
 abbrev pub SweepPost : List Cause → Setting → (intervals : ℕ) → (chords before after : List Float) → SweepAnswer → Type 0
 SweepPost causes s intervals chords before after (Refused k) = Due causes k × (after ≡ refusedLog k before)
 SweepPost causes s intervals chords before after (Accepted t) = NoneDue causes × SweepLogged s intervals chords before after t
-
--- the answer of the check of a setting; one that is admitted has a sound store and can be swept
-abbrev pub SweepCheckPost : Setting → (intervals : ℕ) → (chords : List Float) → SweepCheck → Type 0
-SweepCheckPost s intervals chords Admitted =
-    NoneDue (settingCauses s intervals chords)
-    × Sweepable (s .spec) (s .grid) (s .cells)
-    × SoundCells (s .spec) (s .grid) (s .cells) intervals
-SweepCheckPost s intervals chords (Declined k) = Due (settingCauses s intervals chords) k
-
--- the end of a walk as an answer, and the log with what is not an entry zero
-abbrev pub endOf : Progress → SweepAnswer
-endOf (Stopped k) = Refused k
-endOf (At c) = Accepted (record { entries = c .at / 6; visits = c .visits })
-
-abbrev pub loggedBy : Progress → ℕ
-loggedBy (Stopped k) = 0
-loggedBy (At c) = c .at
-
-abbrev pub endLog : Progress → List Float → List Float
-endLog x log = take (loggedBy x) log ++ replicate (length log - loggedBy x) plusZero

@@ -7,7 +7,6 @@ use Prim.Native.Nat.{ℕ}
 use lib.Ieee.{Float, binary64, neg, ofBits}
 use lib.ListN.{replicate}
 use Rattle.doubles.specs.Constants.{plusZero}
-use Rattle.doubles.specs.Doubles.{ratio}
 use Rattle.frame.specs.declared.Axis.the-variants.{PosZ}
 use Rattle.cutter.specs.declared.CutterShape.the-variants.{Flat}
 use Rattle.cutter.specs.declared.PreparedCutter.{PreparedCutter}
@@ -19,6 +18,7 @@ use Rattle.stock_fill.specs.Uncut.{uncut}
 use Rattle.sweep_model.specs.Walk.{Walked, Done, Stop}
 use Rattle.sweep_model.specs.SweepEntries.{Setting}
 use Rattle.sweep.specs.Answer.{settingOf, walkOf}
+use Rattle.doubles.specs.Rounding.{ratio}
 
 -- n / 2 and -n / 2
 abbrev pub halves : ℕ → Float

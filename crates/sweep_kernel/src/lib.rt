@@ -1,7 +1,7 @@
 // What a chord has in common for all rays of a world axis, and the rectangle of rays that it visits (sweep.rs: `Kernel::rays`).
 ghost use mathlib.Core.Path.{_≡_};
-ghost use Rattle.grid.specs.Causes.{GridFacts};
 ghost use Rattle.sweep_model.specs.Kernel.{planPoint, reachOf, sideOf, profileOf, laneOf, spanOver, cellsMet, cellsAcross, rectangleOf};
+ghost use Rattle.grid.specs.Facts.{GridFacts};
 use cutter::CutterShape;
 use cutter::PreparedCutter;
 use frame::Frame;

@@ -8,7 +8,6 @@ use lib.Ieee.{Float, lt}
 use lib.ListN.{length}
 use Rattle.grid.specs.Axes.{byDigit, worldAxis, alongOf, cellsAlong, crossOf}
 use Rattle.grid.specs.Rays.{rayCount, raysAlong, offset, cellAt}
-use Rattle.grid.specs.Causes.{GridFacts}
 use Rattle.grid.specs.declared.WorldAxis.{WorldAxis}
 use Rattle.grid.specs.declared.CrossAxes.{CrossAxes}
 use Rattle.grid.specs.declared.DexelStockSpec.{DexelStockSpec}
@@ -40,6 +39,7 @@ use Rattle.sweep_visits.proofs.Walks.{went-none}
 use Rattle.sweep_model.specs.SweepEntries.{trackOf, Setting, laneIn, axisEntries, firstAxis, secondAxis}
 use Rattle.sweep_visits.specs.Steps.{WalkPost, Went, AxisReady}
 use Rattle.sweep_walk.specs.Steps.{Sweepable}
+use Rattle.grid.specs.Facts.{GridFacts}
 
 -- ---- a sound store can be read along every axis
 module _ (spec : DexelStockSpec) (g : DexelGrid) (c : CellRange) (s : Sweepable spec g c) where

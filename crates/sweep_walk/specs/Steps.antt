@@ -1,10 +1,11 @@
 -- What a walk over the chords of a sweep asks.
 use Rattle.grid.specs.Rays.{rayCount}
-use Rattle.grid.specs.Causes.{GridFacts}
 use Rattle.grid.specs.declared.DexelStockSpec.{DexelStockSpec}
 use Rattle.grid.specs.declared.DexelGrid.{DexelGrid}
 use Rattle.store.specs.Updates.{Cells}
-use Rattle.stock.specs.Stock.{ChainsInRoom, ValidTo}
+use Rattle.stock.specs.Stock.{ValidTo}
+use Rattle.grid.specs.Facts.{GridFacts}
+use Rattle.stock.specs.Steps.{ChainsInRoom}
 
 -- a store that can be swept: an accepted grid, and sound cells
 pub record Sweepable (spec : DexelStockSpec) (g : DexelGrid) (c : Cells) : Type 0 where

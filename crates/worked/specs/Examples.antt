@@ -5,7 +5,6 @@ use mathlib.Core.Bool.{Bool, true, false}
 use mathlib.Core.List.{List, [], _∷_}
 use Prim.Native.Nat.{ℕ, _*_}
 use lib.Ieee.{Float, nan, neg}
-use Rattle.doubles.specs.Doubles.{ratio}
 use Rattle.spans.specs.Spans.{NormalOf, Within, Outside}
 use Rattle.spans.specs.Overlay.{lessOf, commonOf}
 use Rattle.grid.specs.Rays.{rayCount}
@@ -24,6 +23,7 @@ use Rattle.cutter.specs.declared.ProfileSlice.the-variants.{Cutting}
 use Rattle.cutter.specs.Cutter.{radiusAt}
 use Rattle.frame.specs.declared.Pair.{Pair}
 use Rattle.frame.specs.Frame.{frame, localAxis, worldOf}
+use Rattle.doubles.specs.Rounding.{ratio}
 
 -- what is asked, and last what it must come to
 pub data WorkedExample : Type 0 where

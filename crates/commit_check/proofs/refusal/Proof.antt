@@ -3,7 +3,7 @@ use native.Mathlib.Omega.{arith}
 use Prim.Native.Nat.{_*_, _/_, _≤_}
 use lib.ListN.{length}
 use Rattle.grid.specs.Rays.{rayCount}
-use Rattle.store.specs.Updates.{Room, cells}
+use Rattle.store.specs.Updates.{cells}
 use Rattle.stock.specs.Stock.{SoundStock, stock}
 use Rattle.log_entries.specs.Named.{EachNamed}
 use Rattle.log_model.specs.Logs.{entries, workNeeded}
@@ -11,6 +11,7 @@ use Rattle.log_model.proofs.Doubles.{Doubles, all-doubles}
 use Rattle.log_model.specs.Updates.{stockLists}
 use Rattle.commit_check.proofs.Tests.{short-due, room-of-test, work-due, work-of-test, part-due, unsound-due, sound-of-test, last-due, unnamed-due, named-of-test, rays-due, intervals-due, all-passed}
 use Rattle.commit_check.proofs.refusal.Statement.{statement}
+use Rattle.store.specs.Steps.{Room}
 use Rattle.commit_check.proofs.refusal.Tie as tie
 
 -- what the tests before have found

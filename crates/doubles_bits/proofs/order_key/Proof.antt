@@ -4,10 +4,10 @@ use lib.Ieee.{binary64}
 use lib.Ieee.Bits.{toBits-lt}
 use borrow.Author.Needs.{needs}
 use borrow.Author.Tests.{lt-ltb, le-ltb}
-use Rattle.doubles.specs.Doubles.{keyOf, keyOfBits}
 use Rattle.doubles.proofs.Order.{ne-self, no-nan}
 use Rattle.logic.proofs.Bools.{of-true}
 use Rattle.doubles_bits.proofs.order_key.Statement.{statement}
+use Rattle.doubles.specs.TotalOrder.{keyOf, keyOfBits}
 use Rattle.doubles_bits.proofs.order_key.Tie as tie
 
 returns : tie.Need-returns

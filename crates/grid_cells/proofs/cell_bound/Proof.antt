@@ -1,8 +1,8 @@
 -- `grid_cells::cell_bound` meets its contract. Assumes nothing.
-use Rattle.grid.specs.Rays.{cellBoundOf}
 use borrow.Author.Tests.{eq-eqb, ne-eqb, le-leb, lt-leb}
 use borrow.Author.Needs.{needs}
 use Rattle.grid_cells.proofs.cell_bound.Statement.{statement}
+use Rattle.grid.specs.Centers.{cellBoundOf}
 use Rattle.grid_cells.proofs.cell_bound.Tie as tie
 
 returns : tie.Need-returns

@@ -1,7 +1,7 @@
 -- `grid_cells::ray_center` meets its contract. Assumes nothing.
-use Rattle.grid.specs.Rays.{rayCenterOf, cellCenter}
 use borrow.Author.Needs.{needs}
 use Rattle.grid_cells.proofs.ray_center.Statement.{statement}
+use Rattle.grid.specs.Centers.{rayCenterOf, cellCenter}
 use Rattle.grid_cells.proofs.ray_center.Tie as tie
 
 rem-nearest-u64-to-f64 : tie.Need-rem-nearest-u64-to-f64

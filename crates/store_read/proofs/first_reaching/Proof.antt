@@ -3,11 +3,11 @@ use mathlib.Core.Path.{_≡_, refl, sym, _∙_}
 use lib.ListN.{length}
 use Rattle.logic.proofs.Bools.{not-true, not-false}
 use Rattle.store.specs.Store.{places, listFrom}
-use Rattle.spans.specs.Rays.{from}
 use Rattle.store_read.specs.Reading.{Readable}
 use Rattle.store_read.proofs.Steps.{step}
 use Rattle.store_read.proofs.RayLoops.{reach-here, reach-later, reach-none}
 use Rattle.store_read.proofs.first_reaching.Statement.{statement}
+use Rattle.spans.specs.Containment.{from}
 use Rattle.store_read.proofs.first_reaching.Tie as tie
 
 abbrev Inv-loop : tie.InvT-loop

@@ -6,7 +6,6 @@ use lib.ListN.{length}
 use Rattle.spans.specs.Spans.{sound}
 use Rattle.doubles.specs.Constants.{plusZero}
 use Rattle.store.specs.Store.{places, listFrom}
-use Rattle.spans.specs.Rays.{contained}
 use Rattle.logic.proofs.Bools.{both}
 use Rattle.store_read.specs.Reading.{Readable}
 use Rattle.store_read.specs.Lengths.{lengthFrom}
@@ -14,6 +13,7 @@ use Rattle.store_read.proofs.Steps.{step}
 use Rattle.store_read.proofs.RayLoops.{length-step, length-end, all-contained, lies-out, lies-in}
 use Rattle.store_read.proofs.Bounds.{after, sound-after, zero-nan, after-none, after-bad, after-good, sum-bad, sum-good, left-bad, out-bad, both-same, left-same}
 use Rattle.store_read.proofs.sound_within.Statement.{statement}
+use Rattle.spans.specs.Containment.{contained}
 use Rattle.store_read.proofs.sound_within.Tie as tie
 
 abbrev Inv-loop : tie.InvT-loop
