@@ -19,7 +19,7 @@ use Rattle.store.specs.Updates.{Cells}
 use Rattle.store.proofs.FreePlaces.{free-records}
 use Rattle.stock.specs.Stock.{Stock, possibleIn, certainIn, SoundStock}
 use Rattle.store_read.proofs.Steps.{ends-length}
-use Rattle.log_model.specs.Logs.{possible, certain, entryAt, entryCount, entries, entryRay, HitKind, outer, inner}
+use Rattle.log_model.specs.Logs.{Possible, Certain, entryAt, entryCount, entries, entryRay, HitKind, outer, inner}
 use Rattle.log_model.specs.Model.{pairTotal}
 use Rattle.log_model.specs.Counts.{isHitBy, startsLeft, hitsOnList, isRayChanged, changedRayCount, pairsAfter}
 use Rattle.log_model.specs.View.{listNumber, listIn, listsIn}
@@ -116,8 +116,8 @@ module _ (spec : DexelStockSpec) (g : DexelGrid) (c : Cells) (intervals : ℕ) (
   pub left-is : pairsAfter g (listsIn spec g c) (entries log) ≡ sumBelow (leftOf spec g c log) (rayCount g)
   unfolding pairsAfter leftOf hitsOnList listNumber
   left-is = sum-over g
-      (λ r. startsLeft (listsIn spec g c r possible) (hitsOnList g (entries log) r possible)
-      + startsLeft (listsIn spec g c r certain) (hitsOnList g (entries log) r certain))
+      (λ r. startsLeft (listsIn spec g c r Possible) (hitsOnList g (entries log) r Possible)
+      + startsLeft (listsIn spec g c r Certain) (hitsOnList g (entries log) r Certain))
       (leftOf spec g c log)
       (λ r. ap₂ (λ (o i : List Float). startsLeft (possibleIn spec c (r .0)) i + startsLeft (certainIn spec c (r .0)) (o ++ i))
       (pairs-named g (entries log) r outer) (pairs-named g (entries log) r inner))
@@ -138,7 +138,7 @@ module _ (spec : DexelStockSpec) (g : DexelGrid) (c : Cells) (intervals : ℕ) (
   unfolding entriesOf
   all-entries = shared-out g log 0 (entryCount log) (λ j _ h. each-below g log (ok .named) j (omega arith))
 
-  -- three pairs more for each entry: one on possible, two on certain
+  -- three pairs more for each entry: one on Possible, two on Certain
   pub left-le : (ray : ℕ) → leftOf spec g c log ray ≤ pairsOf spec c ray + 3 * entriesOf ray
   unfolding leftOf pairsOf
   left-le ray =

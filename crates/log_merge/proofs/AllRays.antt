@@ -16,7 +16,7 @@ use Rattle.grid.specs.declared.DexelGrid.{DexelGrid}
 use Rattle.store.specs.Updates.{Cells, Update, update}
 use Rattle.stock.specs.Stock.{Stock, SoundCells}
 use Rattle.stock.proofs.Rays.{sound-chained}
-use Rattle.log_model.specs.Logs.{Ray, Kind, possible, certain, Entry, entries, entryCount}
+use Rattle.log_model.specs.Logs.{Ray, Kind, Possible, Certain, Entry, entries, entryCount}
 use Rattle.log_model.specs.Model.{sumTo}
 use Rattle.log_model.specs.Counts.{startsLeft, hitsOnList, pairsAfter}
 use Rattle.log_model.specs.View.{listIn}
@@ -48,7 +48,7 @@ lists-by-cells spec g s c f = ap (λ (d : Cells). stockLists spec g (stockOf d))
 -- ---- sums over rays
 -- the pairs that a ray will have
 abbrev pub leftPairs : (g : DexelGrid) → (Ray g → Kind → List Float) → List Entry → Ray g → ℕ
-leftPairs g lists es r = startsLeft (lists r possible) (hitsOnList g es r possible) + startsLeft (lists r certain) (hitsOnList g es r certain)
+leftPairs g lists es r = startsLeft (lists r Possible) (hitsOnList g es r Possible) + startsLeft (lists r Certain) (hitsOnList g es r Certain)
 
 -- some rays have no more than all
 sum-most : (g : DexelGrid) (f : Ray g → ℕ) (k i : ℕ) (h : i ≤ rayCount g) (n : ℕ) (e : n ≡ i + k) (l : n ≤ rayCount g) → sumTo g f i h ≤ sumTo g f n l

@@ -12,7 +12,7 @@ use Rattle.grid.specs.Rays.{rayCount}
 use Rattle.grid.specs.declared.DexelStockSpec.{DexelStockSpec}
 use Rattle.grid.specs.declared.DexelGrid.{DexelGrid}
 use Rattle.stock.specs.Stock.{Stock, possibleIn, certainIn, SoundCells}
-use Rattle.log_model.specs.Logs.{Ray, Kind, possible, certain, entries, outer, inner}
+use Rattle.log_model.specs.Logs.{Ray, Kind, Possible, Certain, entries, outer, inner}
 use Rattle.log_model.specs.Model.{RayChanges}
 use Rattle.log_model.specs.Counts.{isRayChanged, startsLeft, hitsOnList}
 use Rattle.log_model.specs.View.{listNumber, listIn}
@@ -69,7 +69,7 @@ module _ (spec : DexelStockSpec) (g : DexelGrid) (s : Stock) (total : ℕ) (snd 
         m .cut .moved
         ∙ exact-changes g (stockLists spec g s) (entries log) (ray, h) (lessOf (possibleIn spec (s .cells) ray) (m .innerNormal))
         (lessOf (lessOf (certainIn spec (s .cells) ray) (m .outerNormal)) (m .innerNormal)) (exact _ _ refl refl)
-        (listed (ray, h) possible .isSound) (listed (ray, h) certain .isSound)
+        (listed (ray, h) Possible .isSound) (listed (ray, h) Certain .isSound)
 
     pub changes : Doubles g (stockLists spec g s) (entries log) → r .changed ≡ true → RayChanges g sets (entries log) (ray, h)
     changes d e = changes-by g sets (stockLists spec g s) listed (entries log) d (ray, h) .0 (sym changed-by ∙ e)
@@ -79,21 +79,21 @@ module _ (spec : DexelStockSpec) (g : DexelGrid) (s : Stock) (total : ℕ) (snd 
 
     -- how many pairs both new lists have
     pub pairs-most : q + limitOf spec log ≤ length after
-        → r .possible + r .certain ≤ startsLeft (stockLists spec g s (ray, h) possible) (hitsOnList g (entries log) (ray, h) possible)
-        + startsLeft (stockLists spec g s (ray, h) certain) (hitsOnList g (entries log) (ray, h) certain)
+        → r .possible + r .certain ≤ startsLeft (stockLists spec g s (ray, h) Possible) (hitsOnList g (entries log) (ray, h) Possible)
+        + startsLeft (stockLists spec g s (ray, h) Certain) (hitsOnList g (entries log) (ray, h) Certain)
     unfolding listIn
     pairs-most fit = go (r .changed) refl
       where
         half : (k : ℕ) → 2 * k / 2 ≡ k
         half k = omega arith
 
-        go : (b : Bool) → r .changed ≡ b → r .possible + r .certain ≤ startsLeft (stockLists spec g s (ray, h) possible) (hitsOnList g (entries log) (ray, h) possible)
-            + startsLeft (stockLists spec g s (ray, h) certain) (hitsOnList g (entries log) (ray, h) certain)
+        go : (b : Bool) → r .changed ≡ b → r .possible + r .certain ≤ startsLeft (stockLists spec g s (ray, h) Possible) (hitsOnList g (entries log) (ray, h) Possible)
+            + startsLeft (stockLists spec g s (ray, h) Certain) (hitsOnList g (entries log) (ray, h) Certain)
         go true e =
-            let p = one-pairs spec g whole snd (entries log) (ray, h) possible (cellsFrom q (2 * r .possible) after)
-            (exact-possible g (stockLists spec g s) (entries log) (ray, h) _ _ (new-exact e) (listed (ray, h) possible .isSound)) in
-            let c = one-pairs spec g whole snd (entries log) (ray, h) certain (cellsFrom (q + 2 * r .possible) (2 * r .certain) after)
-            (exact-certain g (stockLists spec g s) (entries log) (ray, h) _ _ (new-exact e) (listed (ray, h) certain .isSound)) in
+            let p = one-pairs spec g whole snd (entries log) (ray, h) Possible (cellsFrom q (2 * r .possible) after)
+            (exact-possible g (stockLists spec g s) (entries log) (ray, h) _ _ (new-exact e) (listed (ray, h) Possible .isSound)) in
+            let c = one-pairs spec g whole snd (entries log) (ray, h) Certain (cellsFrom (q + 2 * r .possible) (2 * r .certain) after)
+            (exact-certain g (stockLists spec g s) (entries log) (ray, h) _ _ (new-exact e) (listed (ray, h) Certain .isSound)) in
             let lp = part-length q (2 * r .possible) after (omega (arith, m .cut .most)) in
             let lc = part-length (q + 2 * r .possible) (2 * r .certain) after (omega (arith, m .cut .most)) in
             omega (arith, sym p ∙ ap (λ (n : ℕ). n / 2) lp ∙ half (r .possible), sym c ∙ ap (λ (n : ℕ). n / 2) lc ∙ half (r .certain))

@@ -19,7 +19,7 @@ use Rattle.spans.specs.Overlay.{lessOf}
 use Rattle.span_overlay.proofs.Less.{less-list}
 use Rattle.ray_subtract.specs.Subtract.{eitherHit, spared}
 use Rattle.ray_subtract.proofs.Sparing.{less-both-list}
-use Rattle.log_model.specs.Logs.{Ray, Kind, possible, certain, Entry, removed}
+use Rattle.log_model.specs.Logs.{Ray, Kind, Possible, Certain, Entry, removed}
 use Rattle.log_model.proofs.Doubles.{Doubles}
 use Rattle.log_model.specs.Model.{setsAfter, RayChanges, Count, counted, skipped}
 use Rattle.log_model.specs.Counts.{isHitBy, hitsOnList, isRayChanged}
@@ -38,29 +38,29 @@ above : (i j : ℕ) → i ≤ j → (i ≡ j → ⊥) → suc i ≤ j
 above i j h ne = omega arith
 
 -- ---- the numbers of a ray's lists
-pub number-possible : (r : ℕ) → listNumber r possible ≡ 2 * r
+pub number-possible : (r : ℕ) → listNumber r Possible ≡ 2 * r
 unfolding listNumber
 number-possible r = refl
 
-pub number-certain : (r : ℕ) → listNumber r certain ≡ 2 * r + 1
+pub number-certain : (r : ℕ) → listNumber r Certain ≡ 2 * r + 1
 unfolding listNumber
 number-certain r = refl
 
-two-numbers : (r : ℕ) → listNumber r certain ≡ 2 * r → ⊥
+two-numbers : (r : ℕ) → listNumber r Certain ≡ 2 * r → ⊥
 two-numbers r e = omega (arith, number-certain r)
 
 number-below : (r : ℕ) (k : Kind) → listNumber r k < 2 * suc r
-number-below r possible = omega (arith, number-possible r)
-number-below r certain = omega (arith, number-certain r)
+number-below r Possible = omega (arith, number-possible r)
+number-below r Certain = omega (arith, number-certain r)
 
 -- another ray has other numbers
 other-possible : (i r : ℕ) (k : Kind) → suc i ≤ r → listNumber r k ≡ 2 * i → ⊥
-other-possible i r possible h e = omega (arith, number-possible r)
-other-possible i r certain h e = omega (arith, number-certain r)
+other-possible i r Possible h e = omega (arith, number-possible r)
+other-possible i r Certain h e = omega (arith, number-certain r)
 
 other-certain : (i r : ℕ) (k : Kind) → suc i ≤ r → listNumber r k ≡ 2 * i + 1 → ⊥
-other-certain i r possible h e = omega (arith, number-possible r)
-other-certain i r certain h e = omega (arith, number-certain r)
+other-certain i r Possible h e = omega (arith, number-possible r)
+other-certain i r Certain h e = omega (arith, number-certain r)
 
 -- ---- the lists after the log are the sound lists of what it leaves
 left-by : (s t : Float → Bool) (m : List Float) → ((p : Float) → t p ≡ s p) → ListOf t m → ListOf s m
@@ -68,21 +68,21 @@ left-by s t m e x = record { isSound = x .isSound; points = λ p. x .points p �
 
 module _ (g : DexelGrid) (lists : Ray g → Kind → List Float) (es : List Entry) (r : Ray g) (p c : List Float)
     (x : MergedByLog g lists es r p c) where
-  pub exact-possible : sound (lists r possible) ≡ true → ListAfterLog g lists es r possible p
+  pub exact-possible : sound (lists r Possible) ≡ true → ListAfterLog g lists es r Possible p
   unfolding setsAfter removed
   exact-possible s = rw (x .possibleIs)
-      (left-by (setsAfter g (listSets g lists) es r possible) (spared (lists r possible) (holds (x .innerNormal)))
-      (lessOf (lists r possible) (x .innerNormal))
-      (λ q. ap (λ (b : Bool). holds (lists r possible) q && not b) (x .innerIs .list .points q))
-      (less-list (lists r possible) (x .innerNormal) s (x .innerIs .list .isSound)))
+      (left-by (setsAfter g (listSets g lists) es r Possible) (spared (lists r Possible) (holds (x .innerNormal)))
+      (lessOf (lists r Possible) (x .innerNormal))
+      (λ q. ap (λ (b : Bool). holds (lists r Possible) q && not b) (x .innerIs .list .points q))
+      (less-list (lists r Possible) (x .innerNormal) s (x .innerIs .list .isSound)))
 
-  pub exact-certain : sound (lists r certain) ≡ true → ListAfterLog g lists es r certain c
+  pub exact-certain : sound (lists r Certain) ≡ true → ListAfterLog g lists es r Certain c
   unfolding setsAfter removed
   exact-certain s = rw (x .certainIs)
-      (left-by (setsAfter g (listSets g lists) es r certain) (spared (lists r certain) (eitherHit (x .outerNormal) (x .innerNormal)))
-      (lessOf (lessOf (lists r certain) (x .outerNormal)) (x .innerNormal))
-      (λ q. ap₂ (λ (a b : Bool). holds (lists r certain) q && not (a || b)) (x .outerIs .list .points q) (x .innerIs .list .points q))
-      (less-both-list (lists r certain) (x .outerNormal) (x .innerNormal) s (x .outerIs .list .isSound) (x .innerIs .list .isSound)))
+      (left-by (setsAfter g (listSets g lists) es r Certain) (spared (lists r Certain) (eitherHit (x .outerNormal) (x .innerNormal)))
+      (lessOf (lessOf (lists r Certain) (x .outerNormal)) (x .innerNormal))
+      (λ q. ap₂ (λ (a b : Bool). holds (lists r Certain) q && not (a || b)) (x .outerIs .list .points q) (x .innerIs .list .points q))
+      (less-both-list (lists r Certain) (x .outerNormal) (x .innerNormal) s (x .outerIs .list .isSound) (x .innerIs .list .isSound)))
 
   -- a boundary of the list moves exactly when a hit has a point of it
   moves-by : (k : Kind) (l : List Float) → sound (lists r k) ≡ true → ListAfterLog g lists es r k l
@@ -92,12 +92,12 @@ module _ (g : DexelGrid) (lists : Ray g → Kind → List Float) (es : List Entr
       (λ q. without-hits g r (listSets g lists) es k q) y)
 
   -- so the ray changes exactly when a boundary of one of its lists moves
-  pub exact-changes : sound (lists r possible) ≡ true → sound (lists r certain) ≡ true
-      → not (equal (lists r possible) p && equal (lists r certain) c) ≡ isRayChanged g lists es r
+  pub exact-changes : sound (lists r Possible) ≡ true → sound (lists r Certain) ≡ true
+      → not (equal (lists r Possible) p && equal (lists r Certain) c) ≡ isRayChanged g lists es r
   unfolding isRayChanged
   exact-changes sp sc =
-      either-not (equal (lists r possible) p) (equal (lists r certain) c)
-      ∙ ap₂ _||_ (moves-by possible p sp (exact-possible sp)) (moves-by certain c sc (exact-certain sc))
+      either-not (equal (lists r Possible) p) (equal (lists r Certain) c)
+      ∙ ap₂ _||_ (moves-by Possible p sp (exact-possible sp)) (moves-by Certain c sc (exact-certain sc))
     where
       either-not : (a b : Bool) → not (a && b) ≡ (not a || not b)
       either-not true b = refl
@@ -114,8 +114,8 @@ module _ (g : DexelGrid) (lists : Ray g → Kind → List Float) (es : List Entr
       lower no-more = no-more
       lower (next {u = u} lo hi whole a) = next {k = 2 * ray} {u = u} (omega arith) hi whole a
   merges-ascend (new {ray = ray} {p = p} {c = c} {us = us} h e x t) =
-      let a = exact-possible g lists es (ray, h) p c x (each (ray, h) possible .isSound) in
-      let b = exact-certain g lists es (ray, h) p c x (each (ray, h) certain .isSound) in
+      let a = exact-possible g lists es (ray, h) p c x (each (ray, h) Possible .isSound) in
+      let b = exact-certain g lists es (ray, h) p c x (each (ray, h) Certain .isSound) in
       next {k = 2 * ray} {u = update (2 * ray) p} (omega arith) (omega arith) (sound-mod p (a .isSound)) (next {k = suc (2 * ray)} {u = update (2 * ray + 1) c} (omega arith) (omega arith) (sound-mod c (b .isSound)) (subst (λ (k : ℕ). Ascending (2 * rayCount g) k us) (numbers ray) (merges-ascend t)))
     where
       numbers : (ray : ℕ) → 2 * suc ray ≡ suc (2 * ray + 1)
@@ -148,8 +148,8 @@ module _ (g : DexelGrid) (lists : Ray g → Kind → List Float) (es : List Entr
         ]
 
         unhit : (k : Kind) → isHitBy (lists r k) (hitsOnList g es r k) ≡ false
-        unhit possible = not-left (isHitBy (lists r possible) (hitsOnList g es r possible)) (isHitBy (lists r certain) (hitsOnList g es r certain)) e
-        unhit certain = not-right (isHitBy (lists r possible) (hitsOnList g es r possible)) (isHitBy (lists r certain) (hitsOnList g es r certain)) e
+        unhit Possible = not-left (isHitBy (lists r Possible) (hitsOnList g es r Possible)) (isHitBy (lists r Certain) (hitsOnList g es r Certain)) e
+        unhit Certain = not-right (isHitBy (lists r Possible) (hitsOnList g es r Possible)) (isHitBy (lists r Certain) (hitsOnList g es r Certain)) e
 
     -- each list after the updates is the sound list of what the log leaves
     pub merges-leave : {ray m : ℕ} {us : List Update} → MergeUpdates g lists es ray us m → (r : ℕ) (l : r < rayCount g) → ray ≤ r → (k : Kind) → ListAfterLog g lists es (r, l) k (listAfter us (listNumber r k) (lists (r, l) k))
@@ -164,14 +164,14 @@ module _ (g : DexelGrid) (lists : Ray g → Kind → List Float) (es : List Entr
         (λ (h : suc ray ≤ r). merges-leave t r l h k)
       where
         here : (k : Kind) → ListAfterLog g lists es (ray, i) k (listAfter (update (2 * ray) p ∷ update (2 * ray + 1) c ∷ us) (listNumber ray k) (lists (ray, i) k))
-        here possible = subst (ListAfterLog g lists es (ray, i) possible)
-            (sym (after-here (update (2 * ray) p) (update (2 * ray + 1) c ∷ us) (listNumber ray possible) (lists (ray, i) possible)
+        here Possible = subst (ListAfterLog g lists es (ray, i) Possible)
+            (sym (after-here (update (2 * ray) p) (update (2 * ray + 1) c ∷ us) (listNumber ray Possible) (lists (ray, i) Possible)
             (number-possible ray)))
-            (exact-possible g lists es (ray, i) p c x (each (ray, i) possible .isSound))
-        here certain = subst (ListAfterLog g lists es (ray, i) certain)
-            (sym (after-other (update (2 * ray) p) (update (2 * ray + 1) c ∷ us) (listNumber ray certain) (lists (ray, i) certain) (λ z. two-numbers ray z)
-            ∙ after-here (update (2 * ray + 1) c) us (listNumber ray certain) (lists (ray, i) certain) (number-certain ray)))
-            (exact-certain g lists es (ray, i) p c x (each (ray, i) certain .isSound))
+            (exact-possible g lists es (ray, i) p c x (each (ray, i) Possible .isSound))
+        here Certain = subst (ListAfterLog g lists es (ray, i) Certain)
+            (sym (after-other (update (2 * ray) p) (update (2 * ray + 1) c ∷ us) (listNumber ray Certain) (lists (ray, i) Certain) (λ z. two-numbers ray z)
+            ∙ after-here (update (2 * ray + 1) c) us (listNumber ray Certain) (lists (ray, i) Certain) (number-certain ray)))
+            (exact-certain g lists es (ray, i) p c x (each (ray, i) Certain .isSound))
 
         at : Dec (ray ≡ r) → (suc ray ≤ r → ListAfterLog g lists es (r, l) k (listAfter us (listNumber r k) (lists (r, l) k))) → ListAfterLog g lists es (r, l) k (listAfter (update (2 * ray) p ∷ update (2 * ray + 1) c ∷ us) (listNumber r k) (lists (r, l) k))
         at (yes d) rec = moved g (λ x. ListAfterLog g lists es x k (listAfter (update (2 * ray) p ∷ update (2 * ray + 1) c ∷ us) (listNumber (x .0) k) (lists x k))) ray r i d l (here k)

@@ -19,7 +19,7 @@ use Rattle.spans.proofs.Points.{or-assoc}
 use Rattle.grid.specs.Rays.{rayCount}
 use Rattle.grid.specs.declared.DexelStockSpec.{DexelStockSpec}
 use Rattle.grid.specs.declared.DexelGrid.{DexelGrid}
-use Rattle.log_model.specs.Logs.{Ray, Kind, possible, certain, Entry, entries, workNeeded, namesSomeRay, namesRay, HitKind, outer, inner, hitLo, hitHi, hitsOnRay, removed, Commit}
+use Rattle.log_model.specs.Logs.{Ray, Kind, Possible, Certain, Entry, entries, workNeeded, namesSomeRay, namesRay, HitKind, outer, inner, hitLo, hitHi, hitsOnRay, removed, Commit}
 use Rattle.log_model.specs.Model.{Sets, setsAfter, RayChanges, Count, none, counted, skipped, sumTo, sumOver, pairTotal, IntervalTotal, Capacity, LogBuffersShort, LogInputBad, NamesNoRay, TooManyRays, TooManyIntervals, logCommitCauses, LogAnswer, changed, refused, AnswerDue}
 use Rattle.log_model.specs.Counts.{isHitBy, startsLeft, hitsOnList, isRayChanged, changedRayCount, pairsAfter}
 use Rattle.log_model.proofs.Unique.{count-unique, intervals-unique, intervals-points}
@@ -44,8 +44,8 @@ module _ (g : DexelGrid) (r : Ray g) where
 
   pub taken-hits : (es : List Entry) (k : Kind) (p : Float) → removed g es r k p ≡ holds (hitsOnList g es r k) p
   unfolding removed hitsOnList
-  taken-hits es possible p = refl
-  taken-hits es certain p = sym (pairs-append es outer (hitsOnRay g es r inner) p)
+  taken-hits es Possible p = refl
+  taken-hits es Certain p = sym (pairs-append es outer (hitsOnRay g es r inner) p)
 
   pub without-hits : (s : Sets g) (es : List Entry) (k : Kind) (p : Float) → setsAfter g s es r k p ≡ (s r k p && not (holds (hitsOnList g es r k) p))
   unfolding setsAfter
@@ -132,13 +132,13 @@ module _ (g : DexelGrid) (s : Sets g) (lists : Ray g → Kind → List Float) (e
     pub changes-by : (r : Ray g) → Decides (RayChanges g s es r) (isRayChanged g lists es r)
     unfolding RayChanges isRayChanged
     changes-by r = (
-      (λ h f. elim (or-cases (isHitBy (lists r possible) (hitsOnList g es r possible)) (isHitBy (lists r certain) (hitsOnList g es r certain)) h) [
-        | inl u ↦ clash (isHitBy (lists r possible) (hitsOnList g es r possible)) u (stays-points r possible (f possible))
-        | inr u ↦ clash (isHitBy (lists r certain) (hitsOnList g es r certain)) u (stays-points r certain (f certain))
+      (λ h f. elim (or-cases (isHitBy (lists r Possible) (hitsOnList g es r Possible)) (isHitBy (lists r Certain) (hitsOnList g es r Certain)) h) [
+        | inl u ↦ clash (isHitBy (lists r Possible) (hitsOnList g es r Possible)) u (stays-points r Possible (f Possible))
+        | inr u ↦ clash (isHitBy (lists r Certain) (hitsOnList g es r Certain)) u (stays-points r Certain (f Certain))
       ]),
       (λ h n. n (λ k p _. elim k [
-        | possible ↦ stays r possible .1 (not-left (isHitBy (lists r possible) (hitsOnList g es r possible)) (isHitBy (lists r certain) (hitsOnList g es r certain)) h) p
-        | certain ↦ stays r certain .1 (not-right (isHitBy (lists r possible) (hitsOnList g es r possible)) (isHitBy (lists r certain) (hitsOnList g es r certain)) h) p
+        | Possible ↦ stays r Possible .1 (not-left (isHitBy (lists r Possible) (hitsOnList g es r Possible)) (isHitBy (lists r Certain) (hitsOnList g es r Certain)) h) p
+        | Certain ↦ stays r Certain .1 (not-right (isHitBy (lists r Possible) (hitsOnList g es r Possible)) (isHitBy (lists r Certain) (hitsOnList g es r Certain)) h) p
       ])),
     )
 
@@ -164,7 +164,7 @@ module _ (g : DexelGrid) (s : Sets g) (lists : Ray g → Kind → List Float) (e
   intervals-counted = record {
     lists = λ r k. less (lists r k) (hitsOnList g es r k);
     each = left-list;
-    number = ap (sumOver g) (fun-ext (λ r. ap₂ _+_ (sym (one-count r possible)) (sym (one-count r certain))));
+    number = ap (sumOver g) (fun-ext (λ r. ap₂ _+_ (sym (one-count r Possible)) (sym (one-count r Certain))));
   }
 
   -- where the ends of the lists and of the hits are doubles, the points alone settle this number: whichever sound lists of doubles have

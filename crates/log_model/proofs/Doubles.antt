@@ -10,7 +10,7 @@ use Rattle.grid.specs.declared.DexelStockSpec.{DexelStockSpec}
 use Rattle.grid.specs.declared.DexelGrid.{DexelGrid}
 use Rattle.store.specs.Store.{placesOf, endsAt}
 use Rattle.stock.specs.Stock.{Stock}
-use Rattle.log_model.specs.Logs.{Ray, Kind, possible, certain, Entry, entryAt, entriesFrom, entryCount, entries, namesRay, HitKind, outer, inner, hitLo, hitHi, hitsOnRay}
+use Rattle.log_model.specs.Logs.{Ray, Kind, Possible, Certain, Entry, entryAt, entriesFrom, entryCount, entries, namesRay, HitKind, outer, inner, hitLo, hitHi, hitsOnRay}
 use Rattle.log_model.specs.Counts.{hitsOnList}
 use Rattle.log_model.specs.View.{listNumber, listIn}
 use Rattle.log_model.proofs.Less.{piece, lower, higher, lessPair, less}
@@ -62,8 +62,8 @@ module _ (g : DexelGrid) (log : List Float) (d : DoubleCells log) (r : Ray g) wh
 
   pub hits-doubles : (k : Kind) → All Double (hitsOnList g (entries log) r k)
   unfolding hitsOnList
-  hits-doubles possible = pairs-doubles inner
-  hits-doubles certain = all-append Double (hitsOnRay g (entries log) r outer) (hitsOnRay g (entries log) r inner)
+  hits-doubles Possible = pairs-doubles inner
+  hits-doubles Certain = all-append Double (hitsOnRay g (entries log) r outer) (hitsOnRay g (entries log) r inner)
       (pairs-doubles outer) (pairs-doubles inner)
 
 -- ---- both

@@ -10,7 +10,6 @@ use lib.ListN.{length}
 use lib.Ieee.{Float}
 use Rattle.grid.specs.declared.DexelGrid.{DexelGrid}
 use Rattle.log_model.specs.Logs.{Ray, Entry, entryAt, entriesFrom, entryCount, entries, namesRay, HitKind, hitLo, hitHi, hitsOnRay}
-
 from-length : (log : List Float) (i n : ℕ) → length (entriesFrom log i n) ≡ n
 unfolding entriesFrom
 from-length log i zero = refl

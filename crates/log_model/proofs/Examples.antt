@@ -22,7 +22,7 @@ use Rattle.grid.specs.Rays.{rayCount, raysAlong, offset, rayAxis, boundsOf}
 use Rattle.grid.specs.declared.GridAnswer.the-variants.{Accepted}
 use Rattle.store.specs.Store.{usedAt, places, RecordChain, ends, more, placesOf, chained, endsAt}
 use Rattle.spans.specs.Rays.{bounded, ValidRay}
-use Rattle.log_model.specs.Logs.{Ray, Kind, possible, certain, entries, namesSomeRay, hitLo, hitHi, Commit}
+use Rattle.log_model.specs.Logs.{Ray, Kind, Possible, Certain, entries, namesSomeRay, hitLo, hitHi, Commit}
 use Rattle.log_model.specs.Model.{LogAnswer, changed, refused, logCommitCauses, AnswerDue, acceptedLogs}
 use Rattle.log_model.specs.Counts.{hitsOnList, changedRayCount}
 use Rattle.log_model.specs.Runs.{pointSets, CommitEffect, CommitStep, Run, done, next, RunMeetsModel}
@@ -104,7 +104,7 @@ over-budget = refl
 -- both lists of ray 1
 ray-one : Plain exampleGrid → List (List Float)
 unfolding rayCount
-ray-one s = s .lists (1, lit< tt) possible ∷ s .lists (1, lit< tt) certain ∷ []
+ray-one s = s .lists (1, lit< tt) Possible ∷ s .lists (1, lit< tt) Certain ∷ []
 
 -- after the two commits of `twice`
 cut-ray : ray-one (final (exampleBox 8) exampleGrid (uncut 8) (exampleCommit 0 1 66 ∷ exampleCommit 0 0 66 ∷ []))
@@ -118,7 +118,7 @@ cut-generation = refl
 
 -- ---- the worked run on the lent store
 
--- records 3 and 4 were freed; possible has 3 and 4, certain 7 and 8
+-- records 3 and 4 were freed; Possible has 3 and 4, Certain 7 and 8
 abbrev cut : Stock
 cut = record {
   cells = record {
@@ -130,7 +130,7 @@ cut = record {
   intervals = 8;
 }
 
--- those four were freed; possible has 3 and 4, certain 7
+-- those four were freed; Possible has 3 and 4, Certain 7
 abbrev cut-again : Stock
 cut-again = record {
   cells = record {
@@ -206,7 +206,7 @@ whole-ray : ValidRay (num 0) (num 10) (num 0 ∷ num 10 ∷ []) (num 0 ∷ num 1
 unfolding sound bounded lt le ofInt
 whole-ray = record { possible-sound = refl; certain-sound = refl; possible-bounded = refl; certain-bounded = refl; inside = λ p t. t }
 
--- certain lies within possible, by a test at the ends
+-- Certain lies within Possible, by a test at the ends
 inside-of : (P C : List Float) → agree (C ++ P) (λ (q : Float). holds C q && holds P q) (holds C) ≡ true → (p : Float) → holds C p ≡ true → holds P p ≡ true
 inside-of P C h p t =
     and-right (holds C p) (holds P p)
@@ -328,57 +328,57 @@ third-answer = refl
 -- the lists after the first log, and the pairs that the first and the third take from each
 abbrev cut-at : ℕ → Kind → List Float
 cut-at zero k = num 0 ∷ num 10 ∷ []
-cut-at (suc zero) possible = num 0 ∷ num 2 ∷ num 3 ∷ num 10 ∷ []
-cut-at (suc zero) certain = num 0 ∷ num 1 ∷ num 4 ∷ num 10 ∷ []
+cut-at (suc zero) Possible = num 0 ∷ num 2 ∷ num 3 ∷ num 10 ∷ []
+cut-at (suc zero) Certain = num 0 ∷ num 1 ∷ num 4 ∷ num 10 ∷ []
 cut-at (suc (suc n)) k = num 0 ∷ num 10 ∷ []
 
 abbrev first-pairs : ℕ → Kind → List Float
 first-pairs zero k = []
-first-pairs (suc zero) possible = num 2 ∷ num 3 ∷ []
-first-pairs (suc zero) certain = num 1 ∷ num 4 ∷ num 2 ∷ num 3 ∷ []
+first-pairs (suc zero) Possible = num 2 ∷ num 3 ∷ []
+first-pairs (suc zero) Certain = num 1 ∷ num 4 ∷ num 2 ∷ num 3 ∷ []
 first-pairs (suc (suc n)) k = []
 
 abbrev third-pairs : ℕ → Kind → List Float
 third-pairs zero k = []
-third-pairs (suc zero) possible = num 4 ∷ num 10 ∷ []
-third-pairs (suc zero) certain = num 9 ∷ num 10 ∷ num 4 ∷ num 10 ∷ []
+third-pairs (suc zero) Possible = num 4 ∷ num 10 ∷ []
+third-pairs (suc zero) Certain = num 9 ∷ num 10 ∷ num 4 ∷ num 10 ∷ []
 third-pairs (suc (suc n)) k = []
 
 filled-lists : (r : Ray exampleGrid) (k : Kind) → listIn (exampleBox 8) exampleStock (r .0) k ≡ num 0 ∷ num 10 ∷ []
 unfolding listIn endsAt places
-filled-lists r possible = three (λ r. listIn (exampleBox 8) exampleStock (r .0) possible ≡ num 0 ∷ num 10 ∷ []) (λ h. refl) (λ h. refl) (λ h. refl) r
-filled-lists r certain = three (λ r. listIn (exampleBox 8) exampleStock (r .0) certain ≡ num 0 ∷ num 10 ∷ []) (λ h. refl) (λ h. refl) (λ h. refl) r
+filled-lists r Possible = three (λ r. listIn (exampleBox 8) exampleStock (r .0) Possible ≡ num 0 ∷ num 10 ∷ []) (λ h. refl) (λ h. refl) (λ h. refl) r
+filled-lists r Certain = three (λ r. listIn (exampleBox 8) exampleStock (r .0) Certain ≡ num 0 ∷ num 10 ∷ []) (λ h. refl) (λ h. refl) (λ h. refl) r
 
 cut-lists : (r : Ray exampleGrid) (k : Kind) → listIn (exampleBox 8) cut (r .0) k ≡ cut-at (r .0) k
 unfolding listIn endsAt places
-cut-lists r possible = three (λ r. listIn (exampleBox 8) cut (r .0) possible ≡ cut-at (r .0) possible) (λ h. refl) (λ h. refl) (λ h. refl) r
-cut-lists r certain = three (λ r. listIn (exampleBox 8) cut (r .0) certain ≡ cut-at (r .0) certain) (λ h. refl) (λ h. refl) (λ h. refl) r
+cut-lists r Possible = three (λ r. listIn (exampleBox 8) cut (r .0) Possible ≡ cut-at (r .0) Possible) (λ h. refl) (λ h. refl) (λ h. refl) r
+cut-lists r Certain = three (λ r. listIn (exampleBox 8) cut (r .0) Certain ≡ cut-at (r .0) Certain) (λ h. refl) (λ h. refl) (λ h. refl) r
 
 again-lists : (r : Ray exampleGrid) (k : Kind) → listIn (exampleBox 8) cut-again (r .0) k ≡ exampleListAfter (r .0) k
 unfolding listIn endsAt places
-again-lists r possible = three (λ r. listIn (exampleBox 8) cut-again (r .0) possible ≡ exampleListAfter (r .0) possible) (λ h. refl) (λ h. refl) (λ h. refl) r
-again-lists r certain = three (λ r. listIn (exampleBox 8) cut-again (r .0) certain ≡ exampleListAfter (r .0) certain) (λ h. refl) (λ h. refl) (λ h. refl) r
+again-lists r Possible = three (λ r. listIn (exampleBox 8) cut-again (r .0) Possible ≡ exampleListAfter (r .0) Possible) (λ h. refl) (λ h. refl) (λ h. refl) r
+again-lists r Certain = three (λ r. listIn (exampleBox 8) cut-again (r .0) Certain ≡ exampleListAfter (r .0) Certain) (λ h. refl) (λ h. refl) (λ h. refl) r
 
 first-hits : (r : Ray exampleGrid) (k : Kind) → hitsOnList exampleGrid (entries (exampleCommit 0 1 66 .log)) r k ≡ first-pairs (r .0) k
 unfolding hitsOnList entries eq byDigit
-first-hits r possible = three (λ r. hitsOnList exampleGrid (entries (exampleCommit 0 1 66 .log)) r possible ≡ first-pairs (r .0) possible) (λ h. refl) (λ h. refl) (λ h. refl) r
-first-hits r certain = three (λ r. hitsOnList exampleGrid (entries (exampleCommit 0 1 66 .log)) r certain ≡ first-pairs (r .0) certain) (λ h. refl) (λ h. refl) (λ h. refl) r
+first-hits r Possible = three (λ r. hitsOnList exampleGrid (entries (exampleCommit 0 1 66 .log)) r Possible ≡ first-pairs (r .0) Possible) (λ h. refl) (λ h. refl) (λ h. refl) r
+first-hits r Certain = three (λ r. hitsOnList exampleGrid (entries (exampleCommit 0 1 66 .log)) r Certain ≡ first-pairs (r .0) Certain) (λ h. refl) (λ h. refl) (λ h. refl) r
 
 third-hits : (r : Ray exampleGrid) (k : Kind) → hitsOnList exampleGrid (entries (innerWider .log)) r k ≡ third-pairs (r .0) k
 unfolding hitsOnList entries eq byDigit
-third-hits r possible = three (λ r. hitsOnList exampleGrid (entries (innerWider .log)) r possible ≡ third-pairs (r .0) possible) (λ h. refl) (λ h. refl) (λ h. refl) r
-third-hits r certain = three (λ r. hitsOnList exampleGrid (entries (innerWider .log)) r certain ≡ third-pairs (r .0) certain) (λ h. refl) (λ h. refl) (λ h. refl) r
+third-hits r Possible = three (λ r. hitsOnList exampleGrid (entries (innerWider .log)) r Possible ≡ third-pairs (r .0) Possible) (λ h. refl) (λ h. refl) (λ h. refl) r
+third-hits r Certain = three (λ r. hitsOnList exampleGrid (entries (innerWider .log)) r Certain ≡ third-pairs (r .0) Certain) (λ h. refl) (λ h. refl) (λ h. refl) r
 
 -- the lists that are left are the old ones less the hits
 first-less : (r : Ray exampleGrid) (k : Kind) → cut-at (r .0) k ≡ less (num 0 ∷ num 10 ∷ []) (first-pairs (r .0) k)
 unfolding less lt ofInt
-first-less r possible = three (λ r. cut-at (r .0) possible ≡ less (num 0 ∷ num 10 ∷ []) (first-pairs (r .0) possible)) (λ h. refl) (λ h. refl) (λ h. refl) r
-first-less r certain = three (λ r. cut-at (r .0) certain ≡ less (num 0 ∷ num 10 ∷ []) (first-pairs (r .0) certain)) (λ h. refl) (λ h. refl) (λ h. refl) r
+first-less r Possible = three (λ r. cut-at (r .0) Possible ≡ less (num 0 ∷ num 10 ∷ []) (first-pairs (r .0) Possible)) (λ h. refl) (λ h. refl) (λ h. refl) r
+first-less r Certain = three (λ r. cut-at (r .0) Certain ≡ less (num 0 ∷ num 10 ∷ []) (first-pairs (r .0) Certain)) (λ h. refl) (λ h. refl) (λ h. refl) r
 
 third-less : (r : Ray exampleGrid) (k : Kind) → exampleListAfter (r .0) k ≡ less (cut-at (r .0) k) (third-pairs (r .0) k)
 unfolding less lt ofInt
-third-less r possible = three (λ r. exampleListAfter (r .0) possible ≡ less (cut-at (r .0) possible) (third-pairs (r .0) possible)) (λ h. refl) (λ h. refl) (λ h. refl) r
-third-less r certain = three (λ r. exampleListAfter (r .0) certain ≡ less (cut-at (r .0) certain) (third-pairs (r .0) certain)) (λ h. refl) (λ h. refl) (λ h. refl) r
+third-less r Possible = three (λ r. exampleListAfter (r .0) Possible ≡ less (cut-at (r .0) Possible) (third-pairs (r .0) Possible)) (λ h. refl) (λ h. refl) (λ h. refl) r
+third-less r Certain = three (λ r. exampleListAfter (r .0) Certain ≡ less (cut-at (r .0) Certain) (third-pairs (r .0) Certain)) (λ h. refl) (λ h. refl) (λ h. refl) r
 
 first-lists : (r : Ray exampleGrid) (k : Kind) → listIn (exampleBox 8) cut (r .0) k ≡ less (listIn (exampleBox 8) exampleStock (r .0) k) (hitsOnList exampleGrid (entries (exampleCommit 0 1 66 .log)) r k)
 first-lists r k = cut-lists r k ∙ first-less r k ∙ ap₂ less (sym (filled-lists r k)) (sym (first-hits r k))

@@ -8,7 +8,7 @@ use Rattle.logic.proofs.Bools.{or-cases, or-left, or-right, and-left, and-right
 use Rattle.doubles.proofs.Order.{le-trans, le-lt-trans, lt-le-trans, eq→le, eq→ge}
 use Rattle.spans.specs.Spans.{within, holds}
 use Rattle.grid.specs.declared.DexelGrid.{DexelGrid}
-use Rattle.log_model.specs.Logs.{Ray, Kind, possible, certain, Entry, entries, namesRay, HitKind, outer, inner, hitLo, hitHi, hitsOnRay, removed, InHit}
+use Rattle.log_model.specs.Logs.{Ray, Kind, Possible, Certain, Entry, entries, namesRay, HitKind, outer, inner, hitLo, hitHi, hitsOnRay, removed, InHit}
 use Rattle.log_model.specs.RunCorrect.{HitsIncluded, Alike}
 
 -- ---- pairs and points
@@ -90,12 +90,12 @@ by-kinds false true false d = refl
 by-kinds false false c d = refl
 
 module _ (g : DexelGrid) (r : Ray g) (p : Float) where
-  from-possible : (ls : List (List Float)) → takenBy g ls r possible p ≡ heldBy g ls r inner p
+  from-possible : (ls : List (List Float)) → takenBy g ls r Possible p ≡ heldBy g ls r inner p
   unfolding takenBy heldBy removed
   from-possible [] = refl
   from-possible (l ∷ ls) = ap (_||_ (holds (hitsOnRay g (entries l) r inner) p)) (from-possible ls)
 
-  from-certain : (ls : List (List Float)) → takenBy g ls r certain p ≡ (heldBy g ls r outer p || heldBy g ls r inner p)
+  from-certain : (ls : List (List Float)) → takenBy g ls r Certain p ≡ (heldBy g ls r outer p || heldBy g ls r inner p)
   unfolding takenBy heldBy removed
   from-certain [] = refl
   from-certain (l ∷ ls) =
@@ -142,21 +142,21 @@ module _ (g : DexelGrid) (r : Ray g) (p : Float) where
   unfolding InHit
   of-lies ls w (h, t) = held-in ls w (h .log) (h .entry) (h .in-logs) (h .in-log) (h .on-ray) t
 
-  -- possible loses exactly the points in inner hits
-  pub to-inner : (ls : List (List Float)) → takenBy g ls r possible p ≡ true → InHit g ls r inner p
+  -- Possible loses exactly the points in inner hits
+  pub to-inner : (ls : List (List Float)) → takenBy g ls r Possible p ≡ true → InHit g ls r inner p
   to-inner ls t = to-lies ls inner (sym (from-possible ls) ∙ t)
 
-  pub of-inner : (ls : List (List Float)) → InHit g ls r inner p → takenBy g ls r possible p ≡ true
+  pub of-inner : (ls : List (List Float)) → InHit g ls r inner p → takenBy g ls r Possible p ≡ true
   of-inner ls x = from-possible ls ∙ of-lies ls inner x
 
-  -- certain loses exactly the points in outer and in inner hits
-  pub to-either : (ls : List (List Float)) → takenBy g ls r certain p ≡ true → InHit g ls r outer p ⊎ InHit g ls r inner p
+  -- Certain loses exactly the points in outer and in inner hits
+  pub to-either : (ls : List (List Float)) → takenBy g ls r Certain p ≡ true → InHit g ls r outer p ⊎ InHit g ls r inner p
   to-either ls t = elim (or-cases (heldBy g ls r outer p) (heldBy g ls r inner p) (sym (from-certain ls) ∙ t)) [
     | inl u ↦ inl (to-lies ls outer u)
     | inr u ↦ inr (to-lies ls inner u)
   ]
 
-  pub of-either : (ls : List (List Float)) → InHit g ls r outer p ⊎ InHit g ls r inner p → takenBy g ls r certain p ≡ true
+  pub of-either : (ls : List (List Float)) → InHit g ls r outer p ⊎ InHit g ls r inner p → takenBy g ls r Certain p ≡ true
   of-either ls (inl x) = from-certain ls ∙ or-left (heldBy g ls r outer p) (heldBy g ls r inner p) (of-lies ls outer x)
   of-either ls (inr x) = from-certain ls ∙ or-right (heldBy g ls r outer p) (heldBy g ls r inner p) (of-lies ls inner x)
 
@@ -170,8 +170,8 @@ module _ (g : DexelGrid) where
       (i, within-same (hitLo w (h .entry)) (hitHi w (h .entry)) (hitLo w (i .entry)) (hitHi w (i .entry)) p a b t)
 
   among : (ls ms : List (List Float)) → HitsIncluded g ls ms → (r : Ray g) (k : Kind) (p : Float) → takenBy g ls r k p ≡ true → takenBy g ms r k p ≡ true
-  among ls ms f r possible p t = of-inner g r p ms (carry ls ms f r inner p (to-inner g r p ls t))
-  among ls ms f r certain p t = of-either g r p ms (elim (to-either g r p ls t) [ inl x ↦ inl (carry ls ms f r outer p x) | inr x ↦ inr (carry ls ms f r inner p x) ])
+  among ls ms f r Possible p t = of-inner g r p ms (carry ls ms f r inner p (to-inner g r p ls t))
+  among ls ms f r Certain p t = of-either g r p ms (elim (to-either g r p ls t) [ inl x ↦ inl (carry ls ms f r outer p x) | inr x ↦ inr (carry ls ms f r inner p x) ])
 
   pub alike-take : (ls ms : List (List Float)) → Alike g ls ms → (r : Ray g) (k : Kind) (p : Float) → takenBy g ls r k p ≡ takenBy g ms r k p
   unfolding Alike

@@ -11,7 +11,7 @@ use Rattle.grid.specs.declared.DexelGrid.{DexelGrid}
 use Rattle.store.specs.Updates.{Update, pairsFreed, pairsLaid, applied}
 use Rattle.store.proofs.Updating.{freed-all, updated}
 use Rattle.stock.specs.Stock.{Stock, SoundStock, ValidAt}
-use Rattle.log_model.specs.Logs.{Ray, Kind, possible, certain, Entry, entries, Commit}
+use Rattle.log_model.specs.Logs.{Ray, Kind, Possible, Certain, Entry, entries, Commit}
 use Rattle.log_model.specs.Model.{setsAfter, RayChanges, Count, Capacity, none as none-counted}
 use Rattle.log_model.specs.Counts.{pairsAfter}
 use Rattle.log_model.specs.Runs.{pointSets, AcceptedEffect}
@@ -53,8 +53,8 @@ module _ (spec : DexelStockSpec) (g : DexelGrid) (s : Stock) (sound : SoundStock
         (merges-leave g (stockLists spec g s) es (each spec g s sound es) d asked (r .0) (r .1) (omega arith) k)
       where
         below : (i : ℕ) (k : Kind) → i < rayCount g → listNumber i k < 2 * rayCount g
-        below i possible h = omega (arith, number-possible i)
-        below i certain h = omega (arith, number-certain i)
+        below i Possible h = omega (arith, number-possible i)
+        below i Certain h = omega (arith, number-certain i)
 
         now : (i : ℕ) → i < rayCount g → (k : Kind) → listIn spec (committedStock spec s us) i k ≡ listAfter us (listNumber i k) (listIn spec s i k)
         now i h k = all-updated .lists (listNumber i k) (below i k h)
@@ -63,7 +63,7 @@ module _ (spec : DexelStockSpec) (g : DexelGrid) (s : Stock) (sound : SoundStock
     unfolding listIn listNumber
     valid-left ray h =
         still-valid g (stockLists spec g s) es (ray, h) (boundsOf spec g ray .lo) (boundsOf spec g ray .hi) (sound .valid ray h)
-        (listIn spec (committedStock spec s us) ray possible) (listIn spec (committedStock spec s us) ray certain) (list-left (ray, h) possible) (list-left (ray, h) certain)
+        (listIn spec (committedStock spec s us) ray Possible) (listIn spec (committedStock spec s us) ray Certain) (list-left (ray, h) Possible) (list-left (ray, h) Certain)
 
     pub cut-sound : SoundStock spec g (committedStock spec s us)
     cut-sound = record { store = all-updated .isSound; valid = valid-left }

@@ -10,7 +10,7 @@ use Rattle.logic.proofs.Bools.{or-right, and-left, and-right, both, by-cases, c
 use Rattle.spans.specs.Spans.{All, Double, holds, sound, ListOf}
 use Rattle.grid.specs.declared.DexelStockSpec.{DexelStockSpec}
 use Rattle.grid.specs.declared.DexelGrid.{DexelGrid}
-use Rattle.log_model.specs.Logs.{Ray, Kind, possible, certain, entries, outer, inner, hitsOnRay, removed, Commit}
+use Rattle.log_model.specs.Logs.{Ray, Kind, Possible, Certain, entries, outer, inner, hitsOnRay, removed, Commit}
 use Rattle.log_model.specs.Model.{setsAfter, pairTotal, Capacity, LogAnswer, changed, refused, logCommitCauses}
 use Rattle.log_model.specs.Counts.{hitsOnList, changedRayCount}
 use Rattle.log_model.specs.Runs.{StoreView, pointSets, AcceptedEffect, CommitEffect, CommitStep, Run, done, next}
@@ -28,7 +28,7 @@ pub record Plain (g : DexelGrid) : Type 0 where
 pub record Valid (g : DexelGrid) (s : Plain g) : Type 0 where
   pub isSound : (r : Ray g) (k : Kind) → sound (s .lists r k) ≡ true
   pub doubles : (r : Ray g) (k : Kind) → All Double (s .lists r k)
-  pub within : (r : Ray g) (p : Float) → holds (s .lists r certain) p ≡ true → holds (s .lists r possible) p ≡ true
+  pub within : (r : Ray g) (p : Float) → holds (s .lists r Certain) p ≡ true → holds (s .lists r Possible) p ≡ true
 
 -- the logs are slices of doubles
 abbrev pub DoubleLogs : List Commit → Type 0
@@ -82,23 +82,23 @@ module _ (spec : DexelStockSpec) (g : DexelGrid) where
     new : (r : Ray g) (k : Kind) → ListOf (setsAfter g (pointSets g (plain g) s) (entries (c .log)) r k) (less (s .lists r k) (hitsOnList g (entries (c .log)) r k))
     new r k = left-list g (pointSets g (plain g) s) (s .lists) listed (entries (c .log)) r k
 
-    -- certain loses what possible loses
-    lost-too : (r : Ray g) (p : Float) → removed g (entries (c .log)) r possible p ≡ true → removed g (entries (c .log)) r certain p ≡ true
+    -- Certain loses what Possible loses
+    lost-too : (r : Ray g) (p : Float) → removed g (entries (c .log)) r Possible p ≡ true → removed g (entries (c .log)) r Certain p ≡ true
     unfolding removed
     lost-too r p t = or-right (holds (hitsOnRay g (entries (c .log)) r outer) p) (holds (hitsOnRay g (entries (c .log)) r inner) p) t
 
-    inside-still : (r : Ray g) (p : Float) → holds (less (s .lists r certain) (hitsOnList g (entries (c .log)) r certain)) p ≡ true
-        → holds (less (s .lists r possible) (hitsOnList g (entries (c .log)) r possible)) p ≡ true
+    inside-still : (r : Ray g) (p : Float) → holds (less (s .lists r Certain) (hitsOnList g (entries (c .log)) r Certain)) p ≡ true
+        → holds (less (s .lists r Possible) (hitsOnList g (entries (c .log)) r Possible)) p ≡ true
     unfolding setsAfter pointSets
     inside-still r p t =
         let es = entries (c .log) in
-        let u = sym (new r certain .points p) ∙ t in
-        let kept : removed g es r possible p ≡ false = elim (by-cases (removed g es r possible p)) [
-          | inl w ↦ absurd (clash (removed g es r certain p) (lost-too r p w) (not-true (removed g es r certain p) (and-right (holds (s .lists r certain) p) (not (removed g es r certain p)) u)))
+        let u = sym (new r Certain .points p) ∙ t in
+        let kept : removed g es r Possible p ≡ false = elim (by-cases (removed g es r Possible p)) [
+          | inl w ↦ absurd (clash (removed g es r Certain p) (lost-too r p w) (not-true (removed g es r Certain p) (and-right (holds (s .lists r Certain) p) (not (removed g es r Certain p)) u)))
           | inr w ↦ w
         ] in
-        new r possible .points p
-        ∙ both (holds (s .lists r possible) p) (not (removed g es r possible p)) (v .within r p (and-left (holds (s .lists r certain) p) (not (removed g es r certain p)) u))
+        new r Possible .points p
+        ∙ both (holds (s .lists r Possible) p) (not (removed g es r Possible p)) (v .within r p (and-left (holds (s .lists r Certain) p) (not (removed g es r Certain p)) u))
         (ap not kept)
 
     cuts : (n : ℕ) → AcceptedEffect g (plain g) s c (after s c (changed n))

@@ -13,7 +13,7 @@ use Rattle.spans.specs.Spans.{holds, equal, ListOf}
 use Rattle.spans.proofs.Sets.{same-points}
 use Rattle.grid.specs.declared.DexelStockSpec.{DexelStockSpec}
 use Rattle.grid.specs.declared.DexelGrid.{DexelGrid}
-use Rattle.log_model.specs.Logs.{Ray, Kind, possible, certain, inner, outer, InHit, entries, removed, Commit}
+use Rattle.log_model.specs.Logs.{Ray, Kind, Possible, Certain, inner, outer, InHit, entries, removed, Commit}
 use Rattle.log_model.specs.Model.{Sets, Capacity, LogAnswer, changed, refused, Model, modelStep, ModelAnswers, modelAfter, acceptedLogs}
 use Rattle.log_model.specs.Runs.{StoreView, pointSets, AcceptedEffect, CommitEffect, CommitStep, Run, done, next, modelStart, RunMeetsModel}
 use Rattle.log_model.proofs.Hits.{takenBy, takenBy-none, takenBy-more, to-inner, of-inner, to-either, of-either, alike-take}
@@ -120,7 +120,7 @@ module _ (spec : DexelStockSpec) (g : DexelGrid) (R : StoreView g) (L : SoundVie
       | inr y ↦ both (holds (R .lists s r k) p) (not (takenBy g (acceptedLogs cs vs) r k p)) x (ap not y)
     ]
 
-    neither : (r : Ray g) (p : Float) → ¬ InHit g (acceptedLogs cs vs) r outer p → ¬ InHit g (acceptedLogs cs vs) r inner p → takenBy g (acceptedLogs cs vs) r certain p ≡ true → ⊥
+    neither : (r : Ray g) (p : Float) → ¬ InHit g (acceptedLogs cs vs) r outer p → ¬ InHit g (acceptedLogs cs vs) r inner p → takenBy g (acceptedLogs cs vs) r Certain p ≡ true → ⊥
     neither r p a b x = elim (to-either g r p (acceptedLogs cs vs) x) [ inl y ↦ a y | inr y ↦ b y ]
 
     list-of : (r : Ray g) (k : Kind) → ListOf (modelAfter g (modelStart g R s) cs vs .sets r k) (R .lists t r k)
@@ -137,16 +137,16 @@ module _ (spec : DexelStockSpec) (g : DexelGrid) (R : StoreView g) (L : SoundVie
       model-generation = F .generation;
       generation = F .generation ∙ unfold modelStart in grown g (modelStart g R s) cs vs;
       possible-is = λ r p. (
-        (λ x. (kept r possible p x, λ y. not-taken r possible p x (of-inner g r p (acceptedLogs cs vs) y))),
-        (λ x. still r possible p (x .0) (λ y. x .1 (to-inner g r p (acceptedLogs cs vs) y))),
+        (λ x. (kept r Possible p x, λ y. not-taken r Possible p x (of-inner g r p (acceptedLogs cs vs) y))),
+        (λ x. still r Possible p (x .0) (λ y. x .1 (to-inner g r p (acceptedLogs cs vs) y))),
       );
       certain-is = λ r p. (
         (λ x. (
-          kept r certain p x,
-          (λ y. not-taken r certain p x (of-either g r p (acceptedLogs cs vs) (inl y))),
-          (λ y. not-taken r certain p x (of-either g r p (acceptedLogs cs vs) (inr y))),
+          kept r Certain p x,
+          (λ y. not-taken r Certain p x (of-either g r p (acceptedLogs cs vs) (inl y))),
+          (λ y. not-taken r Certain p x (of-either g r p (acceptedLogs cs vs) (inr y))),
         )),
-        (λ x. still r certain p (x .0) (neither r p (x .1) (x .2))),
+        (λ x. still r Certain p (x .0) (neither r p (x .1) (x .2))),
       );
       certain-within = L .within t (F .sound);
       nothing-gains = kept;

@@ -15,7 +15,7 @@ use Rattle.grid.specs.declared.DexelGrid.{DexelGrid}
 use Rattle.store.specs.Store.{placesOf}
 use Rattle.store.specs.Updates.{Update, update, pairsFreed, pairsLaid}
 use Rattle.stock.specs.Stock.{Stock, SoundStock}
-use Rattle.log_model.specs.Logs.{Ray, Kind, possible, certain, Entry}
+use Rattle.log_model.specs.Logs.{Ray, Kind, Possible, Certain, Entry}
 use Rattle.log_model.specs.Model.{setsAfter, sumTo, sumOver, pairTotal}
 use Rattle.log_model.specs.Counts.{startsLeft, hitsOnList, pairsAfter}
 use Rattle.log_model.specs.View.{listIn}
@@ -60,16 +60,16 @@ module _ (spec : DexelStockSpec) (g : DexelGrid) (s : Stock) (sound : SoundStock
 
   -- the pairs that a ray has, and those that it will have
   old : Ray g → ℕ
-  old r = length (listIn spec s (r .0) possible) / 2 + length (listIn spec s (r .0) certain) / 2
+  old r = length (listIn spec s (r .0) Possible) / 2 + length (listIn spec s (r .0) Certain) / 2
 
   left : Ray g → ℕ
-  left r = startsLeft (listIn spec s (r .0) possible) (hitsOnList g es r possible) + startsLeft (listIn spec s (r .0) certain) (hitsOnList g es r certain)
+  left r = startsLeft (listIn spec s (r .0) Possible) (hitsOnList g es r Possible) + startsLeft (listIn spec s (r .0) Certain) (hitsOnList g es r Certain)
 
-  old-is : (r : Ray g) (x y : ℕ) → length (listIn spec s (r .0) possible) / 2 ≡ x → length (listIn spec s (r .0) certain) / 2 ≡ y → old r ≡ x + y
+  old-is : (r : Ray g) (x y : ℕ) → length (listIn spec s (r .0) Possible) / 2 ≡ x → length (listIn spec s (r .0) Certain) / 2 ≡ y → old r ≡ x + y
   unfolding old
   old-is r x y e f = ap₂ (λ (a b : ℕ). a + b) e f
 
-  left-is : (r : Ray g) (x y : ℕ) → x ≡ startsLeft (listIn spec s (r .0) possible) (hitsOnList g es r possible) → y ≡ startsLeft (listIn spec s (r .0) certain) (hitsOnList g es r certain) → left r ≡ x + y
+  left-is : (r : Ray g) (x y : ℕ) → x ≡ startsLeft (listIn spec s (r .0) Possible) (hitsOnList g es r Possible) → y ≡ startsLeft (listIn spec s (r .0) Certain) (hitsOnList g es r Certain) → left r ≡ x + y
   unfolding left
   left-is r x y e f = ap₂ (λ (a b : ℕ). a + b) (sym e) (sym f)
 
@@ -84,22 +84,22 @@ module _ (spec : DexelStockSpec) (g : DexelGrid) (s : Stock) (sound : SoundStock
     totals (none {ray = ray} e) h =
         omega (arith, sum-at g left ray (rayCount g) h e (le-refl (rayCount g)), sum-at g old ray (rayCount g) h e (le-refl (rayCount g)), freed-nothing (spec .«max_intervals») s, laid-nothing)
     totals (same {ray = ray} i e t) h =
-        let p = one-pairs (ray, i) possible (listIn spec s ray possible)
-        (kept-left g (λ r k. listIn spec s (r .0) k) es each d (ray, i) e possible) in
-        let c = one-pairs (ray, i) certain (listIn spec s ray certain)
-        (kept-left g (λ r k. listIn spec s (r .0) k) es each d (ray, i) e certain) in
+        let p = one-pairs (ray, i) Possible (listIn spec s ray Possible)
+        (kept-left g (λ r k. listIn spec s (r .0) k) es each d (ray, i) e Possible) in
+        let c = one-pairs (ray, i) Certain (listIn spec s ray Certain)
+        (kept-left g (λ r k. listIn spec s (r .0) k) es each d (ray, i) e Certain) in
         omega (arith, totals t i, sum-next g left ray h i, sum-next g old ray h i, old-is (ray, i) _ _ refl refl, left-is (ray, i) _ _ p c)
     totals (new {ray = ray} {p = p} {c = c} {us = us} i e x t) h =
-        let a = exact-possible g (λ r k. listIn spec s (r .0) k) es (ray, i) p c x (each (ray, i) possible .isSound) in
-        let b = exact-certain g (λ r k. listIn spec s (r .0) k) es (ray, i) p c x (each (ray, i) certain .isSound) in
-        let lo = one-pairs (ray, i) possible p a in
-        let hi = one-pairs (ray, i) certain c b in
+        let a = exact-possible g (λ r k. listIn spec s (r .0) k) es (ray, i) p c x (each (ray, i) Possible .isSound) in
+        let b = exact-certain g (λ r k. listIn spec s (r .0) k) es (ray, i) p c x (each (ray, i) Certain .isSound) in
+        let lo = one-pairs (ray, i) Possible p a in
+        let hi = one-pairs (ray, i) Certain c b in
         let laid : left (ray, i) ≡ length p / 2 + length c / 2 = left-is (ray, i) (length p / 2) (length c / 2) lo hi in
-        let fp : length (listIn spec s ray possible) / 2 ≡ length (placesOf (spec .«max_intervals») (s .cells .links) (s .cells .heads) (2 * ray)) =
-        list-places spec g s ray possible
+        let fp : length (listIn spec s ray Possible) / 2 ≡ length (placesOf (spec .«max_intervals») (s .cells .links) (s .cells .heads) (2 * ray)) =
+        list-places spec g s ray Possible
         ∙ ap (λ (j : ℕ). length (placesOf (spec .«max_intervals») (s .cells .links) (s .cells .heads) j)) (number-possible ray) in
-        let fc : length (listIn spec s ray certain) / 2 ≡ length (placesOf (spec .«max_intervals») (s .cells .links) (s .cells .heads) (2 * ray + 1)) =
-        list-places spec g s ray certain
+        let fc : length (listIn spec s ray Certain) / 2 ≡ length (placesOf (spec .«max_intervals») (s .cells .links) (s .cells .heads) (2 * ray + 1)) =
+        list-places spec g s ray Certain
         ∙ ap (λ (j : ℕ). length (placesOf (spec .«max_intervals») (s .cells .links) (s .cells .heads) j)) (number-certain ray) in
         let freed : old (ray, i)
         ≡ length (placesOf (spec .«max_intervals») (s .cells .links) (s .cells .heads) (2 * ray))

@@ -13,7 +13,7 @@ use Rattle.spans.proofs.Sets.{same-set, same-points, equal-length}
 use Rattle.grid.specs.Rays.{rayCount}
 use Rattle.grid.specs.declared.DexelStockSpec.{DexelStockSpec}
 use Rattle.grid.specs.declared.DexelGrid.{DexelGrid}
-use Rattle.log_model.specs.Logs.{Ray, Kind, possible, certain, Commit}
+use Rattle.log_model.specs.Logs.{Ray, Kind, Possible, Certain, Commit}
 use Rattle.log_model.specs.Model.{Sets, Count, none, counted, skipped, sumOver, pairTotal, IntervalTotal, Capacity, LogAnswer, changed, refused, logCommitCauses, AnswerDue, Model, modelStep, ModelAnswers}
 
 -- the one sound list of a set, as numbers
@@ -36,7 +36,7 @@ pub pairs-same : (g : DexelGrid) (f h : Ray g → Kind → List Float) → ((r :
 unfolding pairTotal
 pairs-same g f h s =
     ap (sumOver g)
-    (fun-ext λ r. ap₂ (λ (a b : ℕ). a / 2 + b / 2) (equal-length (f r possible) (h r possible) (s r possible)) (equal-length (f r certain) (h r certain) (s r certain)))
+    (fun-ext λ r. ap₂ (λ (a b : ℕ). a / 2 + b / 2) (equal-length (f r Possible) (h r Possible) (s r Possible)) (equal-length (f r Certain) (h r Certain) (s r Certain)))
 
 pub intervals-unique : (g : DexelGrid) (s : Sets g) {n m : ℕ} → IntervalTotal g s n → IntervalTotal g s m → n ≡ m
 intervals-unique g s a b =
@@ -56,7 +56,7 @@ pub intervals-points : (g : DexelGrid) (s : Sets g) {n : ℕ} (a : IntervalTotal
     → ((r : Ray g) (k : Kind) (p : Float) → Point p → holds (lists r k) p ≡ s r k p) → n ≡ pairTotal g lists
 unfolding pairTotal
 intervals-points g s a da lists dl sl h =
-    a .number ∙ ap (sumOver g) (fun-ext λ r. ap₂ _+_ (same r possible) (same r certain))
+    a .number ∙ ap (sumOver g) (fun-ext λ r. ap₂ _+_ (same r Possible) (same r Certain))
   where
     same : (r : Ray g) (k : Kind) → length (a .lists r k) / 2 ≡ length (lists r k) / 2
     same r k = points-pairs (a .lists r k) (lists r k) (da r k) (dl r k) (a .each r k .isSound) (sl r k)

@@ -8,7 +8,7 @@ use Rattle.spans.specs.Spans.{holds, Within}
 use Rattle.spans.specs.Rays.{ValidRay}
 use Rattle.ray_merge.proofs.Rays.{bounded-within}
 use Rattle.grid.specs.declared.DexelGrid.{DexelGrid}
-use Rattle.log_model.specs.Logs.{Ray, Kind, possible, certain, Entry, outer, inner, hitsOnRay, removed}
+use Rattle.log_model.specs.Logs.{Ray, Kind, Possible, Certain, Entry, outer, inner, hitsOnRay, removed}
 use Rattle.log_model.specs.Model.{setsAfter}
 use Rattle.log_model.specs.Steps.{ListAfterLog}
 
@@ -23,8 +23,8 @@ module _ (g : DexelGrid) (lists : Ray g → Kind → List Float) (es : List Entr
   unfolding setsAfter
   left-out k l a p h = not-true (removed g es r k p) (and-right (holds (lists r k) p) (not (removed g es r k p)) (sym (a .points p) ∙ h))
 
-  -- what certain keeps, possible keeps
-  spared : (p : Float) → removed g es r certain p ≡ false → removed g es r possible p ≡ false
+  -- what Certain keeps, Possible keeps
+  spared : (p : Float) → removed g es r Certain p ≡ false → removed g es r Possible p ≡ false
   unfolding removed
   spared p h = second (holds (hitsOnRay g es r outer) p) (holds (hitsOnRay g es r inner) p) h
     where
@@ -32,12 +32,12 @@ module _ (g : DexelGrid) (lists : Ray g → Kind → List Float) (es : List Entr
       second true b h = absurd (clash true refl h)
       second false b h = h
 
-  pub still-valid : (lo hi : Float) → ValidRay lo hi (lists r possible) (lists r certain) → (p c : List Float) → ListAfterLog g lists es r possible p → ListAfterLog g lists es r certain c → ValidRay lo hi p c
+  pub still-valid : (lo hi : Float) → ValidRay lo hi (lists r Possible) (lists r Certain) → (p c : List Float) → ListAfterLog g lists es r Possible p → ListAfterLog g lists es r Certain c → ValidRay lo hi p c
   unfolding setsAfter
   still-valid lo hi v p c a b = record {
     possible-sound = a .isSound;
     certain-sound = b .isSound;
-    possible-bounded = bounded-within lo hi (lists r possible) p (v .possible-bounded) (a .isSound) (left-within possible p a);
-    certain-bounded = bounded-within lo hi (lists r certain) c (v .certain-bounded) (b .isSound) (left-within certain c b);
-    inside = λ x h. a .points x ∙ both (holds (lists r possible) x) (not (removed g es r possible x)) (v .inside x (left-within certain c b x h)) (ap not (spared x (left-out certain c b x h)));
+    possible-bounded = bounded-within lo hi (lists r Possible) p (v .possible-bounded) (a .isSound) (left-within Possible p a);
+    certain-bounded = bounded-within lo hi (lists r Certain) c (v .certain-bounded) (b .isSound) (left-within Certain c b);
+    inside = λ x h. a .points x ∙ both (holds (lists r Possible) x) (not (removed g es r Possible x)) (v .inside x (left-within Certain c b x h)) (ap not (spared x (left-out Certain c b x h)));
   }

@@ -11,7 +11,7 @@ use Rattle.grid.specs.declared.DexelStockSpec.{DexelStockSpec}
 use Rattle.grid.specs.declared.DexelGrid.{DexelGrid}
 use Rattle.stock.specs.Stock.{Stock}
 use Rattle.store.specs.Store.{placesOf, chained, endsAt}
-use Rattle.log_model.specs.Logs.{Kind, possible, certain}
+use Rattle.log_model.specs.Logs.{Kind, Possible, Certain}
 use Rattle.log_model.specs.Model.{sumTo, pairTotal}
 use Rattle.log_model.specs.View.{listNumber, listIn, lentStore}
 use Rattle.log_model.proofs.RunCorrect.{demand3}
@@ -89,15 +89,15 @@ module _ (spec : DexelStockSpec) (g : DexelGrid) (s : Stock) where
 
   -- the chained records are the pairs of all lists
   counted : (i : ℕ) (h : i ≤ rayCount g)
-      → total (2 * i) ≡ sumTo g (λ r. length (listIn spec s (r .0) possible) / 2 + length (listIn spec s (r .0) certain) / 2) i h
+      → total (2 * i) ≡ sumTo g (λ r. length (listIn spec s (r .0) Possible) / 2 + length (listIn spec s (r .0) Certain) / 2) i h
   unfolding sumTo listNumber
   counted zero h = unfold total chained in refl
-  counted (suc i) h = two-more i ∙ ap₂ _+_ (counted i (le-of-lt h)) (ap₂ _+_ (sym (list-pairs i possible)) (sym (list-pairs i certain)))
+  counted (suc i) h = two-more i ∙ ap₂ _+_ (counted i (le-of-lt h)) (ap₂ _+_ (sym (list-pairs i Possible)) (sym (list-pairs i Certain)))
 
 pub lent-laws : (spec : DexelStockSpec) (g : DexelGrid) → SoundView g (lentStore spec g)
 unfolding listIn listNumber
 lent-laws spec g = record {
-  sound-list = λ s S r k. elim k [ possible ↦ S .valid (r .0) (r .1) .possible-sound | certain ↦ S .valid (r .0) (r .1) .certain-sound ];
+  sound-list = λ s S r k. elim k [ Possible ↦ S .valid (r .0) (r .1) .possible-sound | Certain ↦ S .valid (r .0) (r .1) .certain-sound ];
   within = λ s S r. S .valid (r .0) (r .1) .inside;
   all-pairs = λ s S. S .store .counts ∙ unfold total pairTotal in counted spec g s (rayCount g) (le-refl (rayCount g));
 }

@@ -6,7 +6,7 @@ use Prim.Native.Nat.{ℕ, suc, _+_}
 use lib.Ieee.{Float, lt, eq}
 use Rattle.spans.specs.Spans.{holds}
 use Rattle.grid.specs.declared.DexelGrid.{DexelGrid}
-use Rattle.log_model.specs.Logs.{Ray, Kind, possible, certain, Entry, outer, inner, hitsOnRay}
+use Rattle.log_model.specs.Logs.{Ray, Kind, Possible, Certain, Entry, outer, inner, hitsOnRay}
 use Rattle.log_model.specs.Model.{sumTo, sumOver}
 
 -- a pair of the list has a point in [lo, hi), where lo < hi
@@ -55,13 +55,13 @@ startsLeft l hits = countDistinct (λ x. holds l x && not (holds hits x)) (losOf
 -- the pairs whose points a log takes from a list
 unfoldable pub hitsOnList : (g : DexelGrid) → List Entry → Ray g → Kind → List Float
 unfolding hitsOnRay
-hitsOnList g es r possible = hitsOnRay g es r inner
-hitsOnList g es r certain = hitsOnRay g es r outer ++ hitsOnRay g es r inner
+hitsOnList g es r Possible = hitsOnRay g es r inner
+hitsOnList g es r Certain = hitsOnRay g es r outer ++ hitsOnRay g es r inner
 
 -- a list of the ray would change
 unfoldable pub isRayChanged : (g : DexelGrid) → (Ray g → Kind → List Float) → List Entry → Ray g → Bool
 unfolding isHitBy hitsOnList
-isRayChanged g lists es r = isHitBy (lists r possible) (hitsOnList g es r possible) || isHitBy (lists r certain) (hitsOnList g es r certain)
+isRayChanged g lists es r = isHitBy (lists r Possible) (hitsOnList g es r Possible) || isHitBy (lists r Certain) (hitsOnList g es r Certain)
 
 -- how many rays would change
 unfoldable pub changedRayCount : (g : DexelGrid) → (Ray g → Kind → List Float) → List Entry → ℕ
@@ -71,4 +71,4 @@ changedRayCount g lists es = sumOver g (λ r. cond (isRayChanged g lists es r) 1
 -- how many pairs all lists would then have
 unfoldable pub pairsAfter : (g : DexelGrid) → (Ray g → Kind → List Float) → List Entry → ℕ
 unfolding startsLeft hitsOnList sumTo
-pairsAfter g lists es = sumOver g (λ r. startsLeft (lists r possible) (hitsOnList g es r possible) + startsLeft (lists r certain) (hitsOnList g es r certain))
+pairsAfter g lists es = sumOver g (λ r. startsLeft (lists r Possible) (hitsOnList g es r Possible) + startsLeft (lists r Certain) (hitsOnList g es r Certain))

@@ -16,9 +16,9 @@ use Rattle.grid.specs.declared.DexelGrid.{DexelGrid}
 abbrev pub Ray : DexelGrid → Type 0
 Ray g = (r : ℕ) × (r < rayCount g)
 
--- each ray has a possible and a certain list
+-- each ray has a Possible and a Certain list
 pub data Kind : Type 0 where
-  possible certain : Kind
+  Possible Certain : Kind
 
 -- ---- a log: six doubles for each entry
 
@@ -106,11 +106,11 @@ unfolding namesRay hitLo hitHi
 hitsOnRay g [] r w = []
 hitsOnRay g (e ∷ es) r w = cond (namesRay g e r) (hitLo w e ∷ hitHi w e ∷ hitsOnRay g es r w) (hitsOnRay g es r w)
 
--- a log takes the points of its inner hits from possible, those of its outer and inner hits from certain
+-- a log takes the points of its inner hits from Possible, those of its outer and inner hits from Certain
 unfoldable pub removed : (g : DexelGrid) → List Entry → Ray g → Kind → Float → Bool
 unfolding hitsOnRay holds
-removed g es r possible p = holds (hitsOnRay g es r inner) p
-removed g es r certain p = holds (hitsOnRay g es r outer) p || holds (hitsOnRay g es r inner) p
+removed g es r Possible p = holds (hitsOnRay g es r inner) p
+removed g es r Certain p = holds (hitsOnRay g es r outer) p || holds (hitsOnRay g es r inner) p
 
 -- ---- hits, for the claims about a whole list of logs
 

@@ -13,8 +13,7 @@ use Rattle.spans.specs.Spans.{Point, ListOf}
 use Rattle.grid.specs.Rays.{rayCount}
 use Rattle.grid.specs.declared.DexelStockSpec.{DexelStockSpec}
 use Rattle.grid.specs.declared.DexelGrid.{DexelGrid}
-use Rattle.log_model.specs.Logs.{Ray, Kind, possible, certain, Entry, entries, workNeeded, namesSomeRay, removed, Commit}
-
+use Rattle.log_model.specs.Logs.{Ray, Kind, Possible, Certain, Entry, entries, workNeeded, namesSomeRay, removed, Commit}
 -- ---- the sets of all rays
 
 -- two point sets for each ray
@@ -49,7 +48,7 @@ sumOver g f = sumTo g f (rayCount g) (le-refl (rayCount g))
 -- the number of all pairs of two lists for each ray
 unfoldable pub pairTotal : (g : DexelGrid) → (Ray g → Kind → List Float) → ℕ
 unfolding sumTo
-pairTotal g lists = sumOver g (λ r. length (lists r possible) / 2 + length (lists r certain) / 2)
+pairTotal g lists = sumOver g (λ r. length (lists r Possible) / 2 + length (lists r Certain) / 2)
 
 -- n is the number of pairs of the sound lists of all sets
 pub record IntervalTotal (g : DexelGrid) (s : Sets g) (n : ℕ) : Type 0 where

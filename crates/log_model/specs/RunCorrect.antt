@@ -4,7 +4,7 @@ use mathlib.Core.Bool.{true}
 use mathlib.Core.List.{List}
 use lib.Ieee.{Float, eq}
 use Rattle.grid.specs.declared.DexelGrid.{DexelGrid}
-use Rattle.log_model.specs.Logs.{Ray, HitKind, hitLo, hitHi, Hit, Kind, possible, certain, Commit}
+use Rattle.log_model.specs.Logs.{Ray, HitKind, hitLo, hitHi, Hit, Kind, Possible, Certain, Commit}
 use Rattle.spans.specs.Spans.{holds, sound, equal}
 use Rattle.grid.specs.declared.DexelStockSpec.{DexelStockSpec}
 use Rattle.log_model.specs.Model.{pairTotal, LogAnswer, acceptedLogs}
@@ -24,7 +24,7 @@ Alike g ls ms = HitsIncluded g ls ms × HitsIncluded g ms ls
 -- what a run needs of the stores that are read as sound
 pub record SoundView (g : DexelGrid) (R : StoreView g) : Type 0 where
   pub sound-list : (s : R .Store) → R .Sound s → (r : Ray g) (k : Kind) → sound (R .lists s r k) ≡ true
-  pub within : (s : R .Store) → R .Sound s → (r : Ray g) (p : Float) → holds (R .lists s r certain) p ≡ true → holds (R .lists s r possible) p ≡ true
+  pub within : (s : R .Store) → R .Sound s → (r : Ray g) (p : Float) → holds (R .lists s r Certain) p ≡ true → holds (R .lists s r Possible) p ≡ true
   pub all-pairs : (s : R .Store) → R .Sound s → R .intervals s ≡ pairTotal g (R .lists s)
 
 -- two stores with equal lists and interval totals

@@ -9,7 +9,7 @@ use lib.Ieee.{Float}
 use Rattle.spans.specs.Spans.{All, Double, Point, holds, sound, equal, ListOf}
 use Rattle.grid.specs.declared.DexelStockSpec.{DexelStockSpec}
 use Rattle.grid.specs.declared.DexelGrid.{DexelGrid}
-use Rattle.log_model.specs.Logs.{Ray, Kind, possible, certain, outer, inner, InHit, entries, Commit}
+use Rattle.log_model.specs.Logs.{Ray, Kind, Possible, Certain, outer, inner, InHit, entries, Commit}
 use Rattle.log_model.specs.Model.{Sets, setsAfter, pairTotal, Capacity, LogAnswer, changed, refused, AnswerDue, Model, ModelAnswers, modelAfter, acceptedLogs}
 
 -- How a store is read: its lists, the two numbers of the small record, what it lends and whether it is sound
@@ -69,14 +69,14 @@ pub record RunMeetsModel (spec : DexelStockSpec) (g : DexelGrid) (R : StoreView 
   pub model-generation : R .generation t ≡ modelAfter g (modelStart g R s) cs vs .generation
   -- the same without the model: the generation grows by one for each accepted log
   pub generation : R .generation t ≡ R .generation s + length (acceptedLogs cs vs)
-  -- possible holds exactly the points it first held that lie in no inner hit of an accepted log
+  -- Possible holds exactly the points it first held that lie in no inner hit of an accepted log
   pub possible-is : (r : Ray g) (p : Float)
-      → (holds (R .lists t r possible) p ≡ true) ↔ ((holds (R .lists s r possible) p ≡ true) × (¬ InHit g (acceptedLogs cs vs) r inner p))
-  -- certain holds exactly the points it first held that lie in no outer and no inner hit of an accepted log
+      → (holds (R .lists t r Possible) p ≡ true) ↔ ((holds (R .lists s r Possible) p ≡ true) × (¬ InHit g (acceptedLogs cs vs) r inner p))
+  -- Certain holds exactly the points it first held that lie in no outer and no inner hit of an accepted log
   pub certain-is : (r : Ray g) (p : Float)
-      → (holds (R .lists t r certain) p ≡ true)
-      ↔ ((holds (R .lists s r certain) p ≡ true) × (¬ InHit g (acceptedLogs cs vs) r outer p) × (¬ InHit g (acceptedLogs cs vs) r inner p))
-  -- certain lies within possible, and no list gains a point
-  pub certain-within : (r : Ray g) (p : Float) → holds (R .lists t r certain) p ≡ true → holds (R .lists t r possible) p ≡ true
+      → (holds (R .lists t r Certain) p ≡ true)
+      ↔ ((holds (R .lists s r Certain) p ≡ true) × (¬ InHit g (acceptedLogs cs vs) r outer p) × (¬ InHit g (acceptedLogs cs vs) r inner p))
+  -- Certain lies within Possible, and no list gains a point
+  pub certain-within : (r : Ray g) (p : Float) → holds (R .lists t r Certain) p ≡ true → holds (R .lists t r Possible) p ≡ true
   pub nothing-gains : (r : Ray g) (k : Kind) (p : Float) → holds (R .lists t r k) p ≡ true → holds (R .lists s r k) p ≡ true
   pub sound : R .Sound t

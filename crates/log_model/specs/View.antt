@@ -11,14 +11,14 @@ use Rattle.grid.specs.declared.GridAnswer.the-variants.{Accepted, Refused}
 use Rattle.store.specs.Store.{listOf}
 use Rattle.store.specs.Updates.{Cells, storeList}
 use Rattle.stock.specs.Stock.{Stock, SoundStock}
-use Rattle.log_model.specs.Logs.{Ray, Kind, possible, certain, Commit}
+use Rattle.log_model.specs.Logs.{Ray, Kind, Possible, Certain, Commit}
 use Rattle.log_model.specs.Model.{LogAnswer, refused}
 use Rattle.log_model.specs.Runs.{StoreView, CommitStep}
 
--- the lists of the store count through the rays, possible first
+-- the lists of the store count through the rays, Possible first
 unfoldable pub listNumber : ℕ → Kind → ℕ
-listNumber r possible = 2 * r
-listNumber r certain = 2 * r + 1
+listNumber r Possible = 2 * r
+listNumber r Certain = 2 * r + 1
 
 -- the list of the ray r and the kind k, as it stands in the cells
 unfoldable pub listIn : DexelStockSpec → Stock → ℕ → Kind → List Float
