@@ -12,12 +12,12 @@ use lib.Ieee.{Float}
 use Rattle.logic.proofs.Bools.{or-cases, not-true, not-false, clash}
 use Rattle.refusal.specs.Refusal.{Due, NoneDue}
 use Rattle.spans.specs.Spans.{ListOf}
-use Rattle.grid.specs.Rays.{rayCount}
+use Rattle.grid.specs.Rays.{rayCount, Ray}
 use Rattle.grid.specs.declared.DexelStockSpec.{DexelStockSpec}
 use Rattle.grid.specs.declared.DexelGrid.{DexelGrid}
-use Rattle.stock.specs.Stock.{Stock, SoundStock, isShort}
+use Rattle.stock.specs.Stock.{Stock, SoundStock, isShort, Kind}
 use Rattle.stock.proofs.Causes.{room-of}
-use Rattle.log_model.specs.Logs.{Ray, Kind, entries, workNeeded, commitOf}
+use Rattle.log_model.specs.Logs.{entries, workNeeded, commitOf}
 use Rattle.log_model.specs.Model.{LogBuffersShort, LogInputBad, logCommitCauses}
 use Rattle.log_model.specs.Counts.{changedRayCount, pairsAfter}
 use Rattle.log_model.specs.Runs.{pointSets}

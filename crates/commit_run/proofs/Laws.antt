@@ -15,10 +15,10 @@ use Rattle.grid.specs.Causes.{gridCauses, gridIn, ByCauses}
 use Rattle.grid.specs.declared.DexelStockSpec.{DexelStockSpec}
 use Rattle.grid.specs.declared.GridAnswer.{GridAnswer}
 use Rattle.grid.specs.declared.GridAnswer.the-variants.{Accepted, Refused}
-use Rattle.stock.specs.Stock.{Stock, SoundStock}
+use Rattle.stock.specs.Stock.{Stock, SoundStock, Kind}
 use Rattle.stock.specs.declared.CommitAnswer.{CommitAnswer}
 use Rattle.stock.specs.declared.CommitAnswer.the-variants.{Changed, Refused as NotCommitted}
-use Rattle.log_model.specs.Logs.{Ray, Kind, Commit}
+use Rattle.log_model.specs.Logs.{Commit}
 use Rattle.log_model.specs.Model.{LogAnswer, changed, refused, modelAfter}
 use Rattle.log_model.specs.Runs.{modelStart}
 use Rattle.log_model.specs.View.{listIn, lentStore, CommitOnAnyGrid}
@@ -26,6 +26,7 @@ use Rattle.commit_log.specs.LogCommit.{answerOf, LogCellsOnAnyGrid}
 use Rattle.commit_run.specs.RunLogs.{commitsTo, answerBy, answersTo, answerCode, answerNumber, answered, CommitsTo, none, more, RunOnGridPost, RunLogsPost}
 use Rattle.commit_run.proofs.Turns.{told-at}
 use Rattle.commit_run.specs.Refused.{AllRefused}
+use Rattle.grid.specs.Rays.{Ray}
 
 -- ---- a refused description
 

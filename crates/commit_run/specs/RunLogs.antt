@@ -9,11 +9,11 @@ use Rattle.refusal.specs.Refusal.{NoneDue}
 use Rattle.grid.specs.Causes.{gridCauses, gridIn}
 use Rattle.grid.specs.declared.DexelStockSpec.{DexelStockSpec}
 use Rattle.grid.specs.declared.DexelGrid.{DexelGrid}
-use Rattle.stock.specs.Stock.{Stock, SoundStock}
+use Rattle.stock.specs.Stock.{Stock, SoundStock, Kind}
 use Rattle.stock.specs.declared.CommitAnswer.{CommitAnswer}
 use Rattle.stock.specs.declared.CommitAnswer.the-variants.{Changed, Refused}
 use Rattle.spans.specs.Spans.{All, Double}
-use Rattle.log_model.specs.Logs.{Kind, Commit}
+use Rattle.log_model.specs.Logs.{Commit}
 use Rattle.log_model.specs.Model.{LogAnswer, changed, refused}
 use Rattle.log_model.specs.Runs.{Run, RunMeetsModel}
 use Rattle.log_model.specs.View.{listIn, lentStore}

@@ -1,6 +1,6 @@
 -- The rays of a grid: how many run along each axis, how they are numbered, and where each stands.
 use mathlib.Core.Bool.{cond}
-use Prim.Native.Nat.{ℕ, _+_, _-_, _*_}
+use Prim.Native.Nat.{ℕ, _+_, _-_, _*_, _<_}
 use lib.Dec.{ltb}
 use lib.Ieee.{Float, binary64, ofBits, toUnsigned, sub, div}
 use Rattle.doubles.specs.Doubles.{clampOf, floorOf}
@@ -46,3 +46,7 @@ half = ofBits binary64 0x3fe0_0000_0000_0000
 unfoldable pub cellAt : DexelStockSpec → DexelGrid → WorldAxis → (x : Float) → ℕ
 cellAt s g a x =
     toUnsigned 64 (clampOf (floorOf (div binary64 (sub binary64 x (alongOf (s .«min_mm») a)) (stepAlong g a))) (ofBits binary64 0) (whole (cellsAlong g a - 1)))
+
+-- a ray, by its number
+abbrev pub Ray : DexelGrid → Type 0
+Ray g = (r : ℕ) × (r < rayCount g)

@@ -17,9 +17,9 @@ use Rattle.spans.specs.Spans.{holds, sound}
 use Rattle.store.specs.Store.{placesOf}
 use Rattle.store.specs.Updates.{Cells}
 use Rattle.store.proofs.FreePlaces.{free-records}
-use Rattle.stock.specs.Stock.{Stock, possibleIn, certainIn, SoundStock}
+use Rattle.stock.specs.Stock.{Stock, possibleIn, certainIn, SoundStock, Possible, Certain}
 use Rattle.store_read.proofs.Steps.{ends-length}
-use Rattle.log_model.specs.Logs.{Possible, Certain, entryAt, entryCount, entries, entryRay, HitKind, outer, inner}
+use Rattle.log_model.specs.Logs.{entryAt, entryCount, entries, entryRay, HitKind, outer, inner}
 use Rattle.log_model.specs.Model.{pairTotal}
 use Rattle.log_model.specs.Counts.{isHitBy, startsLeft, hitsOnList, isRayChanged, changedRayCount, pairsAfter}
 use Rattle.log_model.specs.View.{listNumber, listIn, listsIn}

@@ -5,9 +5,8 @@ use native.Mathlib.Nat.{le-refl, le-of-lt}
 use native.Mathlib.Numerals.{add-one}
 use native.Mathlib.Omega.{arith}
 use native.Mathlib.Decide.{decLt}
-use Rattle.grid.specs.Rays.{rayCount}
+use Rattle.grid.specs.Rays.{rayCount, Ray}
 use Rattle.grid.specs.declared.DexelGrid.{DexelGrid}
-use Rattle.log_model.specs.Logs.{Ray}
 use Rattle.log_model.specs.Model.{sumTo, sumOver}
 use Rattle.log_count.specs.Totals.{sumBelow}
 

@@ -7,9 +7,9 @@ use native.Mathlib.Omega.{arith}
 use lib.Dec.{eqb}
 use lib.Ieee.{Float}
 use Rattle.logic.proofs.Bools.{clash}
-use Rattle.grid.specs.Rays.{rayCount}
+use Rattle.grid.specs.Rays.{rayCount, Ray}
 use Rattle.grid.specs.declared.DexelGrid.{DexelGrid}
-use Rattle.log_model.specs.Logs.{Ray, Entry, entryAt, entriesFrom, entryCount, entries, namesSomeRay, entryRay, namesRay, HitKind, hitLo, hitHi, hitsOnRay}
+use Rattle.log_model.specs.Logs.{Entry, entryAt, entriesFrom, entryCount, entries, namesSomeRay, entryRay, namesRay, HitKind, hitLo, hitHi, hitsOnRay}
 use Rattle.log_model.specs.Model.{NamesNoRay}
 use Rattle.log_model.proofs.Entries.{entry-at}
 use Rattle.log_model.proofs.Naming.{named-below}

@@ -10,13 +10,13 @@ use lib.Dec.{eqb}
 use lib.ListN.{length, getD, set, take, drop, length-set}
 use lib.Seq.{getD-set-other}
 use lib.Ieee.{Float, nan}
-use Rattle.grid.specs.Rays.{rayCount}
+use Rattle.grid.specs.Rays.{rayCount, Ray}
 use Rattle.grid.specs.declared.DexelStockSpec.{DexelStockSpec}
 use Rattle.grid.specs.declared.DexelGrid.{DexelGrid}
 use Rattle.store.specs.Updates.{Cells, Update, update}
-use Rattle.stock.specs.Stock.{Stock, SoundCells}
+use Rattle.stock.specs.Stock.{Stock, SoundCells, Kind, Possible, Certain}
 use Rattle.stock.proofs.Rays.{sound-chained}
-use Rattle.log_model.specs.Logs.{Ray, Kind, Possible, Certain, Entry, entries, entryCount}
+use Rattle.log_model.specs.Logs.{Entry, entries, entryCount}
 use Rattle.log_model.specs.Model.{sumTo}
 use Rattle.log_model.specs.Counts.{startsLeft, hitsOnList, pairsAfter}
 use Rattle.log_model.specs.View.{listIn}

@@ -8,11 +8,11 @@ use lib.ListN.{length}
 use lib.Ieee.{Float}
 use Rattle.spans.specs.Spans.{holds, ListOf, NormalOf}
 use Rattle.spans.specs.Overlay.{lessOf}
-use Rattle.grid.specs.Rays.{rayCount}
+use Rattle.grid.specs.Rays.{rayCount, Ray}
 use Rattle.grid.specs.declared.DexelStockSpec.{DexelStockSpec}
 use Rattle.grid.specs.declared.DexelGrid.{DexelGrid}
-use Rattle.stock.specs.Stock.{Stock, possibleIn, certainIn, SoundCells}
-use Rattle.log_model.specs.Logs.{Ray, Kind, Possible, Certain, entries, outer, inner}
+use Rattle.stock.specs.Stock.{Stock, possibleIn, certainIn, SoundCells, Kind, Possible, Certain}
+use Rattle.log_model.specs.Logs.{entries, outer, inner}
 use Rattle.log_model.specs.Model.{RayChanges}
 use Rattle.log_model.specs.Counts.{isRayChanged, startsLeft, hitsOnList}
 use Rattle.log_model.specs.View.{listNumber, listIn}

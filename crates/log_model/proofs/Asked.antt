@@ -11,7 +11,7 @@ use native.Mathlib.Omega.{arith}
 use lib.Ieee.{Float}
 use Rattle.spans.specs.Spans.{holds, sound, equal, ListOf}
 use Rattle.spans.proofs.Sets.{sound-mod}
-use Rattle.grid.specs.Rays.{rayCount}
+use Rattle.grid.specs.Rays.{rayCount, Ray}
 use Rattle.grid.specs.declared.DexelGrid.{DexelGrid}
 use Rattle.store.specs.Updates.{Update, update}
 use Rattle.store.proofs.Updating.{after-below, after-here, after-other}
@@ -19,7 +19,7 @@ use Rattle.spans.specs.Overlay.{lessOf}
 use Rattle.span_overlay.proofs.Less.{less-list}
 use Rattle.ray_subtract.specs.Subtract.{eitherHit, spared}
 use Rattle.ray_subtract.proofs.Sparing.{less-both-list}
-use Rattle.log_model.specs.Logs.{Ray, Kind, Possible, Certain, Entry, removed}
+use Rattle.log_model.specs.Logs.{Entry, removed}
 use Rattle.log_model.proofs.Doubles.{Doubles}
 use Rattle.log_model.specs.Model.{setsAfter, RayChanges, Count, counted, skipped}
 use Rattle.log_model.specs.Counts.{isHitBy, hitsOnList, isRayChanged}
@@ -29,6 +29,7 @@ use Rattle.log_model.proofs.Decided.{without-hits, changes-by, stays, n
 use Rattle.log_model.specs.Updates.{listSets, MergedByLog, MergeUpdates, none, same, new}
 use Rattle.log_model.specs.Steps.{ListAfterLog}
 use Rattle.store.specs.Steps.{Ascending, listAfter, none as no-more, next}
+use Rattle.stock.specs.Stock.{Kind, Possible, Certain}
 
 -- a ray is its number
 pub moved : (g : DexelGrid) (P : Ray g → Type 0) (i j : ℕ) (h : i < rayCount g) → i ≡ j → (k : j < rayCount g) → P (i, h) → P (j, k)

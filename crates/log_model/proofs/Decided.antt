@@ -16,10 +16,10 @@ use Rattle.logic.proofs.Bools.{or-cases, or-left, clash, not-true, not-false}
 use Rattle.refusal.specs.Refusal.{Cause, Due, NoneDue}
 use Rattle.spans.specs.Spans.{All, Double, Point, within, holds, sound, ListOf}
 use Rattle.spans.proofs.Points.{or-assoc}
-use Rattle.grid.specs.Rays.{rayCount}
+use Rattle.grid.specs.Rays.{rayCount, Ray}
 use Rattle.grid.specs.declared.DexelStockSpec.{DexelStockSpec}
 use Rattle.grid.specs.declared.DexelGrid.{DexelGrid}
-use Rattle.log_model.specs.Logs.{Ray, Kind, Possible, Certain, Entry, entries, workNeeded, namesSomeRay, namesRay, HitKind, outer, inner, hitLo, hitHi, hitsOnRay, removed, Commit}
+use Rattle.log_model.specs.Logs.{Entry, entries, workNeeded, namesSomeRay, namesRay, HitKind, outer, inner, hitLo, hitHi, hitsOnRay, removed, Commit}
 use Rattle.log_model.specs.Model.{Sets, setsAfter, RayChanges, Count, none, counted, skipped, sumTo, sumOver, pairTotal, IntervalTotal, Capacity, LogBuffersShort, LogInputBad, NamesNoRay, TooManyRays, TooManyIntervals, logCommitCauses, LogAnswer, changed, refused, AnswerDue}
 use Rattle.log_model.specs.Counts.{isHitBy, startsLeft, hitsOnList, isRayChanged, changedRayCount, pairsAfter}
 use Rattle.log_model.proofs.Unique.{count-unique, intervals-unique, intervals-points}
@@ -27,6 +27,7 @@ use Rattle.log_model.proofs.Meets.{kept-unhit, unhit-points}
 use Rattle.log_model.proofs.Starts.{pairs-left}
 use Rattle.log_model.proofs.Less.{less, less-list, same-list}
 use Rattle.log_model.proofs.Doubles.{Doubles, less-doubles}
+use Rattle.stock.specs.Stock.{Kind, Possible, Certain}
 
 -- ---- the points that a log takes, as those of one flat list
 

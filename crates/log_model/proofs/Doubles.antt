@@ -9,11 +9,12 @@ use Rattle.spans.proofs.Ends.{all-append}
 use Rattle.grid.specs.declared.DexelStockSpec.{DexelStockSpec}
 use Rattle.grid.specs.declared.DexelGrid.{DexelGrid}
 use Rattle.store.specs.Store.{placesOf, endsAt}
-use Rattle.stock.specs.Stock.{Stock}
-use Rattle.log_model.specs.Logs.{Ray, Kind, Possible, Certain, Entry, entryAt, entriesFrom, entryCount, entries, namesRay, HitKind, outer, inner, hitLo, hitHi, hitsOnRay}
+use Rattle.stock.specs.Stock.{Stock, Kind, Possible, Certain}
+use Rattle.log_model.specs.Logs.{Entry, entryAt, entriesFrom, entryCount, entries, namesRay, HitKind, outer, inner, hitLo, hitHi, hitsOnRay}
 use Rattle.log_model.specs.Counts.{hitsOnList}
 use Rattle.log_model.specs.View.{listNumber, listIn}
 use Rattle.log_model.proofs.Less.{piece, lower, higher, lessPair, less}
+use Rattle.grid.specs.Rays.{Ray}
 
 -- every cell is a double, which a slice of doubles knows of itself; past its end stands nan, a double too
 abbrev pub DoubleCells : List Float → Type 0

@@ -5,13 +5,13 @@ use Prim.Native.Nat.{ℕ, _+_, _-_, _*_, _/_, _≤_, _<_, min}
 use native.Mathlib.Omega.{arith}
 use lib.ListN.{length}
 use Rattle.spans.specs.Spans.{holds}
-use Rattle.grid.specs.Rays.{rayCount, boundsOf}
+use Rattle.grid.specs.Rays.{rayCount, boundsOf, Ray}
 use Rattle.grid.specs.declared.DexelStockSpec.{DexelStockSpec}
 use Rattle.grid.specs.declared.DexelGrid.{DexelGrid}
 use Rattle.store.specs.Updates.{Update, pairsFreed, pairsLaid, applied}
 use Rattle.store.proofs.Updating.{freed-all, updated}
-use Rattle.stock.specs.Stock.{Stock, SoundStock, ValidAt}
-use Rattle.log_model.specs.Logs.{Ray, Kind, Possible, Certain, Entry, entries, Commit}
+use Rattle.stock.specs.Stock.{Stock, SoundStock, ValidAt, Kind, Possible, Certain}
+use Rattle.log_model.specs.Logs.{Entry, entries, Commit}
 use Rattle.log_model.specs.Model.{setsAfter, RayChanges, Count, Capacity, none as none-counted}
 use Rattle.log_model.specs.Counts.{pairsAfter}
 use Rattle.log_model.specs.Runs.{pointSets, AcceptedEffect}

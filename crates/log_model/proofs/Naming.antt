@@ -13,10 +13,10 @@ use lib.Ieee.Fits.{down-pos}
 use lib.Ieee.Back.{unsigned-back}
 use Rattle.logic.proofs.Bools.{and-left, and-right, both}
 use Rattle.grid.specs.Axes.{worldAxis}
-use Rattle.grid.specs.Rays.{rayCount, raysAlong, rayNumber}
+use Rattle.grid.specs.Rays.{rayCount, raysAlong, rayNumber, Ray}
 use Rattle.grid.specs.declared.DexelGrid.{DexelGrid}
 use Rattle.grid.proofs.Numbering.{offset-le}
-use Rattle.log_model.specs.Logs.{Ray, Entry, isWhole, wholeOf, namesSomeRay, entryRay, namesRay}
+use Rattle.log_model.specs.Logs.{Entry, isWhole, wholeOf, namesSomeRay, entryRay, namesRay}
 -- ---- doubles that are equal as numbers have one whole part
 
 same-quotient : (a d b e : ℕ) → 0 < d → 0 < e → a * e ≡ b * d → a / d ≡ b / e

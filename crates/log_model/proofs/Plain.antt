@@ -10,7 +10,7 @@ use Rattle.logic.proofs.Bools.{or-right, and-left, and-right, both, by-cases, c
 use Rattle.spans.specs.Spans.{All, Double, holds, sound, ListOf}
 use Rattle.grid.specs.declared.DexelStockSpec.{DexelStockSpec}
 use Rattle.grid.specs.declared.DexelGrid.{DexelGrid}
-use Rattle.log_model.specs.Logs.{Ray, Kind, Possible, Certain, entries, outer, inner, hitsOnRay, removed, Commit}
+use Rattle.log_model.specs.Logs.{entries, outer, inner, hitsOnRay, removed, Commit}
 use Rattle.log_model.specs.Model.{setsAfter, pairTotal, Capacity, LogAnswer, changed, refused, logCommitCauses}
 use Rattle.log_model.specs.Counts.{hitsOnList, changedRayCount}
 use Rattle.log_model.specs.Runs.{StoreView, pointSets, AcceptedEffect, CommitEffect, CommitStep, Run, done, next}
@@ -19,6 +19,8 @@ use Rattle.log_model.proofs.Less.{less}
 use Rattle.log_model.proofs.Doubles.{DoubleCells, Doubles, hits-doubles, less-doubles}
 use Rattle.log_model.proofs.Decided.{tests, answerBy, judged, left-list}
 use Rattle.log_model.specs.RunCorrect.{SoundView}
+use Rattle.grid.specs.Rays.{Ray}
+use Rattle.stock.specs.Stock.{Kind, Possible, Certain}
 
 pub record Plain (g : DexelGrid) : Type 0 where
   pub lists : Ray g → Kind → List Float

@@ -13,12 +13,14 @@ use Rattle.spans.specs.Spans.{holds, equal, ListOf}
 use Rattle.spans.proofs.Sets.{same-points}
 use Rattle.grid.specs.declared.DexelStockSpec.{DexelStockSpec}
 use Rattle.grid.specs.declared.DexelGrid.{DexelGrid}
-use Rattle.log_model.specs.Logs.{Ray, Kind, Possible, Certain, inner, outer, InHit, entries, removed, Commit}
+use Rattle.log_model.specs.Logs.{inner, outer, InHit, entries, removed, Commit}
 use Rattle.log_model.specs.Model.{Sets, Capacity, LogAnswer, changed, refused, Model, modelStep, ModelAnswers, modelAfter, acceptedLogs}
 use Rattle.log_model.specs.Runs.{StoreView, pointSets, AcceptedEffect, CommitEffect, CommitStep, Run, done, next, modelStart, RunMeetsModel}
 use Rattle.log_model.proofs.Hits.{takenBy, takenBy-none, takenBy-more, to-inner, of-inner, to-either, of-either, alike-take}
 use Rattle.log_model.proofs.Unique.{one-list, pairs-same, judged-sound, modelled-unique}
 use Rattle.log_model.specs.RunCorrect.{Alike, SoundView, StoresAgree, RunCorrect}
+use Rattle.grid.specs.Rays.{Ray}
+use Rattle.stock.specs.Stock.{Kind, Possible, Certain}
 
 -- ---- Bool
 

@@ -9,13 +9,13 @@ use native.Mathlib.Omega.{arith}
 use lib.ListN.{length}
 use lib.Ieee.{Float}
 use Rattle.spans.specs.Spans.{holds, ListOf}
-use Rattle.grid.specs.Rays.{rayCount}
+use Rattle.grid.specs.Rays.{rayCount, Ray}
 use Rattle.grid.specs.declared.DexelStockSpec.{DexelStockSpec}
 use Rattle.grid.specs.declared.DexelGrid.{DexelGrid}
 use Rattle.store.specs.Store.{placesOf}
 use Rattle.store.specs.Updates.{Update, update, pairsFreed, pairsLaid}
-use Rattle.stock.specs.Stock.{Stock, SoundStock}
-use Rattle.log_model.specs.Logs.{Ray, Kind, Possible, Certain, Entry}
+use Rattle.stock.specs.Stock.{Stock, SoundStock, Kind, Possible, Certain}
+use Rattle.log_model.specs.Logs.{Entry}
 use Rattle.log_model.specs.Model.{setsAfter, sumTo, sumOver, pairTotal}
 use Rattle.log_model.specs.Counts.{startsLeft, hitsOnList, pairsAfter}
 use Rattle.log_model.specs.View.{listIn}

@@ -10,11 +10,12 @@ use Rattle.refusal.proofs.Laws.{due-unique, none-due}
 use lib.ListN.{length}
 use Rattle.spans.specs.Spans.{All, Double, Point, holds, sound, equal, ListOf}
 use Rattle.spans.proofs.Sets.{same-set, same-points, equal-length}
-use Rattle.grid.specs.Rays.{rayCount}
+use Rattle.grid.specs.Rays.{rayCount, Ray}
 use Rattle.grid.specs.declared.DexelStockSpec.{DexelStockSpec}
 use Rattle.grid.specs.declared.DexelGrid.{DexelGrid}
-use Rattle.log_model.specs.Logs.{Ray, Kind, Possible, Certain, Commit}
+use Rattle.log_model.specs.Logs.{Commit}
 use Rattle.log_model.specs.Model.{Sets, Count, none, counted, skipped, sumOver, pairTotal, IntervalTotal, Capacity, LogAnswer, changed, refused, logCommitCauses, AnswerDue, Model, modelStep, ModelAnswers}
+use Rattle.stock.specs.Stock.{Kind, Possible, Certain}
 
 -- the one sound list of a set, as numbers
 pub one-list : (s : Float → Bool) (l m : List Float) → ListOf s l → ListOf s m → equal l m ≡ true

@@ -8,9 +8,11 @@ use Rattle.spans.specs.Spans.{holds, Within}
 use Rattle.spans.specs.Rays.{ValidRay}
 use Rattle.ray_merge.proofs.Rays.{bounded-within}
 use Rattle.grid.specs.declared.DexelGrid.{DexelGrid}
-use Rattle.log_model.specs.Logs.{Ray, Kind, Possible, Certain, Entry, outer, inner, hitsOnRay, removed}
+use Rattle.log_model.specs.Logs.{Entry, outer, inner, hitsOnRay, removed}
 use Rattle.log_model.specs.Model.{setsAfter}
 use Rattle.log_model.specs.Steps.{ListAfterLog}
+use Rattle.grid.specs.Rays.{Ray}
+use Rattle.stock.specs.Stock.{Kind, Possible, Certain}
 
 module _ (g : DexelGrid) (lists : Ray g → Kind → List Float) (es : List Entry) (r : Ray g) where
   -- what is left of a list lies in it

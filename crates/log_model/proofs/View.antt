@@ -9,9 +9,8 @@ use lib.Ieee.{Float}
 use Rattle.grid.specs.Rays.{rayCount}
 use Rattle.grid.specs.declared.DexelStockSpec.{DexelStockSpec}
 use Rattle.grid.specs.declared.DexelGrid.{DexelGrid}
-use Rattle.stock.specs.Stock.{Stock}
+use Rattle.stock.specs.Stock.{Stock, Kind, Possible, Certain}
 use Rattle.store.specs.Store.{placesOf, chained, endsAt}
-use Rattle.log_model.specs.Logs.{Kind, Possible, Certain}
 use Rattle.log_model.specs.Model.{sumTo, pairTotal}
 use Rattle.log_model.specs.View.{listNumber, listIn, lentStore}
 use Rattle.log_model.proofs.RunCorrect.{demand3}

@@ -6,8 +6,10 @@ use Prim.Native.Nat.{ℕ, suc, _+_}
 use lib.Ieee.{Float, lt, eq}
 use Rattle.spans.specs.Spans.{holds}
 use Rattle.grid.specs.declared.DexelGrid.{DexelGrid}
-use Rattle.log_model.specs.Logs.{Ray, Kind, Possible, Certain, Entry, outer, inner, hitsOnRay}
+use Rattle.log_model.specs.Logs.{Entry, outer, inner, hitsOnRay}
 use Rattle.log_model.specs.Model.{sumTo, sumOver}
+use Rattle.grid.specs.Rays.{Ray}
+use Rattle.stock.specs.Stock.{Kind, Possible, Certain}
 
 -- a pair of the list has a point in [lo, hi), where lo < hi
 unfoldable pub meets : Float → Float → List Float → Bool

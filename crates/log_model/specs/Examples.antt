@@ -14,12 +14,13 @@ use Rattle.grid.specs.declared.DexelStockSpec.{DexelStockSpec}
 use Rattle.grid.specs.declared.DexelGrid.{DexelGrid}
 use Rattle.grid.specs.declared.GridAnswer.the-variants.{Accepted}
 use Rattle.store.specs.Updates.{cells}
-use Rattle.stock.specs.Stock.{Stock}
+use Rattle.stock.specs.Stock.{Stock, Kind, Possible, Certain}
 use Rattle.stock_fill.specs.Uncut.{uncut, uncutTally}
-use Rattle.log_model.specs.Logs.{Ray, Kind, Possible, Certain, Commit}
+use Rattle.log_model.specs.Logs.{Commit}
 use Rattle.log_model.specs.Model.{LogAnswer, changed, refused}
 use Rattle.log_model.specs.Runs.{Run}
 use Rattle.log_model.specs.View.{listIn, lentStore}
+use Rattle.grid.specs.Rays.{Ray}
 
 -- a whole number as a double
 abbrev pub num : ℕ → Float

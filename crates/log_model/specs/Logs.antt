@@ -2,23 +2,16 @@
 use mathlib.Core.Path.{_≡_}
 use mathlib.Core.Bool.{Bool, true, cond, _&&_, _||_}
 use mathlib.Core.List.{List, [], _∷_, List·Memᴰ}
-use Prim.Native.Nat.{ℕ, zero, suc, _+_, _*_, _/_, _<_}
+use Prim.Native.Nat.{ℕ, zero, suc, _+_, _*_, _/_}
 use lib.Dec.{ltb, eqb}
 use lib.ListN.{length, getD}
 use lib.IntN.{pos}
 use lib.Ieee.{Float, nan, binary64, lt, eq, ofInt, toUnsigned}
 use Rattle.spans.specs.Spans.{within, holds}
 use Rattle.grid.specs.Axes.{worldAxis}
-use Rattle.grid.specs.Rays.{rayCount, raysAlong, rayNumber}
+use Rattle.grid.specs.Rays.{raysAlong, rayNumber, Ray}
 use Rattle.grid.specs.declared.DexelGrid.{DexelGrid}
-
--- a ray, by its number
-abbrev pub Ray : DexelGrid → Type 0
-Ray g = (r : ℕ) × (r < rayCount g)
-
--- each ray has a Possible and a Certain list
-pub data Kind : Type 0 where
-  Possible Certain : Kind
+use Rattle.stock.specs.Stock.{Kind, Possible, Certain}
 
 -- ---- a log: six doubles for each entry
 

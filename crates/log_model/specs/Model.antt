@@ -10,10 +10,11 @@ use lib.ListN.{length}
 use lib.Ieee.{Float}
 use Rattle.refusal.specs.Refusal.{Cause, cause, Due, NoneDue}
 use Rattle.spans.specs.Spans.{Point, ListOf}
-use Rattle.grid.specs.Rays.{rayCount}
+use Rattle.grid.specs.Rays.{rayCount, Ray}
 use Rattle.grid.specs.declared.DexelStockSpec.{DexelStockSpec}
 use Rattle.grid.specs.declared.DexelGrid.{DexelGrid}
-use Rattle.log_model.specs.Logs.{Ray, Kind, Possible, Certain, Entry, entries, workNeeded, namesSomeRay, removed, Commit}
+use Rattle.log_model.specs.Logs.{Entry, entries, workNeeded, namesSomeRay, removed, Commit}
+use Rattle.stock.specs.Stock.{Kind, Possible, Certain}
 -- ---- the sets of all rays
 
 -- two point sets for each ray

@@ -4,11 +4,13 @@ use mathlib.Core.Bool.{true}
 use mathlib.Core.List.{List}
 use lib.Ieee.{Float, eq}
 use Rattle.grid.specs.declared.DexelGrid.{DexelGrid}
-use Rattle.log_model.specs.Logs.{Ray, HitKind, hitLo, hitHi, Hit, Kind, Possible, Certain, Commit}
+use Rattle.log_model.specs.Logs.{HitKind, hitLo, hitHi, Hit, Commit}
 use Rattle.spans.specs.Spans.{holds, sound, equal}
 use Rattle.grid.specs.declared.DexelStockSpec.{DexelStockSpec}
 use Rattle.log_model.specs.Model.{pairTotal, LogAnswer, acceptedLogs}
 use Rattle.log_model.specs.Runs.{StoreView, Run, RunMeetsModel}
+use Rattle.grid.specs.Rays.{Ray}
+use Rattle.stock.specs.Stock.{Kind, Possible, Certain}
 
 -- each hit of the first logs stands in the second, by ray, kind and ends as numbers
 unfoldable pub HitsIncluded : (g : DexelGrid) → List (List Float) → List (List Float) → Type 0

@@ -9,8 +9,10 @@ use lib.Ieee.{Float}
 use Rattle.spans.specs.Spans.{All, Double, Point, holds, sound, equal, ListOf}
 use Rattle.grid.specs.declared.DexelStockSpec.{DexelStockSpec}
 use Rattle.grid.specs.declared.DexelGrid.{DexelGrid}
-use Rattle.log_model.specs.Logs.{Ray, Kind, Possible, Certain, outer, inner, InHit, entries, Commit}
+use Rattle.log_model.specs.Logs.{outer, inner, InHit, entries, Commit}
 use Rattle.log_model.specs.Model.{Sets, setsAfter, pairTotal, Capacity, LogAnswer, changed, refused, AnswerDue, Model, ModelAnswers, modelAfter, acceptedLogs}
+use Rattle.grid.specs.Rays.{Ray}
+use Rattle.stock.specs.Stock.{Kind, Possible, Certain}
 
 -- How a store is read: its lists, the two numbers of the small record, what it lends and whether it is sound
 pub record StoreView (g : DexelGrid) : Type 1 where

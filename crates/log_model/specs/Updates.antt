@@ -4,12 +4,12 @@ use mathlib.Core.List.{List, [], _∷_}
 use Prim.Native.Nat.{ℕ, suc, _+_, _-_, _*_, _<_}
 use lib.Ieee.{Float}
 use Rattle.spans.specs.Spans.{holds}
-use Rattle.grid.specs.Rays.{rayCount}
+use Rattle.grid.specs.Rays.{rayCount, Ray}
 use Rattle.grid.specs.declared.DexelStockSpec.{DexelStockSpec}
 use Rattle.grid.specs.declared.DexelGrid.{DexelGrid}
 use Rattle.store.specs.Updates.{Update, update, applied, pairsFreed, pairsLaid}
-use Rattle.stock.specs.Stock.{Stock}
-use Rattle.log_model.specs.Logs.{Ray, Kind, Possible, Certain, Entry, outer, inner, hitsOnRay}
+use Rattle.stock.specs.Stock.{Stock, Kind, Possible, Certain}
+use Rattle.log_model.specs.Logs.{Entry, outer, inner, hitsOnRay}
 use Rattle.log_model.specs.Model.{Sets, RayChanges}
 use Rattle.log_model.specs.View.{listIn}
 use Rattle.spans.specs.Rays.{MergedExactly}

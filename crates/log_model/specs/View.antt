@@ -10,10 +10,11 @@ use Rattle.grid.specs.declared.GridAnswer.{GridAnswer}
 use Rattle.grid.specs.declared.GridAnswer.the-variants.{Accepted, Refused}
 use Rattle.store.specs.Store.{listOf}
 use Rattle.store.specs.Updates.{Cells, storeList}
-use Rattle.stock.specs.Stock.{Stock, SoundStock}
-use Rattle.log_model.specs.Logs.{Ray, Kind, Possible, Certain, Commit}
+use Rattle.stock.specs.Stock.{Stock, SoundStock, Kind, Possible, Certain}
+use Rattle.log_model.specs.Logs.{Commit}
 use Rattle.log_model.specs.Model.{LogAnswer, refused}
 use Rattle.log_model.specs.Runs.{StoreView, CommitStep}
+use Rattle.grid.specs.Rays.{Ray}
 
 -- the lists of the store count through the rays, Possible first
 unfoldable pub listNumber : ℕ → Kind → ℕ

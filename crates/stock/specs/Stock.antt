@@ -48,3 +48,7 @@ isShort spec g c = ltb (length (c .spans) / 2) (spec .«max_intervals») || (ltb
 -- a stock by its lent cells and its small record's numbers
 abbrev pub stock : (spans : List Float) (links heads : List ℕ) (generation intervals : ℕ) → Stock
 stock spans links heads generation intervals = record { cells = cells spans links heads; generation = generation; intervals = intervals }
+
+-- each ray has a Possible and a Certain list
+pub data Kind : Type 0 where
+  Possible Certain : Kind
