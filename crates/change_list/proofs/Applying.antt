@@ -15,7 +15,7 @@ use Rattle.grid.proofs.Numbering.{number-lt}
 use Rattle.store.specs.Updates.{Cells, Update, update, pairsFreed, pairsLaid, applied}
 use Rattle.store.proofs.Updating.{after-here, after-other, updated}
 use Rattle.spans.specs.Rays.{ValidRay}
-use Rattle.stock.specs.Stock.{possibleIn, certainIn, SoundCells}
+use Rattle.stock.specs.Stock.{SoundCells, rayList, Possible, Certain}
 use Rattle.change_list.specs.Changes.{Change, changeRay, Good, AllGood, updatesOf}
 use Rattle.store.specs.Steps.{Room, Ascending, none, next, listAfter, UpdatedStore}
 
@@ -146,7 +146,7 @@ module _ (spec : DexelStockSpec) (g : DexelGrid) (c : Cells) (pairs : List Float
         record {
           store = u .isSound;
           valid = λ ray h.
-              subst (λ (x : List Float). ValidRay (boundsOf spec g ray .lo) (boundsOf spec g ray .hi) (possibleIn spec (applied (spec .«max_intervals») c (updatesOf g ds)) ray) x) (sym (u .lists (2 * ray + 1) (omega arith)))
-              (subst (λ (x : List Float). ValidRay (boundsOf spec g ray .lo) (boundsOf spec g ray .hi) x (listAfter (updatesOf g ds) (2 * ray + 1) (certainIn spec c ray))) (sym (u .lists (2 * ray) (omega arith)))
-              (good-valid ds 0 ray (possibleIn spec c ray) (certainIn spec c ray) all (sound .valid ray h)));
+              subst (λ (x : List Float). ValidRay (boundsOf spec g ray .lo) (boundsOf spec g ray .hi) (rayList spec (applied (spec .«max_intervals») c (updatesOf g ds)) ray Possible) x) (sym (u .lists (2 * ray + 1) (omega arith)))
+              (subst (λ (x : List Float). ValidRay (boundsOf spec g ray .lo) (boundsOf spec g ray .hi) x (listAfter (updatesOf g ds) (2 * ray + 1) (rayList spec c ray Certain))) (sym (u .lists (2 * ray) (omega arith)))
+              (good-valid ds 0 ray (rayList spec c ray Possible) (rayList spec c ray Certain) all (sound .valid ray h)));
         }

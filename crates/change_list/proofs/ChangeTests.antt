@@ -14,11 +14,11 @@ use Rattle.store.specs.Updates.{Cells}
 use Rattle.span_cover.specs.Cover.{Covers}
 use Rattle.spans.specs.Rays.{ValidRay}
 use Rattle.ray_check.proofs.Tests.{passes, covers-tells}
-use Rattle.stock.specs.Stock.{possibleIn, certainIn}
 use Rattle.change_list.specs.Cuts.{IsRemoval, ChangeAllowed}
 use Rattle.change_list.proofs.Lists.{sound-equal}
 use Rattle.logic.specs.Logic.{Decides}
 use Rattle.change_list.specs.Steps.{SoundWithRoom}
+use Rattle.stock.specs.Stock.{rayList, Possible, Certain}
 
 -- a test that fails, of a Bool that P brings with it
 pub fails : (P : Type 0) (b r : Bool) → r ≡ b → not r ≡ true → (P → b ≡ true) → Decides P false
@@ -57,29 +57,29 @@ module _ (lo hi : Float) (p q p′ q′ : List Float) where
 
 -- ---- `had` and `cuts`
 module _ (spec : DexelStockSpec) (g : DexelGrid) (c : Cells) (ray : ℕ) (p q : List Float) where
-  pub had-no : (r : Bool) → r ≡ equal (possibleIn spec c ray) p → not r ≡ true → false ≡ (equal (possibleIn spec c ray) p && equal (certainIn spec c ray) q)
-  had-no r e n = sym (ap (λ (t : Bool). t && equal (certainIn spec c ray) q) (sym e ∙ not-true r n))
+  pub had-no : (r : Bool) → r ≡ equal (rayList spec c ray Possible) p → not r ≡ true → false ≡ (equal (rayList spec c ray Possible) p && equal (rayList spec c ray Certain) q)
+  had-no r e n = sym (ap (λ (t : Bool). t && equal (rayList spec c ray Certain) q) (sym e ∙ not-true r n))
 
-  pub had-second : (r s : Bool) → r ≡ equal (possibleIn spec c ray) p → not r ≡ false → s ≡ equal (certainIn spec c ray) q → s ≡ (equal (possibleIn spec c ray) p && equal (certainIn spec c ray) q)
-  had-second r s e n f = f ∙ sym (ap (λ (t : Bool). t && equal (certainIn spec c ray) q) (passes (equal (possibleIn spec c ray) p) r e n))
+  pub had-second : (r s : Bool) → r ≡ equal (rayList spec c ray Possible) p → not r ≡ false → s ≡ equal (rayList spec c ray Certain) q → s ≡ (equal (rayList spec c ray Possible) p && equal (rayList spec c ray Certain) q)
+  had-second r s e n f = f ∙ sym (ap (λ (t : Bool). t && equal (rayList spec c ray Certain) q) (passes (equal (rayList spec c ray Possible) p) r e n))
 
   -- the old lists are sound, as the store's are
-  pub old-sound : SoundWithRoom spec g c → ray < rayCount g → (r : Bool) → r ≡ (equal (possibleIn spec c ray) p && equal (certainIn spec c ray) q) → not r ≡ false → (sound p ≡ true) × (sound q ≡ true)
+  pub old-sound : SoundWithRoom spec g c → ray < rayCount g → (r : Bool) → r ≡ (equal (rayList spec c ray Possible) p && equal (rayList spec c ray Certain) q) → not r ≡ false → (sound p ≡ true) × (sound q ≡ true)
   old-sound lent l r e n =
-      let w = passes (equal (possibleIn spec c ray) p && equal (certainIn spec c ray) q) r e n in
+      let w = passes (equal (rayList spec c ray Possible) p && equal (rayList spec c ray Certain) q) r e n in
       let v = lent .isSound .valid ray l in (
-        sound-equal (possibleIn spec c ray) p (and-left (equal (possibleIn spec c ray) p) (equal (certainIn spec c ray) q) w) (v .possible-sound),
-        sound-equal (certainIn spec c ray) q (and-right (equal (possibleIn spec c ray) p) (equal (certainIn spec c ray) q) w) (v .certain-sound),
+        sound-equal (rayList spec c ray Possible) p (and-left (equal (rayList spec c ray Possible) p) (equal (rayList spec c ray Certain) q) w) (v .possible-sound),
+        sound-equal (rayList spec c ray Certain) q (and-right (equal (rayList spec c ray Possible) p) (equal (rayList spec c ray Certain) q) w) (v .certain-sound),
       )
 
   module _ (p′ q′ : List Float) where
-    pub cuts-no : (r : Bool) → r ≡ (equal (possibleIn spec c ray) p && equal (certainIn spec c ray) q) → not r ≡ true → Decides (ChangeAllowed spec g c ray p q p′ q′) false
-    cuts-no r e n = fails (ChangeAllowed spec g c ray p q p′ q′) (equal (possibleIn spec c ray) p && equal (certainIn spec c ray) q) r e n (λ k. k .was)
+    pub cuts-no : (r : Bool) → r ≡ (equal (rayList spec c ray Possible) p && equal (rayList spec c ray Certain) q) → not r ≡ true → Decides (ChangeAllowed spec g c ray p q p′ q′) false
+    cuts-no r e n = fails (ChangeAllowed spec g c ray p q p′ q′) (equal (rayList spec c ray Possible) p && equal (rayList spec c ray Certain) q) r e n (λ k. k .was)
 
-    pub cuts-rest : (r s : Bool) (b : RayBounds) → r ≡ (equal (possibleIn spec c ray) p && equal (certainIn spec c ray) q) → not r ≡ false → b ≡ boundsOf spec g ray → Decides (IsRemoval (b .lo) (b .hi) p q p′ q′) s → Decides (ChangeAllowed spec g c ray p q p′ q′) s
+    pub cuts-rest : (r s : Bool) (b : RayBounds) → r ≡ (equal (rayList spec c ray Possible) p && equal (rayList spec c ray Certain) q) → not r ≡ false → b ≡ boundsOf spec g ray → Decides (IsRemoval (b .lo) (b .hi) p q p′ q′) s → Decides (ChangeAllowed spec g c ray p q p′ q′) s
     cuts-rest r s b e n f t =
         let u : Decides (IsRemoval (boundsOf spec g ray .lo) (boundsOf spec g ray .hi) p q p′ q′) s = subst (λ (x : RayBounds). Decides (IsRemoval (x .lo) (x .hi) p q p′ q′) s) f t in (
-          (λ y. record { was = passes (equal (possibleIn spec c ray) p && equal (certainIn spec c ray) q) r e n; loses = u .0 y }),
+          (λ y. record { was = passes (equal (rayList spec c ray Possible) p && equal (rayList spec c ray Certain) q) r e n; loses = u .0 y }),
           (λ k. u .1 (k .loses)),
         )
 

@@ -14,7 +14,6 @@ use Rattle.grid.specs.declared.DexelGrid.{DexelGrid}
 use Rattle.store.specs.Store.{placesOf}
 use Rattle.store.specs.Updates.{Cells, pairsFrom, pairsFreed, pairsLaid}
 use Rattle.store_read.proofs.Steps.{ends-length}
-use Rattle.stock.specs.Stock.{possibleIn, certainIn}
 use Rattle.change_list.specs.Changes.{headAt, end1, end2, end3, end4, Change, changeBy, changesFrom, changesOf, changeRay, Good, AllGood, updatesOf}
 use Rattle.change_list.specs.Steps.{onward, cursorOf, Stands, CheckChangePost, CheckChangesPost}
 use Rattle.change_list.specs.declared.ChangeHead.{ChangeHead}
@@ -22,6 +21,7 @@ use Rattle.change_list.specs.declared.ChangeCursor.{ChangeCursor}
 use Rattle.change_list.specs.declared.ChangeCheck.the-variants.{Next, Bad}
 use Rattle.spans.proofs.Sets.{equal-length}
 use Rattle.change_list.proofs.ListTests.{bad-due, due-bad}
+use Rattle.stock.specs.Stock.{rayList, Possible, Certain}
 
 pub part-length : (pairs : List Float) (at n : ℕ) → at + 2 * n ≤ length pairs → length (pairsFrom pairs at n) ≡ 2 * n
 part-length pairs at n h = length-take-le (2 * n) (drop at pairs) (omega (arith, length-drop at pairs))
@@ -34,10 +34,10 @@ module _ (spec : DexelStockSpec) (g : DexelGrid) (c : Cells) (changes : List ℕ
   freed-by from at h ds good =
       let ray : ℕ = changeRay g (h .axis) (h .index) in
       let w = good .within in
-      let p : length (possibleIn spec c ray) ≡ length (pairsFrom pairs at (h .«before_possible»)) = equal-length (possibleIn spec c ray) (pairsFrom pairs at (h .«before_possible»)) (and-left _ _ (good .cuts .was)) in
-      let q : length (certainIn spec c ray) ≡ length (pairsFrom pairs (end1 h at) (h .«before_certain»)) = equal-length (certainIn spec c ray) (pairsFrom pairs (end1 h at) (h .«before_certain»)) (and-right (equal (possibleIn spec c ray) (pairsFrom pairs at (h .«before_possible»))) _ (good .cuts .was)) in
-      let pe : length (possibleIn spec c ray) ≡ 2 * length (placesOf (spec .«max_intervals») (c .links) (c .heads) (2 * ray)) = ends-length (c .spans) (placesOf (spec .«max_intervals») (c .links) (c .heads) (2 * ray)) in
-      let qe : length (certainIn spec c ray) ≡ 2 * length (placesOf (spec .«max_intervals») (c .links) (c .heads) (2 * ray + 1)) = ends-length (c .spans) (placesOf (spec .«max_intervals») (c .links) (c .heads) (2 * ray + 1)) in
+      let p : length (rayList spec c ray Possible) ≡ length (pairsFrom pairs at (h .«before_possible»)) = equal-length (rayList spec c ray Possible) (pairsFrom pairs at (h .«before_possible»)) (and-left _ _ (good .cuts .was)) in
+      let q : length (rayList spec c ray Certain) ≡ length (pairsFrom pairs (end1 h at) (h .«before_certain»)) = equal-length (rayList spec c ray Certain) (pairsFrom pairs (end1 h at) (h .«before_certain»)) (and-right (equal (rayList spec c ray Possible) (pairsFrom pairs at (h .«before_possible»))) _ (good .cuts .was)) in
+      let pe : length (rayList spec c ray Possible) ≡ 2 * length (placesOf (spec .«max_intervals») (c .links) (c .heads) (2 * ray)) = ends-length (c .spans) (placesOf (spec .«max_intervals») (c .links) (c .heads) (2 * ray)) in
+      let qe : length (rayList spec c ray Certain) ≡ 2 * length (placesOf (spec .«max_intervals») (c .links) (c .heads) (2 * ray + 1)) = ends-length (c .spans) (placesOf (spec .«max_intervals») (c .links) (c .heads) (2 * ray + 1)) in
       omega (arith, part-length pairs at (h .«before_possible») (omega arith), part-length pairs (end1 h at) (h .«before_certain») (omega arith))
 
   pub laid-by : (from at : ℕ) (h : ChangeHead) (ds : List Change) → Good spec g c pairs from (changeBy h pairs at)

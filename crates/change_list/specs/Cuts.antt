@@ -10,7 +10,7 @@ use Rattle.grid.specs.declared.DexelStockSpec.{DexelStockSpec}
 use Rattle.grid.specs.declared.DexelGrid.{DexelGrid}
 use Rattle.store.specs.Updates.{Cells}
 use Rattle.spans.specs.Rays.{ValidRay}
-use Rattle.stock.specs.Stock.{possibleIn, certainIn}
+use Rattle.stock.specs.Stock.{rayList, Possible, Certain}
 
 -- the new lists make a valid ray, gain no point of the old ones and differ from them
 pub record IsRemoval (lo hi : Float) (p q p′ q′ : List Float) : Type 0 where
@@ -21,5 +21,5 @@ pub record IsRemoval (lo hi : Float) (p q p′ q′ : List Float) : Type 0 where
 
 -- and the old ones are the ray's
 pub record ChangeAllowed (spec : DexelStockSpec) (g : DexelGrid) (c : Cells) (ray : ℕ) (p q p′ q′ : List Float) : Type 0 where
-  pub was : (equal (possibleIn spec c ray) p && equal (certainIn spec c ray) q) ≡ true
+  pub was : (equal (rayList spec c ray Possible) p && equal (rayList spec c ray Certain) q) ≡ true
   pub loses : IsRemoval (boundsOf spec g ray .lo) (boundsOf spec g ray .hi) p q p′ q′

@@ -12,8 +12,8 @@ ghost use Rattle.change_list.specs.Steps.{pairsIn, cursorOf, Stands, Che
 ghost use Rattle.logic.specs.Logic.{Decides};
 ghost use mathlib.Core.Bool.{true, _&&_};
 ghost use Rattle.spans.specs.Spans.{sound, equal};
-ghost use Rattle.stock.specs.Stock.{possibleIn, certainIn};
 ghost use Rattle.stock.specs.Steps.{ChainsInRoom};
+ghost use Rattle.stock.specs.Stock.{rayList, Possible, Certain};
 use grid::DexelGrid;
 use grid::DexelStockSpec;
 use grid::WorldAxis;
@@ -239,8 +239,8 @@ fn had(
     q: &[f64],
 ) -> bool
     requires { ⌜ ChainsInRoom spec g (cells (now spans) (now links) (now heads)) × (ray < rayCount g) ⌝ }
-    ensures { λ r. ⌜ r ≡ (equal (possibleIn spec (cells (now (spans .entry)) (now (links .entry)) (now (heads .entry))) ray) (now (p .entry))
-        && equal (certainIn spec (cells (now (spans .entry)) (now (links .entry)) (now (heads .entry))) ray) (now (q .entry))) ⌝ }
+    ensures { λ r. ⌜ r ≡ (equal (rayList spec (cells (now (spans .entry)) (now (links .entry)) (now (heads .entry))) ray Possible) (now (p .entry))
+        && equal (rayList spec (cells (now (spans .entry)) (now (links .entry)) (now (heads .entry))) ray Certain) (now (q .entry))) ⌝ }
 {
     let n = spec.max_intervals as usize;
     let j = 2 * (ray as usize);

@@ -11,16 +11,15 @@ use Rattle.grid.specs.declared.DexelStockSpec.{DexelStockSpec}
 use Rattle.grid.specs.declared.DexelGrid.{DexelGrid}
 use Rattle.store.specs.Updates.{Cells, Update, CellsChainsSound, pairsFreed, pairsLaid, freedAll, laidAll, applied}
 use Rattle.store.proofs.Updating.{FreedAll, freed-all, all-empty, kept-room}
-use Rattle.stock.specs.Stock.{Stock}
+use Rattle.stock.specs.Stock.{Stock, rayLists}
 use Rattle.log_model.specs.Logs.{entries, entryCount}
 use Rattle.log_model.specs.Counts.{pairsAfter}
-use Rattle.log_model.specs.View.{listIn, listsIn}
 use Rattle.log_model.proofs.Doubles.{DoubleCells, Doubles, all-doubles}
 use Rattle.log_group.specs.Groups.{GroupPost}
 use Rattle.log_lay.specs.Updates.{updatesFrom, listsEnd}
 use Rattle.log_lay.specs.Steps.{AllFreeable, EachLayable, RaysLayable}
 use Rattle.log_lay.proofs.Room.{each-layable, no-cursor}
-use Rattle.log_model.specs.Updates.{MergeUpdates, stockLists}
+use Rattle.log_model.specs.Updates.{MergeUpdates}
 use Rattle.log_model.proofs.Leaves.{ascend, intervals-left}
 use Rattle.log_merge.specs.All.{MergeAllPre, MergeAllPost}
 use Rattle.commit_apply.specs.Apply.{ApplyPre, ApplyPost}
@@ -34,8 +33,7 @@ module _ (spec : DexelStockSpec) (g : DexelGrid) (c : Cells) (log w : List Float
   pub group-room : rayCount g + entryCount log ≤ length w
   group-room = omega (arith, ready .work-room, ready .facts .budget)
 
-  few : pairsAfter g (stockLists spec g some) (entries log) ≤ spec .«max_intervals»
-  unfolding listIn
+  few : pairsAfter g (rayLists spec g (some .cells)) (entries log) ≤ spec .«max_intervals»
   few = ready .few-pairs
 
   pub mergeable : (w₁ : List Float) → GroupPost g log w w₁ → MergeAllPre spec g c log w₁
@@ -58,11 +56,11 @@ module _ (spec : DexelStockSpec) (g : DexelGrid) (c : Cells) (log w : List Float
     same-size : length w₂ ≡ length w
     same-size = merged .size ∙ k .size
 
-    asked : MergeUpdates g (stockLists spec g some) (entries log) 0 us m
+    asked : MergeUpdates g (rayLists spec g (some .cells)) (entries log) 0 us m
     asked = merged .merges some refl
 
     module _ (ds : DoubleCells (c .spans)) (dl : DoubleCells log) where
-      doubles : Doubles g (stockLists spec g some) (entries log)
+      doubles : Doubles g (rayLists spec g (some .cells)) (entries log)
       doubles = all-doubles spec g some log ds dl
 
       in-order : Ascending (2 * rayCount g) 0 us
@@ -115,7 +113,7 @@ module _ (spec : DexelStockSpec) (g : DexelGrid) (c : Cells) (log w : List Float
 
         pub done : (b : Cells) (w₃ : List Float) → b ≡ laidAll (spec .«max_intervals») d (updatesFrom w₂ (rays + length log / 6) (rays + length log / 6 + 2 * rays) 0 rays)
             → w₃ ≡ take 0 w₂ ++ replicate (length w₂ - 0) plusZero → ApplyPost spec g c log w m b w₃
-        unfolding applied listIn
+        unfolding applied
         done b w₃ laid clear = record {
           updates = us;
           merges = found;
@@ -123,7 +121,7 @@ module _ (spec : DexelStockSpec) (g : DexelGrid) (c : Cells) (log w : List Float
           cleared = clear ∙ ap (λ (n : ℕ). replicate n plusZero) (all (length w₂) ∙ same-size);
         }
           where
-            found : MergeUpdates g (listsIn spec g c) (entries log) 0 us m
+            found : MergeUpdates g (rayLists spec g c) (entries log) 0 us m
             found = asked
 
             all : (n : ℕ) → n - 0 ≡ n

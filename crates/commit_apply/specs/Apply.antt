@@ -9,10 +9,9 @@ use Rattle.grid.specs.Rays.{rayCount}
 use Rattle.grid.specs.declared.DexelStockSpec.{DexelStockSpec}
 use Rattle.grid.specs.declared.DexelGrid.{DexelGrid}
 use Rattle.store.specs.Updates.{Cells, Update, applied}
-use Rattle.stock.specs.Stock.{SoundCells}
+use Rattle.stock.specs.Stock.{SoundCells, rayLists}
 use Rattle.log_model.specs.Logs.{entries, workNeeded}
 use Rattle.log_model.specs.Counts.{pairsAfter}
-use Rattle.log_model.specs.View.{listsIn}
 use Rattle.log_entries.specs.Named.{EachNamed}
 use Rattle.log_model.specs.Updates.{MergeUpdates}
 use Rattle.grid.specs.Facts.{GridFacts}
@@ -26,11 +25,11 @@ pub record ApplyPre (spec : DexelStockSpec) (g : DexelGrid) (c : Cells) (log wor
   pub sound : SoundCells spec g c total
   pub work-room : workNeeded (spec .«max_intervals») log ≤ length work / 2
   pub named : EachNamed g log
-  pub few-pairs : pairsAfter g (listsIn spec g c) (entries log) ≤ spec .«max_intervals»
+  pub few-pairs : pairsAfter g (rayLists spec g c) (entries log) ≤ spec .«max_intervals»
 
 -- the log's updates are done, and the work buffer is all plus zero
 pub record ApplyPost (spec : DexelStockSpec) (g : DexelGrid) (c : Cells) (log work : List Float) (m : ℕ) (d : Cells) (work′ : List Float) : Type 0 where
   pub updates : List Update
-  pub merges : MergeUpdates g (listsIn spec g c) (entries log) 0 updates m
+  pub merges : MergeUpdates g (rayLists spec g c) (entries log) 0 updates m
   pub left : d ≡ applied (spec .«max_intervals») c updates
   pub cleared : work′ ≡ replicate (length work) plusZero

@@ -12,7 +12,7 @@ use Rattle.grid.specs.declared.DexelStockSpec.{DexelStockSpec}
 use Rattle.grid.specs.declared.DexelGrid.{DexelGrid}
 use Rattle.grid.specs.declared.GridAnswer.the-variants.{Accepted as Griddable, Refused as NoGrid}
 use Rattle.store.specs.Updates.{Cells, applied}
-use Rattle.stock.specs.Stock.{Stock, possibleIn, certainIn}
+use Rattle.stock.specs.Stock.{Stock, rayList, Possible, Certain}
 use Rattle.stock.specs.declared.CommitAnswer.{CommitAnswer}
 use Rattle.stock.specs.declared.CommitAnswer.the-variants.{Changed, Refused}
 use Rattle.stock.proofs.Causes.{due-first, due-second, none-in-both}
@@ -52,11 +52,11 @@ module _ (spec : DexelStockSpec) (g : DexelGrid) (s : Stock) (changes : List ℕ
           is = refl;
           isSound = changes-sound spec g (s .cells) pairs (s .intervals) (f .isSound) (f .room) (changesOf changes pairs) (f .good) (f .budget);
           changed-rays = λ d m.
-              let h = changed-has spec g (s .cells) pairs (changesOf changes pairs) 0 (f .good) d m (possibleIn spec (s .cells) (changeRay g (d .axis) (d .index))) (certainIn spec (s .cells) (changeRay g (d .axis) (d .index))) in
+              let h = changed-has spec g (s .cells) pairs (changesOf changes pairs) 0 (f .good) d m (rayList spec (s .cells) (changeRay g (d .axis) (d .index)) Possible) (rayList spec (s .cells) (changeRay g (d .axis) (d .index)) Certain) in
               let b = h .below in
               (u .lists (2 * changeRay g (d .axis) (d .index)) (omega arith) ∙ h .possible, u .lists (2 * changeRay g (d .axis) (d .index) + 1) (omega arith) ∙ h .certain);
           other-rays = λ ray l apart.
-              let h = other-keeps spec g (s .cells) pairs (changesOf changes pairs) ray apart (possibleIn spec (s .cells) ray) (certainIn spec (s .cells) ray) in
+              let h = other-keeps spec g (s .cells) pairs (changesOf changes pairs) ray apart (rayList spec (s .cells) ray Possible) (rayList spec (s .cells) ray Certain) in
               (u .lists (2 * ray) (omega arith) ∙ h .0, u .lists (2 * ray + 1) (omega arith) ∙ h .1);
           kept = u .kept;
         }

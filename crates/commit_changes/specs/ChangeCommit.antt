@@ -12,7 +12,7 @@ use Rattle.grid.specs.Rays.{rayCount}
 use Rattle.grid.specs.declared.DexelStockSpec.{DexelStockSpec}
 use Rattle.grid.specs.declared.DexelGrid.{DexelGrid}
 use Rattle.store.specs.Updates.{pairsFreed, pairsLaid, applied, CellsPastKept}
-use Rattle.stock.specs.Stock.{Stock, SoundStock, possibleIn, certainIn, isShort}
+use Rattle.stock.specs.Stock.{Stock, SoundStock, isShort, rayList, Possible, Certain}
 use Rattle.stock.specs.declared.CommitAnswer.{CommitAnswer}
 use Rattle.stock.specs.declared.CommitAnswer.the-variants.{Changed, Refused}
 use Rattle.change_list.specs.Changes.{Change, changesOf, changeRay, AllGood, updatesIn, badCauses}
@@ -57,9 +57,9 @@ pub record ChangesEffect (spec : DexelStockSpec) (g : DexelGrid) (changes : List
   pub is : after ≡ changedStock spec g before changes pairs
   pub isSound : SoundStock spec g after
   pub changed-rays : (d : Change) → List·Memᴰ d (changesOf changes pairs)
-      → (possibleIn spec (after .cells) (changeRay g (d .axis) (d .index)) ≡ d .possible-after) × (certainIn spec (after .cells) (changeRay g (d .axis) (d .index)) ≡ d .certain-after)
+      → (rayList spec (after .cells) (changeRay g (d .axis) (d .index)) Possible ≡ d .possible-after) × (rayList spec (after .cells) (changeRay g (d .axis) (d .index)) Certain ≡ d .certain-after)
   pub other-rays : (ray : ℕ) → ray < rayCount g → ((d : Change) → List·Memᴰ d (changesOf changes pairs) → ray ≡ changeRay g (d .axis) (d .index) → ⊥)
-      → (possibleIn spec (after .cells) ray ≡ possibleIn spec (before .cells) ray) × (certainIn spec (after .cells) ray ≡ certainIn spec (before .cells) ray)
+      → (rayList spec (after .cells) ray Possible ≡ rayList spec (before .cells) ray Possible) × (rayList spec (after .cells) ray Certain ≡ rayList spec (before .cells) ray Certain)
   pub kept : CellsPastKept (spec .«max_intervals») (2 * rayCount g) (before .cells) (after .cells)
 
 -- a refused call gives the number that is due and leaves the stock as it was; an accepted one, with no cause, answers how many rays changed

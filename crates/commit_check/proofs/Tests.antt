@@ -15,19 +15,18 @@ use Rattle.spans.specs.Spans.{ListOf}
 use Rattle.grid.specs.Rays.{rayCount, Ray}
 use Rattle.grid.specs.declared.DexelStockSpec.{DexelStockSpec}
 use Rattle.grid.specs.declared.DexelGrid.{DexelGrid}
-use Rattle.stock.specs.Stock.{Stock, SoundStock, isShort, Kind}
+use Rattle.stock.specs.Stock.{Stock, SoundStock, isShort, Kind, rayLists}
 use Rattle.stock.proofs.Causes.{room-of}
 use Rattle.log_model.specs.Logs.{entries, workNeeded, commitOf}
 use Rattle.log_model.specs.Model.{LogBuffersShort, LogInputBad, logCommitCauses}
 use Rattle.log_model.specs.Counts.{changedRayCount, pairsAfter}
 use Rattle.log_model.specs.Runs.{pointSets}
-use Rattle.log_model.specs.View.{listIn, listsIn, lentStore}
+use Rattle.log_model.specs.View.{lentStore}
 use Rattle.log_model.proofs.Decided.{rays-by, intervals-by}
 use Rattle.log_model.proofs.Doubles.{Doubles}
 use Rattle.log_model.proofs.View.{lent-laws}
 use Rattle.log_entries.specs.Named.{EachNamed, NamesAll}
 use Rattle.log_entries.proofs.Places.{each-no}
-use Rattle.log_model.specs.Updates.{stockLists}
 use Rattle.log_budget.specs.Answer.{budgetNumber, budgetOf}
 use Rattle.log_budget.specs.declared.BudgetAnswer.{BudgetAnswer}
 use Rattle.log_budget.specs.declared.BudgetAnswer.the-variants.{Kept, Rays, Intervals}
@@ -107,7 +106,7 @@ module _ (spec : DexelStockSpec) (g : DexelGrid) (s : Stock) (log : List Float) 
   good w sound (inr h) = h sound
 
   -- each list is the sound list of its points
-  lists : SoundStock spec g s → (r : Ray g) (k : Kind) → ListOf (pointSets g (lentStore spec g) s r k) (stockLists spec g s r k)
+  lists : SoundStock spec g s → (r : Ray g) (k : Kind) → ListOf (pointSets g (lentStore spec g) s r k) (rayLists spec g (s .cells) r k)
   unfolding pointSets
   lists sound r k = record { isSound = lent-laws spec g .sound-list s sound r k; points = λ p. refl }
 
@@ -158,43 +157,41 @@ module _ (spec : DexelStockSpec) (g : DexelGrid) (s : Stock) (log : List Float) 
         named-of-test r t h = t .yes (not-false r h)
 
         module _ (named : EachNamed g log) where
-          same-rays : changedRayCount g (listsIn spec g (s .cells)) (entries log) ≡ changedRayCount g (stockLists spec g s) (entries log)
-          unfolding listIn
+          same-rays : changedRayCount g (rayLists spec g (s .cells)) (entries log) ≡ changedRayCount g (rayLists spec g (s .cells)) (entries log)
           same-rays = refl
 
-          same-pairs : pairsAfter g (listsIn spec g (s .cells)) (entries log) ≡ pairsAfter g (stockLists spec g s) (entries log)
-          unfolding listIn
+          same-pairs : pairsAfter g (rayLists spec g (s .cells)) (entries log) ≡ pairsAfter g (rayLists spec g (s .cells)) (entries log)
           same-pairs = refl
 
           module _ (b : BudgetAnswer) (e : budgetNumber b ≡ budgetOf allowance (spec .«max_intervals»)
-              (changedRayCount g (listsIn spec g (s .cells)) (entries log)) (pairsAfter g (listsIn spec g (s .cells)) (entries log))) where
+              (changedRayCount g (rayLists spec g (s .cells)) (entries log)) (pairsAfter g (rayLists spec g (s .cells)) (entries log))) where
             -- 9
-            pub rays-due : Doubles g (stockLists spec g s) (entries log) → b ≡ Rays → LogCheckPost spec g s log allowance work 9
+            pub rays-due : Doubles g (rayLists spec g (s .cells)) (entries log) → b ≡ Rays → LogCheckPost spec g s log allowance work 9
             unfolding logCommitCauses Due
             rays-due o h =
-                let t = rays-passed allowance (spec .«max_intervals») (changedRayCount g (listsIn spec g (s .cells)) (entries log))
-                (pairsAfter g (listsIn spec g (s .cells)) (entries log)) (sym (ap budgetNumber h) ∙ e) in
-                let d = rays-by spec g (lentStore spec g .lent s) (pointSets g (lentStore spec g) s) (stockLists spec g s) (lists sound)
+                let t = rays-passed allowance (spec .«max_intervals») (changedRayCount g (rayLists spec g (s .cells)) (entries log))
+                (pairsAfter g (rayLists spec g (s .cells)) (entries log)) (sym (ap budgetNumber h) ∙ e) in
+                let d = rays-by spec g (lentStore spec g .lent s) (pointSets g (lentStore spec g) s) (rayLists spec g (s .cells)) (lists sound)
                 (s .generation) (commitOf log allowance work) o in
                 refused-by 8 (inr (enough room w, inr (good whole sound, inr (below, inr (each-no g log named, inl (d .0 (ap (ltb allowance) (sym same-rays) ∙ t), refl))))))
 
             -- 10
-            pub intervals-due : Doubles g (stockLists spec g s) (entries log) → b ≡ Intervals → LogCheckPost spec g s log allowance work 10
+            pub intervals-due : Doubles g (rayLists spec g (s .cells)) (entries log) → b ≡ Intervals → LogCheckPost spec g s log allowance work 10
             unfolding logCommitCauses Due
             intervals-due o h =
-                let t = intervals-passed allowance (spec .«max_intervals») (changedRayCount g (listsIn spec g (s .cells)) (entries log))
-                (pairsAfter g (listsIn spec g (s .cells)) (entries log)) (sym (ap budgetNumber h) ∙ e) in
-                let d = rays-by spec g (lentStore spec g .lent s) (pointSets g (lentStore spec g) s) (stockLists spec g s) (lists sound)
+                let t = intervals-passed allowance (spec .«max_intervals») (changedRayCount g (rayLists spec g (s .cells)) (entries log))
+                (pairsAfter g (rayLists spec g (s .cells)) (entries log)) (sym (ap budgetNumber h) ∙ e) in
+                let d = rays-by spec g (lentStore spec g .lent s) (pointSets g (lentStore spec g) s) (rayLists spec g (s .cells)) (lists sound)
                 (s .generation) (commitOf log allowance work) o in
-                let i = intervals-by spec g (lentStore spec g .lent s) (pointSets g (lentStore spec g) s) (stockLists spec g s) (lists sound)
+                let i = intervals-by spec g (lentStore spec g .lent s) (pointSets g (lentStore spec g) s) (rayLists spec g (s .cells)) (lists sound)
                 (s .generation) (commitOf log allowance work) o in
                 refused-by 9 (inr (enough room w, inr (good whole sound, inr (below, inr (each-no g log named, inr (d .1 (ap (ltb allowance) (sym same-rays) ∙ t .0), inl (i .0 (ap (ltb (spec .«max_intervals»)) (sym same-pairs) ∙ t .1), refl)))))))
 
             -- none
             pub all-passed : s .generation < 2 ^ 64 → b ≡ Kept → LogCheckPost spec g s log allowance work 0
             all-passed fits h =
-                let t = both-kept allowance (spec .«max_intervals») (changedRayCount g (listsIn spec g (s .cells)) (entries log))
-                (pairsAfter g (listsIn spec g (s .cells)) (entries log)) (sym (ap budgetNumber h) ∙ e) in
+                let t = both-kept allowance (spec .«max_intervals») (changedRayCount g (rayLists spec g (s .cells)) (entries log))
+                (pairsAfter g (rayLists spec g (s .cells)) (entries log)) (sym (ap budgetNumber h) ∙ e) in
                 record {
                   passed = λ z. record {
                     room = room;
@@ -203,8 +200,8 @@ module _ (spec : DexelStockSpec) (g : DexelGrid) (s : Stock) (log : List Float) 
                     sound = sound;
                     below = under (s .generation) fits below;
                     named = named;
-                    few-rays = ltb-false allowance (changedRayCount g (stockLists spec g s) (entries log)) (ap (ltb allowance) (sym same-rays) ∙ t .0);
-                    few-pairs = ltb-false (spec .«max_intervals») (pairsAfter g (stockLists spec g s) (entries log)) (ap (ltb (spec .«max_intervals»)) (sym same-pairs) ∙ t .1);
+                    few-rays = ltb-false allowance (changedRayCount g (rayLists spec g (s .cells)) (entries log)) (ap (ltb allowance) (sym same-rays) ∙ t .0);
+                    few-pairs = ltb-false (spec .«max_intervals») (pairsAfter g (rayLists spec g (s .cells)) (entries log)) (ap (ltb (spec .«max_intervals»)) (sym same-pairs) ∙ t .1);
                   };
                   due = λ ne. absurd (ne refl);
                 }
@@ -213,13 +210,13 @@ module _ (spec : DexelStockSpec) (g : DexelGrid) (s : Stock) (log : List Float) 
                 under n h ne = omega arith
 
   -- no cause is present where every test is passed
-  pub passes-none : Doubles g (stockLists spec g s) (entries log) → LogChecked spec g s log allowance work
+  pub passes-none : Doubles g (rayLists spec g (s .cells)) (entries log) → LogChecked spec g s log allowance work
       → NoneDue (stockLogCauses spec g s (commitOf log allowance work))
   unfolding logCommitCauses NoneDue
   passes-none o p =
-      let d = rays-by spec g (lentStore spec g .lent s) (pointSets g (lentStore spec g) s) (stockLists spec g s) (lists (p .sound))
+      let d = rays-by spec g (lentStore spec g .lent s) (pointSets g (lentStore spec g) s) (rayLists spec g (s .cells)) (lists (p .sound))
       (s .generation) (commitOf log allowance work) o in
-      let i = intervals-by spec g (lentStore spec g .lent s) (pointSets g (lentStore spec g) s) (stockLists spec g s) (lists (p .sound))
+      let i = intervals-by spec g (lentStore spec g .lent s) (pointSets g (lentStore spec g) s) (rayLists spec g (s .cells)) (lists (p .sound))
       (s .generation) (commitOf log allowance work) o in (
         enough (p .room) (p .work-room),
         (
@@ -228,7 +225,7 @@ module _ (spec : DexelStockSpec) (g : DexelGrid) (s : Stock) (log : List Float) 
             (λ z. under (s .generation) (p .below) z),
             (
               each-no g log (p .named),
-              (d .1 (le-ltb allowance (changedRayCount g (stockLists spec g s) (entries log)) (p .few-rays)), (i .1 (le-ltb (spec .«max_intervals») (pairsAfter g (stockLists spec g s) (entries log)) (p .few-pairs)), tt)),
+              (d .1 (le-ltb allowance (changedRayCount g (rayLists spec g (s .cells)) (entries log)) (p .few-rays)), (i .1 (le-ltb (spec .«max_intervals») (pairsAfter g (rayLists spec g (s .cells)) (entries log)) (p .few-pairs)), tt)),
             ),
           ),
         ),

@@ -7,7 +7,7 @@ use lib.Ieee.{Float}
 use Rattle.grid.specs.Rays.{rayCount}
 use Rattle.grid.specs.declared.DexelStockSpec.{DexelStockSpec}
 use Rattle.grid.specs.declared.DexelGrid.{DexelGrid}
-use Rattle.stock.specs.Stock.{Stock, SoundStock}
+use Rattle.stock.specs.Stock.{Stock, SoundStock, rayLists}
 use Rattle.refusal.specs.Refusal.{Cause, Due}
 use Rattle.log_model.specs.Logs.{entries, workNeeded, Commit, commitOf}
 use Rattle.log_model.specs.Model.{logCommitCauses}
@@ -15,7 +15,6 @@ use Rattle.log_model.specs.Counts.{changedRayCount, pairsAfter}
 use Rattle.log_model.specs.Runs.{pointSets}
 use Rattle.log_model.specs.View.{lentStore}
 use Rattle.log_entries.specs.Named.{EachNamed}
-use Rattle.log_model.specs.Updates.{stockLists}
 use Rattle.store.specs.Steps.{Room}
 
 -- every test of the commit is passed
@@ -26,8 +25,8 @@ pub record LogChecked (spec : DexelStockSpec) (g : DexelGrid) (s : Stock) (log :
   pub sound : SoundStock spec g s
   pub below : s .generation < 2 ^ 64 - 1
   pub named : EachNamed g log
-  pub few-rays : changedRayCount g (stockLists spec g s) (entries log) ≤ allowance
-  pub few-pairs : pairsAfter g (stockLists spec g s) (entries log) ≤ spec .«max_intervals»
+  pub few-rays : changedRayCount g (rayLists spec g (s .cells)) (entries log) ≤ allowance
+  pub few-pairs : pairsAfter g (rayLists spec g (s .cells)) (entries log) ≤ spec .«max_intervals»
 
 -- the causes of a log commit on a stock
 abbrev pub stockLogCauses : (spec : DexelStockSpec) (g : DexelGrid) → Stock → Commit → List Cause

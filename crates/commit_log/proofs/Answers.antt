@@ -15,15 +15,15 @@ use Rattle.grid.specs.declared.DexelGrid.{DexelGrid}
 use Rattle.store.specs.Store.{usedAt}
 use Rattle.store.specs.Updates.{Cells, CellsPastKept, pairsFreed, pairsLaid, applied}
 use Rattle.store.proofs.Checked.{count-of}
-use Rattle.stock.specs.Stock.{Stock}
+use Rattle.stock.specs.Stock.{Stock, rayLists}
 use Rattle.stock.specs.declared.CommitAnswer.{CommitAnswer}
 use Rattle.stock.specs.declared.CommitAnswer.the-variants.{Changed, Refused}
 use Rattle.log_model.specs.Logs.{entries, commitOf}
 use Rattle.log_model.specs.Model.{AnswerDue, refused}
 use Rattle.log_model.specs.Runs.{pointSets, CommitEffect, AcceptedEffect}
-use Rattle.log_model.specs.View.{listIn, lentStore, CommitOnAnyGrid}
+use Rattle.log_model.specs.View.{lentStore, CommitOnAnyGrid}
 use Rattle.log_model.proofs.Doubles.{DoubleCells, Doubles, all-doubles}
-use Rattle.log_model.specs.Updates.{MergeUpdates, committedStock, stockLists}
+use Rattle.log_model.specs.Updates.{MergeUpdates, committedStock}
 use Rattle.log_model.proofs.Leaves.{changed-rays, all-updated, cut-sound, cut}
 use Rattle.commit_check.specs.Tests.{LogChecked, LogCheckPost}
 use Rattle.commit_check.proofs.Tests.{passes-none}
@@ -41,7 +41,6 @@ module _ (spec : DexelStockSpec) (g : DexelGrid) (s : Stock) (log : List Float) 
 
   -- what the tests make sure of
   pub ready : GridFacts spec g → (k : ℕ) → LogCheckPost spec g s log allowance work k → k ≡ 0 → ApplyPre spec g (s .cells) log work
-  unfolding listIn
   ready f k t z = let p = t .passed z in record {
     facts = f;
     room = p .room;
@@ -59,11 +58,10 @@ module _ (spec : DexelStockSpec) (g : DexelGrid) (s : Stock) (log : List Float) 
     passes : LogChecked spec g s log allowance work
     passes = tested .passed z
 
-    doubles : Doubles g (stockLists spec g s) (entries log)
+    doubles : Doubles g (rayLists spec g (s .cells)) (entries log)
     doubles = all-doubles spec g s log ds dl
 
-    asked : MergeUpdates g (stockLists spec g s) (entries log) 0 (done .updates) m
-    unfolding listIn
+    asked : MergeUpdates g (rayLists spec g (s .cells)) (entries log) 0 (done .updates) m
     asked = done .merges
 
     module _ (total : ℕ) (counted : total ≡ countTo (usedAt (d .spans) (d .links)) (spec .«max_intervals»)) where

@@ -12,13 +12,13 @@ use Rattle.grid.specs.declared.DexelGrid.{DexelGrid}
 use Rattle.grid.specs.declared.GridAnswer.{GridAnswer}
 use Rattle.grid.specs.declared.GridAnswer.the-variants.{Accepted as Griddable, Refused as NoGrid}
 use Rattle.store.specs.Updates.{Update, CellsPastKept}
-use Rattle.stock.specs.Stock.{Stock}
+use Rattle.stock.specs.Stock.{Stock, rayLists}
 use Rattle.stock.specs.declared.CommitAnswer.{CommitAnswer}
 use Rattle.stock.specs.declared.CommitAnswer.the-variants.{Changed, Refused}
 use Rattle.log_model.specs.Logs.{entries, commitOf}
 use Rattle.log_model.specs.Model.{LogAnswer, changed, refused}
 use Rattle.log_model.specs.View.{CommitOnAnyGrid}
-use Rattle.log_model.specs.Updates.{MergeUpdates, committedStock, stockLists}
+use Rattle.log_model.specs.Updates.{MergeUpdates, committedStock}
 
 -- the answer in the model's words: how many rays changed, or document 01's number
 abbrev pub answerOf : CommitAnswer → LogAnswer
@@ -29,7 +29,7 @@ answerOf (Refused k) = refused k
 -- the work buffer is all plus zero.
 pub record AcceptedCells (spec : DexelStockSpec) (g : DexelGrid) (s : Stock) (log work : List Float) (m : ℕ) (t : Stock) (work′ : List Float) : Type 0 where
   pub updates : List Update
-  pub merges : MergeUpdates g (stockLists spec g s) (entries log) 0 updates m
+  pub merges : MergeUpdates g (rayLists spec g (s .cells)) (entries log) 0 updates m
   pub left : t ≡ committedStock spec s updates
   pub past : CellsPastKept (spec .«max_intervals») (2 * rayCount g) (s .cells) (t .cells)
   pub cleared : work′ ≡ replicate (length work) plusZero

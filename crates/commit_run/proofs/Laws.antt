@@ -15,13 +15,13 @@ use Rattle.grid.specs.Causes.{gridCauses, gridIn, ByCauses}
 use Rattle.grid.specs.declared.DexelStockSpec.{DexelStockSpec}
 use Rattle.grid.specs.declared.GridAnswer.{GridAnswer}
 use Rattle.grid.specs.declared.GridAnswer.the-variants.{Accepted, Refused}
-use Rattle.stock.specs.Stock.{Stock, SoundStock, Kind}
+use Rattle.stock.specs.Stock.{Stock, SoundStock, Kind, rayList}
 use Rattle.stock.specs.declared.CommitAnswer.{CommitAnswer}
 use Rattle.stock.specs.declared.CommitAnswer.the-variants.{Changed, Refused as NotCommitted}
 use Rattle.log_model.specs.Logs.{Commit}
 use Rattle.log_model.specs.Model.{LogAnswer, changed, refused, modelAfter}
 use Rattle.log_model.specs.Runs.{modelStart}
-use Rattle.log_model.specs.View.{listIn, lentStore, CommitOnAnyGrid}
+use Rattle.log_model.specs.View.{lentStore, CommitOnAnyGrid}
 use Rattle.commit_log.specs.LogCommit.{answerOf, LogCellsOnAnyGrid}
 use Rattle.commit_run.specs.RunLogs.{commitsTo, answerBy, answersTo, answerCode, answerNumber, answered, CommitsTo, none, more, RunOnGridPost, RunLogsPost}
 use Rattle.commit_run.proofs.Turns.{told-at}
@@ -97,7 +97,7 @@ pub only-one : (spec : DexelStockSpec) (units : List ℕ) (logs : List Float) (e
     → ((p : Float) → Point p → holds l p
     ≡ modelAfter (gridIn spec) (modelStart (gridIn spec) (lentStore spec (gridIn spec)) s)
     (commitsTo logs ends allowances (length work / 2) (length ends)) (answersTo ks (length ends)) .sets r k p)
-    → equal l (listIn spec t (r .0) k) ≡ true
+    → equal l (rayList spec (t .cells) (r .0) k) ≡ true
 unfolding RunOnGridPost
 only-one spec units logs ends allowances s work answers t w ks x n snd r k l d h f =
     x .ran n .settled snd .only-list r k l d (x .doubles (r .0) k) h f

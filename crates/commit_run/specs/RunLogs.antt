@@ -9,14 +9,14 @@ use Rattle.refusal.specs.Refusal.{NoneDue}
 use Rattle.grid.specs.Causes.{gridCauses, gridIn}
 use Rattle.grid.specs.declared.DexelStockSpec.{DexelStockSpec}
 use Rattle.grid.specs.declared.DexelGrid.{DexelGrid}
-use Rattle.stock.specs.Stock.{Stock, SoundStock, Kind}
+use Rattle.stock.specs.Stock.{Stock, SoundStock, Kind, rayList}
 use Rattle.stock.specs.declared.CommitAnswer.{CommitAnswer}
 use Rattle.stock.specs.declared.CommitAnswer.the-variants.{Changed, Refused}
 use Rattle.spans.specs.Spans.{All, Double}
 use Rattle.log_model.specs.Logs.{Commit}
 use Rattle.log_model.specs.Model.{LogAnswer, changed, refused}
 use Rattle.log_model.specs.Runs.{Run, RunMeetsModel}
-use Rattle.log_model.specs.View.{listIn, lentStore}
+use Rattle.log_model.specs.View.{lentStore}
 use Rattle.commit_log.specs.LogCommit.{LogCommitPost}
 
 -- the cell where log i begins: where the one before it ends
@@ -91,4 +91,4 @@ pub record RunLogsPost (spec : DexelStockSpec) (units : List ℕ) (logs : List F
   pub commits : CommitsTo spec units logs ends allowances s work answers (length ends) t work′ answers′
   pub ran : RunOnGridPost spec units s (commitsTo logs ends allowances (length work / 2) (length ends)) (answersTo answers′ (length ends)) t
   -- each end of every list that is left is a double
-  pub doubles : (r : ℕ) (k : Kind) → All Double (listIn spec t r k)
+  pub doubles : (r : ℕ) (k : Kind) → All Double (rayList spec (t .cells) r k)

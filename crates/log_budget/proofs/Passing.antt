@@ -14,13 +14,13 @@ use Rattle.grid.specs.declared.DexelGrid.{DexelGrid}
 use Rattle.store.specs.Updates.{Cells}
 use Rattle.log_model.specs.Logs.{entryAt, entryCount, entries, entryRay}
 use Rattle.log_model.specs.Counts.{changedRayCount, pairsAfter}
-use Rattle.log_model.specs.View.{listsIn}
 use Rattle.log_entries.specs.Named.{namedFrom}
 use Rattle.log_entries.proofs.Places.{AllFrom, all-first, all-rest}
 use Rattle.log_count.specs.Totals.{Countable, Prefixed, sumBelow, rayChangeCount}
 use Rattle.log_count.specs.declared.RayTotals.{RayTotals}
 use Rattle.log_count.proofs.Sums.{sum-prefix}
 use Rattle.log_count.proofs.Bounds.{total-is, changed-is, left-is, unchanged, untouched}
+use Rattle.stock.specs.Stock.{rayLists}
 
 -- no place has an entry on the ray
 none-from : (g : DexelGrid) (log : List Float) (ray i k : ℕ) → AllFrom (λ j. eqb (entryRay g (entryAt log j)) ray ≡ false) i k
@@ -72,13 +72,13 @@ module _ (spec : DexelStockSpec) (g : DexelGrid) (c : Cells) (intervals : ℕ) (
   start t a b = record { changed = a; pairs = omega (arith, total-is spec g c intervals log ok) }
 
   pub changed-so-far : (t : RayTotals) (ray : ℕ) → ray ≤ rayCount g → Prefixed spec g c log ray t
-      → t .changed ≤ changedRayCount g (listsIn spec g c) (entries log)
+      → t .changed ≤ changedRayCount g (rayLists spec g c) (entries log)
   changed-so-far t ray h p =
       let f : ℕ → ℕ = λ r. cond (rayChangeCount spec g c log r) 1 0 in
       omega (arith, sum-prefix f (rayCount g) ray h, p .changed, changed-is spec g c intervals log ok)
 
   pub all-counted : (t : RayTotals) (ray : ℕ) → ray ≤ rayCount g → rayCount g ≤ ray → Prefixed spec g c log ray t
-      → (t .changed ≡ changedRayCount g (listsIn spec g c) (entries log)) × (t .pairs ≡ pairsAfter g (listsIn spec g c) (entries log))
+      → (t .changed ≡ changedRayCount g (rayLists spec g c) (entries log)) × (t .pairs ≡ pairsAfter g (rayLists spec g c) (entries log))
   all-counted t ray x y q =
       let e : ray ≡ rayCount g = omega arith in
       let p : Prefixed spec g c log (rayCount g) t = rw e at q in

@@ -9,9 +9,9 @@ use Rattle.grid.specs.declared.DexelGrid.{DexelGrid}
 use Rattle.store.specs.Updates.{Cells}
 use Rattle.log_model.specs.Logs.{entries}
 use Rattle.log_model.specs.Counts.{changedRayCount, pairsAfter}
-use Rattle.log_model.specs.View.{listsIn}
 use Rattle.log_budget.specs.declared.BudgetAnswer.{BudgetAnswer}
 use Rattle.log_budget.specs.declared.BudgetAnswer.the-variants.{Kept, Rays, Intervals}
+use Rattle.stock.specs.Stock.{rayLists}
 
 -- document 01's number of each answer; 0 where there is none
 abbrev pub budgetNumber : BudgetAnswer → ℕ
@@ -26,5 +26,5 @@ budgetOf allowance intervals changed left = cond (ltb allowance changed) 9 (cond
 -- the same of a log on a store: the rays that it would change, and the pairs of all lists as they would then be
 abbrev pub budgetIn : (spec : DexelStockSpec) (g : DexelGrid) → Cells → (log : List Float) (allowance : ℕ) → ℕ
 budgetIn spec g c log allowance =
-    budgetOf allowance (spec .«max_intervals») (changedRayCount g (listsIn spec g c) (entries log))
-    (pairsAfter g (listsIn spec g c) (entries log))
+    budgetOf allowance (spec .«max_intervals») (changedRayCount g (rayLists spec g c) (entries log))
+    (pairsAfter g (rayLists spec g c) (entries log))

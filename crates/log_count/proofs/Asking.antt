@@ -10,7 +10,6 @@ use Rattle.grid.specs.declared.DexelStockSpec.{DexelStockSpec}
 use Rattle.grid.specs.declared.DexelGrid.{DexelGrid}
 use Rattle.spans.specs.Spans.{sound}
 use Rattle.store.specs.Updates.{Cells}
-use Rattle.stock.specs.Stock.{possibleIn, certainIn}
 use Rattle.store_read.specs.Reading.{Readable}
 use Rattle.store_read.proofs.Steps.{readable}
 use Rattle.log_model.specs.Logs.{entryCount}
@@ -21,6 +20,7 @@ use Rattle.log_count.specs.declared.ListCount.{ListCount}
 use Rattle.log_count.specs.declared.RayTotals.{RayTotals}
 use Rattle.log_count.proofs.Keyed.{keyed-points}
 use Rattle.log_count.proofs.Prefixes.{ray-addable, ray-added}
+use Rattle.stock.specs.Stock.{rayList, Possible, Certain}
 
 module _ {spec : DexelStockSpec} {g : DexelGrid} {c : Cells} {log : List Float} {ray : ℕ} {t : RayTotals} {buffer : List Float}
     (a : CountPre spec g c log ray t buffer) where
@@ -34,30 +34,30 @@ module _ {spec : DexelStockSpec} {g : DexelGrid} {c : Cells} {log : List Float} 
   certain-readable = let ok = a .counting .countable in readable (ok .isSound .store) (ok .room .in-spans) (ok .room .in-links)
       (2 * ray + 1) (omega (arith, a .inside))
 
-  pub possible-sound : sound (possibleIn spec c ray) ≡ true
+  pub possible-sound : sound (rayList spec c ray Possible) ≡ true
   possible-sound = a .counting .countable .isSound .valid ray (a .inside) .possible-sound
 
-  pub certain-sound : sound (certainIn spec c ray) ≡ true
+  pub certain-sound : sound (rayList spec c ray Certain) ≡ true
   certain-sound = a .counting .countable .isSound .valid ray (a .inside) .certain-sound
 
   -- ---- by the keys of its entries
   module _ {keys : List ℕ} (k : KeysOf g log ray keys) {before after : List Float} {p : ListCount} where
     pub keyed-possible : CountListPost (spec .«max_intervals») (c .spans) (c .links) (getD (c .heads) (2 * ray) 0)
         (hitsTo log keys false (length keys)) before after p
-        → ListCounted (possibleIn spec c ray) (possibleLoses g log ray) p
+        → ListCounted (rayList spec c ray Possible) (possibleLoses g log ray) p
     keyed-possible n = n .counted (possibleLoses g log ray) possible-sound
         (keyed-points g log ray keys false (a .some) (a .counting .countable .named) k)
 
     pub keyed-certain : CountListPost (spec .«max_intervals») (c .spans) (c .links) (getD (c .heads) (2 * ray + 1) 0)
         (hitsTo log keys true (length keys)) before after p
-        → ListCounted (certainIn spec c ray) (certainLoses g log ray) p
+        → ListCounted (rayList spec c ray Certain) (certainLoses g log ray) p
     keyed-certain n = n .counted (certainLoses g log ray) certain-sound
         (keyed-points g log ray keys true (a .some) (a .counting .countable .named) k)
 
   -- ---- its totals
   module _ {p q : ListCount} (fit : spec .«max_intervals» + 3 * entryCount log < 2 ^ 64)
-      (possible : ListCounted (possibleIn spec c ray) (possibleLoses g log ray) p)
-      (certain : ListCounted (certainIn spec c ray) (certainLoses g log ray) q) where
+      (possible : ListCounted (rayList spec c ray Possible) (possibleLoses g log ray) p)
+      (certain : ListCounted (rayList spec c ray Certain) (certainLoses g log ray) q) where
     pub asked-addable : AddRayPre t p q
     asked-addable = ray-addable spec g c log ray t p q (a .counting) (a .inside) (a .prefixed) fit possible certain
 

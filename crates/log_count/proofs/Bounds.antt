@@ -17,12 +17,11 @@ use Rattle.spans.specs.Spans.{holds, sound}
 use Rattle.store.specs.Store.{placesOf}
 use Rattle.store.specs.Updates.{Cells}
 use Rattle.store.proofs.FreePlaces.{free-records}
-use Rattle.stock.specs.Stock.{Stock, possibleIn, certainIn, SoundStock, Possible, Certain}
+use Rattle.stock.specs.Stock.{Stock, SoundStock, Possible, Certain, rayList, rayLists}
 use Rattle.store_read.proofs.Steps.{ends-length}
 use Rattle.log_model.specs.Logs.{entryAt, entryCount, entries, entryRay, HitKind, outer, inner}
 use Rattle.log_model.specs.Model.{pairTotal}
 use Rattle.log_model.specs.Counts.{isHitBy, startsLeft, hitsOnList, isRayChanged, changedRayCount, pairsAfter}
-use Rattle.log_model.specs.View.{listNumber, listIn, listsIn}
 use Rattle.log_model.proofs.View.{lent-laws}
 use Rattle.log_model.proofs.Starts.{pairs-left}
 use Rattle.log_entries.specs.Named.{hitsOnRayNumber, namedFrom, pairsAt}
@@ -95,9 +94,9 @@ module _ (spec : DexelStockSpec) (g : DexelGrid) (c : Cells) (intervals : ℕ) (
 
   -- the interval total is the sum of the pairs of all rays
   pub total-is : intervals ≡ sumBelow (pairsOf spec c) (rayCount g)
-  unfolding stock pairTotal pairsOf listIn listNumber
+  unfolding stock pairTotal pairsOf
   total-is = lent-laws spec g .all-pairs stock isStock
-      ∙ sum-over g (λ r. length (possibleIn spec c (r .0)) / 2 + length (certainIn spec c (r .0)) / 2) (pairsOf spec c) (λ r. refl)
+      ∙ sum-over g (λ r. length (rayList spec c (r .0) Possible) / 2 + length (rayList spec c (r .0) Certain) / 2) (pairsOf spec c) (λ r. refl)
 
   pub total-fits : intervals ≤ spec .«max_intervals»
   total-fits = omega (
@@ -107,19 +106,19 @@ module _ (spec : DexelStockSpec) (g : DexelGrid) (c : Cells) (intervals : ℕ) (
   )
 
   -- the counts of the causes 9 and 10 as sums by number
-  pub changed-is : changedRayCount g (listsIn spec g c) (entries log) ≡ sumBelow (λ ray. cond (rayChangeCount spec g c log ray) 1 0) (rayCount g)
-  unfolding changedRayCount isRayChanged rayChangeCount hitsOnList listNumber
-  changed-is = sum-over g (λ r. cond (isRayChanged g (listsIn spec g c) (entries log) r) 1 0) (λ ray. cond (rayChangeCount spec g c log ray) 1 0)
-      (λ r. ap₂ (λ (o i : List Float). cond (isHitBy (possibleIn spec c (r .0)) i || isHitBy (certainIn spec c (r .0)) (o ++ i)) 1 0)
+  pub changed-is : changedRayCount g (rayLists spec g c) (entries log) ≡ sumBelow (λ ray. cond (rayChangeCount spec g c log ray) 1 0) (rayCount g)
+  unfolding changedRayCount isRayChanged rayChangeCount hitsOnList
+  changed-is = sum-over g (λ r. cond (isRayChanged g (rayLists spec g c) (entries log) r) 1 0) (λ ray. cond (rayChangeCount spec g c log ray) 1 0)
+      (λ r. ap₂ (λ (o i : List Float). cond (isHitBy (rayList spec c (r .0) Possible) i || isHitBy (rayList spec c (r .0) Certain) (o ++ i)) 1 0)
       (pairs-named g (entries log) r outer) (pairs-named g (entries log) r inner))
 
-  pub left-is : pairsAfter g (listsIn spec g c) (entries log) ≡ sumBelow (leftOf spec g c log) (rayCount g)
-  unfolding pairsAfter leftOf hitsOnList listNumber
+  pub left-is : pairsAfter g (rayLists spec g c) (entries log) ≡ sumBelow (leftOf spec g c log) (rayCount g)
+  unfolding pairsAfter leftOf hitsOnList
   left-is = sum-over g
-      (λ r. startsLeft (listsIn spec g c r Possible) (hitsOnList g (entries log) r Possible)
-      + startsLeft (listsIn spec g c r Certain) (hitsOnList g (entries log) r Certain))
+      (λ r. startsLeft (rayLists spec g c r Possible) (hitsOnList g (entries log) r Possible)
+      + startsLeft (rayLists spec g c r Certain) (hitsOnList g (entries log) r Certain))
       (leftOf spec g c log)
-      (λ r. ap₂ (λ (o i : List Float). startsLeft (possibleIn spec c (r .0)) i + startsLeft (certainIn spec c (r .0)) (o ++ i))
+      (λ r. ap₂ (λ (o i : List Float). startsLeft (rayList spec c (r .0) Possible) i + startsLeft (rayList spec c (r .0) Certain) (o ++ i))
       (pairs-named g (entries log) r outer) (pairs-named g (entries log) r inner))
 
   pub few-rays : rayCount g ≤ 2 ^ 53
@@ -138,14 +137,14 @@ module _ (spec : DexelStockSpec) (g : DexelGrid) (c : Cells) (intervals : ℕ) (
   unfolding entriesOf
   all-entries = shared-out g log 0 (entryCount log) (λ j _ h. each-below g log (ok .named) j (omega arith))
 
-  -- three pairs more for each entry: one on Possible, two on Certain
+  -- three pairs more for each entry: one on possible, two on certain
   pub left-le : (ray : ℕ) → leftOf spec g c log ray ≤ pairsOf spec c ray + 3 * entriesOf ray
   unfolding leftOf pairsOf
   left-le ray =
       let i = hitsOnRayNumber g (entries log) ray inner in
       let o = hitsOnRayNumber g (entries log) ray outer in
-      let a = starts-le (possibleIn spec c ray) i in
-      let b = starts-le (certainIn spec c ray) (o ++ i) in
+      let a = starts-le (rayList spec c ray Possible) i in
+      let b = starts-le (rayList spec c ray Certain) (o ++ i) in
       let d = length-append o i in
       let x = hits-of ray inner in
       let y = hits-of ray outer in
@@ -160,16 +159,16 @@ module _ (spec : DexelStockSpec) (g : DexelGrid) (c : Cells) (intervals : ℕ) (
 
     pub unchanged : rayChangeCount spec g c log ray ≡ false
     unfolding rayChangeCount
-    unchanged = ap₂ (λ (o i : List Float). isHitBy (possibleIn spec c ray) i || isHitBy (certainIn spec c ray) (o ++ i)) (no-pairs outer)
+    unchanged = ap₂ (λ (o i : List Float). isHitBy (rayList spec c ray Possible) i || isHitBy (rayList spec c ray Certain) (o ++ i)) (no-pairs outer)
         (no-pairs inner)
-        ∙ ap₂ _||_ (no-hits (possibleIn spec c ray)) (no-hits (certainIn spec c ray))
+        ∙ ap₂ _||_ (no-hits (rayList spec c ray Possible)) (no-hits (rayList spec c ray Certain))
 
     pub untouched : leftOf spec g c log ray ≡ pairsOf spec c ray
     unfolding leftOf pairsOf
-    untouched = ap₂ (λ (o i : List Float). startsLeft (possibleIn spec c ray) i + startsLeft (certainIn spec c ray) (o ++ i))
+    untouched = ap₂ (λ (o i : List Float). startsLeft (rayList spec c ray Possible) i + startsLeft (rayList spec c ray Certain) (o ++ i))
         (no-pairs outer) (no-pairs inner)
-        ∙ ap₂ _+_ (none-taken (possibleIn spec c ray) (ok .isSound .valid ray h .possible-sound))
-        (none-taken (certainIn spec c ray) (ok .isSound .valid ray h .certain-sound))
+        ∙ ap₂ _+_ (none-taken (rayList spec c ray Possible) (ok .isSound .valid ray h .possible-sound))
+        (none-taken (rayList spec c ray Certain) (ok .isSound .valid ray h .certain-sound))
 
   -- a ray that changes has an entry
   changed-le : (ray : ℕ) → ray < rayCount g → cond (rayChangeCount spec g c log ray) 1 0 ≤ entriesOf ray
@@ -186,11 +185,11 @@ module _ (spec : DexelStockSpec) (g : DexelGrid) (c : Cells) (intervals : ℕ) (
 
   -- ---- THE LAWS of the cheap test
 
-  pub rays-le : changedRayCount g (listsIn spec g c) (entries log) ≤ entryCount log
+  pub rays-le : changedRayCount g (rayLists spec g c) (entries log) ≤ entryCount log
   rays-le = omega (arith, changed-is, all-entries, sum-le (λ ray. cond (rayChangeCount spec g c log ray) 1 0) entriesOf (rayCount g) changed-le)
 
   -- no log changes more rays than it has entries, or than there are
-  pub rays-allowed : {a : ℕ} → (entryCount log ≤ a) ⊎ (rayCount g ≤ a) → changedRayCount g (listsIn spec g c) (entries log) ≤ a
+  pub rays-allowed : {a : ℕ} → (entryCount log ≤ a) ⊎ (rayCount g ≤ a) → changedRayCount g (rayLists spec g c) (entries log) ≤ a
   rays-allowed (inl h) = omega (arith, rays-le)
   rays-allowed (inr h) = omega (arith, changed-is, at-most-all (rayChangeCount spec g c log) (rayCount g))
 
@@ -198,7 +197,7 @@ module _ (spec : DexelStockSpec) (g : DexelGrid) (c : Cells) (intervals : ℕ) (
   thrice = sum-plus (pairsOf spec c) (λ ray. 3 * entriesOf ray) (rayCount g)
       ∙ ap₂ _+_ (sym total-is) (sum-times 3 entriesOf (rayCount g) ∙ ap (λ (k : ℕ). 3 * k) all-entries)
 
-  pub pairs-le : pairsAfter g (listsIn spec g c) (entries log) ≤ intervals + 3 * entryCount log
+  pub pairs-le : pairsAfter g (rayLists spec g c) (entries log) ≤ intervals + 3 * entryCount log
   pairs-le = omega (
     arith,
     left-is,

@@ -10,7 +10,6 @@ use Rattle.grid.specs.Rays.{rayCount}
 use Rattle.grid.specs.declared.DexelStockSpec.{DexelStockSpec}
 use Rattle.grid.specs.declared.DexelGrid.{DexelGrid}
 use Rattle.store.specs.Updates.{Cells}
-use Rattle.stock.specs.Stock.{possibleIn, certainIn}
 use Rattle.log_model.specs.Logs.{entryCount}
 use Rattle.log_count.specs.Totals.{Counting, Prefixed, sumBelow, pairsOf, leftOf, rayChangeCount}
 use Rattle.log_count.specs.Steps.{ListCounted, AddRayPre, AddRayPost, possibleLoses, certainLoses}
@@ -18,12 +17,13 @@ use Rattle.log_count.specs.declared.ListCount.{ListCount}
 use Rattle.log_count.specs.declared.RayTotals.{RayTotals}
 use Rattle.log_count.proofs.Sums.{sum-le, sum-prefix, sum-next, sum-plus, sum-times}
 use Rattle.log_count.proofs.Bounds.{at-most-all, total-is, total-fits, few-rays, entriesOf, all-entries, left-le, left-fits}
+use Rattle.stock.specs.Stock.{rayList, Possible, Certain}
 
 module _ (spec : DexelStockSpec) (g : DexelGrid) (c : Cells) (log : List Float) (ray : ℕ) (t : RayTotals) (p q : ListCount)
     (ok : Counting spec g c log) (inside : ray < rayCount g) (have : Prefixed spec g c log ray t)
     (fit : spec .«max_intervals» + 3 * entryCount log < 2 ^ 64)
-    (possible : ListCounted (possibleIn spec c ray) (possibleLoses g log ray) p)
-    (certain : ListCounted (certainIn spec c ray) (certainLoses g log ray) q) where
+    (possible : ListCounted (rayList spec c ray Possible) (possibleLoses g log ray) p)
+    (certain : ListCounted (rayList spec c ray Certain) (certainLoses g log ray) q) where
   -- ---- the ray
 
   before-is : p .before + q .before ≡ pairsOf spec c ray

@@ -9,7 +9,7 @@ use Rattle.grid.specs.Rays.{rayCount}
 use Rattle.grid.specs.declared.DexelStockSpec.{DexelStockSpec}
 use Rattle.grid.specs.declared.DexelGrid.{DexelGrid}
 use Rattle.store.specs.Updates.{Cells}
-use Rattle.stock.specs.Stock.{SoundCells, possibleIn, certainIn}
+use Rattle.stock.specs.Stock.{SoundCells, rayList, Possible, Certain}
 use Rattle.log_model.specs.Logs.{entries, outer, inner}
 use Rattle.log_model.specs.Counts.{isHitBy, startsLeft}
 use Rattle.log_entries.specs.Named.{EachNamed, hitsOnRayNumber}
@@ -38,21 +38,21 @@ sumBelow f (suc i) = sumBelow f i + f i
 
 -- the pairs of its lists as they stand
 unfoldable pub pairsOf : DexelStockSpec → Cells → ℕ → ℕ
-pairsOf spec c ray = length (possibleIn spec c ray) / 2 + length (certainIn spec c ray) / 2
+pairsOf spec c ray = length (rayList spec c ray Possible) / 2 + length (rayList spec c ray Certain) / 2
 
 -- and when the log's hits are taken from them
 unfoldable pub leftOf : DexelStockSpec → DexelGrid → Cells → List Float → ℕ → ℕ
 unfolding startsLeft hitsOnRayNumber entries
 leftOf spec g c log ray =
-    startsLeft (possibleIn spec c ray) (hitsOnRayNumber g (entries log) ray inner)
-    + startsLeft (certainIn spec c ray) (hitsOnRayNumber g (entries log) ray outer ++ hitsOnRayNumber g (entries log) ray inner)
+    startsLeft (rayList spec c ray Possible) (hitsOnRayNumber g (entries log) ray inner)
+    + startsLeft (rayList spec c ray Certain) (hitsOnRayNumber g (entries log) ray outer ++ hitsOnRayNumber g (entries log) ray inner)
 
 -- the ray would change
 unfoldable pub rayChangeCount : DexelStockSpec → DexelGrid → Cells → List Float → ℕ → Bool
 unfolding isHitBy hitsOnRayNumber entries
 rayChangeCount spec g c log ray =
-    isHitBy (possibleIn spec c ray) (hitsOnRayNumber g (entries log) ray inner)
-    || isHitBy (certainIn spec c ray) (hitsOnRayNumber g (entries log) ray outer ++ hitsOnRayNumber g (entries log) ray inner)
+    isHitBy (rayList spec c ray Possible) (hitsOnRayNumber g (entries log) ray inner)
+    || isHitBy (rayList spec c ray Certain) (hitsOnRayNumber g (entries log) ray outer ++ hitsOnRayNumber g (entries log) ray inner)
 
 -- ---- all rays
 

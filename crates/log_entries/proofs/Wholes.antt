@@ -13,6 +13,7 @@ use lib.Ieee.Exact.{HasValue}
 use lib.Ieee.Back.{round-whole}
 use Rattle.logic.proofs.Bools.{and-left, and-right, both}
 use Rattle.log_model.specs.Logs.{isWhole}
+
 -- a positive double with the value of the whole number q, which the format counts without a gap
 valued : (m q : ℕ) (e : ℤ) (y : Float) → HasValue y false q 1 → eq (fin false m e) y ≡ true → m * up e ≡ q * down e
 unfolding eq

@@ -8,6 +8,7 @@ use lib.ListN.{getD}
 use lib.Ieee.{Float, lt}
 use Rattle.spans.specs.Spans.{within, holds}
 use Rattle.log_model.specs.Logs.{Entry, entryAt, entryCount, outer, inner, hitLo, hitHi}
+
 -- the entry that a key stands for: what the key leaves when it is divided by the number of entries is its place
 unfoldable pub entryOfKey : List Float → ℕ → Entry
 unfolding entryAt

@@ -14,18 +14,17 @@ use Rattle.grid.specs.Rays.{rayCount, Ray}
 use Rattle.grid.specs.declared.DexelStockSpec.{DexelStockSpec}
 use Rattle.grid.specs.declared.DexelGrid.{DexelGrid}
 use Rattle.store.specs.Updates.{Cells, Update, update}
-use Rattle.stock.specs.Stock.{Stock, SoundCells, Kind, Possible, Certain}
+use Rattle.stock.specs.Stock.{Stock, SoundCells, Kind, Possible, Certain, rayLists}
 use Rattle.stock.proofs.Rays.{sound-chained}
 use Rattle.log_model.specs.Logs.{Entry, entries, entryCount}
 use Rattle.log_model.specs.Model.{sumTo}
 use Rattle.log_model.specs.Counts.{startsLeft, hitsOnList, pairsAfter}
-use Rattle.log_model.specs.View.{listIn}
 use Rattle.log_model.proofs.Doubles.{DoubleCells, Doubles, all-doubles}
 use Rattle.log_numbers.specs.Numbers.{numberCell, numberAt, largestNumber}
 use Rattle.log_numbers.proofs.Cells.{number-put, number-same}
 use Rattle.log_lay.specs.Updates.{firstSize, possibleCells, certainCells, updatesFrom, listsEnd}
 use Rattle.log_lay.proofs.Lists.{updates-none, end-none, updates-same, end-same, updates-new, end-new}
-use Rattle.log_model.specs.Updates.{MergeUpdates, none, same, new, stockLists}
+use Rattle.log_model.specs.Updates.{MergeUpdates, none, same, new}
 use Rattle.log_model.proofs.Totals.{sum-at, sum-next}
 use Rattle.log_group.specs.Groups.{Grouped}
 use Rattle.log_group.proofs.Chains.{grouped-kept}
@@ -41,9 +40,8 @@ abbrev pub stockOf : Cells → Stock
 stockOf c = record { cells = c; generation = 0; intervals = 0 }
 
 -- the lists of a stock are those of its cells
-lists-by-cells : (spec : DexelStockSpec) (g : DexelGrid) (s : Stock) (c : Cells) → s .cells ≡ c → stockLists spec g s ≡ stockLists spec g (stockOf c)
-unfolding listIn
-lists-by-cells spec g s c f = ap (λ (d : Cells). stockLists spec g (stockOf d)) f
+lists-by-cells : (spec : DexelStockSpec) (g : DexelGrid) (s : Stock) (c : Cells) → s .cells ≡ c → rayLists spec g (s .cells) ≡ rayLists spec g ((stockOf c) .cells)
+lists-by-cells spec g s c f = ap (λ (d : Cells). rayLists spec g ((stockOf d) .cells)) f
 
 -- ---- sums over rays
 -- the pairs that a ray will have
@@ -71,12 +69,12 @@ pub record Merging (spec : DexelStockSpec) (g : DexelGrid) (c : Cells) (log befo
   pub most : ray ≤ rayCount g
   pub grouped : Grouped g log w
   pub low : listsFrom g log ≤ q
-  pub room : (h : ray ≤ rayCount g) → q ≤ listsFrom g log + 2 * sumTo g (leftPairs g (stockLists spec g (stockOf c)) (entries log)) ray h
+  pub room : (h : ray ≤ rayCount g) → q ≤ listsFrom g log + 2 * sumTo g (leftPairs g (rayLists spec g ((stockOf c) .cells)) (entries log)) ray h
   pub few : changed ≤ ray
   pub ends : (v : List Float) → Keeps g log w v ray q
       → listsEnd v (sizesAt g log) (listsFrom g log) 0 (rayCount g) ≡ listsEnd v (sizesAt g log) q ray (rayCount g - ray)
-  pub rest : (v : List Float) → Keeps g log w v ray q → (m : ℕ) → MergeUpdates g (stockLists spec g (stockOf c)) (entries log) ray (updatesFrom v (sizesAt g log) q ray (rayCount g - ray)) m
-      → MergeUpdates g (stockLists spec g (stockOf c)) (entries log) 0 (updatesFrom v (sizesAt g log) (listsFrom g log) 0 (rayCount g)) (changed + m)
+  pub rest : (v : List Float) → Keeps g log w v ray q → (m : ℕ) → MergeUpdates g (rayLists spec g ((stockOf c) .cells)) (entries log) ray (updatesFrom v (sizesAt g log) q ray (rayCount g - ray)) m
+      → MergeUpdates g (rayLists spec g ((stockOf c) .cells)) (entries log) 0 (updatesFrom v (sizesAt g log) (listsFrom g log) 0 (rayCount g)) (changed + m)
 
 module _ (spec : DexelStockSpec) (g : DexelGrid) (c : Cells) (log before : List Float) where
   pub merging-start : Grouped g log before → Merging spec g c log before before 0 (listsFrom g log) 0
@@ -89,8 +87,8 @@ module _ (spec : DexelStockSpec) (g : DexelGrid) (c : Cells) (log before : List 
     few = omega arith;
     ends = λ v k. ap (listsEnd v (sizesAt g log) (listsFrom g log) 0) (all (rayCount g));
     rest = λ v k m x.
-        subst (λ (n : ℕ). MergeUpdates g (stockLists spec g (stockOf c)) (entries log) 0 (updatesFrom v (sizesAt g log) (listsFrom g log) 0 n) (0 + m)) (sym (all (rayCount g)))
-        (subst (MergeUpdates g (stockLists spec g (stockOf c)) (entries log) 0 (updatesFrom v (sizesAt g log) (listsFrom g log) 0 (rayCount g - 0))) (none-and m) x);
+        subst (λ (n : ℕ). MergeUpdates g (rayLists spec g ((stockOf c) .cells)) (entries log) 0 (updatesFrom v (sizesAt g log) (listsFrom g log) 0 n) (0 + m)) (sym (all (rayCount g)))
+        (subst (MergeUpdates g (rayLists spec g ((stockOf c) .cells)) (entries log) 0 (updatesFrom v (sizesAt g log) (listsFrom g log) 0 (rayCount g - 0))) (none-and m) x);
   }
     where
       all : (n : ℕ) → n ≡ n - 0
@@ -104,7 +102,7 @@ module _ (spec : DexelStockSpec) (g : DexelGrid) (c : Cells) (log before : List 
       (r : RayUpdate) (m : MergeRayPost spec g c log ray q w w₁ r)
       (put : w₂ ≡ set (set w₁ (sizesAt g log + 2 * ray) (numberCell (firstSizeOf r))) (sizesAt g log + 2 * ray + 1) (numberCell (r .certain)))
       (fit : q + limitOf spec log ≤ length w) (small : limitOf spec log ≤ largestNumber)
-      (d : Doubles g (stockLists spec g (stockOf c)) (entries log)) where
+      (d : Doubles g (rayLists spec g ((stockOf c) .cells)) (entries log)) where
     abbrev at : ℕ
     at = sizesAt g log + 2 * ray
 
@@ -167,7 +165,7 @@ module _ (spec : DexelStockSpec) (g : DexelGrid) (c : Cells) (log before : List 
       one-less = omega arith
 
       abbrev lists : Ray g → Kind → List Float
-      lists = stockLists spec g (stockOf c)
+      lists = rayLists spec g ((stockOf c) .cells)
 
       abbrev left : ℕ
       left = rayCount g - (ray + 1)
@@ -269,7 +267,7 @@ module _ (spec : DexelStockSpec) (g : DexelGrid) (c : Cells) (log before : List 
       grouped = grouped-kept g log w w₂ size₂ (λ k l. kept-front k (omega (arith, x .low)) (λ (e : k ≡ at). omega arith) (λ (e : k ≡ at + 1). omega arith)) (x .grouped);
       low = omega (arith, x .low);
       room = λ l.
-          let f = leftPairs g (stockLists spec g (stockOf c)) (entries log) in
+          let f = leftPairs g (rayLists spec g ((stockOf c) .cells)) (entries log) in
           omega (
             arith,
             x .room (le-of-lt h),
@@ -290,10 +288,10 @@ module _ (spec : DexelStockSpec) (g : DexelGrid) (c : Cells) (log before : List 
   -- ---- the end
   module _ (total : ℕ) (snd : SoundCells spec g c total) (w : List Float) (ray q changed : ℕ) (x : Merging spec g c log before w ray q changed) where
     -- the new lists have no more pairs than are left
-    pub lists-most : q ≤ listsFrom g log + 2 * pairsAfter g (stockLists spec g (stockOf c)) (entries log)
+    pub lists-most : q ≤ listsFrom g log + 2 * pairsAfter g (rayLists spec g ((stockOf c) .cells)) (entries log)
     unfolding pairsAfter
     lists-most =
-        omega (arith, x .room (x .most), sum-most g (leftPairs g (stockLists spec g (stockOf c)) (entries log)) (rayCount g - ray) ray (x .most) (rayCount g) (omega (arith, x .most)) (le-refl (rayCount g)))
+        omega (arith, x .room (x .most), sum-most g (leftPairs g (rayLists spec g ((stockOf c) .cells)) (entries log)) (rayCount g - ray) ray (x .most) (rayCount g) (omega (arith, x .most)) (le-refl (rayCount g)))
 
     pub merging-done : ray ≡ rayCount g → q ≤ length before → MergeAllPost spec g c log before w changed
     merging-done e fit = record {
@@ -315,13 +313,13 @@ module _ (spec : DexelStockSpec) (g : DexelGrid) (c : Cells) (log before : List 
         no-more : (n : ℕ) → n + 0 ≡ n
         no-more n = omega arith
 
-        all-merged : MergeUpdates g (stockLists spec g (stockOf c)) (entries log) 0 (updatesFrom w (sizesAt g log) (listsFrom g log) 0 (rayCount g)) changed
+        all-merged : MergeUpdates g (rayLists spec g ((stockOf c) .cells)) (entries log) 0 (updatesFrom w (sizesAt g log) (listsFrom g log) 0 (rayCount g)) changed
         all-merged =
-            subst (MergeUpdates g (stockLists spec g (stockOf c)) (entries log) 0 (updatesFrom w (sizesAt g log) (listsFrom g log) 0 (rayCount g))) (no-more changed)
+            subst (MergeUpdates g (rayLists spec g ((stockOf c) .cells)) (entries log) 0 (updatesFrom w (sizesAt g log) (listsFrom g log) 0 (rayCount g))) (no-more changed)
             (x .rest w itself 0
-            (subst (λ (us : List Update). MergeUpdates g (stockLists spec g (stockOf c)) (entries log) ray us 0) (sym (ap (updatesFrom w (sizesAt g log) q ray) nothing ∙ updates-none w (sizesAt g log) q ray)) (none e)))
+            (subst (λ (us : List Update). MergeUpdates g (rayLists spec g ((stockOf c) .cells)) (entries log) ray us 0) (sym (ap (updatesFrom w (sizesAt g log) q ray) nothing ∙ updates-none w (sizesAt g log) q ray)) (none e)))
 
-        lists-same : (s : Stock) → s .cells ≡ c → stockLists spec g s ≡ stockLists spec g (stockOf c)
+        lists-same : (s : Stock) → s .cells ≡ c → rayLists spec g (s .cells) ≡ rayLists spec g ((stockOf c) .cells)
         lists-same s f = lists-by-cells spec g s c f
 
 -- ---- in the terms of the code
@@ -333,7 +331,7 @@ module _ (spec : DexelStockSpec) (g : DexelGrid) (c : Cells) (log before : List 
   unfolding total
   store = subst (λ (d : Cells). SoundCells spec g d (pre .stock .intervals)) (pre .of-cells) (pre .sound)
 
-  budget : pairsAfter g (stockLists spec g (stockOf c)) (entries log) ≤ spec .«max_intervals»
+  budget : pairsAfter g (rayLists spec g ((stockOf c) .cells)) (entries log) ≤ spec .«max_intervals»
   budget = subst (λ (l : Ray g → Kind → List Float). pairsAfter g l (entries log) ≤ spec .«max_intervals») (lists-by-cells spec g (pre .stock) c (pre .of-cells)) (pre .budget)
 
   pub starts : Merging spec g c log before before 0 (rays + entryCount log + 2 * rays) 0

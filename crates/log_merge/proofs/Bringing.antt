@@ -19,7 +19,6 @@ use Rattle.store.specs.Updates.{Cells, storeList}
 use Rattle.store.proofs.Chains.{places-within}
 use Rattle.store_read.specs.Reading.{ReadListPost, Readable}
 use Rattle.store_read.proofs.Steps.{ends-length}
-use Rattle.stock.specs.Stock.{possibleIn, certainIn}
 use Rattle.stock.proofs.Rays.{list-readable}
 use Rattle.log_entries.specs.Named.{hitsOnRayNumber}
 use Rattle.log_entries.proofs.Sizes.{named-most}
@@ -28,6 +27,7 @@ use Rattle.log_group.proofs.Chains.{grouped-kept}
 use Rattle.ray_subtract.specs.Steps.{cellsFrom, PlacedAt, NormalizedAt}
 use Rattle.ray_subtract.proofs.Places.{part-kept, normal}
 use Rattle.log_merge.specs.Rays.{LoadPre, LoadPost}
+use Rattle.stock.specs.Stock.{rayList, Possible, Certain}
 
 -- a list that was copied stands at its place
 module _ (l before : List Float) (at : ℕ) (after : List Float) (r : ℕ) (fit : at + length l ≤ length before) (c : ReadListPost l before at after r) where
@@ -108,22 +108,22 @@ module _ (spec : DexelStockSpec) (g : DexelGrid) (c : Cells) (log w : List Float
   pub hits-most : (k : HitKind) → length (hits k) ≤ 2 * entryCount log
   hits-most k = omega (arith, named-most g ray k (entries log), entries-length log)
 
-  pub possible-ready : Readable (spec .«max_intervals») (c .spans) (c .links) (getD (c .heads) (2 * ray) 0) × (s + length (possibleIn spec c ray) ≤ length w)
+  pub possible-ready : Readable (spec .«max_intervals») (c .spans) (c .links) (getD (c .heads) (2 * ray) 0) × (s + length (rayList spec c ray Possible) ≤ length w)
   possible-ready = (list-readable spec g c (b .store) (2 * ray) (omega (arith, b .below)), omega (arith, list-most (2 * ray), b .room))
 
-  module _ (w₁ : List Float) (r₁ : ℕ) (p : ReadListPost (possibleIn spec c ray) w s w₁ r₁) where
-    placed₁ : PlacedAt (possibleIn spec c ray) s w w₁
-    placed₁ = copied-placed (possibleIn spec c ray) w s w₁ r₁ (possible-ready .1) p
+  module _ (w₁ : List Float) (r₁ : ℕ) (p : ReadListPost (rayList spec c ray Possible) w s w₁ r₁) where
+    placed₁ : PlacedAt (rayList spec c ray Possible) s w w₁
+    placed₁ = copied-placed (rayList spec c ray Possible) w s w₁ r₁ (possible-ready .1) p
 
-    pub certain-ready : Readable (spec .«max_intervals») (c .spans) (c .links) (getD (c .heads) (2 * ray + 1) 0) × (r₁ + length (certainIn spec c ray) ≤ length w₁)
+    pub certain-ready : Readable (spec .«max_intervals») (c .spans) (c .links) (getD (c .heads) (2 * ray + 1) 0) × (r₁ + length (rayList spec c ray Certain) ≤ length w₁)
     certain-ready = (
       list-readable spec g c (b .store) (2 * ray + 1) (omega (arith, b .below)),
       omega (arith, p .past, placed₁ .size, list-most (2 * ray), list-most (2 * ray + 1), b .room),
     )
 
-    module _ (w₂ : List Float) (r₂ : ℕ) (q : ReadListPost (certainIn spec c ray) w₁ r₁ w₂ r₂) where
-      placed₂ : PlacedAt (certainIn spec c ray) r₁ w₁ w₂
-      placed₂ = copied-placed (certainIn spec c ray) w₁ r₁ w₂ r₂ (certain-ready .1) q
+    module _ (w₂ : List Float) (r₂ : ℕ) (q : ReadListPost (rayList spec c ray Certain) w₁ r₁ w₂ r₂) where
+      placed₂ : PlacedAt (rayList spec c ray Certain) r₁ w₁ w₂
+      placed₂ = copied-placed (rayList spec c ray Certain) w₁ r₁ w₂ r₂ (certain-ready .1) q
 
       pub outer-ready : Grouped g log w₂ × (ray < rayCount g) × (rayCount g + entryCount log ≤ r₂) × (r₂ + length (hits outer) ≤ length w₂)
       outer-ready = (
@@ -146,10 +146,10 @@ module _ (spec : DexelStockSpec) (g : DexelGrid) (c : Cells) (log w : List Float
         )
 
         pub all-brought : (w₄ : List Float) (ni : ℕ) → NormalizedAt (hits inner) (r₂ + no) w₃ w₄ ni
-            → LoadPost (possibleIn spec c ray) (certainIn spec c ray) (hits outer) (hits inner) s w w₄ (record { possible = r₁ - s; certain = r₂ - r₁; outer = no; inner = ni })
+            → LoadPost (rayList spec c ray Possible) (rayList spec c ray Certain) (hits outer) (hits inner) s w w₄ (record { possible = r₁ - s; certain = r₂ - r₁; outer = no; inner = ni })
         all-brought w₄ ni i =
-            let np : r₁ - s ≡ length (possibleIn spec c ray) = omega (arith, p .past) in
-            let nc : r₂ - r₁ ≡ length (certainIn spec c ray) = omega (arith, q .past) in
+            let np : r₁ - s ≡ length (rayList spec c ray Possible) = omega (arith, p .past) in
+            let nc : r₂ - r₁ ≡ length (rayList spec c ray Certain) = omega (arith, q .past) in
             rw (np, nc)
-            (brought (possibleIn spec c ray) (certainIn spec c ray) (hits outer) (hits inner) s w w₁ w₂ w₃ w₄ no ni
+            (brought (rayList spec c ray Possible) (rayList spec c ray Certain) (hits outer) (hits inner) s w w₁ w₂ w₃ w₄ no ni
             (omega (arith, list-most (2 * ray), list-most (2 * ray + 1), hits-most outer, hits-most inner, b .room)) placed₁ (rw (p .past) at placed₂) (rw (q .past, p .past) at o) (rw (q .past, p .past) at i))

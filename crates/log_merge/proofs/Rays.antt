@@ -17,7 +17,7 @@ use Rattle.grid.specs.declared.DexelStockSpec.{DexelStockSpec}
 use Rattle.grid.specs.declared.DexelGrid.{DexelGrid}
 use Rattle.log_model.specs.Logs.{entries, HitKind, outer, inner}
 use Rattle.store.specs.Updates.{Cells}
-use Rattle.stock.specs.Stock.{possibleIn, certainIn, ValidAt}
+use Rattle.stock.specs.Stock.{ValidAt, rayList, Possible, Certain}
 use Rattle.log_entries.specs.Named.{hitsOnRayNumber}
 use Rattle.log_numbers.specs.Numbers.{numberAt}
 use Rattle.log_group.proofs.Gathering.{none-named}
@@ -107,12 +107,12 @@ module _ (spec : DexelStockSpec) (g : DexelGrid) (c : Cells) (log w : List Float
     innerNormal = [];
     outerIs = nothing outer;
     innerIs = nothing inner;
-    cut = untouched (possibleIn spec c ray) (certainIn spec c ray) [] [] q (limitOf spec log) w
-        (ap not (both (equal (possibleIn spec c ray) (lessOf (possibleIn spec c ray) []))
-        (equal (certainIn spec c ray) (lessOf (lessOf (certainIn spec c ray) []) []))
-        (stays (possibleIn spec c ray) (valid .possible-sound))
-        (ap (λ (l : List Float). equal (certainIn spec c ray) (lessOf l [])) (less-none (certainIn spec c ray) (valid .certain-sound))
-        ∙ stays (certainIn spec c ray) (valid .certain-sound))));
+    cut = untouched (rayList spec c ray Possible) (rayList spec c ray Certain) [] [] q (limitOf spec log) w
+        (ap not (both (equal (rayList spec c ray Possible) (lessOf (rayList spec c ray Possible) []))
+        (equal (rayList spec c ray Certain) (lessOf (lessOf (rayList spec c ray Certain) []) []))
+        (stays (rayList spec c ray Possible) (valid .possible-sound))
+        (ap (λ (l : List Float). equal (rayList spec c ray Certain) (lessOf l [])) (less-none (rayList spec c ray Certain) (valid .certain-sound))
+        ∙ stays (rayList spec c ray Certain) (valid .certain-sound))));
   }
     where
       nothing : (k : HitKind) → NormalOf (hits k) []
@@ -127,7 +127,7 @@ module _ (spec : DexelStockSpec) (g : DexelGrid) (c : Cells) (log w : List Float
       stays : (l : List Float) → sound l ≡ true → equal l (lessOf l []) ≡ true
       stays l h = ap (equal l) (less-none l h) ∙ same-set l l h h (λ p n. refl)
 
-  module _ (w₁ : List Float) (z : Sizes) (x : LoadPost (possibleIn spec c ray) (certainIn spec c ray) (hits outer) (hits inner) s w w₁ z) where
+  module _ (w₁ : List Float) (z : Sizes) (x : LoadPost (rayList spec c ray Possible) (rayList spec c ray Certain) (hits outer) (hits inner) s w w₁ z) where
     few : z .possible + z .certain + z .outer + 2 * z .inner ≤ limitOf spec log
     few = omega (arith, x .possibleCells, x .certainCells, x .outerMost, x .innerMost, list-most spec g c log w ray s b (2 * ray), list-most spec g c log w ray s b (2 * ray + 1), hits-most spec g c log w ray s b outer, hits-most spec g c log w ray s b inner)
 

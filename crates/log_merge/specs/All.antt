@@ -9,11 +9,11 @@ use Rattle.grid.specs.Rays.{rayCount}
 use Rattle.grid.specs.declared.DexelStockSpec.{DexelStockSpec}
 use Rattle.grid.specs.declared.DexelGrid.{DexelGrid}
 use Rattle.store.specs.Updates.{Cells}
-use Rattle.stock.specs.Stock.{Stock, SoundStock}
+use Rattle.stock.specs.Stock.{Stock, SoundStock, rayLists}
 use Rattle.log_model.specs.Logs.{entries, entryCount}
 use Rattle.log_model.specs.Counts.{pairsAfter}
 use Rattle.log_lay.specs.Updates.{updatesFrom, listsEnd}
-use Rattle.log_model.specs.Updates.{MergeUpdates, stockLists}
+use Rattle.log_model.specs.Updates.{MergeUpdates}
 use Rattle.log_group.specs.Groups.{Grouped}
 use Rattle.log_merge.specs.declared.RayUpdate.{RayUpdate}
 use Rattle.grid.specs.Facts.{GridFacts}
@@ -42,11 +42,11 @@ pub record MergeAllPre (spec : DexelStockSpec) (g : DexelGrid) (c : Cells) (log 
   pub of-cells : stock .cells ≡ c
   pub sound : SoundStock spec g stock
   pub grouped : Grouped g log work
-  pub budget : pairsAfter g (stockLists spec g stock) (entries log) ≤ spec .«max_intervals»
+  pub budget : pairsAfter g (rayLists spec g (stock .cells)) (entries log) ≤ spec .«max_intervals»
   pub pairs : 12 * spec .«max_intervals» + 36 * entryCount log ≤ length work
 
 -- the sizes and the new lists in the buffer are the updates that the log asks of each stock of these cells, and so many rays change
 pub record MergeAllPost (spec : DexelStockSpec) (g : DexelGrid) (c : Cells) (log before after : List Float) (changed : ℕ) : Type 0 where
   pub size : length after ≡ length before
-  pub merges : (s : Stock) → s .cells ≡ c → MergeUpdates g (stockLists spec g s) (entries log) 0 (updatesFrom after (sizesAt g log) (listsFrom g log) 0 (rayCount g)) changed
+  pub merges : (s : Stock) → s .cells ≡ c → MergeUpdates g (rayLists spec g (s .cells)) (entries log) 0 (updatesFrom after (sizesAt g log) (listsFrom g log) 0 (rayCount g)) changed
   pub ends : listsEnd after (sizesAt g log) (listsFrom g log) 0 (rayCount g) ≤ length after

@@ -12,7 +12,7 @@ use Rattle.grid.specs.declared.DexelStockSpec.{DexelStockSpec}
 use Rattle.grid.specs.declared.DexelGrid.{DexelGrid}
 use Rattle.log_model.specs.Logs.{entries, entryCount, outer, inner}
 use Rattle.store.specs.Updates.{Cells}
-use Rattle.stock.specs.Stock.{possibleIn, certainIn, ValidTo}
+use Rattle.stock.specs.Stock.{ValidTo, rayList, Possible, Certain}
 use Rattle.log_entries.specs.Named.{hitsOnRayNumber}
 use Rattle.log_group.specs.Groups.{Grouped}
 use Rattle.ray_subtract.specs.Steps.{cellsFrom}
@@ -73,4 +73,4 @@ pub record MergeRayPost (spec : DexelStockSpec) (g : DexelGrid) (c : Cells) (log
   pub innerNormal : List Float
   pub outerIs : NormalOf (hitsOnRayNumber g (entries log) ray outer) outerNormal
   pub innerIs : NormalOf (hitsOnRayNumber g (entries log) ray inner) innerNormal
-  pub cut : RayCutPost (possibleIn spec c ray) (certainIn spec c ray) outerNormal innerNormal q (limitOf spec log) before after r
+  pub cut : RayCutPost (rayList spec c ray Possible) (rayList spec c ray Certain) outerNormal innerNormal q (limitOf spec log) before after r

@@ -6,12 +6,12 @@ ghost use Rattle.log_numbers.specs.Numbers.{numberCell};
 ghost use Rattle.grid.specs.Rays.{rayCount};
 ghost use Rattle.log_model.specs.Logs.{entries, entryCount, outer, inner};
 ghost use Rattle.store.specs.Updates.{cells};
-ghost use Rattle.stock.specs.Stock.{possibleIn, certainIn};
 ghost use Rattle.log_entries.specs.Named.{hitsOnRayNumber};
 ghost use Rattle.log_group.specs.Groups.{Grouped, hitKindOf};
 ghost use Rattle.ray_subtract.specs.Steps.{cellsFrom, MergeWithinPre, NormalizedAt};
 ghost use Rattle.log_merge.specs.Rays.{rayMoves, RayCutPost, LoadPre, LoadPost, limitOf, MergeRayPost};
 ghost use Rattle.log_merge.specs.All.{firstSizeOf, countOf, MergeAllPre, MergeAllPost};
+ghost use Rattle.stock.specs.Stock.{rayList, Possible, Certain};
 use grid::DexelGrid;
 use grid::DexelStockSpec;
 
@@ -97,8 +97,8 @@ fn bring(
     s: usize,
 ) -> Sizes
     requires { ⌜ LoadPre spec g (cells (now spans) (now links) (now heads)) (now log) (now work) ray s ⌝ }
-    ensures { λ r. ⌜ LoadPost (possibleIn spec (cells (now (spans .entry)) (now (links .entry)) (now (heads .entry))) ray)
-        (certainIn spec (cells (now (spans .entry)) (now (links .entry)) (now (heads .entry))) ray)
+    ensures { λ r. ⌜ LoadPost (rayList spec (cells (now (spans .entry)) (now (links .entry)) (now (heads .entry))) ray Possible)
+        (rayList spec (cells (now (spans .entry)) (now (links .entry)) (now (heads .entry))) ray Certain)
         (hitsOnRayNumber g (entries (now (log .entry))) ray outer) (hitsOnRayNumber g (entries (now (log .entry))) ray inner) s (now (work .entry)) (now (work .exit)) r ⌝ }
 {
     let n = spec.max_intervals as usize;

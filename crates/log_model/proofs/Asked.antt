@@ -23,13 +23,12 @@ use Rattle.log_model.specs.Logs.{Entry, removed}
 use Rattle.log_model.proofs.Doubles.{Doubles}
 use Rattle.log_model.specs.Model.{setsAfter, RayChanges, Count, counted, skipped}
 use Rattle.log_model.specs.Counts.{isHitBy, hitsOnList, isRayChanged}
-use Rattle.log_model.specs.View.{listNumber}
 use Rattle.log_model.proofs.Meets.{moves-hit}
 use Rattle.log_model.proofs.Decided.{without-hits, changes-by, stays, not-left, not-right}
 use Rattle.log_model.specs.Updates.{listSets, MergedByLog, MergeUpdates, none, same, new}
 use Rattle.log_model.specs.Steps.{ListAfterLog}
 use Rattle.store.specs.Steps.{Ascending, listAfter, none as no-more, next}
-use Rattle.stock.specs.Stock.{Kind, Possible, Certain}
+use Rattle.stock.specs.Stock.{Kind, Possible, Certain, listNumber}
 
 -- a ray is its number
 pub moved : (g : DexelGrid) (P : Ray g → Type 0) (i j : ℕ) (h : i < rayCount g) → i ≡ j → (k : j < rayCount g) → P (i, h) → P (j, k)
@@ -40,11 +39,9 @@ above i j h ne = omega arith
 
 -- ---- the numbers of a ray's lists
 pub number-possible : (r : ℕ) → listNumber r Possible ≡ 2 * r
-unfolding listNumber
 number-possible r = refl
 
 pub number-certain : (r : ℕ) → listNumber r Certain ≡ 2 * r + 1
-unfolding listNumber
 number-certain r = refl
 
 two-numbers : (r : ℕ) → listNumber r Certain ≡ 2 * r → ⊥

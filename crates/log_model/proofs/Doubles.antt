@@ -9,10 +9,9 @@ use Rattle.spans.proofs.Ends.{all-append}
 use Rattle.grid.specs.declared.DexelStockSpec.{DexelStockSpec}
 use Rattle.grid.specs.declared.DexelGrid.{DexelGrid}
 use Rattle.store.specs.Store.{placesOf, endsAt}
-use Rattle.stock.specs.Stock.{Stock, Kind, Possible, Certain}
+use Rattle.stock.specs.Stock.{Stock, Kind, Possible, Certain, rayList, listNumber}
 use Rattle.log_model.specs.Logs.{Entry, entryAt, entriesFrom, entryCount, entries, namesRay, HitKind, outer, inner, hitLo, hitHi, hitsOnRay}
 use Rattle.log_model.specs.Counts.{hitsOnList}
-use Rattle.log_model.specs.View.{listNumber, listIn}
 use Rattle.log_model.proofs.Less.{piece, lower, higher, lessPair, less}
 use Rattle.grid.specs.Rays.{Ray}
 
@@ -28,8 +27,7 @@ module _ (spans : List Float) (d : DoubleCells spans) where
   ends-doubles [] = tt
   ends-doubles (i ∷ ps) = (d (2 * i), (d (2 * i + 1), ends-doubles ps))
 
-pub list-doubles : (spec : DexelStockSpec) (s : Stock) → DoubleCells (s .cells .spans) → (r : ℕ) (k : Kind) → All Double (listIn spec s r k)
-unfolding listIn
+pub list-doubles : (spec : DexelStockSpec) (s : Stock) → DoubleCells (s .cells .spans) → (r : ℕ) (k : Kind) → All Double (rayList spec (s .cells) r k)
 list-doubles spec s d r k = ends-doubles (s .cells .spans) d
     (placesOf (spec .«max_intervals») (s .cells .links) (s .cells .heads) (listNumber r k))
 
@@ -76,7 +74,7 @@ pub record Doubles (g : DexelGrid) (lists : Ray g → Kind → List Float) (es :
 
 -- so it is where a store and a log stand in slices of doubles
 pub all-doubles : (spec : DexelStockSpec) (g : DexelGrid) (s : Stock) (log : List Float) → DoubleCells (s .cells .spans) → DoubleCells log
-    → Doubles g (λ r k. listIn spec s (r .0) k) (entries log)
+    → Doubles g (λ r k. rayList spec (s .cells) (r .0) k) (entries log)
 all-doubles spec g s log ds dl = record { of-lists = λ r k. list-doubles spec s ds (r .0) k; of-hits = hits-doubles g log dl }
 
 -- ---- what hits leave of a list

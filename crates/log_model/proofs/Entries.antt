@@ -11,6 +11,7 @@ use lib.Ieee.{Float}
 use Rattle.grid.specs.declared.DexelGrid.{DexelGrid}
 use Rattle.log_model.specs.Logs.{Entry, entryAt, entriesFrom, entryCount, entries, namesRay, HitKind, hitLo, hitHi, hitsOnRay}
 use Rattle.grid.specs.Rays.{Ray}
+
 from-length : (log : List Float) (i n : ℕ) → length (entriesFrom log i n) ≡ n
 unfolding entriesFrom
 from-length log i zero = refl

@@ -28,9 +28,9 @@ use Rattle.log_model.specs.Counts.{hitsOnList, changedRayCount}
 use Rattle.log_model.specs.Runs.{pointSets, CommitEffect, CommitStep, Run, done, next, RunMeetsModel}
 use Rattle.log_model.specs.Examples.{num, exampleBox, exampleGrid, exampleStock, exampleHit, exampleCommit, notAllowed, innerWider, threeLogs, threeAnswers, exampleListAfter, AtEnd, RunRight}
 use Rattle.store.specs.Updates.{cells}
-use Rattle.stock.specs.Stock.{Stock, ValidAt, SoundStock, Kind, Possible, Certain}
+use Rattle.stock.specs.Stock.{Stock, ValidAt, SoundStock, Kind, Possible, Certain, rayList}
 use Rattle.stock_fill.specs.Uncut.{uncut as uncutCells, uncutSpans, uncutLinks, uncutHeads, recordAt}
-use Rattle.log_model.specs.View.{listIn, lentStore}
+use Rattle.log_model.specs.View.{lentStore}
 use Rattle.log_model.proofs.Unique.{judged-unsound}
 use Rattle.log_model.proofs.Less.{less}
 use Rattle.log_model.proofs.Doubles.{DoubleCells, all-doubles}
@@ -118,7 +118,7 @@ cut-generation = refl
 
 -- ---- the worked run on the lent store
 
--- records 3 and 4 were freed; Possible has 3 and 4, Certain 7 and 8
+-- records 3 and 4 were freed; possible has 3 and 4, certain 7 and 8
 abbrev cut : Stock
 cut = record {
   cells = record {
@@ -130,7 +130,7 @@ cut = record {
   intervals = 8;
 }
 
--- those four were freed; Possible has 3 and 4, Certain 7
+-- those four were freed; possible has 3 and 4, certain 7
 abbrev cut-again : Stock
 cut-again = record {
   cells = record {
@@ -206,7 +206,7 @@ whole-ray : ValidRay (num 0) (num 10) (num 0 ∷ num 10 ∷ []) (num 0 ∷ num 1
 unfolding sound bounded lt le ofInt
 whole-ray = record { possible-sound = refl; certain-sound = refl; possible-bounded = refl; certain-bounded = refl; inside = λ p t. t }
 
--- Certain lies within Possible, by a test at the ends
+-- certain lies within possible, by a test at the ends
 inside-of : (P C : List Float) → agree (C ++ P) (λ (q : Float). holds C q && holds P q) (holds C) ≡ true → (p : Float) → holds C p ≡ true → holds P p ≡ true
 inside-of P C h p t =
     and-right (holds C p) (holds P p)
@@ -235,7 +235,7 @@ again-whole = record {
 }
 
 filled-sound : SoundStock (exampleBox 8) exampleGrid exampleStock
-unfolding rayCount boundsOf rayAxis offset raysAlong byDigit listIn chained places endsAt usedAt all-used elem ofInt
+unfolding rayCount boundsOf rayAxis offset raysAlong byDigit chained places endsAt usedAt all-used elem ofInt
 filled-sound = record {
   store = record {
     chains = six (λ j. RecordChain (exampleStock .cells .links) 8 (suc j) (getD (exampleStock .cells .heads) j 0) (placesOf 8 (exampleStock .cells .links) (exampleStock .cells .heads) j))
@@ -247,7 +247,7 @@ filled-sound = record {
 }
 
 cut-sound : SoundStock (exampleBox 8) exampleGrid cut
-unfolding rayCount boundsOf rayAxis offset raysAlong byDigit listIn chained places endsAt usedAt all-used elem ofInt
+unfolding rayCount boundsOf rayAxis offset raysAlong byDigit chained places endsAt usedAt all-used elem ofInt
 cut-sound = record {
   store = record {
     chains = six (λ j. RecordChain (cut .cells .links) 8 (suc j) (getD (cut .cells .heads) j 0) (placesOf 8 (cut .cells .links) (cut .cells .heads) j))
@@ -259,7 +259,7 @@ cut-sound = record {
 }
 
 again-sound : SoundStock (exampleBox 8) exampleGrid cut-again
-unfolding rayCount boundsOf rayAxis offset raysAlong byDigit listIn chained places endsAt usedAt all-used elem ofInt
+unfolding rayCount boundsOf rayAxis offset raysAlong byDigit chained places endsAt usedAt all-used elem ofInt
 again-sound = record {
   store = record {
     chains = six (λ j. RecordChain (cut-again .cells .links) 8 (suc j) (getD (cut-again .cells .heads) j 0) (placesOf 8 (cut-again .cells .links) (cut-again .cells .heads) j))
@@ -274,12 +274,12 @@ again-sound = record {
 abbrev answer-on : Stock → Commit → LogAnswer
 answer-on s c =
     answerBy (logCommitCauses (exampleBox 8) exampleGrid (lentStore (exampleBox 8) exampleGrid .lent s) ⊥ (pointSets exampleGrid (lentStore (exampleBox 8) exampleGrid) s) (s .generation) c)
-    (tests (exampleBox 8) exampleGrid (lentStore (exampleBox 8) exampleGrid .lent s) (λ r k. listIn (exampleBox 8) s (r .0) k) (s .generation) c)
-    (changed (changedRayCount exampleGrid (λ r k. listIn (exampleBox 8) s (r .0) k) (entries (c .log))))
+    (tests (exampleBox 8) exampleGrid (lentStore (exampleBox 8) exampleGrid .lent s) (λ r k. rayList (exampleBox 8) (s .cells) (r .0) k) (s .generation) c)
+    (changed (changedRayCount exampleGrid (λ r k. rayList (exampleBox 8) (s .cells) (r .0) k) (entries (c .log))))
 
 module _ (s : Stock) (S : SoundStock (exampleBox 8) exampleGrid s) (ds : DoubleCells (s .cells .spans)) (c : Commit) (dc : DoubleCells (c .log)) where
   -- the lists of the stock are those of its sets
-  lists-on : (r : Ray exampleGrid) (k : Kind) → ListOf (pointSets exampleGrid (lentStore (exampleBox 8) exampleGrid) s r k) (listIn (exampleBox 8) s (r .0) k)
+  lists-on : (r : Ray exampleGrid) (k : Kind) → ListOf (pointSets exampleGrid (lentStore (exampleBox 8) exampleGrid) s r k) (rayList (exampleBox 8) (s .cells) (r .0) k)
   unfolding pointSets
   lists-on r k = record { isSound = lent-laws (exampleBox 8) exampleGrid .sound-list s S r k; points = λ p. refl }
 
@@ -288,7 +288,7 @@ module _ (s : Stock) (S : SoundStock (exampleBox 8) exampleGrid s) (ds : DoubleC
   judged-on a e = judged-unsound (exampleBox 8) exampleGrid (lentStore (exampleBox 8) exampleGrid .lent s) (¬ SoundStock (exampleBox 8) exampleGrid s) (λ n. n S) (pointSets exampleGrid (lentStore (exampleBox 8) exampleGrid) s) (s .generation) c a
       (subst (λ (b : LogAnswer). AnswerDue (exampleBox 8) exampleGrid (lentStore (exampleBox 8) exampleGrid .lent s) ⊥ (pointSets exampleGrid (lentStore (exampleBox 8) exampleGrid) s) (s .generation) c b) e
       (judged (exampleBox 8) exampleGrid (lentStore (exampleBox 8) exampleGrid .lent s) (pointSets exampleGrid (lentStore (exampleBox 8) exampleGrid) s)
-      (λ r k. listIn (exampleBox 8) s (r .0) k) lists-on (s .generation) c
+      (λ r k. rayList (exampleBox 8) (s .cells) (r .0) k) lists-on (s .generation) c
       (all-doubles (exampleBox 8) exampleGrid s (c .log) ds dc)))
 
   refuses : (k : ℕ) → answer-on s c ≡ refused k → CommitStep (exampleBox 8) exampleGrid (lentStore (exampleBox 8) exampleGrid) s c (refused k) s
@@ -297,7 +297,7 @@ module _ (s : Stock) (S : SoundStock (exampleBox 8) exampleGrid s) (ds : DoubleC
 
   -- the lists that are left are the old ones less the hits
   cuts-to : (n : ℕ) (t : Stock) → answer-on s c ≡ changed n → SoundStock (exampleBox 8) exampleGrid t
-      → ((r : Ray exampleGrid) (k : Kind) → listIn (exampleBox 8) t (r .0) k ≡ less (listIn (exampleBox 8) s (r .0) k) (hitsOnList exampleGrid (entries (c .log)) r k))
+      → ((r : Ray exampleGrid) (k : Kind) → rayList (exampleBox 8) (t .cells) (r .0) k ≡ less (rayList (exampleBox 8) (s .cells) (r .0) k) (hitsOnList exampleGrid (entries (c .log)) r k))
       → t .generation ≡ suc (s .generation) → lentStore (exampleBox 8) exampleGrid .lent t ≡ lentStore (exampleBox 8) exampleGrid .lent s
       → CommitStep (exampleBox 8) exampleGrid (lentStore (exampleBox 8) exampleGrid) s c (changed n) t
   unfolding CommitEffect
@@ -307,22 +307,22 @@ module _ (s : Stock) (S : SoundStock (exampleBox 8) exampleGrid s) (ds : DoubleC
       sound = T;
       exactly = λ r k p.
           unfold pointSets in ap (λ (l : List Float). holds l p) (l r k)
-          ∙ left-list exampleGrid (pointSets exampleGrid (lentStore (exampleBox 8) exampleGrid) s) (λ r k. listIn (exampleBox 8) s (r .0) k) lists-on (entries (c .log)) r k .points p;
+          ∙ left-list exampleGrid (pointSets exampleGrid (lentStore (exampleBox 8) exampleGrid) s) (λ r k. rayList (exampleBox 8) (s .cells) (r .0) k) lists-on (entries (c .log)) r k .points p;
       generation = g;
       lent = h;
     };
   }
 
 first-answer : answer-on exampleStock (exampleCommit 0 1 66) ≡ changed 1
-unfolding answerBy logCommitCauses tests changedRayCount rayCount eq byDigit lt listIn endsAt places le
+unfolding answerBy logCommitCauses tests changedRayCount rayCount eq byDigit lt endsAt places le
 first-answer = refl
 
 second-answer : answer-on cut notAllowed ≡ refused 9
-unfolding answerBy logCommitCauses tests changedRayCount rayCount eq byDigit lt listIn endsAt places le
+unfolding answerBy logCommitCauses tests changedRayCount rayCount eq byDigit lt endsAt places le
 second-answer = refl
 
 third-answer : answer-on cut innerWider ≡ changed 1
-unfolding answerBy logCommitCauses tests changedRayCount rayCount eq byDigit lt listIn endsAt places le
+unfolding answerBy logCommitCauses tests changedRayCount rayCount eq byDigit lt endsAt places le
 third-answer = refl
 
 -- the lists after the first log, and the pairs that the first and the third take from each
@@ -344,20 +344,20 @@ third-pairs (suc zero) Possible = num 4 ∷ num 10 ∷ []
 third-pairs (suc zero) Certain = num 9 ∷ num 10 ∷ num 4 ∷ num 10 ∷ []
 third-pairs (suc (suc n)) k = []
 
-filled-lists : (r : Ray exampleGrid) (k : Kind) → listIn (exampleBox 8) exampleStock (r .0) k ≡ num 0 ∷ num 10 ∷ []
-unfolding listIn endsAt places
-filled-lists r Possible = three (λ r. listIn (exampleBox 8) exampleStock (r .0) Possible ≡ num 0 ∷ num 10 ∷ []) (λ h. refl) (λ h. refl) (λ h. refl) r
-filled-lists r Certain = three (λ r. listIn (exampleBox 8) exampleStock (r .0) Certain ≡ num 0 ∷ num 10 ∷ []) (λ h. refl) (λ h. refl) (λ h. refl) r
+filled-lists : (r : Ray exampleGrid) (k : Kind) → rayList (exampleBox 8) (exampleStock .cells) (r .0) k ≡ num 0 ∷ num 10 ∷ []
+unfolding endsAt places
+filled-lists r Possible = three (λ r. rayList (exampleBox 8) (exampleStock .cells) (r .0) Possible ≡ num 0 ∷ num 10 ∷ []) (λ h. refl) (λ h. refl) (λ h. refl) r
+filled-lists r Certain = three (λ r. rayList (exampleBox 8) (exampleStock .cells) (r .0) Certain ≡ num 0 ∷ num 10 ∷ []) (λ h. refl) (λ h. refl) (λ h. refl) r
 
-cut-lists : (r : Ray exampleGrid) (k : Kind) → listIn (exampleBox 8) cut (r .0) k ≡ cut-at (r .0) k
-unfolding listIn endsAt places
-cut-lists r Possible = three (λ r. listIn (exampleBox 8) cut (r .0) Possible ≡ cut-at (r .0) Possible) (λ h. refl) (λ h. refl) (λ h. refl) r
-cut-lists r Certain = three (λ r. listIn (exampleBox 8) cut (r .0) Certain ≡ cut-at (r .0) Certain) (λ h. refl) (λ h. refl) (λ h. refl) r
+cut-lists : (r : Ray exampleGrid) (k : Kind) → rayList (exampleBox 8) (cut .cells) (r .0) k ≡ cut-at (r .0) k
+unfolding endsAt places
+cut-lists r Possible = three (λ r. rayList (exampleBox 8) (cut .cells) (r .0) Possible ≡ cut-at (r .0) Possible) (λ h. refl) (λ h. refl) (λ h. refl) r
+cut-lists r Certain = three (λ r. rayList (exampleBox 8) (cut .cells) (r .0) Certain ≡ cut-at (r .0) Certain) (λ h. refl) (λ h. refl) (λ h. refl) r
 
-again-lists : (r : Ray exampleGrid) (k : Kind) → listIn (exampleBox 8) cut-again (r .0) k ≡ exampleListAfter (r .0) k
-unfolding listIn endsAt places
-again-lists r Possible = three (λ r. listIn (exampleBox 8) cut-again (r .0) Possible ≡ exampleListAfter (r .0) Possible) (λ h. refl) (λ h. refl) (λ h. refl) r
-again-lists r Certain = three (λ r. listIn (exampleBox 8) cut-again (r .0) Certain ≡ exampleListAfter (r .0) Certain) (λ h. refl) (λ h. refl) (λ h. refl) r
+again-lists : (r : Ray exampleGrid) (k : Kind) → rayList (exampleBox 8) (cut-again .cells) (r .0) k ≡ exampleListAfter (r .0) k
+unfolding endsAt places
+again-lists r Possible = three (λ r. rayList (exampleBox 8) (cut-again .cells) (r .0) Possible ≡ exampleListAfter (r .0) Possible) (λ h. refl) (λ h. refl) (λ h. refl) r
+again-lists r Certain = three (λ r. rayList (exampleBox 8) (cut-again .cells) (r .0) Certain ≡ exampleListAfter (r .0) Certain) (λ h. refl) (λ h. refl) (λ h. refl) r
 
 first-hits : (r : Ray exampleGrid) (k : Kind) → hitsOnList exampleGrid (entries (exampleCommit 0 1 66 .log)) r k ≡ first-pairs (r .0) k
 unfolding hitsOnList entries eq byDigit
@@ -380,10 +380,10 @@ unfolding less lt ofInt
 third-less r Possible = three (λ r. exampleListAfter (r .0) Possible ≡ less (cut-at (r .0) Possible) (third-pairs (r .0) Possible)) (λ h. refl) (λ h. refl) (λ h. refl) r
 third-less r Certain = three (λ r. exampleListAfter (r .0) Certain ≡ less (cut-at (r .0) Certain) (third-pairs (r .0) Certain)) (λ h. refl) (λ h. refl) (λ h. refl) r
 
-first-lists : (r : Ray exampleGrid) (k : Kind) → listIn (exampleBox 8) cut (r .0) k ≡ less (listIn (exampleBox 8) exampleStock (r .0) k) (hitsOnList exampleGrid (entries (exampleCommit 0 1 66 .log)) r k)
+first-lists : (r : Ray exampleGrid) (k : Kind) → rayList (exampleBox 8) (cut .cells) (r .0) k ≡ less (rayList (exampleBox 8) (exampleStock .cells) (r .0) k) (hitsOnList exampleGrid (entries (exampleCommit 0 1 66 .log)) r k)
 first-lists r k = cut-lists r k ∙ first-less r k ∙ ap₂ less (sym (filled-lists r k)) (sym (first-hits r k))
 
-third-lists : (r : Ray exampleGrid) (k : Kind) → listIn (exampleBox 8) cut-again (r .0) k ≡ less (listIn (exampleBox 8) cut (r .0) k) (hitsOnList exampleGrid (entries (innerWider .log)) r k)
+third-lists : (r : Ray exampleGrid) (k : Kind) → rayList (exampleBox 8) (cut-again .cells) (r .0) k ≡ less (rayList (exampleBox 8) (cut .cells) (r .0) k) (hitsOnList exampleGrid (entries (innerWider .log)) r k)
 third-lists r k = again-lists r k ∙ third-less r k ∙ ap₂ less (sym (cut-lists r k)) (sym (third-hits r k))
 
 -- every cell is a double
@@ -442,7 +442,7 @@ module _ (vs : List LogAnswer) (t : Stock) (x : Run (exampleBox 8) exampleGrid (
 
   at-end : AtEnd t
   at-end = record {
-    lists = λ r k. subst (λ (l : List Float). equal (listIn (exampleBox 8) t (r .0) k) l ≡ true) (again-lists r k) (same-end .same-lists r k);
+    lists = λ r k. subst (λ (l : List Float). equal (rayList (exampleBox 8) (t .cells) (r .0) k) l ≡ true) (again-lists r k) (same-end .same-lists r k);
     generation = two-accepted;
     intervals = same-end .same-total;
   }

@@ -144,14 +144,14 @@ module _ (g : DexelGrid) (r : Ray g) (p : Float) where
   unfolding InHit
   of-lies ls w (h, t) = held-in ls w (h .log) (h .entry) (h .in-logs) (h .in-log) (h .on-ray) t
 
-  -- Possible loses exactly the points in inner hits
+  -- possible loses exactly the points in inner hits
   pub to-inner : (ls : List (List Float)) → takenBy g ls r Possible p ≡ true → InHit g ls r inner p
   to-inner ls t = to-lies ls inner (sym (from-possible ls) ∙ t)
 
   pub of-inner : (ls : List (List Float)) → InHit g ls r inner p → takenBy g ls r Possible p ≡ true
   of-inner ls x = from-possible ls ∙ of-lies ls inner x
 
-  -- Certain loses exactly the points in outer and in inner hits
+  -- certain loses exactly the points in outer and in inner hits
   pub to-either : (ls : List (List Float)) → takenBy g ls r Certain p ≡ true → InHit g ls r outer p ⊎ InHit g ls r inner p
   to-either ls t = elim (or-cases (heldBy g ls r outer p) (heldBy g ls r inner p) (sym (from-certain ls) ∙ t)) [
     | inl u ↦ inl (to-lies ls outer u)

@@ -10,14 +10,14 @@ use Rattle.grid.specs.declared.DexelStockSpec.{DexelStockSpec}
 use Rattle.grid.specs.declared.DexelGrid.{DexelGrid}
 use Rattle.store.specs.Updates.{Update, pairsFreed, pairsLaid, applied}
 use Rattle.store.proofs.Updating.{freed-all, updated}
-use Rattle.stock.specs.Stock.{Stock, SoundStock, ValidAt, Kind, Possible, Certain}
+use Rattle.stock.specs.Stock.{Stock, SoundStock, ValidAt, Kind, Possible, Certain, rayList, rayLists, listNumber}
 use Rattle.log_model.specs.Logs.{Entry, entries, Commit}
 use Rattle.log_model.specs.Model.{setsAfter, RayChanges, Count, Capacity, none as none-counted}
 use Rattle.log_model.specs.Counts.{pairsAfter}
 use Rattle.log_model.specs.Runs.{pointSets, AcceptedEffect}
-use Rattle.log_model.specs.View.{listNumber, listIn, lentStore}
+use Rattle.log_model.specs.View.{lentStore}
 use Rattle.log_model.proofs.Doubles.{Doubles}
-use Rattle.log_model.specs.Updates.{MergeUpdates, committedStock, stockLists}
+use Rattle.log_model.specs.Updates.{MergeUpdates, committedStock}
 use Rattle.log_model.proofs.Valid.{still-valid}
 use Rattle.log_model.proofs.Asked.{merges-ascend, merges-count, merges-leave, number-possible, number-certain}
 use Rattle.log_model.proofs.Totals.{each, total-left}
@@ -25,45 +25,43 @@ use Rattle.log_model.specs.Steps.{ListAfterLog}
 use Rattle.store.specs.Steps.{Room, Ascending, UpdatedStore, listAfter}
 
 module _ (spec : DexelStockSpec) (g : DexelGrid) (s : Stock) (sound : SoundStock spec g s) (room : Room (spec .«max_intervals») (2 * rayCount g) (s .cells))
-    (es : List Entry) (d : Doubles g (stockLists spec g s) es) (us : List Update) (m : ℕ) (asked : MergeUpdates g (stockLists spec g s) es 0 us m) where
+    (es : List Entry) (d : Doubles g (rayLists spec g (s .cells)) es) (us : List Update) (m : ℕ) (asked : MergeUpdates g (rayLists spec g (s .cells)) es 0 us m) where
   pub ascend : Ascending (2 * rayCount g) 0 us
-  ascend = merges-ascend g (stockLists spec g s) es (each spec g s sound es) asked
+  ascend = merges-ascend g (rayLists spec g (s .cells)) es (each spec g s sound es) asked
 
   pub freed-less : pairsFreed (spec .«max_intervals») (s .cells) us ≤ s .intervals
   freed-less = freed-all (sound .store) room ascend .fewer
 
-  pub intervals-left : s .intervals - pairsFreed (spec .«max_intervals») (s .cells) us + pairsLaid us ≡ pairsAfter g (stockLists spec g s) es
+  pub intervals-left : s .intervals - pairsFreed (spec .«max_intervals») (s .cells) us + pairsLaid us ≡ pairsAfter g (rayLists spec g (s .cells)) es
   intervals-left = total-left spec g s sound es d asked freed-less
 
   -- the rays that change
-  pub changed-rays : Count g (RayChanges g (λ r k. holds (stockLists spec g s r k)) es) (rayCount g) m
-  changed-rays = subst (Count g (RayChanges g (λ r k. holds (stockLists spec g s r k)) es) (rayCount g)) (zero-first m) (merges-count g (stockLists spec g s) es (each spec g s sound es) asked none-counted)
+  pub changed-rays : Count g (RayChanges g (λ r k. holds (rayLists spec g (s .cells) r k)) es) (rayCount g) m
+  changed-rays = subst (Count g (RayChanges g (λ r k. holds (rayLists spec g (s .cells) r k)) es) (rayCount g)) (zero-first m) (merges-count g (rayLists spec g (s .cells)) es (each spec g s sound es) asked none-counted)
     where
       zero-first : (m : ℕ) → 0 + m ≡ m
       zero-first m = omega arith
 
-  module _ (fits : pairsAfter g (stockLists spec g s) es ≤ spec .«max_intervals») where
+  module _ (fits : pairsAfter g (rayLists spec g (s .cells)) es ≤ spec .«max_intervals») where
     pub all-updated : UpdatedStore (spec .«max_intervals») (2 * rayCount g) (s .intervals) (s .cells) us (applied (spec .«max_intervals») (s .cells) us)
     all-updated = updated (sound .store) room ascend (omega (arith, intervals-left))
 
     -- each list afterwards
-    list-left : (r : Ray g) (k : Kind) → ListAfterLog g (stockLists spec g s) es r k (listIn spec (committedStock spec s us) (r .0) k)
-    unfolding listIn
-    list-left r k = subst (ListAfterLog g (stockLists spec g s) es r k) (sym (now (r .0) (r .1) k))
-        (merges-leave g (stockLists spec g s) es (each spec g s sound es) d asked (r .0) (r .1) (omega arith) k)
+    list-left : (r : Ray g) (k : Kind) → ListAfterLog g (rayLists spec g (s .cells)) es r k (rayList spec ((committedStock spec s us) .cells) (r .0) k)
+    list-left r k = subst (ListAfterLog g (rayLists spec g (s .cells)) es r k) (sym (now (r .0) (r .1) k))
+        (merges-leave g (rayLists spec g (s .cells)) es (each spec g s sound es) d asked (r .0) (r .1) (omega arith) k)
       where
         below : (i : ℕ) (k : Kind) → i < rayCount g → listNumber i k < 2 * rayCount g
         below i Possible h = omega (arith, number-possible i)
         below i Certain h = omega (arith, number-certain i)
 
-        now : (i : ℕ) → i < rayCount g → (k : Kind) → listIn spec (committedStock spec s us) i k ≡ listAfter us (listNumber i k) (listIn spec s i k)
+        now : (i : ℕ) → i < rayCount g → (k : Kind) → rayList spec ((committedStock spec s us) .cells) i k ≡ listAfter us (listNumber i k) (rayList spec (s .cells) i k)
         now i h k = all-updated .lists (listNumber i k) (below i k h)
 
     valid-left : (ray : ℕ) → ray < rayCount g → ValidAt spec g (committedStock spec s us .cells) ray
-    unfolding listIn listNumber
     valid-left ray h =
-        still-valid g (stockLists spec g s) es (ray, h) (boundsOf spec g ray .lo) (boundsOf spec g ray .hi) (sound .valid ray h)
-        (listIn spec (committedStock spec s us) ray Possible) (listIn spec (committedStock spec s us) ray Certain) (list-left (ray, h) Possible) (list-left (ray, h) Certain)
+        still-valid g (rayLists spec g (s .cells)) es (ray, h) (boundsOf spec g ray .lo) (boundsOf spec g ray .hi) (sound .valid ray h)
+        (rayList spec ((committedStock spec s us) .cells) ray Possible) (rayList spec ((committedStock spec s us) .cells) ray Certain) (list-left (ray, h) Possible) (list-left (ray, h) Certain)
 
     pub cut-sound : SoundStock spec g (committedStock spec s us)
     cut-sound = record { store = all-updated .isSound; valid = valid-left }
@@ -82,7 +80,7 @@ module _ (spec : DexelStockSpec) (g : DexelGrid) (s : Stock) (sound : SoundStock
     unfolding pointSets
     cut c e = record {
       sound = cut-sound;
-      exactly = λ r k p. list-left r k .points p ∙ ap (λ (x : List Entry). setsAfter g (λ r k. holds (stockLists spec g s r k)) x r k p) (sym e);
+      exactly = λ r k p. list-left r k .points p ∙ ap (λ (x : List Entry). setsAfter g (λ r k. holds (rayLists spec g (s .cells) r k)) x r k p) (sym e);
       generation = refl;
       lent = same-lent;
     }

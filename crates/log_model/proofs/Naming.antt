@@ -17,6 +17,7 @@ use Rattle.grid.specs.Rays.{rayCount, raysAlong, rayNumber, Ray}
 use Rattle.grid.specs.declared.DexelGrid.{DexelGrid}
 use Rattle.grid.proofs.Numbering.{offset-le}
 use Rattle.log_model.specs.Logs.{Entry, isWhole, wholeOf, namesSomeRay, entryRay, namesRay}
+
 -- ---- doubles that are equal as numbers have one whole part
 
 same-quotient : (a d b e : ℕ) → 0 < d → 0 < e → a * e ≡ b * d → a / d ≡ b / e

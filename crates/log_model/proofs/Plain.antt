@@ -84,7 +84,7 @@ module _ (spec : DexelStockSpec) (g : DexelGrid) where
     new : (r : Ray g) (k : Kind) → ListOf (setsAfter g (pointSets g (plain g) s) (entries (c .log)) r k) (less (s .lists r k) (hitsOnList g (entries (c .log)) r k))
     new r k = left-list g (pointSets g (plain g) s) (s .lists) listed (entries (c .log)) r k
 
-    -- Certain loses what Possible loses
+    -- certain loses what possible loses
     lost-too : (r : Ray g) (p : Float) → removed g (entries (c .log)) r Possible p ≡ true → removed g (entries (c .log)) r Certain p ≡ true
     unfolding removed
     lost-too r p t = or-right (holds (hitsOnRay g (entries (c .log)) r outer) p) (holds (hitsOnRay g (entries (c .log)) r inner) p) t

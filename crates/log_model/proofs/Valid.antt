@@ -25,7 +25,7 @@ module _ (g : DexelGrid) (lists : Ray g → Kind → List Float) (es : List Entr
   unfolding setsAfter
   left-out k l a p h = not-true (removed g es r k p) (and-right (holds (lists r k) p) (not (removed g es r k p)) (sym (a .points p) ∙ h))
 
-  -- what Certain keeps, Possible keeps
+  -- what certain keeps, possible keeps
   spared : (p : Float) → removed g es r Certain p ≡ false → removed g es r Possible p ≡ false
   unfolding removed
   spared p h = second (holds (hitsOnRay g es r outer) p) (holds (hitsOnRay g es r inner) p) h

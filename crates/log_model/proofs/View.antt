@@ -9,10 +9,10 @@ use lib.Ieee.{Float}
 use Rattle.grid.specs.Rays.{rayCount}
 use Rattle.grid.specs.declared.DexelStockSpec.{DexelStockSpec}
 use Rattle.grid.specs.declared.DexelGrid.{DexelGrid}
-use Rattle.stock.specs.Stock.{Stock, Kind, Possible, Certain}
+use Rattle.stock.specs.Stock.{Stock, Kind, Possible, Certain, rayList, listNumber}
 use Rattle.store.specs.Store.{placesOf, chained, endsAt}
 use Rattle.log_model.specs.Model.{sumTo, pairTotal}
-use Rattle.log_model.specs.View.{listNumber, listIn, lentStore}
+use Rattle.log_model.specs.View.{lentStore}
 use Rattle.log_model.proofs.RunCorrect.{demand3}
 use Rattle.log_model.specs.RunCorrect.{SoundView, RunCorrect}
 
@@ -56,12 +56,12 @@ module _ (spec : DexelStockSpec) (g : DexelGrid) (s : Stock) where
   total : ℕ → ℕ
   total r = length (chained (spec .«max_intervals») (s .cells .links) (s .cells .heads) 0 r)
 
-  list-pairs : (r : ℕ) (k : Kind) → length (listIn spec s r k) / 2 ≡ places (listNumber r k)
-  unfolding listIn places
+  list-pairs : (r : ℕ) (k : Kind) → length (rayList spec (s .cells) r k) / 2 ≡ places (listNumber r k)
+  unfolding places
   list-pairs r k = ends-pairs (s .cells .spans) (placesOf (spec .«max_intervals») (s .cells .links) (s .cells .heads) (listNumber r k))
 
   -- a list has one pair for each place of its chain
-  pub list-places : (r : ℕ) (k : Kind) → length (listIn spec s r k) / 2 ≡ length (placesOf (spec .«max_intervals») (s .cells .links) (s .cells .heads) (listNumber r k))
+  pub list-places : (r : ℕ) (k : Kind) → length (rayList spec (s .cells) r k) / 2 ≡ length (placesOf (spec .«max_intervals») (s .cells .links) (s .cells .heads) (listNumber r k))
   unfolding places
   list-places r k = list-pairs r k
 
@@ -88,13 +88,12 @@ module _ (spec : DexelStockSpec) (g : DexelGrid) (s : Stock) where
 
   -- the chained records are the pairs of all lists
   counted : (i : ℕ) (h : i ≤ rayCount g)
-      → total (2 * i) ≡ sumTo g (λ r. length (listIn spec s (r .0) Possible) / 2 + length (listIn spec s (r .0) Certain) / 2) i h
-  unfolding sumTo listNumber
+      → total (2 * i) ≡ sumTo g (λ r. length (rayList spec (s .cells) (r .0) Possible) / 2 + length (rayList spec (s .cells) (r .0) Certain) / 2) i h
+  unfolding sumTo
   counted zero h = unfold total chained in refl
   counted (suc i) h = two-more i ∙ ap₂ _+_ (counted i (le-of-lt h)) (ap₂ _+_ (sym (list-pairs i Possible)) (sym (list-pairs i Certain)))
 
 pub lent-laws : (spec : DexelStockSpec) (g : DexelGrid) → SoundView g (lentStore spec g)
-unfolding listIn listNumber
 lent-laws spec g = record {
   sound-list = λ s S r k. elim k [ Possible ↦ S .valid (r .0) (r .1) .possible-sound | Certain ↦ S .valid (r .0) (r .1) .certain-sound ];
   within = λ s S r. S .valid (r .0) (r .1) .inside;

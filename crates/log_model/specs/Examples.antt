@@ -14,12 +14,12 @@ use Rattle.grid.specs.declared.DexelStockSpec.{DexelStockSpec}
 use Rattle.grid.specs.declared.DexelGrid.{DexelGrid}
 use Rattle.grid.specs.declared.GridAnswer.the-variants.{Accepted}
 use Rattle.store.specs.Updates.{cells}
-use Rattle.stock.specs.Stock.{Stock, Kind, Possible, Certain}
+use Rattle.stock.specs.Stock.{Stock, Kind, Possible, Certain, rayList}
 use Rattle.stock_fill.specs.Uncut.{uncut, uncutTally}
 use Rattle.log_model.specs.Logs.{Commit}
 use Rattle.log_model.specs.Model.{LogAnswer, changed, refused}
 use Rattle.log_model.specs.Runs.{Run}
-use Rattle.log_model.specs.View.{listIn, lentStore}
+use Rattle.log_model.specs.View.{lentStore}
 use Rattle.grid.specs.Rays.{Ray}
 
 -- a whole number as a double
@@ -40,7 +40,7 @@ exampleBox n = record {
 abbrev pub exampleGrid : DexelGrid
 exampleGrid = record { c0 = 1; c1 = 1; c2 = 1; s0 = num 10; s1 = num 10; s2 = num 10 }
 
--- the uncut store: records 1 to 6 in ray order, Possible first, and two free ones
+-- the uncut store: records 1 to 6 in ray order, possible first, and two free ones
 abbrev pub exampleStock : Stock
 exampleStock = record {
   cells = record {
@@ -74,7 +74,7 @@ threeLogs = exampleCommit 0 1 66 ∷ notAllowed ∷ innerWider ∷ []
 abbrev pub threeAnswers : List LogAnswer
 threeAnswers = changed 1 ∷ refused 9 ∷ changed 1 ∷ []
 
--- the lists at the end: the ray along axis 1 has 0 to 2 and 3 to 4 for Possible, 0 to 1 for Certain, and the other rays are full
+-- the lists at the end: the ray along axis 1 has 0 to 2 and 3 to 4 for possible, 0 to 1 for certain, and the other rays are full
 abbrev pub exampleListAfter : ℕ → Kind → List Float
 exampleListAfter zero k = num 0 ∷ num 10 ∷ []
 exampleListAfter (suc zero) Possible = num 0 ∷ num 2 ∷ num 3 ∷ num 4 ∷ []
@@ -83,7 +83,7 @@ exampleListAfter (suc (suc n)) k = num 0 ∷ num 10 ∷ []
 
 -- a stock as the run leaves it: generation 2, seven intervals, and these lists
 pub record AtEnd (t : Stock) : Type 0 where
-  pub lists : (r : Ray exampleGrid) (k : Kind) → equal (listIn (exampleBox 8) t (r .0) k) (exampleListAfter (r .0) k) ≡ true
+  pub lists : (r : Ray exampleGrid) (k : Kind) → equal (rayList (exampleBox 8) (t .cells) (r .0) k) (exampleListAfter (r .0) k) ≡ true
   pub generation : t .generation ≡ 2
   pub intervals : t .intervals ≡ 7
 

@@ -99,7 +99,7 @@ unfolding namesRay hitLo hitHi
 hitsOnRay g [] r w = []
 hitsOnRay g (e ∷ es) r w = cond (namesRay g e r) (hitLo w e ∷ hitHi w e ∷ hitsOnRay g es r w) (hitsOnRay g es r w)
 
--- a log takes the points of its inner hits from Possible, those of its outer and inner hits from Certain
+-- a log takes the points of its inner hits from possible, those of its outer and inner hits from certain
 unfoldable pub removed : (g : DexelGrid) → List Entry → Ray g → Kind → Float → Bool
 unfolding hitsOnRay holds
 removed g es r Possible p = holds (hitsOnRay g es r inner) p

@@ -15,6 +15,7 @@ use Rattle.grid.specs.declared.DexelStockSpec.{DexelStockSpec}
 use Rattle.grid.specs.declared.DexelGrid.{DexelGrid}
 use Rattle.log_model.specs.Logs.{Entry, entries, workNeeded, namesSomeRay, removed, Commit}
 use Rattle.stock.specs.Stock.{Kind, Possible, Certain}
+
 -- ---- the sets of all rays
 
 -- two point sets for each ray

@@ -71,14 +71,14 @@ pub record RunMeetsModel (spec : DexelStockSpec) (g : DexelGrid) (R : StoreView 
   pub model-generation : R .generation t ≡ modelAfter g (modelStart g R s) cs vs .generation
   -- the same without the model: the generation grows by one for each accepted log
   pub generation : R .generation t ≡ R .generation s + length (acceptedLogs cs vs)
-  -- Possible holds exactly the points it first held that lie in no inner hit of an accepted log
+  -- possible holds exactly the points it first held that lie in no inner hit of an accepted log
   pub possible-is : (r : Ray g) (p : Float)
       → (holds (R .lists t r Possible) p ≡ true) ↔ ((holds (R .lists s r Possible) p ≡ true) × (¬ InHit g (acceptedLogs cs vs) r inner p))
-  -- Certain holds exactly the points it first held that lie in no outer and no inner hit of an accepted log
+  -- certain holds exactly the points it first held that lie in no outer and no inner hit of an accepted log
   pub certain-is : (r : Ray g) (p : Float)
       → (holds (R .lists t r Certain) p ≡ true)
       ↔ ((holds (R .lists s r Certain) p ≡ true) × (¬ InHit g (acceptedLogs cs vs) r outer p) × (¬ InHit g (acceptedLogs cs vs) r inner p))
-  -- Certain lies within Possible, and no list gains a point
+  -- certain lies within possible, and no list gains a point
   pub certain-within : (r : Ray g) (p : Float) → holds (R .lists t r Certain) p ≡ true → holds (R .lists t r Possible) p ≡ true
   pub nothing-gains : (r : Ray g) (k : Kind) (p : Float) → holds (R .lists t r k) p ≡ true → holds (R .lists s r k) p ≡ true
   pub sound : R .Sound t

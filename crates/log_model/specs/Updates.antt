@@ -11,7 +11,6 @@ use Rattle.store.specs.Updates.{Update, update, applied, pairsFreed, pairsLaid}
 use Rattle.stock.specs.Stock.{Stock, Kind, Possible, Certain}
 use Rattle.log_model.specs.Logs.{Entry, outer, inner, hitsOnRay}
 use Rattle.log_model.specs.Model.{Sets, RayChanges}
-use Rattle.log_model.specs.View.{listIn}
 use Rattle.spans.specs.Rays.{MergedExactly}
 
 -- the sets of these lists
@@ -38,7 +37,3 @@ committedStock spec s us = record {
   generation = suc (s .generation);
   intervals = s .intervals - pairsFreed (spec .«max_intervals») (s .cells) us + pairsLaid us;
 }
-
--- the lists of a stock, as a log finds them
-abbrev pub stockLists : DexelStockSpec → (g : DexelGrid) → Stock → Ray g → Kind → List Float
-stockLists spec g s r k = listIn spec s (r .0) k

@@ -8,33 +8,18 @@ use Rattle.grid.specs.declared.DexelStockSpec.{DexelStockSpec}
 use Rattle.grid.specs.declared.DexelGrid.{DexelGrid}
 use Rattle.grid.specs.declared.GridAnswer.{GridAnswer}
 use Rattle.grid.specs.declared.GridAnswer.the-variants.{Accepted, Refused}
-use Rattle.store.specs.Store.{listOf}
 use Rattle.store.specs.Updates.{Cells, storeList}
-use Rattle.stock.specs.Stock.{Stock, SoundStock, Kind, Possible, Certain}
+use Rattle.stock.specs.Stock.{Stock, SoundStock, Kind, Possible, Certain, rayList}
 use Rattle.log_model.specs.Logs.{Commit}
 use Rattle.log_model.specs.Model.{LogAnswer, refused}
 use Rattle.log_model.specs.Runs.{StoreView, CommitStep}
 use Rattle.grid.specs.Rays.{Ray}
 
--- the lists of the store count through the rays, Possible first
-unfoldable pub listNumber : ℕ → Kind → ℕ
-listNumber r Possible = 2 * r
-listNumber r Certain = 2 * r + 1
-
--- the list of the ray r and the kind k, as it stands in the cells
-unfoldable pub listIn : DexelStockSpec → Stock → ℕ → Kind → List Float
-unfolding listNumber
-listIn spec s r k = listOf (spec .«max_intervals») (s .cells .spans) (s .cells .links) (s .cells .heads) (listNumber r k)
-
--- the same of all rays, from the cells alone
-abbrev pub listsIn : DexelStockSpec → (g : DexelGrid) → Cells → Ray g → Kind → List Float
-listsIn spec g c r k = storeList (spec .«max_intervals») c (listNumber (r .0) k)
-
 -- the reading that the log commit's contract cites
 abbrev pub lentStore : DexelStockSpec → (g : DexelGrid) → StoreView g
 lentStore spec g = record {
   Store = Stock;
-  lists = λ s r k. listIn spec s (r .0) k;
+  lists = λ s r k. rayList spec (s .cells) (r .0) k;
   intervals = λ s. s .intervals;
   generation = λ s. s .generation;
   lent = λ s. record { records = min (length (s .cells .spans) / 2) (length (s .cells .links) / 2); heads = length (s .cells .heads) };

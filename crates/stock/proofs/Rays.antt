@@ -13,7 +13,7 @@ use Rattle.store.specs.Updates.{Cells, CellsChainsSound}
 use Rattle.spans.specs.Rays.{ValidRay}
 use Rattle.store_read.specs.Reading.{Readable}
 use Rattle.store_read.proofs.Steps.{readable}
-use Rattle.stock.specs.Stock.{possibleIn, certainIn, ValidAt, ValidTo, SoundCells}
+use Rattle.stock.specs.Stock.{ValidAt, ValidTo, SoundCells, rayList, Possible, Certain}
 use Rattle.logic.specs.Logic.{Decides}
 use Rattle.stock.specs.Steps.{ChainsInRoom}
 use Rattle.store.specs.Steps.{Room}
@@ -31,8 +31,8 @@ module _ (spec : DexelStockSpec) (g : DexelGrid) (c : Cells) where
   pub list-readable : ChainsInRoom spec g c → (j : ℕ) → j < 2 * rayCount g → Readable (spec .«max_intervals») (c .spans) (c .links) (getD (c .heads) j 0)
   list-readable ch j h = readable (ch .store) (ch .room .in-spans) (ch .room .in-links) j h
 
-  pub valid-within : (ray : ℕ) (b : RayBounds) (r : Bool) → b ≡ boundsOf spec g ray → Decides (ValidRay (b .lo) (b .hi) (possibleIn spec c ray) (certainIn spec c ray)) r → Decides (ValidAt spec g c ray) r
-  valid-within ray b r e t = subst (λ (x : RayBounds). Decides (ValidRay (x .lo) (x .hi) (possibleIn spec c ray) (certainIn spec c ray)) r) e t
+  pub valid-within : (ray : ℕ) (b : RayBounds) (r : Bool) → b ≡ boundsOf spec g ray → Decides (ValidRay (b .lo) (b .hi) (rayList spec c ray Possible) (rayList spec c ray Certain)) r → Decides (ValidAt spec g c ray) r
+  valid-within ray b r e t = subst (λ (x : RayBounds). Decides (ValidRay (x .lo) (x .hi) (rayList spec c ray Possible) (rayList spec c ray Certain)) r) e t
 
   pub ray-bad : (ray n : ℕ) (r : Bool) → ray < n → Decides (ValidAt spec g c ray) r → not r ≡ true → Decides (ValidTo spec g c n) false
   ray-bad ray n r h t bad = tells-bad (ValidTo spec g c n) (ValidAt spec g c ray) r t bad (λ all. all ray h)

@@ -5,7 +5,7 @@ use Prim.Native.Nat.{ℕ, _+_, _*_, _/_, _<_}
 use lib.Dec.{ltb}
 use lib.Ieee.{Float}
 use lib.ListN.{length}
-use Rattle.grid.specs.Rays.{rayCount, boundsOf}
+use Rattle.grid.specs.Rays.{rayCount, boundsOf, Ray}
 use Rattle.grid.specs.declared.DexelStockSpec.{DexelStockSpec}
 use Rattle.grid.specs.declared.DexelGrid.{DexelGrid}
 use Rattle.store.specs.Updates.{Cells, CellsChainsSound, storeList, cells}
@@ -17,16 +17,26 @@ pub record Stock : Type 0 where
   pub generation : ℕ
   pub intervals : ℕ
 
--- the lists of a ray: those of the store count through the rays, possible first
-abbrev pub possibleIn : DexelStockSpec → Cells → ℕ → List Float
-possibleIn spec c ray = storeList (spec .«max_intervals») c (2 * ray)
+-- each ray has a possible and a certain list
+pub data Kind : Type 0 where
+  Possible Certain : Kind
 
-abbrev pub certainIn : DexelStockSpec → Cells → ℕ → List Float
-certainIn spec c ray = storeList (spec .«max_intervals») c (2 * ray + 1)
+-- the lists of the store count through the rays, possible first
+abbrev pub listNumber : ℕ → Kind → ℕ
+listNumber ray Possible = 2 * ray
+listNumber ray Certain = 2 * ray + 1
+
+-- a list of a ray, as it stands in the cells
+abbrev pub rayList : DexelStockSpec → Cells → (ray : ℕ) → Kind → List Float
+rayList spec c ray k = storeList (spec .«max_intervals») c (listNumber ray k)
+
+-- both lists of each ray
+abbrev pub rayLists : DexelStockSpec → (g : DexelGrid) → Cells → Ray g → Kind → List Float
+rayLists spec g c r k = rayList spec c (r .0) k
 
 -- a ray of the store is valid within the box's bounds along it
 abbrev pub ValidAt : DexelStockSpec → DexelGrid → Cells → ℕ → Type 0
-ValidAt spec g c ray = ValidRay (boundsOf spec g ray .lo) (boundsOf spec g ray .hi) (possibleIn spec c ray) (certainIn spec c ray)
+ValidAt spec g c ray = ValidRay (boundsOf spec g ray .lo) (boundsOf spec g ray .hi) (rayList spec c ray Possible) (rayList spec c ray Certain)
 
 -- the first n rays are valid
 abbrev pub ValidTo : DexelStockSpec → DexelGrid → Cells → ℕ → Type 0
@@ -48,7 +58,3 @@ isShort spec g c = ltb (length (c .spans) / 2) (spec .«max_intervals») || (ltb
 -- a stock by its lent cells and its small record's numbers
 abbrev pub stock : (spans : List Float) (links heads : List ℕ) (generation intervals : ℕ) → Stock
 stock spans links heads generation intervals = record { cells = cells spans links heads; generation = generation; intervals = intervals }
-
--- each ray has a Possible and a Certain list
-pub data Kind : Type 0 where
-  Possible Certain : Kind

@@ -27,7 +27,7 @@ use Rattle.store.proofs.Records.{Written, written-same, put-other, put-here, Wi
 use Rattle.store.proofs.Chains.{chain-places}
 use Rattle.store.proofs.Replacing.{mem-to}
 use Rattle.spans.specs.Rays.{bounded, ValidRay}
-use Rattle.stock.specs.Stock.{possibleIn, certainIn, SoundStock}
+use Rattle.stock.specs.Stock.{SoundStock, rayList, Possible, Certain}
 use Rattle.stock_fill.specs.Uncut.{recordAt, uncutSpans, uncutLinks, uncutHeads, uncut}
 use Rattle.stock_fill.specs.declared.UncutRecord.{UncutRecord}
 use Rattle.stock_fill.proofs.Uncut.{rec, record-listed, record-free, spans-length, links-length, heads-length}
@@ -126,7 +126,7 @@ module _ (spec : DexelStockSpec) (g : DexelGrid) (before : Cells) (facts : GridF
 
   -- each ray's lists are the full pair from the box's lower to its upper bound
   pub uncut-lists : (ray : ℕ) → ray < rayCount g
-      → (possibleIn spec (uncut spec g before) ray ≡ boundsOf spec g ray .lo ∷ boundsOf spec g ray .hi ∷ []) × (certainIn spec (uncut spec g before) ray ≡ boundsOf spec g ray .lo ∷ boundsOf spec g ray .hi ∷ [])
+      → (rayList spec (uncut spec g before) ray Possible ≡ boundsOf spec g ray .lo ∷ boundsOf spec g ray .hi ∷ []) × (rayList spec (uncut spec g before) ray Certain ≡ boundsOf spec g ray .lo ∷ boundsOf spec g ray .hi ∷ [])
   uncut-lists ray h =
       let p : 2 * ray / 2 ≡ ray = omega arith in
       let c : (2 * ray + 1) / 2 ≡ ray = omega arith in (
@@ -159,7 +159,7 @@ module _ (spec : DexelStockSpec) (g : DexelGrid) (before : Cells) (facts : GridF
   uncut-sound = record {
     store = store;
     valid = λ ray h. let l = uncut-lists ray h in
-        subst (λ (c : List Float). ValidRay (boundsOf spec g ray .lo) (boundsOf spec g ray .hi) (possibleIn spec (uncut spec g before) ray) c) (sym (l .1))
+        subst (λ (c : List Float). ValidRay (boundsOf spec g ray .lo) (boundsOf spec g ray .hi) (rayList spec (uncut spec g before) ray Possible) c) (sym (l .1))
         (subst (λ (p : List Float). ValidRay (boundsOf spec g ray .lo) (boundsOf spec g ray .hi) p (boundsOf spec g ray .lo ∷ boundsOf spec g ray .hi ∷ [])) (sym (l .0))
         (full-valid (boundsOf spec g ray .lo) (boundsOf spec g ray .hi) (in-box ray)));
   }

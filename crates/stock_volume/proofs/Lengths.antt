@@ -17,7 +17,7 @@ use Rattle.grid.specs.declared.RayBounds.{RayBounds}
 use Rattle.store.specs.Updates.{Cells}
 use Rattle.store_read.specs.Lengths.{lengthFrom}
 use Rattle.store_read.specs.declared.RaySums.{RaySums}
-use Rattle.stock.specs.Stock.{possibleIn, certainIn, ValidTo}
+use Rattle.stock.specs.Stock.{ValidTo, rayList, Possible, Certain}
 use Rattle.stock_volume.specs.Volume.{areaOf, addRay, volumeTo, volumeAlong}
 use Rattle.stock_volume.specs.declared.AxisSums.{AxisSums}
 use Rattle.stock.proofs.Rays.{valid-within, ray-good}
@@ -33,12 +33,12 @@ abbrev vol : Float → Float → AxisVolume
 vol c p = record { certain = c; possible = p }
 
 module _ (spec : DexelStockSpec) (c : Cells) (area : Float) where
-  pub added : (ray : ℕ) (v : AxisVolume) (lc lp : Float) → lc ≡ lengthFrom plusZero (certainIn spec c ray) → lp ≡ lengthFrom plusZero (possibleIn spec c ray)
+  pub added : (ray : ℕ) (v : AxisVolume) (lc lp : Float) → lc ≡ lengthFrom plusZero (rayList spec c ray Certain) → lp ≡ lengthFrom plusZero (rayList spec c ray Possible)
       → vol (add binary64 (v .certain) (mul binary64 lc area)) (add binary64 (v .possible) (mul binary64 lp area)) ≡ addRay spec c area ray v
   unfolding addRay
   added ray v lc lp e f =
       ap (λ (x : Float). vol (add binary64 (v .certain) (mul binary64 x area)) (add binary64 (v .possible) (mul binary64 lp area))) e
-      ∙ ap (λ (x : Float). vol (add binary64 (v .certain) (mul binary64 (lengthFrom plusZero (certainIn spec c ray)) area)) (add binary64 (v .possible) (mul binary64 x area))) f
+      ∙ ap (λ (x : Float). vol (add binary64 (v .certain) (mul binary64 (lengthFrom plusZero (rayList spec c ray Certain)) area)) (add binary64 (v .possible) (mul binary64 x area))) f
 
   pub volume-first : (first : ℕ) → vol plusZero plusZero ≡ volumeTo spec c area first 0
   unfolding volumeTo
@@ -60,7 +60,7 @@ volume-end spec g c a area first count k v p q r s e =
 
 -- ---- the answers of `add_ray` and `axis_volume`
 module _ (spec : DexelStockSpec) (g : DexelGrid) (c : Cells) where
-  pub ray-added : (area : Float) (ray : ℕ) (v : AxisVolume) (b : RayBounds) (m : RaySums) → b ≡ boundsOf spec g ray → RayMeasures (b .lo) (b .hi) (possibleIn spec c ray) (certainIn spec c ray) m
+  pub ray-added : (area : Float) (ray : ℕ) (v : AxisVolume) (b : RayBounds) (m : RaySums) → b ≡ boundsOf spec g ray → RayMeasures (b .lo) (b .hi) (rayList spec c ray Possible) (rayList spec c ray Certain) m
       → AddVolumePost spec g c area ray v (record { valid = m .valid; volume = vol (add binary64 (v .certain) (mul binary64 (m .certain) area)) (add binary64 (v .possible) (mul binary64 (m .possible) area)) })
   ray-added area ray v b m e t = record {
     told = valid-within spec g c ray b (m .valid) e (t .is-valid, t .if-valid);

@@ -16,7 +16,7 @@ use Rattle.grid.specs.declared.DexelStockSpec.{DexelStockSpec}
 use Rattle.grid.specs.declared.DexelGrid.{DexelGrid}
 use Rattle.store.specs.Updates.{Cells}
 use Rattle.store_read.specs.Lengths.{lengthFrom}
-use Rattle.stock.specs.Stock.{possibleIn, certainIn, SoundCells, isShort}
+use Rattle.stock.specs.Stock.{SoundCells, isShort, rayList, Possible, Certain}
 use Rattle.stock_volume.specs.declared.AxisVolume.{AxisVolume}
 use Rattle.stock_volume.specs.declared.DexelVolume.{DexelVolume}
 use Rattle.stock_volume.specs.declared.VolumeAnswer.{VolumeAnswer}
@@ -30,8 +30,8 @@ areaOf g a = mul binary64 (stepAlong g (crossOf a .u)) (stepAlong g (crossOf a .
 unfoldable pub addRay : DexelStockSpec → Cells → Float → ℕ → AxisVolume → AxisVolume
 addRay spec c area ray v =
     record {
-      certain = add binary64 (v .certain) (mul binary64 (lengthFrom plusZero (certainIn spec c ray)) area);
-      possible = add binary64 (v .possible) (mul binary64 (lengthFrom plusZero (possibleIn spec c ray)) area);
+      certain = add binary64 (v .certain) (mul binary64 (lengthFrom plusZero (rayList spec c ray Certain)) area);
+      possible = add binary64 (v .possible) (mul binary64 (lengthFrom plusZero (rayList spec c ray Possible)) area);
     }
 
 -- so many rays from the first on, in order

@@ -69,10 +69,6 @@ unfoldable pub endsAt : List Float → List ℕ → List Float
 endsAt spans [] = []
 endsAt spans (i ∷ ps) = loAt spans i ∷ hiAt spans i ∷ endsAt spans ps
 
--- list j of a store: what commit, volume and the model of a run speak of
-abbrev pub listOf : ℕ → List Float → List ℕ → List ℕ → ℕ → List Float
-listOf n spans links heads j = endsAt spans (placesOf n links heads j)
-
 -- ---- freeing records
 -- the cells of the spans and of the links with the record at place i free
 abbrev pub freeSpan : List Float → ℕ → List Float

@@ -4,7 +4,7 @@ use mathlib.Core.List.{List, [], _∷_}
 use Prim.Native.Nat.{ℕ, suc, _+_, _-_, _*_, _/_}
 use lib.ListN.{length, take, drop, set}
 use lib.Ieee.{Float}
-use Rattle.store.specs.Store.{placesOf, listOf, freedSpans, freedLinks, freeFrom, filledSpans, filledLinks, headOf, ChainsSound}
+use Rattle.store.specs.Store.{placesOf, endsAt, freedSpans, freedLinks, freeFrom, filledSpans, filledLinks, headOf, ChainsSound}
 
 -- the lent cells: lo and hi of each record; next and owner of each record; the head of each list
 pub record Cells : Type 0 where
@@ -72,7 +72,7 @@ abbrev pub CellsChainsSound : ℕ → ℕ → ℕ → Cells → Type 0
 CellsChainsSound n m total c = ChainsSound n m total (c .spans) (c .links) (c .heads)
 
 abbrev pub storeList : ℕ → Cells → ℕ → List Float
-storeList n c j = listOf n (c .spans) (c .links) (c .heads) j
+storeList n c j = endsAt (c .spans) (placesOf n (c .links) (c .heads) j)
 
 -- how many records the lists to be updated have, and how many the updates take
 unfoldable pub pairsFreed : ℕ → Cells → List Update → ℕ
