@@ -16,7 +16,6 @@ use Rattle.stock_fill.specs.Uncut.{fillCauses}
 use Rattle.stock_volume.specs.Volume.{volumeCauses}
 use Rattle.stock.specs.Stock.{Stock, SoundStock}
 use Rattle.stock.specs.declared.CommitAnswer.{CommitAnswer}
-use Rattle.store.specs.Updates.{Cells}
 use Rattle.commit_changes.specs.ChangeCommit.{changeCommitCauses}
 use Rattle.commit_log.specs.LogCommit.{LogCommitPost}
 use Rattle.log_model.specs.Logs.{Commit, commitOf}
@@ -24,6 +23,7 @@ use Rattle.log_model.specs.Model.{LogAnswer, changed, refused, logCommitCauses,
 use Rattle.log_model.specs.View.{CommitOnAnyGrid, lentStore}
 use Rattle.log_model.specs.Runs.{pointSets}
 use Rattle.c_results.specs.Numbers.{AnsweredBy, HandedAs}
+use Rattle.store.specs.Store.{Cells}
 
 -- each cause's number is above 0
 abbrev pub Numbered : List Cause → Type 0

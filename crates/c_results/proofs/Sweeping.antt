@@ -11,13 +11,13 @@ use Rattle.frame.specs.declared.Axis.{Axis}
 use Rattle.cutter.specs.declared.CutterShape.{CutterShape}
 use Rattle.cutter.specs.declared.PreparedCutter.{PreparedCutter}
 use Rattle.refusal.specs.Refusal.{Due}
-use Rattle.store.specs.Updates.{Cells}
 use Rattle.sweep.specs.Answer.{settingOf, sweepCauses, SweepPost}
 use Rattle.sweep_model.specs.SweepEntries.{Setting}
 use Rattle.sweep.specs.declared.Totals.{Totals}
 use Rattle.sweep.specs.declared.SweepAnswer.{SweepAnswer}
 use Rattle.c_results.specs.Numbers.{AnsweredBy, HandedAs, sweptNumbers}
 use Rattle.c_results.proofs.Results.{answered, due-above}
+use Rattle.store.specs.Store.{Cells}
 
 sweep-above : (units : List ℕ) (s : Setting) (intervals : ℕ) (chords : List Float) (budget len k : ℕ) → Due (sweepCauses units s intervals chords budget len) k → 0 < k
 unfolding gridCauses

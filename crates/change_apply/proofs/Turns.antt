@@ -9,7 +9,7 @@ use Rattle.grid.specs.Rays.{rayCount}
 use Rattle.grid.specs.declared.DexelStockSpec.{DexelStockSpec}
 use Rattle.grid.specs.declared.DexelGrid.{DexelGrid}
 use Rattle.store.specs.Fills.{FreeCursor}
-use Rattle.store.specs.Updates.{Cells, Update, update, pairsFrom, CellsChainsSound, freedList, freedAll, laidList, laidAll, applied, pairsFreed, pairsLaid}
+use Rattle.store.specs.Updates.{Update, update, pairsFrom, freedList, freedAll, laidList, laidAll, applied, pairsFreed, pairsLaid}
 use Rattle.store.proofs.Updating.{FreedAll, freed-all, freed-append, LaidAll, laid-all, laid-append, all-empty, half-freed, half-laid, kept-room}
 use Rattle.change_list.specs.Changes.{headAt, end2, end3, end4, Change, changeBy, changesFrom, changesOf, changeRay, Names, Good, AllGood, updatesOf, updatesIn}
 use Rattle.change_list.specs.declared.ChangeHead.{ChangeHead}
@@ -19,9 +19,10 @@ use Rattle.store_write.specs.FreeRays.{FreeRayPre}
 use Rattle.store_write.specs.LayRays.{LayRayPre, LayRayPost}
 use Rattle.change_apply.specs.Passes.{ChangesFit}
 use Rattle.store.specs.Steps.{Room, Ascending, FreeListPre, LayListPre}
+use Rattle.store.specs.Store.{Cells, ChainsSound}
 
 -- ---- one update of a list of updates that is split before it
-module _ {n m total : ℕ} {c : Cells} (s : CellsChainsSound n m total c) (room : Room n m c) (us vs : List Update) (u : Update) (ws : List Update) (split : us ≡ vs ++ u ∷ ws) (asc : Ascending m 0 us) where
+module _ {n m total : ℕ} {c : Cells} (s : ChainsSound n m total c) (room : Room n m c) (us vs : List Update) (u : Update) (ws : List Update) (split : us ≡ vs ++ u ∷ ws) (asc : Ascending m 0 us) where
   freeable-at : FreeListPre n (freedAll n c vs) (u .list)
   freeable-at = half-freed s room vs u ws (subst (Ascending m 0) split asc)
 

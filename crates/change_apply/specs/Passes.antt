@@ -6,10 +6,11 @@ use lib.Ieee.{Float}
 use Rattle.grid.specs.Rays.{rayCount}
 use Rattle.grid.specs.declared.DexelStockSpec.{DexelStockSpec}
 use Rattle.grid.specs.declared.DexelGrid.{DexelGrid}
-use Rattle.store.specs.Updates.{Cells, freedAll, pairsFreed, pairsLaid}
+use Rattle.store.specs.Updates.{freedAll, pairsFreed, pairsLaid}
 use Rattle.stock.specs.Stock.{SoundCells}
 use Rattle.change_list.specs.Changes.{changesOf, AllGood, updatesIn}
 use Rattle.store.specs.Steps.{Room}
+use Rattle.store.specs.Store.{Cells}
 
 -- good changes of a sound store with that total, which stay within the budget
 pub record ChangesFit (spec : DexelStockSpec) (g : DexelGrid) (c : Cells) (total : ℕ) (changes : List ℕ) (pairs : List Float) : Type 0 where

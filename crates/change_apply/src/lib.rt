@@ -3,9 +3,10 @@ ghost use mathlib.Core.Path.{_≡_};
 ghost use mathlib.Core.List.{List};
 ghost use Prim.Native.Nat.{ℕ, _+_, _*_, _^_, _<_};
 ghost use lib.Ieee.{Float};
-ghost use Rattle.store.specs.Updates.{cells, laidAll, applied};
+ghost use Rattle.store.specs.Updates.{laidAll, applied};
 ghost use Rattle.change_apply.specs.Passes.{ChangesFit, FreeAllPost, ChangesFreed};
 ghost use Rattle.change_list.specs.Changes.{updatesIn};
+ghost use Rattle.store.specs.Store.{cells};
 use grid::DexelGrid;
 use grid::DexelStockSpec;
 

@@ -12,12 +12,13 @@ use Rattle.grid.specs.Rays.{rayCount, boundsOf}
 use Rattle.grid.specs.declared.DexelStockSpec.{DexelStockSpec}
 use Rattle.grid.specs.declared.DexelGrid.{DexelGrid}
 use Rattle.grid.proofs.Numbering.{number-lt}
-use Rattle.store.specs.Updates.{Cells, Update, update, pairsFreed, pairsLaid, applied}
+use Rattle.store.specs.Updates.{Update, update, pairsFreed, pairsLaid, applied}
 use Rattle.store.proofs.Updating.{after-here, after-other, updated}
 use Rattle.spans.specs.Rays.{ValidRay}
 use Rattle.stock.specs.Stock.{SoundCells, rayList, Possible, Certain}
 use Rattle.change_list.specs.Changes.{Change, changeRay, Good, AllGood, updatesOf}
 use Rattle.store.specs.Steps.{Room, Ascending, none, next, listAfter, UpdatedStore}
+use Rattle.store.specs.Store.{Cells}
 
 module _ (spec : DexelStockSpec) (g : DexelGrid) (c : Cells) (pairs : List Float) where
   ray-below : (from : ℕ) (d : Change) → Good spec g c pairs from d → changeRay g (d .axis) (d .index) < rayCount g

@@ -10,7 +10,6 @@ use Rattle.grid.specs.Rays.{rayCount, boundsOf}
 use Rattle.grid.specs.declared.DexelStockSpec.{DexelStockSpec}
 use Rattle.grid.specs.declared.DexelGrid.{DexelGrid}
 use Rattle.grid.specs.declared.RayBounds.{RayBounds}
-use Rattle.store.specs.Updates.{Cells}
 use Rattle.span_cover.specs.Cover.{Covers}
 use Rattle.spans.specs.Rays.{ValidRay}
 use Rattle.ray_check.proofs.Tests.{passes, covers-tells}
@@ -19,6 +18,7 @@ use Rattle.change_list.proofs.Lists.{sound-equal}
 use Rattle.logic.specs.Logic.{Decides}
 use Rattle.change_list.specs.Steps.{SoundWithRoom}
 use Rattle.stock.specs.Stock.{rayList, Possible, Certain}
+use Rattle.store.specs.Store.{Cells}
 
 -- a test that fails, of a Bool that P brings with it
 pub fails : (P : Type 0) (b r : Bool) → r ≡ b → not r ≡ true → (P → b ≡ true) → Decides P false

@@ -16,7 +16,6 @@ use Rattle.grid.specs.Axes.{worldAxis}
 use Rattle.grid.specs.Rays.{raysAlong}
 use Rattle.grid.specs.declared.DexelStockSpec.{DexelStockSpec}
 use Rattle.grid.specs.declared.DexelGrid.{DexelGrid}
-use Rattle.store.specs.Updates.{Cells}
 use Rattle.change_list.specs.Cuts.{ChangeAllowed}
 use Rattle.change_list.proofs.ChangeTests.{never}
 use Rattle.change_list.specs.Changes.{end4, changeRay, Names, changeBy, Good, badCauses}
@@ -25,6 +24,7 @@ use Rattle.change_list.specs.declared.ChangeHead.{ChangeHead}
 use Rattle.change_list.specs.declared.ChangeCursor.{ChangeCursor}
 use Rattle.change_list.specs.declared.ChangeCheck.the-variants.{Next, Bad}
 use Rattle.logic.specs.Logic.{Decides}
+use Rattle.store.specs.Store.{Cells}
 
 -- numbers that fit 64 bits
 pub cell-fits : (x n : ℕ) → x ≤ n → n < 2 ^ 64 → x < 2 ^ 64

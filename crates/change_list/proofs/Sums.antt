@@ -11,8 +11,8 @@ use Rattle.logic.proofs.Bools.{and-left, and-right}
 use Rattle.spans.specs.Spans.{equal}
 use Rattle.grid.specs.declared.DexelStockSpec.{DexelStockSpec}
 use Rattle.grid.specs.declared.DexelGrid.{DexelGrid}
-use Rattle.store.specs.Store.{placesOf}
-use Rattle.store.specs.Updates.{Cells, pairsFrom, pairsFreed, pairsLaid}
+use Rattle.store.specs.Store.{placesOf, Cells}
+use Rattle.store.specs.Updates.{pairsFrom, pairsFreed, pairsLaid}
 use Rattle.store_read.proofs.Steps.{ends-length}
 use Rattle.change_list.specs.Changes.{headAt, end1, end2, end3, end4, Change, changeBy, changesFrom, changesOf, changeRay, Good, AllGood, updatesOf}
 use Rattle.change_list.specs.Steps.{onward, cursorOf, Stands, CheckChangePost, CheckChangesPost}

@@ -8,10 +8,11 @@ use Rattle.grid.specs.Axes.{worldAxis}
 use Rattle.grid.specs.Rays.{raysAlong, rayNumber}
 use Rattle.grid.specs.declared.DexelStockSpec.{DexelStockSpec}
 use Rattle.grid.specs.declared.DexelGrid.{DexelGrid}
-use Rattle.store.specs.Updates.{Cells, Update, update, pairsFrom}
+use Rattle.store.specs.Updates.{Update, update, pairsFrom}
 use Rattle.change_list.specs.Cuts.{ChangeAllowed}
 use Rattle.change_list.specs.declared.ChangeHead.{ChangeHead}
 use Rattle.refusal.specs.Refusal.{Cause, cause}
+use Rattle.store.specs.Store.{Cells}
 
 -- the six numbers of change k
 unfoldable pub headAt : List ℕ → ℕ → ChangeHead

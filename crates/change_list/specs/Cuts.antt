@@ -8,9 +8,9 @@ use Rattle.spans.specs.Spans.{holds, equal}
 use Rattle.grid.specs.Rays.{boundsOf}
 use Rattle.grid.specs.declared.DexelStockSpec.{DexelStockSpec}
 use Rattle.grid.specs.declared.DexelGrid.{DexelGrid}
-use Rattle.store.specs.Updates.{Cells}
 use Rattle.spans.specs.Rays.{ValidRay}
 use Rattle.stock.specs.Stock.{rayList, Possible, Certain}
+use Rattle.store.specs.Store.{Cells}
 
 -- the new lists make a valid ray, gain no point of the old ones and differ from them
 pub record IsRemoval (lo hi : Float) (p q p′ q′ : List Float) : Type 0 where

@@ -7,7 +7,7 @@ use lib.Ieee.{Float}
 use Rattle.refusal.specs.Refusal.{Due}
 use Rattle.grid.specs.declared.DexelStockSpec.{DexelStockSpec}
 use Rattle.grid.specs.declared.DexelGrid.{DexelGrid}
-use Rattle.store.specs.Updates.{Cells, pairsFreed, pairsLaid}
+use Rattle.store.specs.Updates.{pairsFreed, pairsLaid}
 use Rattle.change_list.specs.Changes.{Change, changeRay, end4, changeBy, Good, AllGood, updatesOf, badCauses}
 use Rattle.change_list.specs.declared.ChangeHead.{ChangeHead}
 use Rattle.change_list.specs.declared.ChangeCursor.{ChangeCursor}
@@ -16,6 +16,7 @@ use Rattle.change_list.specs.declared.ChangeCheck.the-variants.{Next, Ba
 use Rattle.grid.specs.Rays.{rayCount}
 use Rattle.stock.specs.Stock.{SoundCells}
 use Rattle.store.specs.Steps.{Room}
+use Rattle.store.specs.Store.{Cells}
 
 -- how many pairs the four lists of a change have
 abbrev pub pairsIn : ChangeHead → ℕ

@@ -9,7 +9,7 @@ use Rattle.doubles.specs.Constants.{plusZero}
 use Rattle.grid.specs.Rays.{rayCount}
 use Rattle.grid.specs.declared.DexelStockSpec.{DexelStockSpec}
 use Rattle.grid.specs.declared.DexelGrid.{DexelGrid}
-use Rattle.store.specs.Updates.{Cells, Update, CellsChainsSound, pairsFreed, pairsLaid, freedAll, laidAll, applied}
+use Rattle.store.specs.Updates.{Update, pairsFreed, pairsLaid, freedAll, laidAll, applied}
 use Rattle.store.proofs.Updating.{FreedAll, freed-all, all-empty, kept-room}
 use Rattle.stock.specs.Stock.{Stock, rayLists}
 use Rattle.log_model.specs.Logs.{entries, entryCount}
@@ -24,6 +24,7 @@ use Rattle.log_model.proofs.Leaves.{ascend, intervals-left}
 use Rattle.log_merge.specs.All.{MergeAllPre, MergeAllPost}
 use Rattle.commit_apply.specs.Apply.{ApplyPre, ApplyPost}
 use Rattle.store.specs.Steps.{Room, Ascending}
+use Rattle.store.specs.Store.{Cells, ChainsSound}
 
 module _ (spec : DexelStockSpec) (g : DexelGrid) (c : Cells) (log w : List Float) (ready : ApplyPre spec g c log w) where
   -- a stock with these cells: the laws of a cut speak of no generation
@@ -94,7 +95,7 @@ module _ (spec : DexelStockSpec) (g : DexelGrid) (c : Cells) (log w : List Float
         in-sizes = sizes-room;
         room = subst (λ (x : ℕ). Room (spec .«max_intervals») (2 * x) c) (sym e) (ready .room);
         total = ready .total;
-        store = subst (λ (x : ℕ). CellsChainsSound (spec .«max_intervals») (2 * x) (ready .total) c) (sym e) (ready .sound .store);
+        store = subst (λ (x : ℕ). ChainsSound (spec .«max_intervals») (2 * x) (ready .total) c) (sym e) (ready .sound .store);
       }
 
       module _ (d : Cells) (freed : (q : ℕ) → d ≡ freedAll (spec .«max_intervals») c (updatesFrom w₂ (rays + length log / 6) q 0 rays)) where

@@ -8,7 +8,7 @@ use Rattle.doubles.specs.Constants.{plusZero}
 use Rattle.grid.specs.Rays.{rayCount}
 use Rattle.grid.specs.declared.DexelStockSpec.{DexelStockSpec}
 use Rattle.grid.specs.declared.DexelGrid.{DexelGrid}
-use Rattle.store.specs.Updates.{Cells, Update, applied}
+use Rattle.store.specs.Updates.{Update, applied}
 use Rattle.stock.specs.Stock.{SoundCells, rayLists}
 use Rattle.log_model.specs.Logs.{entries, workNeeded}
 use Rattle.log_model.specs.Counts.{pairsAfter}
@@ -16,6 +16,7 @@ use Rattle.log_entries.specs.Named.{EachNamed}
 use Rattle.log_model.specs.Updates.{MergeUpdates}
 use Rattle.grid.specs.Facts.{GridFacts}
 use Rattle.store.specs.Steps.{Room}
+use Rattle.store.specs.Store.{Cells}
 
 -- the grid, the cells and the log have passed the tests
 pub record ApplyPre (spec : DexelStockSpec) (g : DexelGrid) (c : Cells) (log work : List Float) : Type 0 where

@@ -1,6 +1,6 @@
 // The cut of an accepted log: the lists of all changed rays are replaced in the store.
-ghost use Rattle.store.specs.Updates.{cells};
 ghost use Rattle.commit_apply.specs.Apply.{ApplyPre, ApplyPost};
+ghost use Rattle.store.specs.Store.{cells};
 use grid::DexelGrid;
 use grid::DexelStockSpec;
 

@@ -11,7 +11,7 @@ use Rattle.grid.specs.Causes.{gridCauses, gridIn}
 use Rattle.grid.specs.declared.DexelStockSpec.{DexelStockSpec}
 use Rattle.grid.specs.declared.DexelGrid.{DexelGrid}
 use Rattle.grid.specs.declared.GridAnswer.the-variants.{Accepted as Griddable, Refused as NoGrid}
-use Rattle.store.specs.Updates.{Cells, applied}
+use Rattle.store.specs.Updates.{applied}
 use Rattle.stock.specs.Stock.{Stock, rayList, Possible, Certain}
 use Rattle.stock.specs.declared.CommitAnswer.{CommitAnswer}
 use Rattle.stock.specs.declared.CommitAnswer.the-variants.{Changed, Refused}
@@ -24,6 +24,7 @@ use Rattle.commit_changes.specs.ChangeCommit.{changedStock, changeCauses
 use Rattle.commit_changes.specs.Verdicts.{VerdictBy}
 use Rattle.commit_changes.specs.declared.ChangeVerdict.{ChangeVerdict}
 use Rattle.commit_changes.specs.declared.ChangeVerdict.the-variants.{Fits, Refused as No}
+use Rattle.store.specs.Store.{Cells}
 
 -- ---- over a grid that is accepted
 module _ (spec : DexelStockSpec) (g : DexelGrid) (s : Stock) (changes : List ℕ) (pairs : List Float) (base : ℕ) (r : ChangeVerdict) (ens : VerdictBy (changeCauses spec g base s changes pairs) spec g s changes pairs r) where

@@ -12,8 +12,8 @@ use Rattle.grid.specs.declared.GridAnswer.{GridAnswer}
 use Rattle.grid.specs.declared.GridAnswer.the-variants.{Accepted as Griddable, Refused as NoGrid}
 use Rattle.grid.specs.declared.DexelStockSpec.{DexelStockSpec}
 use Rattle.grid.specs.declared.DexelGrid.{DexelGrid}
-use Rattle.store.specs.Store.{usedAt}
-use Rattle.store.specs.Updates.{Cells, CellsPastKept, pairsFreed, pairsLaid, applied}
+use Rattle.store.specs.Store.{usedAt, Cells}
+use Rattle.store.specs.Updates.{CellsPastKept, pairsFreed, pairsLaid, applied}
 use Rattle.store.proofs.Checked.{count-of}
 use Rattle.stock.specs.Stock.{Stock, rayLists}
 use Rattle.stock.specs.declared.CommitAnswer.{CommitAnswer}

@@ -11,7 +11,6 @@ use lib.Ieee.{Float}
 use Rattle.grid.specs.Rays.{rayCount}
 use Rattle.grid.specs.declared.DexelStockSpec.{DexelStockSpec}
 use Rattle.grid.specs.declared.DexelGrid.{DexelGrid}
-use Rattle.store.specs.Updates.{Cells}
 use Rattle.log_model.specs.Logs.{entryAt, entryCount, entries, entryRay}
 use Rattle.log_model.specs.Counts.{changedRayCount, pairsAfter}
 use Rattle.log_entries.specs.Named.{namedFrom}
@@ -21,6 +20,7 @@ use Rattle.log_count.specs.declared.RayTotals.{RayTotals}
 use Rattle.log_count.proofs.Sums.{sum-prefix}
 use Rattle.log_count.proofs.Bounds.{total-is, changed-is, left-is, unchanged, untouched}
 use Rattle.stock.specs.Stock.{rayLists}
+use Rattle.store.specs.Store.{Cells}
 
 -- no place has an entry on the ray
 none-from : (g : DexelGrid) (log : List Float) (ray i k : ℕ) → AllFrom (λ j. eqb (entryRay g (entryAt log j)) ray ≡ false) i k

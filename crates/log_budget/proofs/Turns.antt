@@ -9,7 +9,6 @@ use lib.Seq.{length-take-le, getD-take, getD-drop}
 use lib.Ieee.{Float}
 use Rattle.grid.specs.declared.DexelStockSpec.{DexelStockSpec}
 use Rattle.grid.specs.declared.DexelGrid.{DexelGrid}
-use Rattle.store.specs.Updates.{Cells}
 use Rattle.log_model.specs.Logs.{entryAt, entryCount, entryRay}
 use Rattle.log_keys.specs.Keys.{entryOfKey}
 use Rattle.log_gather.specs.Gathering.{Shaped}
@@ -21,6 +20,7 @@ use Rattle.log_budget.specs.Steps.{BatchKeys, RunEnd}
 use Rattle.log_count.proofs.Bounds.{few-rays}
 use Rattle.log_budget.proofs.Division.{quotient, remainder, quotient-le}
 use Rattle.log_budget.proofs.Passing.{NoEntry, pass-rays}
+use Rattle.store.specs.Store.{Cells}
 
 -- the ray of the key at a place
 abbrev pub rayAt : List Float → (first : ℕ) → List ℕ → (t : ℕ) → ℕ

@@ -6,12 +6,12 @@ use lib.Dec.{ltb}
 use lib.Ieee.{Float}
 use Rattle.grid.specs.declared.DexelStockSpec.{DexelStockSpec}
 use Rattle.grid.specs.declared.DexelGrid.{DexelGrid}
-use Rattle.store.specs.Updates.{Cells}
 use Rattle.log_model.specs.Logs.{entries}
 use Rattle.log_model.specs.Counts.{changedRayCount, pairsAfter}
 use Rattle.log_budget.specs.declared.BudgetAnswer.{BudgetAnswer}
 use Rattle.log_budget.specs.declared.BudgetAnswer.the-variants.{Kept, Rays, Intervals}
 use Rattle.stock.specs.Stock.{rayLists}
+use Rattle.store.specs.Store.{Cells}
 
 -- document 01's number of each answer; 0 where there is none
 abbrev pub budgetNumber : BudgetAnswer → ℕ

@@ -8,12 +8,12 @@ use lib.Ieee.{Float}
 use Rattle.grid.specs.Rays.{rayCount}
 use Rattle.grid.specs.declared.DexelStockSpec.{DexelStockSpec}
 use Rattle.grid.specs.declared.DexelGrid.{DexelGrid}
-use Rattle.store.specs.Updates.{Cells}
 use Rattle.log_model.specs.Logs.{entryAt, entryCount, entryRay}
 use Rattle.log_batches.specs.Batches.{Batched}
 use Rattle.log_count.specs.Totals.{Prefixed}
 use Rattle.log_batches.specs.declared.Batch.{Batch}
 use Rattle.log_budget.specs.declared.CountNextAnswer.{CountNextAnswer}
+use Rattle.store.specs.Store.{Cells}
 
 -- the first m keys are those of a batch of rays, and ascend
 pub record BatchKeys (g : DexelGrid) (log : List Float) (first width : ℕ) (keys : List ℕ) (m : ℕ) : Type 0 where

@@ -9,7 +9,6 @@ use lib.Ieee.{Float}
 use Rattle.grid.specs.declared.DexelStockSpec.{DexelStockSpec}
 use Rattle.grid.specs.declared.DexelGrid.{DexelGrid}
 use Rattle.spans.specs.Spans.{sound}
-use Rattle.store.specs.Updates.{Cells}
 use Rattle.store_read.specs.Reading.{Readable}
 use Rattle.store_read.proofs.Steps.{readable}
 use Rattle.log_model.specs.Logs.{entryCount}
@@ -21,6 +20,7 @@ use Rattle.log_count.specs.declared.RayTotals.{RayTotals}
 use Rattle.log_count.proofs.Keyed.{keyed-points}
 use Rattle.log_count.proofs.Prefixes.{ray-addable, ray-added}
 use Rattle.stock.specs.Stock.{rayList, Possible, Certain}
+use Rattle.store.specs.Store.{Cells}
 
 module _ {spec : DexelStockSpec} {g : DexelGrid} {c : Cells} {log : List Float} {ray : ℕ} {t : RayTotals} {buffer : List Float}
     (a : CountPre spec g c log ray t buffer) where

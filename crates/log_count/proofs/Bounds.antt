@@ -14,8 +14,7 @@ use Rattle.grid.specs.Rays.{rayCount}
 use Rattle.grid.specs.declared.DexelStockSpec.{DexelStockSpec}
 use Rattle.grid.specs.declared.DexelGrid.{DexelGrid}
 use Rattle.spans.specs.Spans.{holds, sound}
-use Rattle.store.specs.Store.{placesOf}
-use Rattle.store.specs.Updates.{Cells}
+use Rattle.store.specs.Store.{placesOf, Cells}
 use Rattle.store.proofs.FreePlaces.{free-records}
 use Rattle.stock.specs.Stock.{Stock, SoundStock, Possible, Certain, rayList, rayLists}
 use Rattle.store_read.proofs.Steps.{ends-length}

@@ -9,7 +9,6 @@ use lib.Ieee.{Float}
 use Rattle.grid.specs.Rays.{rayCount}
 use Rattle.grid.specs.declared.DexelStockSpec.{DexelStockSpec}
 use Rattle.grid.specs.declared.DexelGrid.{DexelGrid}
-use Rattle.store.specs.Updates.{Cells}
 use Rattle.log_model.specs.Logs.{entryCount}
 use Rattle.log_count.specs.Totals.{Counting, Prefixed, sumBelow, pairsOf, leftOf, rayChangeCount}
 use Rattle.log_count.specs.Steps.{ListCounted, AddRayPre, AddRayPost, possibleLoses, certainLoses}
@@ -18,6 +17,7 @@ use Rattle.log_count.specs.declared.RayTotals.{RayTotals}
 use Rattle.log_count.proofs.Sums.{sum-le, sum-prefix, sum-next, sum-plus, sum-times}
 use Rattle.log_count.proofs.Bounds.{at-most-all, total-is, total-fits, few-rays, entriesOf, all-entries, left-le, left-fits}
 use Rattle.stock.specs.Stock.{rayList, Possible, Certain}
+use Rattle.store.specs.Store.{Cells}
 
 module _ (spec : DexelStockSpec) (g : DexelGrid) (c : Cells) (log : List Float) (ray : ℕ) (t : RayTotals) (p q : ListCount)
     (ok : Counting spec g c log) (inside : ray < rayCount g) (have : Prefixed spec g c log ray t)

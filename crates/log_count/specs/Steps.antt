@@ -10,7 +10,6 @@ use Rattle.spans.specs.Spans.{holds, sound, less}
 use Rattle.grid.specs.Rays.{rayCount}
 use Rattle.grid.specs.declared.DexelStockSpec.{DexelStockSpec}
 use Rattle.grid.specs.declared.DexelGrid.{DexelGrid}
-use Rattle.store.specs.Updates.{Cells}
 use Rattle.store_read.specs.Reading.{Readable}
 use Rattle.log_model.specs.Logs.{entries, entryAt, entryCount, entryRay, outer, inner}
 use Rattle.log_model.specs.Counts.{isHitBy, startsLeft}
@@ -24,7 +23,7 @@ use Rattle.log_count.specs.Totals.{Counting, Prefixed}
 use Rattle.log_count.specs.declared.ListCount.{ListCount}
 use Rattle.log_count.specs.declared.RayTotals.{RayTotals}
 use Rattle.log_count.specs.declared.RayWalks.{RayWalks}
-use Rattle.store.specs.Store.{listFrom}
+use Rattle.store.specs.Store.{listFrom, Cells}
 
 -- plus infinity, which no hit reaches past
 abbrev pub top : Float

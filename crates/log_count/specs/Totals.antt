@@ -8,7 +8,6 @@ use lib.Ieee.{Float}
 use Rattle.grid.specs.Rays.{rayCount}
 use Rattle.grid.specs.declared.DexelStockSpec.{DexelStockSpec}
 use Rattle.grid.specs.declared.DexelGrid.{DexelGrid}
-use Rattle.store.specs.Updates.{Cells}
 use Rattle.stock.specs.Stock.{SoundCells, rayList, Possible, Certain}
 use Rattle.log_model.specs.Logs.{entries, outer, inner}
 use Rattle.log_model.specs.Counts.{isHitBy, startsLeft}
@@ -16,6 +15,7 @@ use Rattle.log_entries.specs.Named.{EachNamed, hitsOnRayNumber}
 use Rattle.log_count.specs.declared.RayTotals.{RayTotals}
 use Rattle.grid.specs.Facts.{GridFacts}
 use Rattle.store.specs.Steps.{Room}
+use Rattle.store.specs.Store.{Cells}
 
 -- a log whose entries each name a ray, on a sound store with room
 pub record Countable (spec : DexelStockSpec) (g : DexelGrid) (c : Cells) (intervals : ℕ) (log : List Float) : Type 0 where

@@ -3,13 +3,13 @@
 ghost use mathlib.Core.Path.{_≡_};
 ghost use Prim.Native.Nat.{_+_, _<_};
 ghost use lib.ListN.{length};
-ghost use Rattle.store.specs.Updates.{cells};
 ghost use Rattle.store_read.specs.Reading.{Readable};
 ghost use Rattle.log_model.specs.Logs.{entryCount};
 ghost use Rattle.log_keys.specs.Keys.{hitsTo};
 ghost use Rattle.log_gather.specs.Gathering.{Shaped};
 ghost use Rattle.log_count.specs.RayTotals.{CountPost};
 ghost use Rattle.log_count.specs.Steps.{EndListPost, CountListPost, AddRayPre, AddRayPost, CountPre, KeysOf, TakePartPre, TakePartPost};
+ghost use Rattle.store.specs.Store.{cells};
 use grid::DexelGrid;
 use grid::DexelStockSpec;
 use log_left::Rest;

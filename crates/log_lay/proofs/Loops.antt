@@ -7,8 +7,8 @@ use native.Mathlib.Decide.{ℕ-discrete}
 use native.Mathlib.Omega.{arith}
 use lib.ListN.{length}
 use lib.Ieee.{Float}
-use Rattle.store.specs.Store.{placesOf}
-use Rattle.store.specs.Updates.{Cells, Update, CellsChainsSound, CellsPastKept, freedList, freedAll, laidList, laidAll}
+use Rattle.store.specs.Store.{placesOf, Cells, ChainsSound}
+use Rattle.store.specs.Updates.{Update, CellsPastKept, freedList, freedAll, laidList, laidAll}
 use Rattle.store.proofs.Replacing.{Replaced}
 use Rattle.store.proofs.Freeing.{freed-list, freed-kept}
 use Rattle.store.proofs.Updating.{kept-none, kept-then, kept-room, freed-append, laid-append}
@@ -37,7 +37,7 @@ module _ (n : ℕ) (c : Cells) (w : List Float) (sizes rays : ℕ) where
   }
 
 -- a store with one list freed
-module _ (n m total : ℕ) (c : Cells) (s : CellsChainsSound n m total c) (room : Room n m c) (j : ℕ) (j<m : j < m) where
+module _ (n m total : ℕ) (c : Cells) (s : ChainsSound n m total c) (room : Room n m c) (j : ℕ) (j<m : j < m) where
   one-freeable : FreeListPre n c j
   one-freeable = record { in-spans = room .in-spans; in-links = room .in-links; in-heads = omega (arith, room .in-heads); chain = s .chains j j<m }
 
@@ -47,7 +47,7 @@ module _ (n m total : ℕ) (c : Cells) (s : CellsChainsSound n m total c) (room 
   one-total : ℕ
   one-total = total - length (placesOf n (c .links) (c .heads) j)
 
-  one-sound : CellsChainsSound n m one-total (freedList n c j)
+  one-sound : ChainsSound n m one-total (freedList n c j)
   unfolding one-total
   one-sound = let r : Replaced n m total c (freedList n c j) j [] = freed-list n m total c s room j j<m in r .isSound (total - length (placesOf n (c .links) (c .heads) j)) (omega (arith, r .less))
 
@@ -75,7 +75,7 @@ module _ (n : ℕ) (c : Cells) (w : List Float) (sizes rays ray : ℕ) (a : AllF
       r₁ : Room n (2 * rays) (freedList n c (2 * ray))
       r₁ = one-room n (2 * rays) (a .total) c (a .store) (a .room) (2 * ray) in-first
 
-      s₁ : CellsChainsSound n (2 * rays) (one-total n (2 * rays) (a .total) c (a .store) (a .room) (2 * ray) in-first) (freedList n c (2 * ray))
+      s₁ : ChainsSound n (2 * rays) (one-total n (2 * rays) (a .total) c (a .store) (a .room) (2 * ray) in-first) (freedList n c (2 * ray))
       s₁ = one-sound n (2 * rays) (a .total) c (a .store) (a .room) (2 * ray) in-first
 
       at : Dec (firstSize w sizes ray ≡ 0) → AllFreeable n d w sizes rays × CellsPastKept n (2 * rays) c d

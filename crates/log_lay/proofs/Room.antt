@@ -4,9 +4,9 @@ use mathlib.Core.List.{List, [], List·Memᴰ·head, List·Memᴰ·tail}
 use Prim.Native.Nat.{ℕ, _+_, _/_, _≤_}
 use native.Mathlib.Omega.{arith}
 use lib.ListN.{length}
-use Rattle.store.specs.Store.{placesOf, freeFrom}
+use Rattle.store.specs.Store.{placesOf, freeFrom, Cells, ChainsSound}
 use Rattle.store.specs.Fills.{FreeCursor}
-use Rattle.store.specs.Updates.{Cells, Update, CellsChainsSound, CellsPastKept, pairsLaid, lowestFree, laidList}
+use Rattle.store.specs.Updates.{Update, CellsPastKept, pairsLaid, lowestFree, laidList}
 use Rattle.store.proofs.Replacing.{Replaced}
 use Rattle.store.proofs.FreePlaces.{free-records}
 use Rattle.store.proofs.Laying.{laid-list, laid-sound, laid-kept}
@@ -14,7 +14,7 @@ use Rattle.store.proofs.Updating.{Empty, kept-room, ascending-at}
 use Rattle.log_lay.specs.Steps.{EachLayable}
 use Rattle.store.specs.Steps.{Room, Ascending, none, next}
 
-pub each-layable : {n m total k : ℕ} {c : Cells} {us : List Update} → CellsChainsSound n m total c → Room n m c → Ascending m k us → Empty n c us → total + pairsLaid us ≤ n → EachLayable n c us
+pub each-layable : {n m total k : ℕ} {c : Cells} {us : List Update} → ChainsSound n m total c → Room n m c → Ascending m k us → Empty n c us → total + pairsLaid us ≤ n → EachLayable n c us
 unfolding EachLayable pairsLaid
 each-layable s room none empty fits = tt
 each-layable {n} {m} {total} {c = c} s room (next {u = u} {us = us} lo hi whole a) empty fits =

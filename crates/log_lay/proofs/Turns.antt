@@ -7,13 +7,14 @@ use lib.ListN.{length}
 use lib.Ieee.{Float}
 use borrow.Author.Tests.{eq-eqb, ne-eqb}
 use Rattle.log_numbers.specs.Numbers.{numberAt}
-use Rattle.store.specs.Updates.{Cells, Update, update, pairsFrom, freedList, freedAll, laidList, laidAll}
+use Rattle.store.specs.Updates.{Update, update, pairsFrom, freedList, freedAll, laidList, laidAll}
 use Rattle.store_write.specs.LayRays.{LayRayPre, LayRayPost}
 use Rattle.log_lay.specs.Updates.{firstSize, updatesFrom, listsEnd}
 use Rattle.log_lay.specs.Steps.{EachLayable, RaysLayable, RaysLaid}
 use Rattle.log_lay.specs.declared.LayPlace.{LayPlace}
 use Rattle.log_lay.proofs.Lists.{updates-none, end-none, pastRay, firstUpdate, secondUpdate, updates-same, updates-new, end-same, end-new}
 use Rattle.store.specs.Steps.{LayListPre}
+use Rattle.store.specs.Store.{Cells}
 
 -- ---- no update, two updates
 pub freed-none : (n : ℕ) (c : Cells) → freedAll n c [] ≡ c

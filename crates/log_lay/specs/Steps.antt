@@ -5,11 +5,12 @@ use Prim.Native.Nat.{ℕ, _+_, _*_, _≤_, _<_}
 use lib.ListN.{length}
 use lib.Ieee.{Float}
 use Rattle.store.specs.Fills.{FreeCursor}
-use Rattle.store.specs.Updates.{Cells, Update, CellsChainsSound, laidList, laidAll}
+use Rattle.store.specs.Updates.{Update, laidList, laidAll}
 use Rattle.store_write.specs.FreeRays.{FreeRayPre}
 use Rattle.log_lay.specs.Updates.{updatesFrom, listsEnd}
 use Rattle.log_lay.specs.declared.LayPlace.{LayPlace}
 use Rattle.store.specs.Steps.{Room, LayListPre}
+use Rattle.store.specs.Store.{Cells, ChainsSound}
 
 -- both lists of a ray can be freed, and its first size can be read
 pub record RayFreeable (n : ℕ) (c : Cells) (w : List Float) (sizes ray : ℕ) : Type 0 where
@@ -21,7 +22,7 @@ pub record AllFreeable (n : ℕ) (c : Cells) (w : List Float) (sizes rays : ℕ)
   pub in-sizes : sizes + 2 * rays ≤ length w
   pub room : Room n (2 * rays) c
   pub total : ℕ
-  pub store : CellsChainsSound n (2 * rays) total c
+  pub store : ChainsSound n (2 * rays) total c
 
 -- each update finds the room that it needs, after those before it
 unfoldable pub EachLayable : ℕ → Cells → List Update → Type 0

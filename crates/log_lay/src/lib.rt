@@ -1,9 +1,10 @@
 // Frees and lays the lists of the changed rays of a log commit. All are freed before the first is laid.
 ghost use mathlib.Core.Path.{_≡_};
 ghost use Prim.Native.Nat.{ℕ};
-ghost use Rattle.store.specs.Updates.{cells, freedAll, laidAll};
+ghost use Rattle.store.specs.Updates.{freedAll, laidAll};
 ghost use Rattle.log_lay.specs.Updates.{updatesFrom};
 ghost use Rattle.log_lay.specs.Steps.{RayFreeable, AllFreeable, RaysLayable, RaysLaid};
+ghost use Rattle.store.specs.Store.{cells};
 
 // Frees both lists of a ray if it changes.
 fn free_ray(

@@ -13,7 +13,7 @@ use lib.Ieee.{Float, nan}
 use Rattle.grid.specs.Rays.{rayCount, Ray}
 use Rattle.grid.specs.declared.DexelStockSpec.{DexelStockSpec}
 use Rattle.grid.specs.declared.DexelGrid.{DexelGrid}
-use Rattle.store.specs.Updates.{Cells, Update, update}
+use Rattle.store.specs.Updates.{Update, update}
 use Rattle.stock.specs.Stock.{Stock, SoundCells, Kind, Possible, Certain, rayLists}
 use Rattle.stock.proofs.Rays.{sound-chained}
 use Rattle.log_model.specs.Logs.{Entry, entries, entryCount}
@@ -34,6 +34,7 @@ use Rattle.log_merge.specs.Rays.{LoadPre, MergeRayPost, limitOf}
 use Rattle.log_merge.specs.All.{firstSizeOf, countOf, sizesAt, listsFrom, MergeAllPre, MergeAllPost}
 use Rattle.log_merge.specs.declared.RayUpdate.{RayUpdate}
 use Rattle.log_merge.proofs.Told.{changes, changes-not, new-exact, pairs-most}
+use Rattle.store.specs.Store.{Cells}
 
 -- the stock of the cells; its small record does not count here
 abbrev pub stockOf : Cells → Stock

@@ -14,8 +14,7 @@ use Rattle.grid.specs.declared.DexelStockSpec.{DexelStockSpec}
 use Rattle.grid.specs.declared.DexelGrid.{DexelGrid}
 use Rattle.log_model.specs.Logs.{entries, entryCount, HitKind, outer, inner}
 use Rattle.log_model.proofs.Entries.{entries-length}
-use Rattle.store.specs.Store.{places}
-use Rattle.store.specs.Updates.{Cells, storeList}
+use Rattle.store.specs.Store.{places, Cells, storeList}
 use Rattle.store.proofs.Chains.{places-within}
 use Rattle.store_read.specs.Reading.{ReadListPost, Readable}
 use Rattle.store_read.proofs.Steps.{ends-length}

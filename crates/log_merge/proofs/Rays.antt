@@ -16,7 +16,6 @@ use Rattle.span_overlay.proofs.Less.{less-apart}
 use Rattle.grid.specs.declared.DexelStockSpec.{DexelStockSpec}
 use Rattle.grid.specs.declared.DexelGrid.{DexelGrid}
 use Rattle.log_model.specs.Logs.{entries, HitKind, outer, inner}
-use Rattle.store.specs.Updates.{Cells}
 use Rattle.stock.specs.Stock.{ValidAt, rayList, Possible, Certain}
 use Rattle.log_entries.specs.Named.{hitsOnRayNumber}
 use Rattle.log_numbers.specs.Numbers.{numberAt}
@@ -28,6 +27,7 @@ use Rattle.log_merge.specs.declared.RayUpdate.{RayUpdate}
 use Rattle.log_merge.specs.declared.Sizes.{Sizes}
 use Rattle.log_merge.proofs.Cutting.{untouched}
 use Rattle.log_merge.proofs.Bringing.{list-most, hits-most}
+use Rattle.store.specs.Store.{Cells}
 
 -- ---- no hits
 none-sound : sound [] ≡ true

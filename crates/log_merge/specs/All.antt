@@ -8,7 +8,6 @@ use lib.Ieee.{Float}
 use Rattle.grid.specs.Rays.{rayCount}
 use Rattle.grid.specs.declared.DexelStockSpec.{DexelStockSpec}
 use Rattle.grid.specs.declared.DexelGrid.{DexelGrid}
-use Rattle.store.specs.Updates.{Cells}
 use Rattle.stock.specs.Stock.{Stock, SoundStock, rayLists}
 use Rattle.log_model.specs.Logs.{entries, entryCount}
 use Rattle.log_model.specs.Counts.{pairsAfter}
@@ -18,6 +17,7 @@ use Rattle.log_group.specs.Groups.{Grouped}
 use Rattle.log_merge.specs.declared.RayUpdate.{RayUpdate}
 use Rattle.grid.specs.Facts.{GridFacts}
 use Rattle.store.specs.Steps.{Room}
+use Rattle.store.specs.Store.{Cells}
 
 -- the first size of a ray: 0 where it does not change, else one more than the pairs of its new possible list
 abbrev pub firstSizeOf : RayUpdate → ℕ

@@ -11,7 +11,6 @@ use Rattle.grid.specs.Rays.{rayCount}
 use Rattle.grid.specs.declared.DexelStockSpec.{DexelStockSpec}
 use Rattle.grid.specs.declared.DexelGrid.{DexelGrid}
 use Rattle.log_model.specs.Logs.{entries, entryCount, outer, inner}
-use Rattle.store.specs.Updates.{Cells}
 use Rattle.stock.specs.Stock.{ValidTo, rayList, Possible, Certain}
 use Rattle.log_entries.specs.Named.{hitsOnRayNumber}
 use Rattle.log_group.specs.Groups.{Grouped}
@@ -19,6 +18,7 @@ use Rattle.ray_subtract.specs.Steps.{cellsFrom}
 use Rattle.log_merge.specs.declared.RayUpdate.{RayUpdate}
 use Rattle.log_merge.specs.declared.Sizes.{Sizes}
 use Rattle.stock.specs.Steps.{ChainsInRoom}
+use Rattle.store.specs.Store.{Cells}
 
 -- a boundary of one of the lists moves when the hits are taken away: of possible by the inner ones, of certain by both
 abbrev pub rayMoves : (possible certain outers inners : List Float) → Bool

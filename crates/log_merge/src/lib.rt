@@ -5,13 +5,13 @@ ghost use lib.ListN.{length, set};
 ghost use Rattle.log_numbers.specs.Numbers.{numberCell};
 ghost use Rattle.grid.specs.Rays.{rayCount};
 ghost use Rattle.log_model.specs.Logs.{entries, entryCount, outer, inner};
-ghost use Rattle.store.specs.Updates.{cells};
 ghost use Rattle.log_entries.specs.Named.{hitsOnRayNumber};
 ghost use Rattle.log_group.specs.Groups.{Grouped, hitKindOf};
 ghost use Rattle.ray_subtract.specs.Steps.{cellsFrom, MergeWithinPre, NormalizedAt};
 ghost use Rattle.log_merge.specs.Rays.{rayMoves, RayCutPost, LoadPre, LoadPost, limitOf, MergeRayPost};
 ghost use Rattle.log_merge.specs.All.{firstSizeOf, countOf, MergeAllPre, MergeAllPost};
 ghost use Rattle.stock.specs.Stock.{rayList, Possible, Certain};
+ghost use Rattle.store.specs.Store.{cells};
 use grid::DexelGrid;
 use grid::DexelStockSpec;
 

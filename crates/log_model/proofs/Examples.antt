@@ -20,14 +20,13 @@ use Rattle.grid.specs.Grid.{allBetween, isBetween}
 use Rattle.grid.specs.FromSpec.{gridOf, isMm, misdescribed, anyBelow, gridOver, anyAbove, cellCount, tooFine, leastStep, magnitudeOf}
 use Rattle.grid.specs.Rays.{rayCount, raysAlong, offset, rayAxis, boundsOf, Ray}
 use Rattle.grid.specs.declared.GridAnswer.the-variants.{Accepted}
-use Rattle.store.specs.Store.{usedAt, places, RecordChain, ends, more, placesOf, chained, endsAt}
+use Rattle.store.specs.Store.{usedAt, places, RecordChain, ends, more, placesOf, chained, endsAt, cells}
 use Rattle.spans.specs.Rays.{bounded, ValidRay}
 use Rattle.log_model.specs.Logs.{entries, namesSomeRay, hitLo, hitHi, Commit}
 use Rattle.log_model.specs.Model.{LogAnswer, changed, refused, logCommitCauses, AnswerDue, acceptedLogs}
 use Rattle.log_model.specs.Counts.{hitsOnList, changedRayCount}
 use Rattle.log_model.specs.Runs.{pointSets, CommitEffect, CommitStep, Run, done, next, RunMeetsModel}
 use Rattle.log_model.specs.Examples.{num, exampleBox, exampleGrid, exampleStock, exampleHit, exampleCommit, notAllowed, innerWider, threeLogs, threeAnswers, exampleListAfter, AtEnd, RunRight}
-use Rattle.store.specs.Updates.{cells}
 use Rattle.stock.specs.Stock.{Stock, ValidAt, SoundStock, Kind, Possible, Certain, rayList}
 use Rattle.stock_fill.specs.Uncut.{uncut as uncutCells, uncutSpans, uncutLinks, uncutHeads, recordAt}
 use Rattle.log_model.specs.View.{lentStore}

@@ -13,7 +13,6 @@ use Rattle.grid.specs.FromSpec.{gridOf}
 use Rattle.grid.specs.declared.DexelStockSpec.{DexelStockSpec}
 use Rattle.grid.specs.declared.DexelGrid.{DexelGrid}
 use Rattle.grid.specs.declared.GridAnswer.the-variants.{Accepted}
-use Rattle.store.specs.Updates.{cells}
 use Rattle.stock.specs.Stock.{Stock, Kind, Possible, Certain, rayList}
 use Rattle.stock_fill.specs.Uncut.{uncut, uncutTally}
 use Rattle.log_model.specs.Logs.{Commit}
@@ -21,6 +20,7 @@ use Rattle.log_model.specs.Model.{LogAnswer, changed, refused}
 use Rattle.log_model.specs.Runs.{Run}
 use Rattle.log_model.specs.View.{lentStore}
 use Rattle.grid.specs.Rays.{Ray}
+use Rattle.store.specs.Store.{cells}
 
 -- a whole number as a double
 abbrev pub num : ℕ → Float

@@ -8,12 +8,12 @@ use Rattle.grid.specs.declared.DexelStockSpec.{DexelStockSpec}
 use Rattle.grid.specs.declared.DexelGrid.{DexelGrid}
 use Rattle.grid.specs.declared.GridAnswer.{GridAnswer}
 use Rattle.grid.specs.declared.GridAnswer.the-variants.{Accepted, Refused}
-use Rattle.store.specs.Updates.{Cells, storeList}
 use Rattle.stock.specs.Stock.{Stock, SoundStock, Kind, Possible, Certain, rayList}
 use Rattle.log_model.specs.Logs.{Commit}
 use Rattle.log_model.specs.Model.{LogAnswer, refused}
 use Rattle.log_model.specs.Runs.{StoreView, CommitStep}
 use Rattle.grid.specs.Rays.{Ray}
+use Rattle.store.specs.Store.{Cells, storeList}
 
 -- the reading that the log commit's contract cites
 abbrev pub lentStore : DexelStockSpec → (g : DexelGrid) → StoreView g

@@ -13,9 +13,9 @@ use Rattle.logic.proofs.Bools.{or-left, or-right, or-neither}
 use Rattle.grid.specs.Rays.{rayCount}
 use Rattle.grid.specs.declared.DexelStockSpec.{DexelStockSpec}
 use Rattle.grid.specs.declared.DexelGrid.{DexelGrid}
-use Rattle.store.specs.Updates.{Cells}
 use Rattle.stock.specs.Stock.{isShort}
 use Rattle.store.specs.Steps.{Room}
+use Rattle.store.specs.Store.{Cells}
 
 pub due-first : (cs ds : List Cause) (k : ℕ) → Due cs k → Due (cs ++ ds) k
 unfolding Due

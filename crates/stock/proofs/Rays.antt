@@ -9,7 +9,6 @@ use Rattle.grid.specs.Rays.{rayCount, boundsOf}
 use Rattle.grid.specs.declared.DexelStockSpec.{DexelStockSpec}
 use Rattle.grid.specs.declared.DexelGrid.{DexelGrid}
 use Rattle.grid.specs.declared.RayBounds.{RayBounds}
-use Rattle.store.specs.Updates.{Cells, CellsChainsSound}
 use Rattle.spans.specs.Rays.{ValidRay}
 use Rattle.store_read.specs.Reading.{Readable}
 use Rattle.store_read.proofs.Steps.{readable}
@@ -17,6 +16,7 @@ use Rattle.stock.specs.Stock.{ValidAt, ValidTo, SoundCells, rayList, Pos
 use Rattle.logic.specs.Logic.{Decides}
 use Rattle.stock.specs.Steps.{ChainsInRoom}
 use Rattle.store.specs.Steps.{Room}
+use Rattle.store.specs.Store.{Cells, ChainsSound}
 
 -- a test that fails, of what P brings with it
 pub tells-bad : (P Q : Type 0) (r : Bool) → Decides Q r → not r ≡ true → (P → Q) → Decides P false
@@ -44,18 +44,18 @@ module _ (spec : DexelStockSpec) (g : DexelGrid) (c : Cells) where
   rays-good ray n e all = ((λ t. subst (ValidTo spec g c) e all), (λ p. refl))
 
   -- ---- the check of a stock
-  pub lists-counted : (total m : ℕ) (r : Bool) → m ≡ rayCount g → Decides (CellsChainsSound (spec .«max_intervals») (2 * m) total c) r → Decides (CellsChainsSound (spec .«max_intervals») (2 * rayCount g) total c) r
-  lists-counted total m r e t = subst (λ (k : ℕ). Decides (CellsChainsSound (spec .«max_intervals») (2 * k) total c) r) e t
+  pub lists-counted : (total m : ℕ) (r : Bool) → m ≡ rayCount g → Decides (ChainsSound (spec .«max_intervals») (2 * m) total c) r → Decides (ChainsSound (spec .«max_intervals») (2 * rayCount g) total c) r
+  lists-counted total m r e t = subst (λ (k : ℕ). Decides (ChainsSound (spec .«max_intervals») (2 * k) total c) r) e t
 
-  pub store-bad : (total : ℕ) (r : Bool) → Decides (CellsChainsSound (spec .«max_intervals») (2 * rayCount g) total c) r → not r ≡ true → Decides (SoundCells spec g c total) false
-  store-bad total r t bad = tells-bad (SoundCells spec g c total) (CellsChainsSound (spec .«max_intervals») (2 * rayCount g) total c) r t bad (λ s. s .store)
+  pub store-bad : (total : ℕ) (r : Bool) → Decides (ChainsSound (spec .«max_intervals») (2 * rayCount g) total c) r → not r ≡ true → Decides (SoundCells spec g c total) false
+  store-bad total r t bad = tells-bad (SoundCells spec g c total) (ChainsSound (spec .«max_intervals») (2 * rayCount g) total c) r t bad (λ s. s .store)
 
-  pub chained-of : (total : ℕ) (r : Bool) → Room (spec .«max_intervals») (2 * rayCount g) c → Decides (CellsChainsSound (spec .«max_intervals») (2 * rayCount g) total c) r → not r ≡ false → ChainsInRoom spec g c
-  chained-of total r room t good = record { room = room; total = total; store = tells-good (CellsChainsSound (spec .«max_intervals») (2 * rayCount g) total c) r t good }
+  pub chained-of : (total : ℕ) (r : Bool) → Room (spec .«max_intervals») (2 * rayCount g) c → Decides (ChainsSound (spec .«max_intervals») (2 * rayCount g) total c) r → not r ≡ false → ChainsInRoom spec g c
+  chained-of total r room t good = record { room = room; total = total; store = tells-good (ChainsSound (spec .«max_intervals») (2 * rayCount g) total c) r t good }
 
-  pub stock-tells : (total : ℕ) (r s : Bool) → Decides (CellsChainsSound (spec .«max_intervals») (2 * rayCount g) total c) r → not r ≡ false → Decides (ValidTo spec g c (rayCount g)) s → Decides (SoundCells spec g c total) s
+  pub stock-tells : (total : ℕ) (r s : Bool) → Decides (ChainsSound (spec .«max_intervals») (2 * rayCount g) total c) r → not r ≡ false → Decides (ValidTo spec g c (rayCount g)) s → Decides (SoundCells spec g c total) s
   stock-tells total r s t good v = (
-    (λ e. record { store = tells-good (CellsChainsSound (spec .«max_intervals») (2 * rayCount g) total c) r t good; valid = v .0 e }),
+    (λ e. record { store = tells-good (ChainsSound (spec .«max_intervals») (2 * rayCount g) total c) r t good; valid = v .0 e }),
     (λ p. v .1 (p .valid)),
   )
 

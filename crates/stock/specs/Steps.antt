@@ -3,11 +3,11 @@ use Prim.Native.Nat.{ℕ, _*_}
 use Rattle.grid.specs.Rays.{rayCount}
 use Rattle.grid.specs.declared.DexelStockSpec.{DexelStockSpec}
 use Rattle.grid.specs.declared.DexelGrid.{DexelGrid}
-use Rattle.store.specs.Updates.{Cells, CellsChainsSound}
 use Rattle.store.specs.Steps.{Room}
+use Rattle.store.specs.Store.{Cells, ChainsSound}
 
 -- the store has room and is sound, but for the validity of its rays
 pub record ChainsInRoom (spec : DexelStockSpec) (g : DexelGrid) (c : Cells) : Type 0 where
   pub room : Room (spec .«max_intervals») (2 * rayCount g) c
   pub total : ℕ
-  pub store : CellsChainsSound (spec .«max_intervals») (2 * rayCount g) total c
+  pub store : ChainsSound (spec .«max_intervals») (2 * rayCount g) total c

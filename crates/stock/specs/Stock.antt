@@ -8,8 +8,8 @@ use lib.ListN.{length}
 use Rattle.grid.specs.Rays.{rayCount, boundsOf, Ray}
 use Rattle.grid.specs.declared.DexelStockSpec.{DexelStockSpec}
 use Rattle.grid.specs.declared.DexelGrid.{DexelGrid}
-use Rattle.store.specs.Updates.{Cells, CellsChainsSound, storeList, cells}
 use Rattle.spans.specs.Rays.{ValidRay}
+use Rattle.store.specs.Store.{Cells, cells, ChainsSound, storeList}
 
 -- Document 01's store and small record. With a description that `grid` accepts they are a stock.
 pub record Stock : Type 0 where
@@ -44,7 +44,7 @@ ValidTo spec g c n = (ray : ℕ) → ray < n → ValidAt spec g c ray
 
 -- document 01's sound store: chains and free records, the interval total, and each ray valid within the box's bounds along it
 pub record SoundCells (spec : DexelStockSpec) (g : DexelGrid) (c : Cells) (intervals : ℕ) : Type 0 where
-  pub store : CellsChainsSound (spec .«max_intervals») (2 * rayCount g) intervals c
+  pub store : ChainsSound (spec .«max_intervals») (2 * rayCount g) intervals c
   pub valid : ValidTo spec g c (rayCount g)
 
 -- a stock is sound when its store is

@@ -2,12 +2,12 @@
 ghost use mathlib.Core.Path.{_≡_};
 ghost use Prim.Native.Nat.{_*_, _<_};
 ghost use Rattle.grid.specs.Rays.{rayCount};
-ghost use Rattle.store.specs.Updates.{cells, CellsChainsSound};
 ghost use Rattle.stock.specs.Stock.{ValidAt, ValidTo, SoundCells, isShort};
 ghost use Rattle.logic.specs.Logic.{Decides};
 ghost use Rattle.grid.specs.Facts.{GridFacts};
 ghost use Rattle.stock.specs.Steps.{ChainsInRoom};
 ghost use Rattle.store.specs.Steps.{Room};
+ghost use Rattle.store.specs.Store.{cells, ChainsSound};
 use grid::DexelGrid;
 use grid::DexelStockSpec;
 
@@ -88,7 +88,7 @@ pub fn is_chained(
     intervals: u64,
 ) -> bool
     requires { ⌜ Room (spec .«max_intervals») (2 * rayCount g) (cells (now spans) (now links) (now heads)) ⌝ }
-    ensures { λ r. ⌜ Decides (CellsChainsSound (spec .«max_intervals») (2 * rayCount g) intervals (cells (now (spans .entry)) (now (links .entry)) (now (heads .entry)))) r ⌝ }
+    ensures { λ r. ⌜ Decides (ChainsSound (spec .«max_intervals») (2 * rayCount g) intervals (cells (now (spans .entry)) (now (links .entry)) (now (heads .entry)))) r ⌝ }
 {
     let n = spec.max_intervals as usize;
     let m = 2 * (grid_rays::total_rays(g) as usize);

@@ -13,7 +13,6 @@ use Rattle.grid.specs.Causes.{gridCauses, gridIn}
 use Rattle.grid.specs.declared.DexelStockSpec.{DexelStockSpec}
 use Rattle.grid.specs.declared.DexelGrid.{DexelGrid}
 use Rattle.grid.specs.declared.GridAnswer.the-variants.{Accepted as Griddable, Refused as NoGrid}
-use Rattle.store.specs.Updates.{Cells, cells}
 use Rattle.stock.specs.Stock.{isShort}
 use Rattle.stock.proofs.Causes.{due-first, due-second, none-in-both}
 use Rattle.stock.proofs.Answers.{accepted, refused}
@@ -21,6 +20,7 @@ use Rattle.stock_fill.specs.Uncut.{uncutSpans, uncutLinks, uncutHeads, r
 use Rattle.stock_fill.specs.declared.FillAnswer.{FillAnswer}
 use Rattle.stock_fill.specs.declared.FillAnswer.the-variants.{Accepted, Refused}
 use Rattle.stock_fill.proofs.Uncut.{same-cells}
+use Rattle.store.specs.Store.{Cells, cells}
 
 module _ (spec : DexelStockSpec) (g : DexelGrid) (before : Cells) where
   pub fill-short : (r : Bool) → r ≡ isShort spec g before → r ≡ true → FillPost (roomCauses spec g before) spec g before before (Refused 12)

@@ -12,8 +12,7 @@ use Rattle.grid.specs.Rays.{rayCount, boundsOf}
 use Rattle.grid.specs.declared.DexelStockSpec.{DexelStockSpec}
 use Rattle.grid.specs.declared.DexelGrid.{DexelGrid}
 use Rattle.grid.specs.declared.RayBounds.{RayBounds}
-use Rattle.store.specs.Store.{putSpan, putLink}
-use Rattle.store.specs.Updates.{cells}
+use Rattle.store.specs.Store.{putSpan, putLink, cells}
 use Rattle.stock_fill.specs.Uncut.{recordAt, uncutSpans, uncutLinks, uncutHeads}
 use Rattle.stock_fill.specs.declared.UncutRecord.{UncutRecord}
 

@@ -21,8 +21,8 @@ use Rattle.spans.specs.Spans.{rising, sound}
 use Rattle.grid.specs.Rays.{rayCount, rayAxis, boundsOf}
 use Rattle.grid.specs.declared.DexelStockSpec.{DexelStockSpec}
 use Rattle.grid.specs.declared.DexelGrid.{DexelGrid}
-use Rattle.store.specs.Store.{loAt, hiAt, ownerAt, usedAt, RecordChain, ends, more, placesOf, chained, endsAt, ChainsSound}
-use Rattle.store.specs.Updates.{Cells, CellsPastKept, storeList}
+use Rattle.store.specs.Store.{loAt, hiAt, ownerAt, usedAt, RecordChain, ends, more, placesOf, chained, endsAt, ChainsSound, Cells, storeList, cells}
+use Rattle.store.specs.Updates.{CellsPastKept}
 use Rattle.store.proofs.Records.{Written, written-same, put-other, put-here, Within, within-none, within-then, within-put, free-used}
 use Rattle.store.proofs.Chains.{chain-places}
 use Rattle.store.proofs.Replacing.{mem-to}
@@ -143,7 +143,7 @@ module _ (spec : DexelStockSpec) (g : DexelGrid) (before : Cells) (facts : GridF
           absurd (clash (usedAt (uncut spec g before .spans) (uncut spec g before .links) i) u
           (free-used (subst (λ (r : UncutRecord). Written (uncut spec g before .spans) (uncut spec g before .links) i (r .lo) (r .hi) 0 (r .owner)) (sym (record-free spec g i (ltb-false i (2 * rayCount g) e))) (at i h))))
 
-  store : ChainsSound (spec .«max_intervals») (2 * rayCount g) (2 * rayCount g) (uncut spec g before .spans) (uncut spec g before .links) (uncut spec g before .heads)
+  store : ChainsSound (spec .«max_intervals») (2 * rayCount g) (2 * rayCount g) (uncut spec g before)
   store = record {
     chains = λ j h. subst (RecordChain (uncut spec g before .links) (spec .«max_intervals») (suc j) (getD (uncut spec g before .heads) j 0)) (sym (place-is j h)) (chain-one j h);
     others = λ i h u. let l : i < 2 * rayCount g = in-use i h u in

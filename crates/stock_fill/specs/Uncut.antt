@@ -12,8 +12,7 @@ use Rattle.grid.specs.Rays.{rayCount, boundsOf}
 use Rattle.grid.specs.Causes.{gridCauses, gridIn}
 use Rattle.grid.specs.declared.DexelStockSpec.{DexelStockSpec}
 use Rattle.grid.specs.declared.DexelGrid.{DexelGrid}
-use Rattle.store.specs.Store.{putSpan, putLink}
-use Rattle.store.specs.Updates.{Cells, cells}
+use Rattle.store.specs.Store.{putSpan, putLink, Cells, cells}
 use Rattle.stock.specs.Stock.{isShort}
 use Rattle.stock.specs.declared.Tally.{Tally}
 use Rattle.stock_fill.specs.declared.UncutRecord.{UncutRecord}

@@ -15,7 +15,6 @@ use Rattle.grid.specs.declared.DexelStockSpec.{DexelStockSpec}
 use Rattle.grid.specs.declared.DexelGrid.{DexelGrid}
 use Rattle.grid.specs.declared.WorldAxis.{WorldAxis}
 use Rattle.grid.specs.declared.GridAnswer.the-variants.{Accepted as Griddable, Refused as NoGrid}
-use Rattle.store.specs.Updates.{Cells, CellsChainsSound}
 use Rattle.stock.specs.Stock.{SoundCells, isShort}
 use Rattle.stock.proofs.Causes.{due-first, due-second, none-in-both}
 use Rattle.stock.proofs.Answers.{accepted, refused}
@@ -28,6 +27,7 @@ use Rattle.stock_volume.specs.declared.VolumeAnswer.the-variants.{Accept
 use Rattle.stock_volume.proofs.Lengths.{after-z}
 use Rattle.logic.specs.Logic.{Decides}
 use Rattle.stock_volume.specs.Steps.{AxisVolumePost, VolumeRaysPost}
+use Rattle.store.specs.Store.{Cells, ChainsSound}
 
 module _ (spec : DexelStockSpec) (g : DexelGrid) (c : Cells) (intervals : ℕ) where
   pub measure-short : (r : Bool) → r ≡ isShort spec g c → r ≡ true
@@ -35,12 +35,12 @@ module _ (spec : DexelStockSpec) (g : DexelGrid) (c : Cells) (intervals : ℕ) w
   unfolding Due
   measure-short r e t = inl (sym e ∙ t, refl)
 
-  pub measure-bad : (r s : Bool) → r ≡ isShort spec g c → r ≡ false → Decides (CellsChainsSound (spec .«max_intervals») (2 * rayCount g) intervals c) s → not s ≡ true
+  pub measure-bad : (r s : Bool) → r ≡ isShort spec g c → r ≡ false → Decides (ChainsSound (spec .«max_intervals») (2 * rayCount g) intervals c) s → not s ≡ true
       → VolumePost (storeCauses spec g c intervals) spec g c intervals (Declined 11)
   unfolding Due
   measure-bad r s e f t h = inr ((λ u. clash (isShort spec g c) u (sym e ∙ f)), inl ((λ p. clash s (t .1 (p .store)) (not-true s h)), refl))
 
-  pub measure-done : (r s : Bool) → r ≡ isShort spec g c → r ≡ false → Decides (CellsChainsSound (spec .«max_intervals») (2 * rayCount g) intervals c) s → not s ≡ false
+  pub measure-done : (r s : Bool) → r ≡ isShort spec g c → r ≡ false → Decides (ChainsSound (spec .«max_intervals») (2 * rayCount g) intervals c) s → not s ≡ false
       → (m : VolumeAnswer) → VolumeRaysPost spec g c m → VolumePost (storeCauses spec g c intervals) spec g c intervals m
   unfolding Due NoneDue
   measure-done r s e f t h (Declined k) m = inr ((λ u. clash (isShort spec g c) u (sym e ∙ f)), inl ((λ p. m .1 (p .valid)), m .0))

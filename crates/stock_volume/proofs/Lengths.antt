@@ -14,7 +14,6 @@ use Rattle.grid.specs.declared.CrossAxes.{CrossAxes}
 use Rattle.grid.specs.declared.DexelStockSpec.{DexelStockSpec}
 use Rattle.grid.specs.declared.DexelGrid.{DexelGrid}
 use Rattle.grid.specs.declared.RayBounds.{RayBounds}
-use Rattle.store.specs.Updates.{Cells}
 use Rattle.store_read.specs.Lengths.{lengthFrom}
 use Rattle.store_read.specs.declared.RaySums.{RaySums}
 use Rattle.stock.specs.Stock.{ValidTo, rayList, Possible, Certain}
@@ -24,6 +23,7 @@ use Rattle.stock.proofs.Rays.{valid-within, ray-good}
 use Rattle.stock_volume.specs.declared.AxisVolume.{AxisVolume}
 use Rattle.stock_volume.specs.Steps.{AddVolumePost, AxisVolumePost}
 use Rattle.store_read.specs.Steps.{RaySumsPost as RayMeasures}
+use Rattle.store.specs.Store.{Cells}
 
 pub infinity-is : div binary64 one plusZero ≡ inf false
 unfolding div ofBits

@@ -7,7 +7,6 @@ use Rattle.grid.specs.Rays.{rayCount, raysAlong, offset}
 use Rattle.grid.specs.declared.WorldAxis.{WorldAxis}
 use Rattle.grid.specs.declared.DexelStockSpec.{DexelStockSpec}
 use Rattle.grid.specs.declared.DexelGrid.{DexelGrid}
-use Rattle.store.specs.Updates.{Cells}
 use Rattle.stock.specs.Stock.{ValidAt, ValidTo}
 use Rattle.stock_volume.specs.declared.AxisVolume.{AxisVolume}
 use Rattle.stock_volume.specs.declared.AxisSums.{AxisSums}
@@ -15,6 +14,7 @@ use Rattle.stock_volume.specs.declared.VolumeAnswer.{VolumeAnswer}
 use Rattle.stock_volume.specs.declared.VolumeAnswer.the-variants.{Accepted, Refused}
 use Rattle.logic.specs.Logic.{Decides}
 use Rattle.stock_volume.specs.Volume.{addRay, volumeAlong, volumeOf}
+use Rattle.store.specs.Store.{Cells}
 
 -- what is told of one ray more, and of all rays along an axis where those before are valid: whether they are valid, and if so the sums
 pub record AddVolumePost (spec : DexelStockSpec) (g : DexelGrid) (c : Cells) (area : Float) (ray : ℕ) (v : AxisVolume) (r : AxisSums) : Type 0 where

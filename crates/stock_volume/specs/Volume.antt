@@ -14,13 +14,13 @@ use Rattle.grid.specs.Causes.{gridCauses, gridIn}
 use Rattle.grid.specs.declared.WorldAxis.{WorldAxis}
 use Rattle.grid.specs.declared.DexelStockSpec.{DexelStockSpec}
 use Rattle.grid.specs.declared.DexelGrid.{DexelGrid}
-use Rattle.store.specs.Updates.{Cells}
 use Rattle.store_read.specs.Lengths.{lengthFrom}
 use Rattle.stock.specs.Stock.{SoundCells, isShort, rayList, Possible, Certain}
 use Rattle.stock_volume.specs.declared.AxisVolume.{AxisVolume}
 use Rattle.stock_volume.specs.declared.DexelVolume.{DexelVolume}
 use Rattle.stock_volume.specs.declared.VolumeAnswer.{VolumeAnswer}
 use Rattle.stock_volume.specs.declared.VolumeAnswer.the-variants.{Accepted, Refused}
+use Rattle.store.specs.Store.{Cells}
 
 -- the area of a ray's cell: the product of the steps on the two axes across it
 unfoldable pub areaOf : DexelGrid → WorldAxis → Float

@@ -9,7 +9,7 @@ use native.Mathlib.Omega.{arith}
 use lib.Ieee.{Float}
 use lib.ListN.{length, take}
 use lib.Seq.{length-take-le}
-use Rattle.store.specs.Store.{usedAt, freeFrom, ChainsSound}
+use Rattle.store.specs.Store.{usedAt, freeFrom, ChainsSound, cells}
 use Rattle.store.proofs.Counting.{Distinct}
 use Rattle.store.proofs.Checked.{count-of}
 use Rattle.logic.specs.Logic.{bit, countTo}
@@ -73,7 +73,7 @@ module _ (spans : List Float) (links : List ℕ) where
       by-test false h = omega arith
 
 -- a sound store has exactly as many free records as its total leaves of n
-pub free-records : (n m total : ℕ) (spans : List Float) (links heads : List ℕ) → ChainsSound n m total spans links heads → length (freeFrom spans links 0 n) + total ≡ n
+pub free-records : (n m total : ℕ) (spans : List Float) (links heads : List ℕ) → ChainsSound n m total (cells spans links heads) → length (freeFrom spans links 0 n) + total ≡ n
 unfolding countTo
 free-records n m total spans links heads s =
     let all : countTo (usedAt spans links) (0 + n) ≡ countTo (usedAt spans links) n = ap (countTo (usedAt spans links)) (zero-add n) in

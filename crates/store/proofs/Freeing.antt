@@ -9,8 +9,8 @@ use lib.Ieee.{Float}
 use lib.ListN.{length, getD, set, length-set}
 use lib.Seq.{getD-set-other, getD-set-same, drop-set-lt}
 use Rattle.doubles.specs.Constants.{plusZero}
-use Rattle.store.specs.Store.{nextAt, places, placesOf, RecordChain, ends, freeSpan, freeLink, freedSpans, freedLinks}
-use Rattle.store.specs.Updates.{Cells, cells, CellsChainsSound, CellsPastKept, freedList}
+use Rattle.store.specs.Store.{nextAt, places, placesOf, RecordChain, ends, freeSpan, freeLink, freedSpans, freedLinks, Cells, cells, ChainsSound}
+use Rattle.store.specs.Updates.{CellsPastKept, freedList}
 use Rattle.store.proofs.Counting.{Distinct}
 use Rattle.store.proofs.Records.{Same, same-refl, same-trans, written-same, put-other, put-here, Free, free-used, among, Within, within-none, within-put, within-then}
 use Rattle.store.proofs.Chains.{chain-owner, chain-distinct, chain-places, chain-step}
@@ -71,7 +71,7 @@ freed-end spans links zero k e = (refl, refl)
 freed-end spans links (suc n) k e = (ap (λ (x : ℕ). freedSpans spans (places links (suc n) x)) e, ap (λ (x : ℕ). freedLinks links (places links (suc n) x)) e)
 
 -- ---- list j of a sound store is freed
-module _ (n m total : ℕ) (c : Cells) (s : CellsChainsSound n m total c) (room : Room n m c) (j : ℕ) (j<m : j < m) where
+module _ (n m total : ℕ) (c : Cells) (s : ChainsSound n m total c) (room : Room n m c) (j : ℕ) (j<m : j < m) where
   counted : (x : ℕ) → List·Memᴰ x (placesOf n (c .links) (c .heads) j) → x < n
   counted x m = chain-owner (c .links) n (suc j) (s .chains j j<m) x m .0
 

@@ -9,8 +9,8 @@ use native.Mathlib.Omega.{arith}
 use lib.Ieee.{Float, nan}
 use lib.ListN.{length, getD, set, take, drop, length-set, length-drop}
 use lib.Seq.{getD-set-other, getD-set-same, drop-set-lt}
-use Rattle.store.specs.Store.{usedAt, placesOf, RecordChain, ends, more, endsAt, freeFrom, headOf, filledLinks, filledSpans, putSpan, putLink}
-use Rattle.store.specs.Updates.{Cells, cells, Update, update, pairsFrom, CellsChainsSound, storeList, CellsPastKept, lowestFree, laidList}
+use Rattle.store.specs.Store.{usedAt, placesOf, RecordChain, ends, more, endsAt, freeFrom, headOf, filledLinks, filledSpans, putSpan, putLink, Cells, cells, ChainsSound, storeList}
+use Rattle.store.specs.Updates.{Update, update, pairsFrom, CellsPastKept, lowestFree, laidList}
 use Rattle.store.specs.Fills.{FreeCursor, FillListPost}
 use Rattle.store.proofs.Counting.{Distinct}
 use Rattle.store.proofs.Records.{Same, same-refl, same-trans, put-other, put-here, written-same, owned-used, Within, within-none, within-put, within-then}
@@ -66,7 +66,7 @@ filled-ends (i ∷ ps) spans links n o pairs d all hs hl size =
     simp (here .lo, here .hi, rest) (two-more pairs (omega arith))
 
 -- ---- an empty list of a sound store is laid
-module _ (n m total : ℕ) (c : Cells) (s : CellsChainsSound n m total c) (room : Room n m c) (u : Update) (j<m : u .list < m)
+module _ (n m total : ℕ) (c : Cells) (s : ChainsSound n m total c) (room : Room n m c) (u : Update) (j<m : u .list < m)
     (empty : placesOf n (c .links) (c .heads) (u .list) ≡ []) (fits : length (u .ends) / 2 + total ≤ n) where
   abbrev count : ℕ
   count = length (u .ends) / 2
@@ -110,7 +110,7 @@ module _ (n m total : ℕ) (c : Cells) (s : CellsChainsSound n m total c) (room 
   pub laid-list : Replaced n m total c (laidList n c u) (u .list) (lowestFree n c count)
   laid-list = replaced n m total c (laidList n c u) (u .list) (lowestFree n c count) s j<m laid-replaces
 
-  pub laid-sound : CellsChainsSound n m (total + count) (laidList n c u)
+  pub laid-sound : ChainsSound n m (total + count) (laidList n c u)
   laid-sound = laid-list .isSound (total + count) (omega (arith, taken-length, ap length empty))
 
   pub laid-held : length (u .ends) % 2 ≡ 0 → storeList n (laidList n c u) (u .list) ≡ u .ends

@@ -8,8 +8,7 @@ use native.Mathlib.Decide.{ℕ-discrete}
 use native.Mathlib.Omega.{arith}
 use lib.Ieee.{Float}
 use lib.ListN.{length, getD, length-append}
-use Rattle.store.specs.Store.{nextAt, ownerAt, usedAt, RecordChain, ends, more, placesOf, chained, endsAt}
-use Rattle.store.specs.Updates.{Cells, CellsChainsSound, storeList}
+use Rattle.store.specs.Store.{nextAt, ownerAt, usedAt, RecordChain, ends, more, placesOf, chained, endsAt, Cells, ChainsSound, storeList}
 use Rattle.store.proofs.Records.{Same, same-used, among}
 use Rattle.store.proofs.Chains.{chain-owner, chain-places}
 
@@ -60,10 +59,10 @@ pub record Replaced (n m total : ℕ) (c d : Cells) (j : ℕ) (qs : List ℕ) : 
   pub here : placesOf n (d .links) (d .heads) j ≡ qs
   pub places-kept : (i : ℕ) → i < m → (i ≡ j → ⊥) → placesOf n (d .links) (d .heads) i ≡ placesOf n (c .links) (c .heads) i
   pub lists-kept : (i : ℕ) → i < m → (i ≡ j → ⊥) → storeList n d i ≡ storeList n c i
-  pub isSound : (total′ : ℕ) → total′ + length (placesOf n (c .links) (c .heads) j) ≡ total + length qs → CellsChainsSound n m total′ d
+  pub isSound : (total′ : ℕ) → total′ + length (placesOf n (c .links) (c .heads) j) ≡ total + length qs → ChainsSound n m total′ d
   pub less : length (placesOf n (c .links) (c .heads) j) ≤ total
 
-module _ (n m total : ℕ) (c d : Cells) (j : ℕ) (qs : List ℕ) (s : CellsChainsSound n m total c) (j<m : j < m) (r : Replaces n m c d j qs) where
+module _ (n m total : ℕ) (c d : Cells) (j : ℕ) (qs : List ℕ) (s : ChainsSound n m total c) (j<m : j < m) (r : Replaces n m c d j qs) where
   -- the places of list i, before and after
   abbrev was : ℕ → List ℕ
   was i = placesOf n (c .links) (c .heads) i

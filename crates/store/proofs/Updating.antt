@@ -14,8 +14,8 @@ use lib.Dec.{eqb}
 use lib.Ieee.{Float}
 use lib.ListN.{length}
 use borrow.Author.Tests.{eq-eqb, ne-eqb}
-use Rattle.store.specs.Store.{placesOf, endsAt, freeFrom}
-use Rattle.store.specs.Updates.{Cells, Update, CellsChainsSound, storeList, CellsPastKept, pairsFreed, pairsLaid, freedList, freedAll, lowestFree, laidList, laidAll, applied}
+use Rattle.store.specs.Store.{placesOf, endsAt, freeFrom, Cells, ChainsSound, storeList}
+use Rattle.store.specs.Updates.{Update, CellsPastKept, pairsFreed, pairsLaid, freedList, freedAll, lowestFree, laidList, laidAll, applied}
 use Rattle.store.proofs.Replacing.{Replaced}
 use Rattle.store.proofs.Freeing.{freed-list, freed-kept}
 use Rattle.store.proofs.FreePlaces.{free-records}
@@ -111,7 +111,7 @@ none-at spans = refl
 
 -- ---- some lists of a sound store are freed
 pub record FreedAll (n m total : ℕ) (c : Cells) (us : List Update) (d : Cells) : Type 0 where
-  pub isSound : (total′ : ℕ) → total′ + pairsFreed n c us ≡ total → CellsChainsSound n m total′ d
+  pub isSound : (total′ : ℕ) → total′ + pairsFreed n c us ≡ total → ChainsSound n m total′ d
   pub fewer : pairsFreed n c us ≤ total
   pub lists : (j : ℕ) → j < m → storeList n d j ≡ listAfter (emptied us) j (storeList n c j)
   pub kept : CellsPastKept n m c d
@@ -124,10 +124,10 @@ same-pairs n c d (next {u = u} {us = us} lo hi whole a) same =
     let rest : pairsFreed n d us ≡ pairsFreed n c us = same-pairs n c d a (λ i i<m h. same i i<m (omega arith)) in
     omega arith
 
-pub freed-all : {n m total k : ℕ} {c : Cells} {us : List Update} → CellsChainsSound n m total c → Room n m c → Ascending m k us → FreedAll n m total c us (freedAll n c us)
+pub freed-all : {n m total k : ℕ} {c : Cells} {us : List Update} → ChainsSound n m total c → Room n m c → Ascending m k us → FreedAll n m total c us (freedAll n c us)
 unfolding freedAll pairsFreed listAfter
 freed-all {n} {m} {total} {c = c} s room none = record {
-  isSound = λ total′ sum. let same : total ≡ total′ = omega arith in subst (λ (t : ℕ). CellsChainsSound n m t c) same s;
+  isSound = λ total′ sum. let same : total ≡ total′ = omega arith in subst (λ (t : ℕ). ChainsSound n m t c) same s;
   fewer = omega arith;
   lists = λ j j<m. refl;
   kept = kept-none n m c;
@@ -139,7 +139,7 @@ freed-all {n} {m} {total} {c = c} s room (next {u = u} {us = us} lo hi whole a) 
     let kept₁ : CellsPastKept n m c d = freed-kept n m total c s room j hi in
     let here : ℕ = length (placesOf n (c .links) (c .heads) j) in
     let less : here ≤ total = one .less in
-    let s₁ : CellsChainsSound n m (total - here) d = one .isSound (total - here) (omega arith) in
+    let s₁ : ChainsSound n m (total - here) d = one .isSound (total - here) (omega arith) in
     let rest : FreedAll n m (total - here) d us (freedAll n d us) = freed-all s₁ (kept-room kept₁ room) a in
     let same : pairsFreed n d us ≡ pairsFreed n c us = same-pairs n c d a (λ i i<m h. one .places-kept i i<m (λ (e : i ≡ j). omega arith)) in
     record {
@@ -163,17 +163,17 @@ freed-append n (u ∷ us) vs c = freed-append n us vs (freedList n c (u .list))
 
 -- ---- empty lists of a sound store are laid
 pub record LaidAll (n m total : ℕ) (c : Cells) (us : List Update) (d : Cells) : Type 0 where
-  pub isSound : CellsChainsSound n m (total + pairsLaid us) d
+  pub isSound : ChainsSound n m (total + pairsLaid us) d
   pub lists : (j : ℕ) → j < m → storeList n d j ≡ listAfter us j (storeList n c j)
   pub kept : CellsPastKept n m c d
 
 abbrev pub Empty : ℕ → Cells → List Update → Type 0
 Empty n c us = (u : Update) → List·Memᴰ u us → placesOf n (c .links) (c .heads) (u .list) ≡ []
 
-pub laid-all : {n m total k : ℕ} {c : Cells} {us : List Update} → CellsChainsSound n m total c → Room n m c → Ascending m k us → Empty n c us → total + pairsLaid us ≤ n → LaidAll n m total c us (laidAll n c us)
+pub laid-all : {n m total k : ℕ} {c : Cells} {us : List Update} → ChainsSound n m total c → Room n m c → Ascending m k us → Empty n c us → total + pairsLaid us ≤ n → LaidAll n m total c us (laidAll n c us)
 unfolding laidAll pairsLaid listAfter
 laid-all {n} {m} {total} {c = c} s room none empty fits = record {
-  isSound = let same : total ≡ total + 0 = omega arith in subst (λ (t : ℕ). CellsChainsSound n m t c) same s;
+  isSound = let same : total ≡ total + 0 = omega arith in subst (λ (t : ℕ). ChainsSound n m t c) same s;
   lists = λ j j<m. refl;
   kept = kept-none n m c;
 }
@@ -188,7 +188,7 @@ laid-all {n} {m} {total} {c = c} s room (next {u = u} {us = us} lo hi whole a) e
     let rest : LaidAll n m (total + count) d us (laidAll n d us) = laid-all (laid-sound n m total c s room u hi gone (omega arith)) (kept-room kept₁ room) a still (omega arith) in
     let sum : total + count + pairsLaid us ≡ total + (count + pairsLaid us) = omega arith in
     record {
-      isSound = subst (λ (t : ℕ). CellsChainsSound n m t (laidAll n d us)) sum (rest .isSound);
+      isSound = subst (λ (t : ℕ). ChainsSound n m t (laidAll n d us)) sum (rest .isSound);
       lists = λ i i<m. rest .lists i i<m ∙ at i i<m one held₁ (ℕ-discrete i (u .list));
       kept = kept-then kept₁ (rest .kept);
     }
@@ -210,7 +210,7 @@ pairs-append [] vs = omega arith
 pairs-append (u ∷ us) vs = omega (arith, pairs-append us vs)
 
 -- ---- freed first, all of them, then laid
-module _ {n m total k : ℕ} {c : Cells} (s : CellsChainsSound n m total c) (room : Room n m c) where
+module _ {n m total k : ℕ} {c : Cells} (s : ChainsSound n m total c) (room : Room n m c) where
   -- the lists are empty once they are freed
   pub all-empty : {us : List Update} → Ascending m k us → Empty n (freedAll n c us) us
   all-empty {us} a u mu =
@@ -236,7 +236,7 @@ module _ {n m total k : ℕ} {c : Cells} (s : CellsChainsSound n m total c) (roo
   half-freed vs u ws a =
       let f : FreedAll n m total c vs (freedAll n c vs) = freed-all s room (ascending-left vs (u ∷ ws) a) in
       let below : u .list < m = ascending-at a u (Memᴰ·append-right vs (List·Memᴰ·head refl)) .1 in
-      let some : CellsChainsSound n m (total - pairsFreed n c vs) (freedAll n c vs) = f .isSound (total - pairsFreed n c vs) (omega (arith, f .fewer)) in
+      let some : ChainsSound n m (total - pairsFreed n c vs) (freedAll n c vs) = f .isSound (total - pairsFreed n c vs) (omega (arith, f .fewer)) in
       let r : Room n m (freedAll n c vs) = kept-room (f .kept) room in
       record { in-spans = r .in-spans; in-links = r .in-links; in-heads = omega (arith, r .in-heads); chain = some .chains (u .list) below }
 

@@ -6,9 +6,9 @@ use Prim.Native.Nat.{ℕ, suc, _+_, _-_, _*_, _/_, _%_, _≤_, _<_}
 use lib.Dec.{eqb}
 use lib.ListN.{length, getD}
 use lib.Ieee.{Float}
-use Rattle.store.specs.Store.{RecordChain, placesOf, freeFrom}
+use Rattle.store.specs.Store.{RecordChain, placesOf, freeFrom, Cells, ChainsSound, storeList}
 use Rattle.store.specs.Fills.{FreeCursor}
-use Rattle.store.specs.Updates.{Cells, Update, laidList, CellsChainsSound, storeList, pairsFreed, pairsLaid, CellsPastKept}
+use Rattle.store.specs.Updates.{Update, laidList, pairsFreed, pairsLaid, CellsPastKept}
 
 -- list j is a chain, so that it can be freed
 pub record FreeListPre (n : ℕ) (c : Cells) (j : ℕ) : Type 0 where
@@ -49,6 +49,6 @@ listAfter (u ∷ us) j l = cond (eqb j (u .list)) (u .ends) (listAfter us j l)
 -- what the updates leave of a sound store with that total
 pub record UpdatedStore (n m total : ℕ) (c : Cells) (us : List Update) (d : Cells) : Type 0 where
   pub fewer : pairsFreed n c us ≤ total
-  pub isSound : CellsChainsSound n m (total - pairsFreed n c us + pairsLaid us) d
+  pub isSound : ChainsSound n m (total - pairsFreed n c us + pairsLaid us) d
   pub lists : (j : ℕ) → j < m → storeList n d j ≡ listAfter us j (storeList n c j)
   pub kept : CellsPastKept n m c d

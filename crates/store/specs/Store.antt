@@ -10,6 +10,15 @@ use lib.Ieee.{Float, nan, inf, fin}
 use lib.ListN.{length, getD, set, drop}
 use Rattle.doubles.specs.Constants.{plusZero}
 
+-- the lent cells: lo and hi of each record; next and owner of each record; the head of each list
+pub record Cells : Type 0 where
+  pub spans : List Float
+  pub links : List ℕ
+  pub heads : List ℕ
+
+abbrev pub cells : List Float → List ℕ → List ℕ → Cells
+cells spans links heads = record { spans = spans; links = links; heads = heads }
+
 -- ---- the cells of the record at place i
 abbrev pub loAt : List Float → ℕ → Float
 loAt spans i = getD spans (2 * i) nan
@@ -58,16 +67,20 @@ chained n links heads j zero = []
 chained n links heads j (suc r) = placesOf n links heads j ++ chained n links heads (suc j) r
 
 -- ---- a sound store, but for the validity of its rays
-pub record ChainsSound (n m total : ℕ) (spans : List Float) (links heads : List ℕ) : Type 0 where
-  pub chains : (j : ℕ) → j < m → RecordChain links n (suc j) (getD heads j 0) (placesOf n links heads j)
-  pub others : (i : ℕ) → i < n → usedAt spans links i ≡ true → List·Memᴰ i (chained n links heads 0 m)
-  pub counts : total ≡ length (chained n links heads 0 m)
+pub record ChainsSound (n m total : ℕ) (c : Cells) : Type 0 where
+  pub chains : (j : ℕ) → j < m → RecordChain (c .links) n (suc j) (getD (c .heads) j 0) (placesOf n (c .links) (c .heads) j)
+  pub others : (i : ℕ) → i < n → usedAt (c .spans) (c .links) i ≡ true → List·Memᴰ i (chained n (c .links) (c .heads) 0 m)
+  pub counts : total ≡ length (chained n (c .links) (c .heads) 0 m)
 
 -- ---- what a store holds
 -- the ends of the records at the places, as a flat list
 unfoldable pub endsAt : List Float → List ℕ → List Float
 endsAt spans [] = []
 endsAt spans (i ∷ ps) = loAt spans i ∷ hiAt spans i ∷ endsAt spans ps
+
+-- list j of a store: what commit, volume and the model of a run speak of
+abbrev pub storeList : ℕ → Cells → ℕ → List Float
+storeList n c j = endsAt (c .spans) (placesOf n (c .links) (c .heads) j)
 
 -- ---- freeing records
 -- the cells of the spans and of the links with the record at place i free

@@ -4,16 +4,7 @@ use mathlib.Core.List.{List, [], _∷_}
 use Prim.Native.Nat.{ℕ, suc, _+_, _-_, _*_, _/_}
 use lib.ListN.{length, take, drop, set}
 use lib.Ieee.{Float}
-use Rattle.store.specs.Store.{placesOf, endsAt, freedSpans, freedLinks, freeFrom, filledSpans, filledLinks, headOf, ChainsSound}
-
--- the lent cells: lo and hi of each record; next and owner of each record; the head of each list
-pub record Cells : Type 0 where
-  pub spans : List Float
-  pub links : List ℕ
-  pub heads : List ℕ
-
-abbrev pub cells : List Float → List ℕ → List ℕ → Cells
-cells spans links heads = record { spans = spans; links = links; heads = heads }
+use Rattle.store.specs.Store.{placesOf, endsAt, freedSpans, freedLinks, freeFrom, filledSpans, filledLinks, headOf, Cells}
 
 -- a list and the ends that it is to hold
 pub record Update : Type 0 where
@@ -65,15 +56,7 @@ unfoldable pub applied : ℕ → Cells → List Update → Cells
 unfolding freedAll laidAll
 applied n c us = laidAll n (freedAll n c us) us
 
--- ---- one list at a time
--- ---- what the law of an update speaks of
--- a store in its cells, and list j of it
-abbrev pub CellsChainsSound : ℕ → ℕ → ℕ → Cells → Type 0
-CellsChainsSound n m total c = ChainsSound n m total (c .spans) (c .links) (c .heads)
-
-abbrev pub storeList : ℕ → Cells → ℕ → List Float
-storeList n c j = endsAt (c .spans) (placesOf n (c .links) (c .heads) j)
-
+-- ---- how many records
 -- how many records the lists to be updated have, and how many the updates take
 unfoldable pub pairsFreed : ℕ → Cells → List Update → ℕ
 pairsFreed n c [] = 0

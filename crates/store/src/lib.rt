@@ -3,7 +3,7 @@ ghost use mathlib.Core.Path.{_≡_};
 ghost use mathlib.Core.Bool.{true};
 ghost use Prim.Native.Nat.{_+_, _-_, _*_, _<_, _≤_};
 ghost use lib.ListN.{length};
-ghost use Rattle.store.specs.Store.{isPlusZero, usedAt, ChainsSound};
+ghost use Rattle.store.specs.Store.{isPlusZero, usedAt, ChainsSound, cells};
 ghost use Rattle.store.specs.Walks.{walkFrom, walkAll};
 ghost use Rattle.logic.specs.Logic.{countTo};
 
@@ -114,8 +114,8 @@ pub fn check_store(
     total: u64,
 ) -> bool
     requires { ⌜ (2 * n ≤ length (now spans)) × (2 * n ≤ length (now links)) × (m ≤ length (now heads)) ⌝ }
-    ensures { λ r. ⌜ (r ≡ true → ChainsSound n m total (now (spans .entry)) (now (links .entry)) (now (heads .entry)))
-        × (ChainsSound n m total (now (spans .entry)) (now (links .entry)) (now (heads .entry)) → r ≡ true) ⌝ }
+    ensures { λ r. ⌜ (r ≡ true → ChainsSound n m total (cells (now (spans .entry)) (now (links .entry)) (now (heads .entry))))
+        × (ChainsSound n m total (cells (now (spans .entry)) (now (links .entry)) (now (heads .entry))) → r ≡ true) ⌝ }
 {
     let u = count_used(spans, links, n);
     if (u as u64) != total {

@@ -5,7 +5,7 @@ use Prim.Native.Nat.{ℕ, suc, _-_, _*_, _≤_, _<_}
 use native.Mathlib.Omega.{arith}
 use lib.Ieee.{Float}
 use lib.ListN.{length, getD}
-use Rattle.store.specs.Store.{loAt, hiAt, nextAt, places, endsAt, ChainsSound, listFrom}
+use Rattle.store.specs.Store.{loAt, hiAt, nextAt, places, endsAt, ChainsSound, listFrom, cells}
 use Rattle.store.proofs.Chains.{chain-step, less-step, places-zero}
 use Rattle.store_read.specs.Reading.{Linked, Readable}
 
@@ -42,5 +42,5 @@ ends-length spans [] = refl
 ends-length spans (i ∷ ps) = omega (arith, ends-length spans ps)
 
 -- each list of a sound store can be read
-pub readable : {n m total : ℕ} {spans : List Float} {links heads : List ℕ} → ChainsSound n m total spans links heads → 2 * n ≤ length spans → 2 * n ≤ length links → (j : ℕ) → j < m → Readable n spans links (getD heads j 0)
+pub readable : {n m total : ℕ} {c : Cells} → ChainsSound n m total c → 2 * n ≤ length (c .spans) → 2 * n ≤ length (c .links) → (j : ℕ) → j < m → Readable n (c .spans) (c .links) (getD (c .heads) j 0)
 readable s hs hl j h = record { in-spans = hs; linked = record { in-links = hl; owner = suc j; chain = s .chains j h } }

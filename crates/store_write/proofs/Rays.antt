@@ -4,10 +4,11 @@ use mathlib.Core.List.{List}
 use Prim.Native.Nat.{ℕ, _+_, _-_, _*_}
 use lib.Ieee.{Float}
 use lib.ListN.{take, drop}
-use Rattle.store.specs.Updates.{Cells, update, pairsFrom, laidList}
+use Rattle.store.specs.Updates.{update, pairsFrom, laidList}
 use Rattle.store.proofs.Laying.{part-is}
 use Rattle.store_write.specs.LayRays.{LayRayPre, LayRayPost}
 use Rattle.store.specs.Steps.{LayListPre, LayListPost}
+use Rattle.store.specs.Store.{Cells}
 
 module _ (n : ℕ) (c : Cells) (ray : ℕ) (pairs : List Float) (at possible certain : ℕ) where
   -- the parts as the calls lend them

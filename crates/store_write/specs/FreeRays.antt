@@ -1,7 +1,8 @@
 -- Both lists of a ray: what the function that frees them asks.
 use Prim.Native.Nat.{ℕ, _+_, _*_}
-use Rattle.store.specs.Updates.{Cells, freedList}
+use Rattle.store.specs.Updates.{freedList}
 use Rattle.store.specs.Steps.{FreeListPre}
+use Rattle.store.specs.Store.{Cells}
 
 -- both lists of a ray can be freed, one after the other
 pub record FreeRayPre (n : ℕ) (c : Cells) (ray : ℕ) : Type 0 where

@@ -4,8 +4,9 @@ use mathlib.Core.List.{List}
 use Prim.Native.Nat.{ℕ, _+_, _*_}
 use lib.Ieee.{Float}
 use Rattle.store.specs.Fills.{FreeCursor}
-use Rattle.store.specs.Updates.{Cells, update, laidList}
+use Rattle.store.specs.Updates.{update, laidList}
 use Rattle.store.specs.Steps.{LayListPre}
+use Rattle.store.specs.Store.{Cells}
 
 -- there are free records for both lists of a ray
 pub record LayRayPre (n : ℕ) (c : Cells) (ray : ℕ) (p q : List Float) : Type 0 where

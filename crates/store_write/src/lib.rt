@@ -3,9 +3,9 @@
 ghost use mathlib.Core.Path.{_≡_};
 ghost use Prim.Native.Nat.{_+_, _-_, _*_, _<_, _≤_};
 ghost use lib.ListN.{length};
-ghost use Rattle.store.specs.Store.{freeFrom, putSpan, putLink, RecordChain, places, freedSpans, freedLinks};
+ghost use Rattle.store.specs.Store.{freeFrom, putSpan, putLink, RecordChain, places, freedSpans, freedLinks, cells};
 ghost use Rattle.store.specs.Fills.{NextFree, FreeCursor, FillListPre, FillListPost};
-ghost use Rattle.store.specs.Updates.{cells, update, pairsFrom, freedList};
+ghost use Rattle.store.specs.Updates.{update, pairsFrom, freedList};
 ghost use Rattle.store_write.specs.LayRays.{LayRayPre, LayRayPost};
 ghost use Rattle.store_write.specs.FreeRays.{FreeRayPre};
 ghost use Rattle.store.specs.Steps.{LayListPre, LayListPost, FreeListPre};

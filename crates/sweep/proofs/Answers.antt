@@ -28,7 +28,6 @@ use Rattle.stock.proofs.Rays.{sound-chained}
 use Rattle.stock.proofs.Answers.{accepted, refused}
 use Rattle.sweep_model.specs.declared.Kernel.{Kernel}
 use Rattle.sweep_model.specs.declared.Profile.{Profile}
-use Rattle.store.specs.Updates.{Cells}
 use Rattle.sweep_model.specs.Walk.{Stop}
 use Rattle.sweep_visits.specs.declared.VisitCursor.{VisitCursor}
 use Rattle.sweep_visits.specs.declared.Progress.{Progress}
@@ -48,6 +47,7 @@ use Rattle.sweep_walk.specs.Steps.{Sweepable}
 use Rattle.cutter_check.specs.Steps.{ToolCheckPost}
 use Rattle.grid.specs.Facts.{GridFacts}
 use Rattle.sweep.specs.Steps.{SweepCheckPost, endOf, loggedBy, endLog}
+use Rattle.store.specs.Store.{Cells}
 
 -- ---- the check of a setting
 module _ (s : Setting) (intervals : ℕ) (chords : List Float) where

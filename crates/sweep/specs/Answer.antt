@@ -16,7 +16,6 @@ use Rattle.frame.specs.declared.Axis.{Axis}
 use Rattle.cutter.specs.Limits.{toolCauses}
 use Rattle.cutter.specs.declared.CutterShape.{CutterShape}
 use Rattle.cutter.specs.declared.PreparedCutter.{PreparedCutter}
-use Rattle.store.specs.Updates.{Cells}
 use Rattle.stock.specs.Stock.{SoundCells, isShort}
 use Rattle.sweep_model.specs.Kernel.{profileOf}
 use Rattle.sweep_model.specs.Entries.{loggedEntries}
@@ -26,6 +25,7 @@ use Rattle.sweep_model.specs.SweepEntries.{Setting, setting, sweepEntries, logO
 use Rattle.sweep.specs.declared.Totals.{Totals}
 use Rattle.sweep.specs.declared.SweepAnswer.{SweepAnswer}
 use Rattle.sweep.specs.declared.SweepAnswer.the-variants.{Accepted, Refused}
+use Rattle.store.specs.Store.{Cells}
 
 -- the setting that the arguments of a sweep describe
 abbrev pub settingOf : DexelStockSpec → Axis → CutterShape → PreparedCutter → (guard : Float) → Cells → Setting

@@ -13,12 +13,12 @@ use Rattle.cutter.specs.declared.PreparedCutter.{PreparedCutter}
 use Rattle.grid.specs.declared.Vec3.{Vec3}
 use Rattle.grid.specs.declared.DexelStockSpec.{DexelStockSpec}
 use Rattle.grid.specs.Causes.{gridIn}
-use Rattle.store.specs.Updates.{Cells, cells}
 use Rattle.stock_fill.specs.Uncut.{uncut}
 use Rattle.sweep_model.specs.Walk.{Walked, Done, Stop}
 use Rattle.sweep_model.specs.SweepEntries.{Setting}
 use Rattle.sweep.specs.Answer.{settingOf, walkOf}
 use Rattle.doubles.specs.Rounding.{ratio}
+use Rattle.store.specs.Store.{Cells, cells}
 
 -- n / 2 and -n / 2
 abbrev pub halves : ℕ → Float

@@ -2,11 +2,11 @@
 ghost use mathlib.Core.Path.{_≡_};
 ghost use Prim.Native.Nat.{_≤_};
 ghost use lib.ListN.{length};
-ghost use Rattle.store.specs.Updates.{cells};
 ghost use Rattle.sweep_model.specs.SweepEntries.{setting};
 ghost use Rattle.sweep.specs.Answer.{settingOf, causesIn, sweepCauses, SweepPost};
 ghost use Rattle.grid.specs.Facts.{GridFacts};
 ghost use Rattle.sweep.specs.Steps.{SweepCheckPost, endOf, loggedBy, endLog};
+ghost use Rattle.store.specs.Store.{cells};
 use cutter::CutterShape;
 use cutter::PreparedCutter;
 use cutter_check::ToolCheck;

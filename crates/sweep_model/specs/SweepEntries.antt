@@ -10,7 +10,6 @@ use Rattle.grid.specs.declared.DexelStockSpec.{DexelStockSpec}
 use Rattle.grid.specs.declared.DexelGrid.{DexelGrid}
 use Rattle.frame.specs.Frame.{localAxis, worldAxisOf}
 use Rattle.frame.specs.declared.Frame.{Frame}
-use Rattle.store.specs.Updates.{Cells}
 use Rattle.sweep_model.specs.Kernel.{laneOf, rectangleOf}
 use Rattle.sweep_model.specs.declared.Profile.{Profile}
 use Rattle.sweep_model.specs.declared.Kernel.{Kernel}
@@ -20,6 +19,7 @@ use Rattle.sweep_model.specs.declared.RayRect.{RayRect}
 use Rattle.sweep_model.specs.Entries.{each, sumEach, rayEntry, rectangleEntries, raysIn, joined}
 use Rattle.sweep_model.specs.declared.AxisRays.{AxisRays}
 use Rattle.sweep_model.specs.Chords.{chordOf}
+use Rattle.store.specs.Store.{Cells}
 
 -- the rays of a world axis: the number of the first, the cells of a row and the rows
 unfoldable pub trackOf : DexelGrid → WorldAxis → AxisRays

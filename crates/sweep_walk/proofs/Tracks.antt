@@ -19,7 +19,6 @@ use Rattle.grid.proofs.Lookup.{cell-below}
 use Rattle.frame.specs.Frame.{localAxis, worldAxisOf}
 use Rattle.frame.specs.declared.Frame.{Frame}
 use Rattle.frame.specs.declared.Pair.{Pair}
-use Rattle.store.specs.Updates.{Cells}
 use Rattle.stock.proofs.Rays.{list-readable}
 use Rattle.sweep_model.specs.Kernel.{cellsMet, cellsAcross, rectangle, rectangleOf}
 use Rattle.sweep_model.specs.declared.CellRange.{CellRange as Range}
@@ -40,6 +39,7 @@ use Rattle.sweep_model.specs.SweepEntries.{trackOf, Setting, laneIn, axisEntrie
 use Rattle.sweep_visits.specs.Steps.{WalkPost, Went, AxisReady}
 use Rattle.sweep_walk.specs.Steps.{Sweepable}
 use Rattle.grid.specs.Facts.{GridFacts}
+use Rattle.store.specs.Store.{Cells}
 
 -- ---- a sound store can be read along every axis
 module _ (spec : DexelStockSpec) (g : DexelGrid) (c : CellRange) (s : Sweepable spec g c) where

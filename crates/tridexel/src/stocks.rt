@@ -1,12 +1,12 @@
 // The grid of a blank and its stock. A store is three slices: the ends of the records, their links, and the heads.
 ghost use Rattle.grid.specs.Causes.{gridIn, GridPost};
 ghost use Rattle.grid.specs.declared.Gridded.{Gridded};
-ghost use Rattle.store.specs.Updates.{cells};
 ghost use Rattle.stock_fill.specs.Uncut.{FillPost, fillCauses};
 ghost use Rattle.stock_volume.specs.Volume.{VolumePost, volumeCauses};
 ghost use Rattle.stock_fill.specs.declared.Filled.{Filled};
 ghost use Rattle.stock_volume.specs.declared.Measured.{Measured};
 ghost use Rattle.c_results.specs.Numbers.{AnsweredBy, gridNumbers, gridCells, filledNumbers, tally, volumeNumbers};
+ghost use Rattle.store.specs.Store.{cells};
 use grid::DexelStockSpec;
 
 // `grid_from_spec::grid`; `counts` and `steps` become the cells along x, y and z and their widths.

@@ -1,10 +1,10 @@
 // The sweep. An axis and a shape go in as numbers, in the order of their declarations from 0; a number that names none is refusal 6.
 ghost use lib.ListN.{length};
-ghost use Rattle.store.specs.Updates.{cells};
 ghost use Rattle.sweep.specs.Answer.{settingOf, sweepCauses, SweepPost};
 ghost use Rattle.sweep.specs.declared.Swept.{Swept};
 ghost use Rattle.enum_codes.specs.Codes.{axisOf, shapeOf};
 ghost use Rattle.c_results.specs.Numbers.{AnsweredBy, sweptNumbers, totals};
+ghost use Rattle.store.specs.Store.{cells};
 use cutter::PreparedCutter;
 use grid::DexelStockSpec;
 

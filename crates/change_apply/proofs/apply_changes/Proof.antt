@@ -1,9 +1,10 @@
 use borrow.Author.Needs.{needs}
 use mathlib.Core.Path.{ap, _∙_}
-use Rattle.store.specs.Updates.{Cells, cells, laidAll}
+use Rattle.store.specs.Updates.{laidAll}
 use Rattle.change_apply.proofs.Turns.{applied-is}
 use Rattle.change_apply.proofs.apply_changes.Statement.{statement}
 use Rattle.change_list.specs.Changes.{updatesIn}
+use Rattle.store.specs.Store.{Cells, cells}
 use Rattle.change_apply.proofs.apply_changes.Tie as tie
 
 free-changes-requires : tie.Need-free-changes-requires

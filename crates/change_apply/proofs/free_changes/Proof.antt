@@ -5,10 +5,10 @@ use mathlib.Core.List.{List}
 use Prim.Native.Nat.{ℕ, _-_, _/_, _^_, _≤_, _<_}
 use lib.Ieee.{Float}
 use lib.ListN.{length}
-use Rattle.store.specs.Updates.{Cells, cells}
 use Rattle.change_apply.specs.Passes.{ChangesFit}
 use Rattle.change_apply.proofs.Turns.{FreedTo, freed-none, freed-names, ray-freeable, freed-next, freed-whole, all-freed}
 use Rattle.change_apply.proofs.free_changes.Statement.{statement}
+use Rattle.store.specs.Store.{Cells, cells}
 use Rattle.change_apply.proofs.free_changes.Tie as tie
 
 abbrev Inv-loop : tie.InvT-loop

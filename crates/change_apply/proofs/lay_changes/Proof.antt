@@ -3,11 +3,12 @@ use native.Mathlib.Omega.{arith}
 use mathlib.Core.Path.{_≡_, refl, sym, ap, _∙_}
 use Prim.Native.Nat.{_-_, _/_, _^_, _≤_, _<_}
 use lib.ListN.{length}
-use Rattle.store.specs.Updates.{Cells, cells, laidAll}
+use Rattle.store.specs.Updates.{laidAll}
 use Rattle.change_apply.specs.Passes.{ChangesFreed}
 use Rattle.change_apply.proofs.Turns.{all-freed, LaidTo, laid-none, laid-good, ray-layable, laid-next, laid-whole, all-laid, front-fits, back-within, back-fits}
 use Rattle.change_apply.proofs.lay_changes.Statement.{statement}
 use Rattle.change_list.specs.Changes.{updatesIn}
+use Rattle.store.specs.Store.{Cells, cells}
 use Rattle.change_apply.proofs.lay_changes.Tie as tie
 
 abbrev Inv-loop : tie.InvT-loop

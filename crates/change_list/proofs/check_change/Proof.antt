@@ -3,13 +3,13 @@ use native.Mathlib.Omega.{arith}
 use Prim.Native.Nat.{ℕ, _<_}
 use mathlib.Core.Path.{sym, subst}
 use lib.ListN.{length}
-use Rattle.store.specs.Updates.{cells}
 use Rattle.grid.specs.Axes.{worldAxis}
 use Rattle.grid.specs.Rays.{rayCount}
 use Rattle.grid.proofs.Numbering.{number-lt}
 use Rattle.stock.proofs.Rays.{tells-good}
 use Rattle.change_list.proofs.ListTests.{cell-fits, ray-fits, change-long, change-fits, change-unnamed, change-uncut, change-done}
 use Rattle.change_list.proofs.check_change.Statement.{statement}
+use Rattle.store.specs.Store.{cells}
 use Rattle.change_list.proofs.check_change.Tie as tie
 
 returns : tie.Need-returns

@@ -3,10 +3,10 @@ use native.Mathlib.Omega.{arith}
 use Prim.Native.Nat.{_-_, _/_, _^_, _<_}
 use mathlib.Core.Path.{_≡_, refl, subst}
 use lib.ListN.{length}
-use Rattle.store.specs.Updates.{cells}
 use Rattle.change_list.specs.Steps.{CheckChangePost}
 use Rattle.change_list.proofs.Sums.{Passed, none-passed, bad-change, next-change, all-passed}
 use Rattle.change_list.proofs.check_changes.Statement.{statement}
+use Rattle.store.specs.Store.{cells}
 use Rattle.change_list.proofs.check_changes.Tie as tie
 
 abbrev Inv-loop : tie.InvT-loop

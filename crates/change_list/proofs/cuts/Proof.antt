@@ -1,8 +1,8 @@
 use native.Mathlib.Omega.{arith}
-use Rattle.store.specs.Updates.{cells}
 use Rattle.change_list.proofs.ChangeTests.{old-sound, cuts-no, cuts-rest}
 use Rattle.stock.proofs.Rays.{sound-chained}
 use Rattle.change_list.proofs.cuts.Statement.{statement}
+use Rattle.store.specs.Store.{cells}
 use Rattle.change_list.proofs.cuts.Tie as tie
 
 had-requires : tie.Need-had-requires

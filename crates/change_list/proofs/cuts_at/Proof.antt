@@ -1,9 +1,9 @@
 use borrow.Author.Needs.{needs}
 use Prim.Native.Nat.{_+_, _*_}
-use Rattle.store.specs.Updates.{cells}
 use Rattle.store.proofs.Laying.{part-is}
 use Rattle.change_list.proofs.ChangeTests.{cuts-parts}
 use Rattle.change_list.proofs.cuts_at.Statement.{statement}
+use Rattle.store.specs.Store.{cells}
 use Rattle.change_list.proofs.cuts_at.Tie as tie
 
 returns : tie.Need-returns

@@ -1,10 +1,10 @@
 use borrow.Author.Needs.{needs}
 use native.Mathlib.Omega.{arith}
 use Prim.Native.Nat.{_+_, _*_}
-use Rattle.store.specs.Updates.{cells}
 use Rattle.stock.proofs.Rays.{list-readable}
 use Rattle.change_list.proofs.ChangeTests.{had-no, had-second}
 use Rattle.change_list.proofs.had.Statement.{statement}
+use Rattle.store.specs.Store.{cells}
 use Rattle.change_list.proofs.had.Tie as tie
 
 list-is-requires : tie.Need-list-is-requires

@@ -1,12 +1,12 @@
 use borrow.Author.Needs.{needs}
 use mathlib.Core.Path.{sym, _∙_}
 use mathlib.Core.Logic.{inl, inr}
-use Rattle.store.specs.Updates.{cells}
 use Rattle.stock.proofs.Causes.{room-of}
 use Rattle.stock.proofs.Rays.{tells-good}
 use Rattle.commit_changes.proofs.Verdicts.{too-short, unsound, store-unsound, other-base, list-judged}
 use Rattle.commit_changes.proofs.judge.Statement.{statement}
 use Rattle.stock.specs.Stock.{stock}
+use Rattle.store.specs.Store.{cells}
 use Rattle.commit_changes.proofs.judge.Tie as tie
 
 returns : tie.Need-returns

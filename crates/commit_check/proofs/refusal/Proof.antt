@@ -3,7 +3,6 @@ use native.Mathlib.Omega.{arith}
 use Prim.Native.Nat.{_*_, _/_, _≤_}
 use lib.ListN.{length}
 use Rattle.grid.specs.Rays.{rayCount}
-use Rattle.store.specs.Updates.{cells}
 use Rattle.stock.specs.Stock.{SoundStock, stock, rayLists}
 use Rattle.log_entries.specs.Named.{EachNamed}
 use Rattle.log_model.specs.Logs.{entries, workNeeded}
@@ -11,6 +10,7 @@ use Rattle.log_model.proofs.Doubles.{Doubles, all-doubles}
 use Rattle.commit_check.proofs.Tests.{short-due, room-of-test, work-due, work-of-test, part-due, unsound-due, sound-of-test, last-due, unnamed-due, named-of-test, rays-due, intervals-due, all-passed}
 use Rattle.commit_check.proofs.refusal.Statement.{statement}
 use Rattle.store.specs.Steps.{Room}
+use Rattle.store.specs.Store.{cells}
 use Rattle.commit_check.proofs.refusal.Tie as tie
 
 -- what the tests before have found

@@ -3,9 +3,9 @@ use Prim.Native.Nat.{_-_}
 use native.Mathlib.Omega.{arith}
 use borrow.Author.Needs.{needs}
 use lib.ListN.{length}
-use Rattle.store.specs.Updates.{cells}
 use Rattle.log_budget.proofs.Turns.{CountedBelow, ray-fits, reached-start, ray-asked, keys-of-ray, reached-turn, reached-end}
 use Rattle.log_budget.proofs.count_batch.Statement.{statement}
+use Rattle.store.specs.Store.{cells}
 use Rattle.log_budget.proofs.count_batch.Tie as tie
 
 abbrev Inv-loop : tie.InvT-loop

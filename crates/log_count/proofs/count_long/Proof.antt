@@ -5,7 +5,6 @@ use borrow.Author.Needs.{needs}
 use native.Mathlib.Omega.{arith}
 use lib.ListN.{length}
 use Rattle.logic.proofs.Bools.{not-true, not-false}
-use Rattle.store.specs.Updates.{cells}
 use Rattle.log_keys.specs.Keys.{pairsPast}
 use Rattle.log_gather.proofs.Entries.{same-shape}
 use Rattle.log_count.specs.Steps.{certainLoses}
@@ -13,6 +12,7 @@ use Rattle.log_count.proofs.Bounds.{few-rays}
 use Rattle.log_count.proofs.Asking.{possible-readable, certain-readable, possible-sound, certain-sound, asked-addable, asked-added}
 use Rattle.log_count.proofs.Onward.{TakenTo, onward-start, onward-next, onward-falls, onward-possible, onward-certain}
 use Rattle.log_count.proofs.count_long.Statement.{statement}
+use Rattle.store.specs.Store.{cells}
 use Rattle.log_count.proofs.count_long.Tie as tie
 
 abbrev Inv-loop : tie.InvT-loop

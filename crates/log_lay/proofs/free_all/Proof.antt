@@ -1,9 +1,9 @@
 use borrow.Author.Needs.{needs}
 use native.Mathlib.Omega.{arith}
 use Prim.Native.Nat.{_-_}
-use Rattle.store.specs.Updates.{cells}
 use Rattle.log_lay.proofs.Loops.{FreedTo, freed-start, turn-freeable, freed-next, freed-end}
 use Rattle.log_lay.proofs.free_all.Statement.{statement}
+use Rattle.store.specs.Store.{cells}
 use Rattle.log_lay.proofs.free_all.Tie as tie
 
 abbrev Inv-loop : tie.InvT-loop

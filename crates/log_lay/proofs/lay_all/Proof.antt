@@ -1,9 +1,9 @@
 use borrow.Author.Needs.{needs}
 use native.Mathlib.Omega.{arith}
 use Prim.Native.Nat.{_-_}
-use Rattle.store.specs.Updates.{cells}
 use Rattle.log_lay.proofs.Loops.{LaidTo, laid-start, turn-layable, laid-next, laid-end}
 use Rattle.log_lay.proofs.lay_all.Statement.{statement}
+use Rattle.store.specs.Store.{cells}
 use Rattle.log_lay.proofs.lay_all.Tie as tie
 
 abbrev Inv-loop : tie.InvT-loop

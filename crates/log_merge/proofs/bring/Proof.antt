@@ -2,9 +2,9 @@
 use borrow.Author.Needs.{needs}
 use native.Mathlib.Omega.{arith}
 use borrow.Author.Needs.{needs}
-use Rattle.store.specs.Updates.{cells}
 use Rattle.log_merge.proofs.Bringing.{possible-ready, certain-ready, outer-ready, inner-fits, inner-ready, all-brought}
 use Rattle.log_merge.proofs.bring.Statement.{statement}
+use Rattle.store.specs.Store.{cells}
 use Rattle.log_merge.proofs.bring.Tie as tie
 
 read-list-requires : tie.Need-read-list-requires

@@ -3,9 +3,9 @@ use borrow.Author.Needs.{needs}
 use native.Mathlib.Omega.{arith}
 use mathlib.Core.Bool.{Bool, true, false, cond}
 use Prim.Native.Nat.{_-_, _≤_}
-use Rattle.store.specs.Updates.{cells}
 use Rattle.log_merge.proofs.AllRays.{Merging, starts, fits, ray-ready, steps, done}
 use Rattle.log_merge.proofs.merge_all.Statement.{statement}
+use Rattle.store.specs.Store.{cells}
 use Rattle.log_merge.proofs.merge_all.Tie as tie
 
 abbrev Inv-loop : tie.InvT-loop

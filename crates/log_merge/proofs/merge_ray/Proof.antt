@@ -3,9 +3,9 @@ use borrow.Author.Needs.{needs}
 use native.Mathlib.Omega.{arith}
 use borrow.Author.Needs.{needs}
 use mathlib.Core.Path.{sym, _∙_}
-use Rattle.store.specs.Updates.{cells}
 use Rattle.log_merge.proofs.Rays.{ray-same, cut-ready, ray-merged}
 use Rattle.log_merge.proofs.merge_ray.Statement.{statement}
+use Rattle.store.specs.Store.{cells}
 use Rattle.log_merge.proofs.merge_ray.Tie as tie
 
 returns : tie.Need-returns

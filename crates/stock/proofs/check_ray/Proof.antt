@@ -1,9 +1,9 @@
 use borrow.Author.Needs.{needs}
 use native.Mathlib.Omega.{arith}
 use Prim.Native.Nat.{_+_, _*_}
-use Rattle.store.specs.Updates.{cells}
 use Rattle.stock.proofs.Rays.{list-readable, valid-within}
 use Rattle.stock.proofs.check_ray.Statement.{statement}
+use Rattle.store.specs.Store.{cells}
 use Rattle.stock.proofs.check_ray.Tie as tie
 
 valid-ray-at-requires : tie.Need-valid-ray-at-requires

@@ -1,11 +1,11 @@
 use borrow.Author.Needs.{needs}
 use native.Mathlib.Omega.{arith}
 use Prim.Native.Nat.{_-_, _≤_}
-use Rattle.store.specs.Updates.{cells}
 use Rattle.grid.specs.Rays.{rayCount}
 use Rattle.stock.specs.Stock.{ValidTo}
 use Rattle.stock.proofs.Rays.{ray-bad, ray-good, rays-good}
 use Rattle.stock.proofs.check_rays.Statement.{statement}
+use Rattle.store.specs.Store.{cells}
 use Rattle.stock.proofs.check_rays.Tie as tie
 
 abbrev Inv-loop : tie.InvT-loop

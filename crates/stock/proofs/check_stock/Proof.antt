@@ -1,7 +1,7 @@
 use borrow.Author.Needs.{needs}
-use Rattle.store.specs.Updates.{cells}
 use Rattle.stock.proofs.Rays.{store-bad, chained-of, stock-tells}
 use Rattle.stock.proofs.check_stock.Statement.{statement}
+use Rattle.store.specs.Store.{cells}
 use Rattle.stock.proofs.check_stock.Tie as tie
 
 returns : tie.Need-returns

@@ -1,8 +1,8 @@
 use borrow.Author.Needs.{needs}
 use native.Mathlib.Omega.{arith}
-use Rattle.store.specs.Updates.{cells}
 use Rattle.stock.proofs.Rays.{lists-counted}
 use Rattle.stock.proofs.is_chained.Statement.{statement}
+use Rattle.store.specs.Store.{cells}
 use Rattle.stock.proofs.is_chained.Tie as tie
 
 check-store-requires : tie.Need-check-store-requires

@@ -1,8 +1,8 @@
 use borrow.Author.Needs.{needs}
 use native.Mathlib.Omega.{arith}
-use Rattle.store.specs.Updates.{cells}
 use Rattle.stock.proofs.Causes.{short-spans, short-links, short-heads}
 use Rattle.stock.proofs.is_short.Statement.{statement}
+use Rattle.store.specs.Store.{cells}
 use Rattle.stock.proofs.is_short.Tie as tie
 
 returns : tie.Need-returns

@@ -1,9 +1,9 @@
 use borrow.Author.Needs.{needs}
 use mathlib.Core.Path.{sym, _∙_}
-use Rattle.store.specs.Updates.{cells}
 use Rattle.grid.proofs.Facts.{grid-facts}
 use Rattle.stock_fill.proofs.Answers.{fill-accepted, fill-refused}
 use Rattle.stock_fill.proofs.fill.Statement.{statement}
+use Rattle.store.specs.Store.{cells}
 use Rattle.stock_fill.proofs.fill.Tie as tie
 
 fill-grid-requires : tie.Need-fill-grid-requires

@@ -2,10 +2,10 @@ use borrow.Author.Needs.{needs}
 use native.Mathlib.Omega.{arith}
 use Prim.Native.Nat.{_*_}
 use mathlib.Core.Path.{sym, ap, _∙_}
-use Rattle.store.specs.Updates.{cells}
 use Rattle.stock.proofs.Causes.{room-of}
 use Rattle.stock_fill.proofs.Answers.{fill-short, fill-done}
 use Rattle.stock_fill.proofs.fill_grid.Statement.{statement}
+use Rattle.store.specs.Store.{cells}
 use Rattle.stock_fill.proofs.fill_grid.Tie as tie
 
 returns : tie.Need-returns

@@ -1,10 +1,10 @@
 use borrow.Author.Needs.{needs}
 use native.Mathlib.Omega.{arith}
 use Prim.Native.Nat.{_+_, _*_}
-use Rattle.store.specs.Updates.{cells}
 use Rattle.stock.proofs.Rays.{list-readable}
 use Rattle.stock_volume.proofs.Lengths.{ray-added}
 use Rattle.stock_volume.proofs.add_ray.Statement.{statement}
+use Rattle.store.specs.Store.{cells}
 use Rattle.stock_volume.proofs.add_ray.Tie as tie
 
 measure-ray-requires : tie.Need-measure-ray-requires

@@ -2,7 +2,6 @@ use borrow.Author.Needs.{needs}
 use native.Mathlib.Omega.{arith}
 use Prim.Native.Nat.{_+_, _-_, _≤_}
 use mathlib.Core.Path.{_≡_}
-use Rattle.store.specs.Updates.{cells}
 use Rattle.grid.specs.Rays.{rayCount}
 use Rattle.grid.proofs.Numbering.{offset-le}
 use Rattle.logic.proofs.Bools.{not-false}
@@ -10,6 +9,7 @@ use Rattle.stock.specs.Stock.{ValidTo}
 use Rattle.stock_volume.specs.Volume.{volumeTo}
 use Rattle.stock_volume.proofs.Lengths.{area-is, volume-first, volume-next, along-bad, along-more, along-good}
 use Rattle.stock_volume.proofs.axis_volume.Statement.{statement}
+use Rattle.store.specs.Store.{cells}
 use Rattle.stock_volume.proofs.axis_volume.Tie as tie
 
 abbrev Inv-loop : tie.InvT-loop

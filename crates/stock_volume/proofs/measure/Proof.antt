@@ -1,10 +1,10 @@
 use borrow.Author.Needs.{needs}
 use mathlib.Core.Path.{sym, _∙_}
-use Rattle.store.specs.Updates.{cells}
 use Rattle.stock.proofs.Causes.{room-of}
 use Rattle.stock.proofs.Rays.{chained-of}
 use Rattle.stock_volume.proofs.Answers.{measure-short, measure-bad, measure-done}
 use Rattle.stock_volume.proofs.measure.Statement.{statement}
+use Rattle.store.specs.Store.{cells}
 use Rattle.stock_volume.proofs.measure.Tie as tie
 
 returns : tie.Need-returns

@@ -1,10 +1,10 @@
 use borrow.Author.Needs.{needs}
 use mathlib.Core.Path.{refl}
-use Rattle.store.specs.Updates.{cells}
 use Rattle.logic.proofs.Bools.{not-false}
 use Rattle.stock_volume.proofs.Lengths.{before-x, before-y, before-z}
 use Rattle.stock_volume.proofs.Answers.{axis-bad, axes-good}
 use Rattle.stock_volume.proofs.measure_rays.Statement.{statement}
+use Rattle.store.specs.Store.{cells}
 use Rattle.stock_volume.proofs.measure_rays.Tie as tie
 
 axis-volume-requires : tie.Need-axis-volume-requires

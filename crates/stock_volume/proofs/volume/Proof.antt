@@ -1,9 +1,9 @@
 use borrow.Author.Needs.{needs}
 use mathlib.Core.Path.{sym, _∙_}
-use Rattle.store.specs.Updates.{cells}
 use Rattle.grid.proofs.Facts.{grid-facts}
 use Rattle.stock_volume.proofs.Answers.{volume-accepted, volume-refused}
 use Rattle.stock_volume.proofs.volume.Statement.{statement}
+use Rattle.store.specs.Store.{cells}
 use Rattle.stock_volume.proofs.volume.Tie as tie
 
 grid-requires : tie.Need-grid-requires

@@ -1,9 +1,10 @@
 use borrow.Author.Needs.{needs}
 use mathlib.Core.Path.{sym, ap, _∙_, subst}
 use Prim.Native.Nat.{_+_, _*_}
-use Rattle.store.specs.Updates.{Cells, freedList}
+use Rattle.store.specs.Updates.{freedList}
 use Rattle.store_write.proofs.free_ray.Statement.{statement}
 use Rattle.store.specs.Steps.{FreeListPre}
+use Rattle.store.specs.Store.{Cells}
 use Rattle.store_write.proofs.free_ray.Tie as tie
 
 free-list-requires-2 : tie.Need-free-list-requires-2

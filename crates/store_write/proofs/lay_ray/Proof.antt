@@ -1,7 +1,7 @@
 use borrow.Author.Needs.{needs}
-use Rattle.store.specs.Updates.{cells}
 use Rattle.store_write.proofs.Rays.{possible-layable, certain-layable, ray-laid}
 use Rattle.store_write.proofs.lay_ray.Statement.{statement}
+use Rattle.store.specs.Store.{cells}
 use Rattle.store_write.proofs.lay_ray.Tie as tie
 
 lay-list-requires : tie.Need-lay-list-requires

@@ -1,11 +1,11 @@
 use borrow.Author.Needs.{needs}
 use mathlib.Core.Path.{sym, _∙_}
-use Rattle.store.specs.Updates.{cells}
 use Rattle.sweep_model.specs.SweepEntries.{setting}
 use Rattle.stock.proofs.Causes.{room-of}
 use Rattle.logic.proofs.Bools.{not-false}
 use Rattle.sweep.proofs.Answers.{check-short, check-odd, check-bad, check-tool-bad, check-chords-bad, check-good}
 use Rattle.sweep.proofs.check_sweep.Statement.{statement}
+use Rattle.store.specs.Store.{cells}
 use Rattle.sweep.proofs.check_sweep.Tie as tie
 
 returns : tie.Need-returns

@@ -1,12 +1,12 @@
 use borrow.Author.Needs.{needs}
 use mathlib.Core.Path.{sym, _∙_}
-use Rattle.store.specs.Updates.{cells}
 use Rattle.frame.specs.Frame.{frameOf}
 use Rattle.sweep_model.specs.Kernel.{profileOf}
 use Rattle.sweep_model.specs.declared.Kernel.{Kernel}
 use Rattle.grid.proofs.Facts.{grid-facts}
 use Rattle.sweep.proofs.Answers.{sweep-refused, sweep-accepted, same-tool}
 use Rattle.sweep.proofs.sweep.Statement.{statement}
+use Rattle.store.specs.Store.{cells}
 use Rattle.sweep.proofs.sweep.Tie as tie
 
 returns : tie.Need-returns

@@ -1,8 +1,8 @@
 use borrow.Author.Needs.{needs}
-use Rattle.store.specs.Updates.{cells}
 use Rattle.sweep_model.specs.SweepEntries.{setting}
 use Rattle.sweep.proofs.Answers.{logged-room, grid-declined, admitted, grid-swept}
 use Rattle.sweep.proofs.sweep_grid.Statement.{statement}
+use Rattle.store.specs.Store.{cells}
 use Rattle.sweep.proofs.sweep_grid.Tie as tie
 
 returns : tie.Need-returns

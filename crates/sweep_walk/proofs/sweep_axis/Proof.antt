@@ -1,9 +1,9 @@
 use borrow.Author.Needs.{needs}
-use Rattle.store.specs.Updates.{cells}
 use Rattle.sweep_model.specs.SweepEntries.{setting}
 use Rattle.sweep_walk.proofs.Tracks.{few-rays, rect-ready, axis-none, axis-some}
 use Rattle.sweep_walk.proofs.Chords.{logged-same}
 use Rattle.sweep_walk.proofs.sweep_axis.Statement.{statement}
+use Rattle.store.specs.Store.{cells}
 use Rattle.sweep_walk.proofs.sweep_axis.Tie as tie
 
 track-of-requires : tie.Need-track-of-requires

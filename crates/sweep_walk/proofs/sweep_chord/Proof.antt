@@ -1,10 +1,10 @@
 use borrow.Author.Needs.{needs}
 use mathlib.Core.Path.{_∙_}
-use Rattle.store.specs.Updates.{cells}
 use Rattle.sweep_model.specs.SweepEntries.{setting}
 use Rattle.sweep_visits.proofs.Walks.{halted-of, went-of}
 use Rattle.sweep_walk.proofs.Chords.{first-halts, both-walked, logged-same}
 use Rattle.sweep_walk.proofs.sweep_chord.Statement.{statement}
+use Rattle.store.specs.Store.{cells}
 use Rattle.sweep_walk.proofs.sweep_chord.Tie as tie
 
 sweep-axis-requires : tie.Need-sweep-axis-requires

@@ -1,8 +1,8 @@
 -- `tridexel::sweeps::tridexel_sweep` meets its contract.
 use borrow.Author.Needs.{needs}
-use Rattle.store.specs.Updates.{cells}
 use Rattle.c_results.proofs.Sweeping.{swept-by}
 use Rattle.tridexel.proofs.sweeps.tridexel_sweep.Statement.{statement}
+use Rattle.store.specs.Store.{cells}
 use Rattle.tridexel.proofs.sweeps.tridexel_sweep.Tie as tie
 
 axis-of-requires : tie.Need-axis-of-requires
