@@ -5,7 +5,7 @@ use Prim.Native.Nat.{ℕ, suc, _-_, _*_, _≤_, _<_}
 use native.Mathlib.Omega.{arith}
 use lib.Ieee.{Float}
 use lib.ListN.{length, getD}
-use Rattle.store.specs.Store.{loAt, hiAt, nextAt, places, endsAt, ChainsSound, listFrom, cells}
+use Rattle.store.specs.Store.{loAt, hiAt, nextAt, places, endsAt, ChainsSound, listFrom, Cells}
 use Rattle.store.proofs.Chains.{chain-step, less-step, places-zero}
 use Rattle.store_read.specs.Reading.{Linked, Readable}
 
