@@ -18,13 +18,13 @@ use Rattle.store.specs.Store.{placesOf, Cells}
 use Rattle.store.proofs.FreePlaces.{free-records}
 use Rattle.stock.specs.Stock.{Stock, SoundStock, Possible, Certain, rayList, rayLists}
 use Rattle.store_read.proofs.Steps.{ends-length}
-use Rattle.log_model.specs.Logs.{entryAt, entryCount, entries, entryRay, HitKind, outer, inner}
+use Rattle.log_model.specs.Logs.{entryAt, entryCount, entries, entryRay, HitKind, outer, inner, hitsOnRay}
 use Rattle.log_model.specs.Model.{pairTotal}
 use Rattle.log_model.specs.Counts.{isHitBy, startsLeft, hitsOnList, isRayChanged, changedRayCount, pairsAfter}
 use Rattle.log_model.proofs.View.{lent-laws}
 use Rattle.log_model.proofs.Starts.{pairs-left}
-use Rattle.log_entries.specs.Named.{hitsOnRayNumber, namedFrom, pairsAt}
-use Rattle.log_entries.proofs.Places.{AllFrom, all-first, all-rest, pairs-named, each-below, pairs-of}
+use Rattle.log_entries.specs.Named.{namedFrom, pairsAt}
+use Rattle.log_entries.proofs.Places.{AllFrom, all-first, all-rest, each-below, pairs-of}
 use Rattle.log_count.specs.Totals.{Countable, sumBelow, pairsOf, leftOf, rayChangeCount}
 use Rattle.log_count.proofs.Sums.{sum-over, sum-le, sum-at, sum-one, sum-plus, sum-times, sum-none}
 use Rattle.log_count.proofs.Starts.{starts-le}
@@ -108,8 +108,7 @@ module _ (spec : DexelStockSpec) (g : DexelGrid) (c : Cells) (intervals : ℕ) (
   pub changed-is : changedRayCount g (rayLists spec g c) (entries log) ≡ sumBelow (λ ray. cond (rayChangeCount spec g c log ray) 1 0) (rayCount g)
   unfolding changedRayCount isRayChanged rayChangeCount hitsOnList
   changed-is = sum-over g (λ r. cond (isRayChanged g (rayLists spec g c) (entries log) r) 1 0) (λ ray. cond (rayChangeCount spec g c log ray) 1 0)
-      (λ r. ap₂ (λ (o i : List Float). cond (isHitBy (rayList spec c (r .0) Possible) i || isHitBy (rayList spec c (r .0) Certain) (o ++ i)) 1 0)
-      (pairs-named g (entries log) r outer) (pairs-named g (entries log) r inner))
+      (λ r. refl)
 
   pub left-is : pairsAfter g (rayLists spec g c) (entries log) ≡ sumBelow (leftOf spec g c log) (rayCount g)
   unfolding pairsAfter leftOf hitsOnList
@@ -117,8 +116,7 @@ module _ (spec : DexelStockSpec) (g : DexelGrid) (c : Cells) (intervals : ℕ) (
       (λ r. startsLeft (rayLists spec g c r Possible) (hitsOnList g (entries log) r Possible)
       + startsLeft (rayLists spec g c r Certain) (hitsOnList g (entries log) r Certain))
       (leftOf spec g c log)
-      (λ r. ap₂ (λ (o i : List Float). startsLeft (rayList spec c (r .0) Possible) i + startsLeft (rayList spec c (r .0) Certain) (o ++ i))
-      (pairs-named g (entries log) r outer) (pairs-named g (entries log) r inner))
+      (λ r. refl)
 
   pub few-rays : rayCount g ≤ 2 ^ 53
   few-rays = omega (arith, ok .facts .rays, ok .facts .ceiling)
@@ -128,7 +126,7 @@ module _ (spec : DexelStockSpec) (g : DexelGrid) (c : Cells) (intervals : ℕ) (
   unfoldable pub entriesOf : ℕ → ℕ
   entriesOf ray = length (namedFrom g log ray 0 (entryCount log))
 
-  hits-of : (ray : ℕ) (w : HitKind) → length (hitsOnRayNumber g (entries log) ray w) ≡ 2 * entriesOf ray
+  hits-of : (ray : ℕ) (w : HitKind) → length (hitsOnRay g (entries log) ray w) ≡ 2 * entriesOf ray
   unfolding entriesOf
   hits-of ray w = ap length (sym (pairs-of g log (ok .named) ray w)) ∙ places-length log (namedFrom g log ray 0 (entryCount log)) w
 
@@ -140,8 +138,8 @@ module _ (spec : DexelStockSpec) (g : DexelGrid) (c : Cells) (intervals : ℕ) (
   pub left-le : (ray : ℕ) → leftOf spec g c log ray ≤ pairsOf spec c ray + 3 * entriesOf ray
   unfolding leftOf pairsOf
   left-le ray =
-      let i = hitsOnRayNumber g (entries log) ray inner in
-      let o = hitsOnRayNumber g (entries log) ray outer in
+      let i = hitsOnRay g (entries log) ray inner in
+      let o = hitsOnRay g (entries log) ray outer in
       let a = starts-le (rayList spec c ray Possible) i in
       let b = starts-le (rayList spec c ray Certain) (o ++ i) in
       let d = length-append o i in
@@ -153,7 +151,7 @@ module _ (spec : DexelStockSpec) (g : DexelGrid) (c : Cells) (intervals : ℕ) (
 
   -- a ray that no entry names stays
   module _ (ray : ℕ) (h : ray < rayCount g) (u : namedFrom g log ray 0 (entryCount log) ≡ []) where
-    no-pairs : (w : HitKind) → hitsOnRayNumber g (entries log) ray w ≡ []
+    no-pairs : (w : HitKind) → hitsOnRay g (entries log) ray w ≡ []
     no-pairs w = sym (pairs-of g log (ok .named) ray w) ∙ ap (λ (l : List ℕ). pairsAt log l w) u ∙ unfold pairsAt in refl
 
     pub unchanged : rayChangeCount spec g c log ray ≡ false

@@ -11,9 +11,9 @@ use Rattle.grid.specs.Rays.{rayCount}
 use Rattle.grid.specs.declared.DexelStockSpec.{DexelStockSpec}
 use Rattle.grid.specs.declared.DexelGrid.{DexelGrid}
 use Rattle.store_read.specs.Reading.{Readable}
-use Rattle.log_model.specs.Logs.{entries, entryAt, entryCount, entryRay, outer, inner}
+use Rattle.log_model.specs.Logs.{entries, entryAt, entryCount, entryRay, outer, inner, hitsOnRay}
 use Rattle.log_model.specs.Counts.{isHitBy, startsLeft}
-use Rattle.log_entries.specs.Named.{EachNamed, hitsOnRayNumber}
+use Rattle.log_entries.specs.Named.{EachNamed}
 use Rattle.log_keys.specs.Keys.{entryOfKey, pairsPast}
 use Rattle.log_left.specs.ListLeft.{ListWalked}
 use Rattle.log_left.specs.declared.Rest.{Rest}
@@ -77,10 +77,10 @@ pub record KeysOf (g : DexelGrid) (log : List Float) (ray : ℕ) (keys : List �
 
 -- what the ray's possible list loses, and its certain list
 abbrev pub possibleLoses : DexelGrid → List Float → ℕ → List Float
-possibleLoses g log ray = hitsOnRayNumber g (entries log) ray inner
+possibleLoses g log ray = hitsOnRay g (entries log) ray inner
 
 abbrev pub certainLoses : DexelGrid → List Float → ℕ → List Float
-certainLoses g log ray = hitsOnRayNumber g (entries log) ray outer ++ hitsOnRayNumber g (entries log) ray inner
+certainLoses g log ray = hitsOnRay g (entries log) ray outer ++ hitsOnRay g (entries log) ray inner
 
 -- what is asked to take a stretch of a ray's hits from both its lists
 pub record TakePartPre (g : DexelGrid) (n : ℕ) (spans : List Float) (links : List ℕ) (log : List Float) (keys : List ℕ)

@@ -9,9 +9,9 @@ use Rattle.grid.specs.Rays.{rayCount}
 use Rattle.grid.specs.declared.DexelStockSpec.{DexelStockSpec}
 use Rattle.grid.specs.declared.DexelGrid.{DexelGrid}
 use Rattle.stock.specs.Stock.{SoundCells, rayList, Possible, Certain}
-use Rattle.log_model.specs.Logs.{entries, outer, inner}
+use Rattle.log_model.specs.Logs.{entries, outer, inner, hitsOnRay}
 use Rattle.log_model.specs.Counts.{isHitBy, startsLeft}
-use Rattle.log_entries.specs.Named.{EachNamed, hitsOnRayNumber}
+use Rattle.log_entries.specs.Named.{EachNamed}
 use Rattle.log_count.specs.declared.RayTotals.{RayTotals}
 use Rattle.grid.specs.Facts.{GridFacts}
 use Rattle.store.specs.Steps.{Room}
@@ -42,17 +42,17 @@ pairsOf spec c ray = length (rayList spec c ray Possible) / 2 + length (rayList 
 
 -- and when the log's hits are taken from them
 unfoldable pub leftOf : DexelStockSpec → DexelGrid → Cells → List Float → ℕ → ℕ
-unfolding startsLeft hitsOnRayNumber entries
+unfolding startsLeft hitsOnRay entries
 leftOf spec g c log ray =
-    startsLeft (rayList spec c ray Possible) (hitsOnRayNumber g (entries log) ray inner)
-    + startsLeft (rayList spec c ray Certain) (hitsOnRayNumber g (entries log) ray outer ++ hitsOnRayNumber g (entries log) ray inner)
+    startsLeft (rayList spec c ray Possible) (hitsOnRay g (entries log) ray inner)
+    + startsLeft (rayList spec c ray Certain) (hitsOnRay g (entries log) ray outer ++ hitsOnRay g (entries log) ray inner)
 
 -- the ray would change
 unfoldable pub rayChangeCount : DexelStockSpec → DexelGrid → Cells → List Float → ℕ → Bool
-unfolding isHitBy hitsOnRayNumber entries
+unfolding isHitBy hitsOnRay entries
 rayChangeCount spec g c log ray =
-    isHitBy (rayList spec c ray Possible) (hitsOnRayNumber g (entries log) ray inner)
-    || isHitBy (rayList spec c ray Certain) (hitsOnRayNumber g (entries log) ray outer ++ hitsOnRayNumber g (entries log) ray inner)
+    isHitBy (rayList spec c ray Possible) (hitsOnRay g (entries log) ray inner)
+    || isHitBy (rayList spec c ray Certain) (hitsOnRay g (entries log) ray outer ++ hitsOnRay g (entries log) ray inner)
 
 -- ---- all rays
 

@@ -13,7 +13,7 @@ use Rattle.log_model.specs.Logs.{Entry, entryAt, entriesFrom, entryCount, entri
 use Rattle.log_model.specs.Model.{NamesNoRay}
 use Rattle.log_model.proofs.Entries.{entry-at}
 use Rattle.log_model.proofs.Naming.{named-below}
-use Rattle.log_entries.specs.Named.{EachNamed, hitsOnRayNumber, namedFrom, pairsAt}
+use Rattle.log_entries.specs.Named.{EachNamed, namedFrom, pairsAt}
 
 -- the k places from i on have the property P
 abbrev pub AllFrom : (ℕ → Type 0) → (i k : ℕ) → Type 0
@@ -36,13 +36,6 @@ unfolding EachNamed NamesNoRay
 each-no g log all (e, m, n) =
     let (i, h, q) = entry-at log e m in
     clash (namesSomeRay g (entryAt log i)) (all i h) (rw q at n)
-
--- ---- by number
-
-pub pairs-named : (g : DexelGrid) (es : List Entry) (r : Ray g) (w : HitKind) → hitsOnRay g es r w ≡ hitsOnRayNumber g es (r .0) w
-unfolding hitsOnRay hitsOnRayNumber namesRay
-pairs-named g [] r w = refl
-pairs-named g (e ∷ es) r w = ap (λ (l : List Float). cond (namesSomeRay g e && eqb (entryRay g e) (r .0)) (hitLo w e ∷ hitHi w e ∷ l) l) (pairs-named g es r w)
 
 -- ---- by places
 
@@ -73,8 +66,8 @@ module _ (g : DexelGrid) (log : List Float) (ray : ℕ) where
       go false q = q
 
   pub pairs-from : (w : HitKind) (i k : ℕ) → AllFrom (λ j. namesSomeRay g (entryAt log j) ≡ true) i k
-      → pairsAt log (namedFrom g log ray i k) w ≡ hitsOnRayNumber g (entriesFrom log i k) ray w
-  unfolding pairsAt namedFrom hitsOnRayNumber entriesFrom
+      → pairsAt log (namedFrom g log ray i k) w ≡ hitsOnRay g (entriesFrom log i k) ray w
+  unfolding pairsAt namedFrom hitsOnRay entriesFrom
   pairs-from w i zero h = refl
   pairs-from w i (suc k) h = go (eqb (entryRay g (entryAt log i)) ray) (namesSomeRay g (entryAt log i)) (all-first i k h) (pairs-from w (suc i) k (all-rest i k h))
     where
@@ -84,21 +77,21 @@ module _ (g : DexelGrid) (log : List Float) (ray : ℕ) where
       hi : Float
       hi = hitHi w (entryAt log i)
 
-      go : (b n : Bool) → n ≡ true → pairsAt log (namedFrom g log ray (suc i) k) w ≡ hitsOnRayNumber g (entriesFrom log (suc i) k) ray w
+      go : (b n : Bool) → n ≡ true → pairsAt log (namedFrom g log ray (suc i) k) w ≡ hitsOnRay g (entriesFrom log (suc i) k) ray w
           → pairsAt log (cond b (i ∷ namedFrom g log ray (suc i) k) (namedFrom g log ray (suc i) k)) w
-          ≡ cond (n && b) (lo ∷ hi ∷ hitsOnRayNumber g (entriesFrom log (suc i) k) ray w) (hitsOnRayNumber g (entriesFrom log (suc i) k) ray w)
+          ≡ cond (n && b) (lo ∷ hi ∷ hitsOnRay g (entriesFrom log (suc i) k) ray w) (hitsOnRay g (entriesFrom log (suc i) k) ray w)
       go true true t q = ap (λ (l : List Float). lo ∷ hi ∷ l) q
       go false true t q = q
       go b false t q = absurd (false≢true t)
 
 -- THE LAW: the pairs at the places of a ray are the pairs on it
 pub pairs-at : (g : DexelGrid) (log : List Float) → EachNamed g log → (r : Ray g) (w : HitKind)
-    → pairsAt log (namedFrom g log (r .0) 0 (entryCount log)) w ≡ hitsOnRay g (entries log) r w
+    → pairsAt log (namedFrom g log (r .0) 0 (entryCount log)) w ≡ hitsOnRay g (entries log) (r .0) w
 unfolding EachNamed entries
-pairs-at g log all r w = pairs-from g log (r .0) w 0 (entryCount log) (λ j _ h. all j (omega arith)) ∙ sym (pairs-named g (entries log) r w)
+pairs-at g log all r w = pairs-from g log (r .0) w 0 (entryCount log) (λ j _ h. all j (omega arith))
 
 -- and those named by its number
 pub pairs-of : (g : DexelGrid) (log : List Float) → EachNamed g log → (ray : ℕ) (w : HitKind)
-    → pairsAt log (namedFrom g log ray 0 (entryCount log)) w ≡ hitsOnRayNumber g (entries log) ray w
+    → pairsAt log (namedFrom g log ray 0 (entryCount log)) w ≡ hitsOnRay g (entries log) ray w
 unfolding EachNamed entries
 pairs-of g log all ray w = pairs-from g log ray w 0 (entryCount log) (λ j _ h. all j (omega arith))

@@ -24,11 +24,6 @@ unfoldable pub beforeAxis : Float → (first second : ℕ) → ℕ
 beforeAxis axis first second =
     cond (le (ofBits binary64 0x4000_0000_0000_0000) axis) (first + second) (cond (le (ofBits binary64 0x3ff0_0000_0000_0000) axis) first 0)
 
--- the outer or the inner pairs of the entries that name the ray of this number, as a flat list
-unfoldable pub hitsOnRayNumber : DexelGrid → List Entry → ℕ → HitKind → List Float
-hitsOnRayNumber g [] ray w = []
-hitsOnRayNumber g (e ∷ es) ray w = cond (namesSomeRay g e && eqb (entryRay g e) ray) (hitLo w e ∷ hitHi w e ∷ hitsOnRayNumber g es ray w) (hitsOnRayNumber g es ray w)
-
 -- of the places i to i + k - 1 those whose entry is on the ray, in a log whose entries each name one
 unfoldable pub namedFrom : DexelGrid → List Float → (ray i k : ℕ) → List ℕ
 namedFrom g log ray i zero = []

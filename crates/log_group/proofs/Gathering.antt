@@ -10,9 +10,9 @@ use Rattle.log_numbers.specs.Numbers.{numberAt}
 use Rattle.log_numbers.proofs.Cells.{number-same}
 use Rattle.grid.specs.Rays.{rayCount}
 use Rattle.grid.specs.declared.DexelGrid.{DexelGrid}
-use Rattle.log_model.specs.Logs.{entryAt, entries, entryCount, HitKind, outer, inner, hitLo, hitHi}
-use Rattle.log_entries.specs.Named.{namedFrom, hitsOnRayNumber, pairsAt}
-use Rattle.log_entries.proofs.Places.{pairs-named, pairs-at}
+use Rattle.log_model.specs.Logs.{entryAt, entries, entryCount, HitKind, outer, inner, hitLo, hitHi, hitsOnRay}
+use Rattle.log_entries.specs.Named.{namedFrom, pairsAt}
+use Rattle.log_entries.proofs.Places.{pairs-at}
 use Rattle.store_read.specs.Reading.{ReadListPost}
 use Rattle.log_group.specs.Groups.{PlaceChain, ends, more, Grouped, columnOf}
 use Rattle.log_group.proofs.Chains.{chain-kept}
@@ -149,30 +149,30 @@ module _ (g : DexelGrid) (log before : List Float) (grouped : Grouped g log befo
   places : List ℕ
   places = namedFrom g log ray 0 (entryCount log)
 
-  hits : pairsAt log places kind ≡ hitsOnRayNumber g (entries log) ray kind
+  hits : pairsAt log places kind ≡ hitsOnRay g (entries log) ray kind
   unfolding places
-  hits = pairs-at g log (grouped .named) (ray, h) kind ∙ pairs-named g (entries log) (ray, h) kind
+  hits = pairs-at g log (grouped .named) (ray, h) kind
 
   chain : PlaceChain before rays 0 (entryCount log) (numberAt before ray) places
   unfolding places
   chain = subst (λ (n : ℕ). PlaceChain before n 0 (entryCount log) (numberAt before ray) places) (sym same) (grouped .chains ray h)
 
-  pub gathers : at + length (hitsOnRayNumber g (entries log) ray kind) ≤ length before → rayCount g + entryCount log ≤ at → (k : ℕ) → k ≡ numberAt before ray
+  pub gathers : at + length (hitsOnRay g (entries log) ray kind) ≤ length before → rayCount g + entryCount log ≤ at → (k : ℕ) → k ≡ numberAt before ray
       → Gathering rays log kind ray at before before at k
   gathers room past k e =
       subst (λ (n : ℕ). Gathering rays log kind ray at before before at n) (sym e)
       (gathering-start rays log kind ray at before places chain (subst (λ (l : List Float). at + length l ≤ length before) (sym hits) room) (omega arith))
 
-  pub gathered : (w : List Float) (t k : ℕ) → k ≡ 0 → Gathering rays log kind ray at before w t k → ReadListPost (hitsOnRayNumber g (entries log) ray kind) before at w t
+  pub gathered : (w : List Float) (t k : ℕ) → k ≡ 0 → Gathering rays log kind ray at before w t k → ReadListPost (hitsOnRay g (entries log) ray kind) before at w t
   gathered w t k none s =
       subst (λ (l : List Float). ReadListPost l before at w t) (ap (λ (l : List ℕ). pairsAt log l kind) (chain-one (s .first) chain) ∙ hits)
       (gathering-done rays log kind ray at before w t k none s)
 
 -- a ray whose first cell is zero has no hits
-pub none-named : (g : DexelGrid) (log w : List Float) → Grouped g log w → (ray : ℕ) → ray < rayCount g → numberAt w ray ≡ 0 → (kind : HitKind) → hitsOnRayNumber g (entries log) ray kind ≡ []
+pub none-named : (g : DexelGrid) (log w : List Float) → Grouped g log w → (ray : ℕ) → ray < rayCount g → numberAt w ray ≡ 0 → (kind : HitKind) → hitsOnRay g (entries log) ray kind ≡ []
 unfolding pairsAt
 none-named g log w s ray h e kind =
-    sym (pairs-at g log (s .named) (ray, h) kind ∙ pairs-named g (entries log) (ray, h) kind)
+    sym (pairs-at g log (s .named) (ray, h) kind)
     ∙ ap (λ (l : List ℕ). pairsAt log l kind) (last (s .chains ray h) e)
   where
     last : {k : ℕ} {is : List ℕ} → PlaceChain w (rayCount g) 0 (entryCount log) k is → k ≡ 0 → is ≡ []

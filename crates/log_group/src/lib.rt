@@ -5,8 +5,8 @@ ghost use lib.Ieee.{nan};
 ghost use lib.ListN.{length, getD, set};
 ghost use Rattle.log_numbers.specs.Numbers.{numberCell};
 ghost use Rattle.grid.specs.Rays.{rayCount};
-ghost use Rattle.log_model.specs.Logs.{entries, entryCount};
-ghost use Rattle.log_entries.specs.Named.{EachNamed, hitsOnRayNumber};
+ghost use Rattle.log_model.specs.Logs.{entries, entryCount, hitsOnRay};
+ghost use Rattle.log_entries.specs.Named.{EachNamed};
 ghost use Rattle.store_read.specs.Reading.{ReadListPost};
 ghost use Rattle.log_group.specs.Groups.{Grouped, GroupPost, hitKindOf, columnOf};
 use grid::DexelGrid;
@@ -64,8 +64,8 @@ pub fn gather_hits(
     at: usize,
 ) -> usize
     requires { ⌜ Grouped g (now log) (now work) × (ray < rayCount g) × (rayCount g + entryCount (now log) ≤ at)
-        × (at + length (hitsOnRayNumber g (entries (now log)) ray (hitKindOf inner)) ≤ length (now work)) ⌝ }
-    ensures { λ r. ⌜ ReadListPost (hitsOnRayNumber g (entries (now (log .entry))) ray (hitKindOf inner)) (now (work .entry)) at (now (work .exit)) r ⌝ }
+        × (at + length (hitsOnRay g (entries (now log)) ray (hitKindOf inner)) ≤ length (now work)) ⌝ }
+    ensures { λ r. ⌜ ReadListPost (hitsOnRay g (entries (now (log .entry))) ray (hitKindOf inner)) (now (work .entry)) at (now (work .exit)) r ⌝ }
 {
     let rays = grid_rays::total_rays(g) as usize;
     let c = column(inner);

@@ -15,8 +15,8 @@ use Rattle.grid.specs.declared.DexelGrid.{DexelGrid}
 use Rattle.spans.specs.Spans.{within, holds}
 use Rattle.spans.proofs.Sets.{oddN-mod}
 use Rattle.spans.proofs.Points.{holds-append}
-use Rattle.log_model.specs.Logs.{Entry, entryAt, entriesFrom, entryCount, entries, namesSomeRay, entryRay, HitKind, outer, inner, hitLo, hitHi}
-use Rattle.log_entries.specs.Named.{EachNamed, hitsOnRayNumber}
+use Rattle.log_model.specs.Logs.{Entry, entryAt, entriesFrom, entryCount, entries, namesSomeRay, entryRay, HitKind, outer, inner, hitLo, hitHi, hitsOnRay}
+use Rattle.log_entries.specs.Named.{EachNamed}
 use Rattle.log_entries.proofs.Places.{AllFrom, all-first, all-rest}
 use Rattle.log_entries.proofs.Sizes.{named-even}
 use Rattle.log_keys.specs.Keys.{entryOfKey, withEntry, hitsTo, pairsPast}
@@ -122,8 +122,8 @@ module _ {lo hi : Float} where
 
 -- what the ray's possible list loses, or its certain list
 abbrev pub losesOf : DexelGrid → List Float → (ray : ℕ) → (certain : Bool) → List Float
-losesOf g log ray true = hitsOnRayNumber g (entries log) ray outer ++ hitsOnRayNumber g (entries log) ray inner
-losesOf g log ray false = hitsOnRayNumber g (entries log) ray inner
+losesOf g log ray true = hitsOnRay g (entries log) ray outer ++ hitsOnRay g (entries log) ray inner
+losesOf g log ray false = hitsOnRay g (entries log) ray inner
 
 -- the point lies in a hit of an entry on the ray that the list loses
 pub record Lost (g : DexelGrid) (log : List Float) (ray : ℕ) (certain : Bool) (x : Float) : Type 0 where
@@ -135,8 +135,8 @@ pub record Lost (g : DexelGrid) (log : List Float) (ray : ℕ) (certain : Bool) 
 module _ (g : DexelGrid) (log : List Float) (ray : ℕ) where
   module _ (w : HitKind) where
     named-pair : (i k j : ℕ) → AllFrom (λ n. namesSomeRay g (entryAt log n) ≡ true) i k → i ≤ j → j < i + k → entryRay g (entryAt log j) ≡ ray
-        → HasPair (hitLo w (entryAt log j)) (hitHi w (entryAt log j)) (hitsOnRayNumber g (entriesFrom log i k) ray w)
-    unfolding hitsOnRayNumber entriesFrom
+        → HasPair (hitLo w (entryAt log j)) (hitHi w (entryAt log j)) (hitsOnRay g (entriesFrom log i k) ray w)
+    unfolding hitsOnRay entriesFrom
     named-pair i zero j f a b q = absurd (omega arith)
     named-pair i (suc k) j f a b q = elim (decLt i j) [
       | yes h ↦ more (hitLo w (entryAt log i)) (hitHi w (entryAt log i)) (namesSomeRay g (entryAt log i) && eqb (entryRay g (entryAt log i)) ray)
@@ -159,12 +159,12 @@ module _ (g : DexelGrid) (log : List Float) (ray : ℕ) where
         more a c true p = later p
         more a c false p = p
 
-    named-hit : (i k : ℕ) (x : Float) → holds (hitsOnRayNumber g (entriesFrom log i k) ray w) x ≡ true
+    named-hit : (i k : ℕ) (x : Float) → holds (hitsOnRay g (entriesFrom log i k) ray w) x ≡ true
         → (j : ℕ) × (j < i + k) × (entryRay g (entryAt log j) ≡ ray) × (inHit w (entryAt log j) x ≡ true)
-    unfolding hitsOnRayNumber entriesFrom holds
+    unfolding hitsOnRay entriesFrom holds
     named-hit i zero x h = absurd (false≢true h)
     named-hit i (suc k) x h = elim (by-cases (namesSomeRay g (entryAt log i) && eqb (entryRay g (entryAt log i)) ray)) [
-      | inl t ↦ elim (or-cases (inHit w (entryAt log i) x) (holds (hitsOnRayNumber g (entriesFrom log (suc i) k) ray w) x) (rw t at h)) [
+      | inl t ↦ elim (or-cases (inHit w (entryAt log i) x) (holds (hitsOnRay g (entriesFrom log (suc i) k) ray w) x) (rw t at h)) [
         | inl q ↦ (
           i,
           omega arith,
@@ -181,10 +181,10 @@ module _ (g : DexelGrid) (log : List Float) (ray : ℕ) where
             → (j : ℕ) × (j < i + suc k) × (entryRay g (entryAt log j) ≡ ray) × (inHit w (entryAt log j) x ≡ true)
         on (j, a, b, d) = (j, omega (arith, a), b, d)
 
-  loses-named : {lo hi : Float} (certain : Bool) (w : HitKind) → LosesKind certain w → HasPair lo hi (hitsOnRayNumber g (entries log) ray w)
+  loses-named : {lo hi : Float} (certain : Bool) (w : HitKind) → LosesKind certain w → HasPair lo hi (hitsOnRay g (entries log) ray w)
       → HasPair lo hi (losesOf g log ray certain)
-  loses-named true inner inner-hit p = pair-right (hitsOnRayNumber g (entries log) ray outer) (named-even g ray outer (entries log)) p
-  loses-named true outer outer-hit p = pair-left (hitsOnRayNumber g (entries log) ray inner) p
+  loses-named true inner inner-hit p = pair-right (hitsOnRay g (entries log) ray outer) (named-even g ray outer (entries log)) p
+  loses-named true outer outer-hit p = pair-left (hitsOnRay g (entries log) ray inner) p
   loses-named false inner inner-hit p = p
 
   -- THE LAWS: the points that the list loses are those in a hit that it loses of an entry on the ray
@@ -208,15 +208,15 @@ module _ (g : DexelGrid) (log : List Float) (ray : ℕ) where
   holds-lost certain x h = cases certain h
     where
       outers : List Float
-      outers = hitsOnRayNumber g (entries log) ray outer
+      outers = hitsOnRay g (entries log) ray outer
 
       inners : List Float
-      inners = hitsOnRayNumber g (entries log) ray inner
+      inners = hitsOnRay g (entries log) ray inner
 
       even : length outers % 2 ≡ 0
       even = named-even g ray outer (entries log)
 
-      lost : (certain : Bool) (w : HitKind) → LosesKind certain w → holds (hitsOnRayNumber g (entries log) ray w) x ≡ true → Lost g log ray certain x
+      lost : (certain : Bool) (w : HitKind) → LosesKind certain w → holds (hitsOnRay g (entries log) ray w) x ≡ true → Lost g log ray certain x
       lost certain w l k = let (i, a, b, d) = named-hit w 0 (entryCount log) x (unfold entries in k) in
           record { place = i; below = omega (arith, a); on-ray = b; struck = record { kind = w; loses = l; holds-it = d } }
 

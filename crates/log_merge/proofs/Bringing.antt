@@ -12,14 +12,13 @@ use Rattle.spans.specs.Steps.{FilledFront}
 use Rattle.grid.specs.Rays.{rayCount}
 use Rattle.grid.specs.declared.DexelStockSpec.{DexelStockSpec}
 use Rattle.grid.specs.declared.DexelGrid.{DexelGrid}
-use Rattle.log_model.specs.Logs.{entries, entryCount, HitKind, outer, inner}
+use Rattle.log_model.specs.Logs.{entries, entryCount, HitKind, outer, inner, hitsOnRay}
 use Rattle.log_model.proofs.Entries.{entries-length}
 use Rattle.store.specs.Store.{places, Cells, storeList}
 use Rattle.store.proofs.Chains.{places-within}
 use Rattle.store_read.specs.Reading.{ReadListPost, Readable}
 use Rattle.store_read.proofs.Steps.{ends-length}
 use Rattle.stock.proofs.Rays.{list-readable}
-use Rattle.log_entries.specs.Named.{hitsOnRayNumber}
 use Rattle.log_entries.proofs.Sizes.{named-most}
 use Rattle.log_group.specs.Groups.{Grouped}
 use Rattle.log_group.proofs.Chains.{grouped-kept}
@@ -98,7 +97,7 @@ module _ (possible certain outers inners : List Float) (s : ℕ) (w w₁ w₂ w�
 -- ---- step by step, from what `bring` is given
 module _ (spec : DexelStockSpec) (g : DexelGrid) (c : Cells) (log w : List Float) (ray s : ℕ) (b : LoadPre spec g c log w ray s) where
   abbrev hits : HitKind → List Float
-  hits k = hitsOnRayNumber g (entries log) ray k
+  hits k = hitsOnRay g (entries log) ray k
 
   pub list-most : (j : ℕ) → length (storeList (spec .«max_intervals») c j) ≤ 2 * spec .«max_intervals»
   list-most j =

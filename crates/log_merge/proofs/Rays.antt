@@ -15,9 +15,8 @@ use Rattle.spans.specs.Overlay.{lessOf}
 use Rattle.span_overlay.proofs.Less.{less-apart}
 use Rattle.grid.specs.declared.DexelStockSpec.{DexelStockSpec}
 use Rattle.grid.specs.declared.DexelGrid.{DexelGrid}
-use Rattle.log_model.specs.Logs.{entries, HitKind, outer, inner}
+use Rattle.log_model.specs.Logs.{entries, HitKind, outer, inner, hitsOnRay}
 use Rattle.stock.specs.Stock.{ValidAt, rayList, Possible, Certain}
-use Rattle.log_entries.specs.Named.{hitsOnRayNumber}
 use Rattle.log_numbers.specs.Numbers.{numberAt}
 use Rattle.log_group.proofs.Gathering.{none-named}
 use Rattle.ray_subtract.specs.Steps.{cellsFrom, SoundListAt, MergeWithinPre}
@@ -95,7 +94,7 @@ module _ (q : ℕ) (w ys : List Float) (fit : q ≤ length w) (size : length ys 
 -- ---- from what `merge_ray` is given
 module _ (spec : DexelStockSpec) (g : DexelGrid) (c : Cells) (log w : List Float) (ray q s : ℕ) (b : LoadPre spec g c log w ray s) (front : q + limitOf spec log ≤ s) where
   abbrev hits : HitKind → List Float
-  hits k = hitsOnRayNumber g (entries log) ray k
+  hits k = hitsOnRay g (entries log) ray k
 
   valid : ValidAt spec g c ray
   valid = b .valid ray (b .below)

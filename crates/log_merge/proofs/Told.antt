@@ -17,7 +17,6 @@ use Rattle.log_model.specs.Model.{RayChanges}
 use Rattle.log_model.specs.Counts.{isRayChanged, startsLeft, hitsOnList}
 use Rattle.log_model.proofs.Decided.{changes-by}
 use Rattle.log_model.proofs.Doubles.{Doubles}
-use Rattle.log_entries.proofs.Places.{pairs-named}
 use Rattle.log_model.specs.Updates.{MergedByLog}
 use Rattle.log_model.proofs.Asked.{exact-possible, exact-certain, exact-changes}
 use Rattle.log_model.proofs.Totals.{each, one-pairs}
@@ -47,8 +46,8 @@ module _ (spec : DexelStockSpec) (g : DexelGrid) (s : Stock) (total : ℕ) (snd 
     exact p c a b = record {
       outerNormal = m .outerNormal;
       innerNormal = m .innerNormal;
-      outerIs = subst (λ (l : List Float). NormalOf l (m .outerNormal)) (sym (pairs-named g (entries log) (ray, h) outer)) (m .outerIs);
-      innerIs = subst (λ (l : List Float). NormalOf l (m .innerNormal)) (sym (pairs-named g (entries log) (ray, h) inner)) (m .innerIs);
+      outerIs = m .outerIs;
+      innerIs = m .innerIs;
       possibleIs = a;
       certainIs = b;
     }

@@ -10,9 +10,8 @@ use Rattle.spans.specs.Overlay.{lessOf}
 use Rattle.grid.specs.Rays.{rayCount}
 use Rattle.grid.specs.declared.DexelStockSpec.{DexelStockSpec}
 use Rattle.grid.specs.declared.DexelGrid.{DexelGrid}
-use Rattle.log_model.specs.Logs.{entries, entryCount, outer, inner}
+use Rattle.log_model.specs.Logs.{entries, entryCount, outer, inner, hitsOnRay}
 use Rattle.stock.specs.Stock.{ValidTo, rayList, Possible, Certain}
-use Rattle.log_entries.specs.Named.{hitsOnRayNumber}
 use Rattle.log_group.specs.Groups.{Grouped}
 use Rattle.ray_subtract.specs.Steps.{cellsFrom}
 use Rattle.log_merge.specs.declared.RayUpdate.{RayUpdate}
@@ -71,6 +70,6 @@ pub record MergeRayPost (spec : DexelStockSpec) (g : DexelGrid) (c : Cells) (log
     (r : RayUpdate) : Type 0 where
   pub outerNormal : List Float
   pub innerNormal : List Float
-  pub outerIs : NormalOf (hitsOnRayNumber g (entries log) ray outer) outerNormal
-  pub innerIs : NormalOf (hitsOnRayNumber g (entries log) ray inner) innerNormal
+  pub outerIs : NormalOf (hitsOnRay g (entries log) ray outer) outerNormal
+  pub innerIs : NormalOf (hitsOnRay g (entries log) ray inner) innerNormal
   pub cut : RayCutPost (rayList spec c ray Possible) (rayList spec c ray Certain) outerNormal innerNormal q (limitOf spec log) before after r

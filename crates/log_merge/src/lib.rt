@@ -4,8 +4,7 @@ ghost use Prim.Native.Nat.{_+_, _*_, _^_, _<_, _≤_};
 ghost use lib.ListN.{length, set};
 ghost use Rattle.log_numbers.specs.Numbers.{numberCell};
 ghost use Rattle.grid.specs.Rays.{rayCount};
-ghost use Rattle.log_model.specs.Logs.{entries, entryCount, outer, inner};
-ghost use Rattle.log_entries.specs.Named.{hitsOnRayNumber};
+ghost use Rattle.log_model.specs.Logs.{entries, entryCount, outer, inner, hitsOnRay};
 ghost use Rattle.log_group.specs.Groups.{Grouped, hitKindOf};
 ghost use Rattle.ray_subtract.specs.Steps.{cellsFrom, MergeWithinPre, NormalizedAt};
 ghost use Rattle.log_merge.specs.Rays.{rayMoves, RayCutPost, LoadPre, LoadPost, limitOf, MergeRayPost};
@@ -77,8 +76,8 @@ fn bring_hits(
     at: usize,
 ) -> usize
     requires { ⌜ Grouped g (now log) (now work) × (ray < rayCount g) × (rayCount g + entryCount (now log) ≤ at)
-        × (at + length (hitsOnRayNumber g (entries (now log)) ray (hitKindOf inner)) ≤ length (now work)) ⌝ }
-    ensures { λ r. ⌜ NormalizedAt (hitsOnRayNumber g (entries (now (log .entry))) ray (hitKindOf inner)) at (now (work .entry)) (now (work .exit)) r ⌝ }
+        × (at + length (hitsOnRay g (entries (now log)) ray (hitKindOf inner)) ≤ length (now work)) ⌝ }
+    ensures { λ r. ⌜ NormalizedAt (hitsOnRay g (entries (now (log .entry))) ray (hitKindOf inner)) at (now (work .entry)) (now (work .exit)) r ⌝ }
 {
     let e = log_group::gather_hits(g, log, work, ray, inner, at);
     span_normalize::normalize_front(&mut work[at..], e - at)
@@ -99,7 +98,7 @@ fn bring(
     requires { ⌜ LoadPre spec g (cells (now spans) (now links) (now heads)) (now log) (now work) ray s ⌝ }
     ensures { λ r. ⌜ LoadPost (rayList spec (cells (now (spans .entry)) (now (links .entry)) (now (heads .entry))) ray Possible)
         (rayList spec (cells (now (spans .entry)) (now (links .entry)) (now (heads .entry))) ray Certain)
-        (hitsOnRayNumber g (entries (now (log .entry))) ray outer) (hitsOnRayNumber g (entries (now (log .entry))) ray inner) s (now (work .entry)) (now (work .exit)) r ⌝ }
+        (hitsOnRay g (entries (now (log .entry))) ray outer) (hitsOnRay g (entries (now (log .entry))) ray inner) s (now (work .entry)) (now (work .exit)) r ⌝ }
 {
     let n = spec.max_intervals as usize;
     let j = 2 * ray;

@@ -9,7 +9,7 @@ use native.Mathlib.Bridge.{le-prop}
 use native.Mathlib.Decide.{ℕ-discrete}
 use native.Mathlib.Omega.{arith}
 use lib.Ieee.{Float}
-use Rattle.spans.specs.Spans.{holds, sound, equal, ListOf}
+use Rattle.spans.specs.Spans.{holds, sound, equal, ListOf, setMinus}
 use Rattle.spans.proofs.Sets.{sound-mod}
 use Rattle.grid.specs.Rays.{rayCount, Ray}
 use Rattle.grid.specs.declared.DexelGrid.{DexelGrid}
@@ -17,7 +17,7 @@ use Rattle.store.specs.Updates.{Update, update}
 use Rattle.store.proofs.Updating.{after-below, after-here, after-other}
 use Rattle.spans.specs.Overlay.{lessOf}
 use Rattle.span_overlay.proofs.Less.{less-list}
-use Rattle.ray_subtract.specs.Subtract.{eitherHit, spared}
+use Rattle.ray_subtract.specs.Subtract.{eitherHit}
 use Rattle.ray_subtract.proofs.Sparing.{less-both-list}
 use Rattle.log_model.specs.Logs.{Entry, removed}
 use Rattle.log_model.proofs.Doubles.{Doubles}
@@ -69,7 +69,7 @@ module _ (g : DexelGrid) (lists : Ray g → Kind → List Float) (es : List Entr
   pub exact-possible : sound (lists r Possible) ≡ true → ListAfterLog g lists es r Possible p
   unfolding setsAfter removed
   exact-possible s = rw (x .possibleIs)
-      (left-by (setsAfter g (listSets g lists) es r Possible) (spared (lists r Possible) (holds (x .innerNormal)))
+      (left-by (setsAfter g (listSets g lists) es r Possible) (setMinus (holds (lists r Possible)) (holds (x .innerNormal)))
       (lessOf (lists r Possible) (x .innerNormal))
       (λ q. ap (λ (b : Bool). holds (lists r Possible) q && not b) (x .innerIs .list .points q))
       (less-list (lists r Possible) (x .innerNormal) s (x .innerIs .list .isSound)))
@@ -77,7 +77,7 @@ module _ (g : DexelGrid) (lists : Ray g → Kind → List Float) (es : List Entr
   pub exact-certain : sound (lists r Certain) ≡ true → ListAfterLog g lists es r Certain c
   unfolding setsAfter removed
   exact-certain s = rw (x .certainIs)
-      (left-by (setsAfter g (listSets g lists) es r Certain) (spared (lists r Certain) (eitherHit (x .outerNormal) (x .innerNormal)))
+      (left-by (setsAfter g (listSets g lists) es r Certain) (setMinus (holds (lists r Certain)) (eitherHit (x .outerNormal) (x .innerNormal)))
       (lessOf (lessOf (lists r Certain) (x .outerNormal)) (x .innerNormal))
       (λ q. ap₂ (λ (a b : Bool). holds (lists r Certain) q && not (a || b)) (x .outerIs .list .points q) (x .innerIs .list .points q))
       (less-both-list (lists r Certain) (x .outerNormal) (x .innerNormal) s (x .outerIs .list .isSound) (x .innerIs .list .isSound)))

@@ -32,21 +32,21 @@ use Rattle.stock.specs.Stock.{Kind, Possible, Certain}
 -- ---- the points that a log takes, as those of one flat list
 
 module _ (g : DexelGrid) (r : Ray g) where
-  pairs-append : (es : List Entry) (w : HitKind) (m : List Float) (p : Float) → holds (hitsOnRay g es r w ++ m) p ≡ (holds (hitsOnRay g es r w) p || holds m p)
+  pairs-append : (es : List Entry) (w : HitKind) (m : List Float) (p : Float) → holds (hitsOnRay g es (r .0) w ++ m) p ≡ (holds (hitsOnRay g es (r .0) w) p || holds m p)
   unfolding hitsOnRay holds
   pairs-append [] w m p = refl
-  pairs-append (e ∷ es) w m p = go (namesRay g e r) (pairs-append es w m p)
+  pairs-append (e ∷ es) w m p = go (namesRay g e (r .0)) (pairs-append es w m p)
     where
-      go : (b : Bool) → holds (hitsOnRay g es r w ++ m) p ≡ (holds (hitsOnRay g es r w) p || holds m p)
-          → holds (cond b (hitLo w e ∷ hitHi w e ∷ hitsOnRay g es r w) (hitsOnRay g es r w) ++ m) p
-          ≡ (holds (cond b (hitLo w e ∷ hitHi w e ∷ hitsOnRay g es r w) (hitsOnRay g es r w)) p || holds m p)
-      go true f = ap (_||_ (within (hitLo w e) (hitHi w e) p)) f ∙ sym (or-assoc (within (hitLo w e) (hitHi w e) p) (holds (hitsOnRay g es r w) p) (holds m p))
+      go : (b : Bool) → holds (hitsOnRay g es (r .0) w ++ m) p ≡ (holds (hitsOnRay g es (r .0) w) p || holds m p)
+          → holds (cond b (hitLo w e ∷ hitHi w e ∷ hitsOnRay g es (r .0) w) (hitsOnRay g es (r .0) w) ++ m) p
+          ≡ (holds (cond b (hitLo w e ∷ hitHi w e ∷ hitsOnRay g es (r .0) w) (hitsOnRay g es (r .0) w)) p || holds m p)
+      go true f = ap (_||_ (within (hitLo w e) (hitHi w e) p)) f ∙ sym (or-assoc (within (hitLo w e) (hitHi w e) p) (holds (hitsOnRay g es (r .0) w) p) (holds m p))
       go false f = f
 
   pub taken-hits : (es : List Entry) (k : Kind) (p : Float) → removed g es r k p ≡ holds (hitsOnList g es r k) p
   unfolding removed hitsOnList
   taken-hits es Possible p = refl
-  taken-hits es Certain p = sym (pairs-append es outer (hitsOnRay g es r inner) p)
+  taken-hits es Certain p = sym (pairs-append es outer (hitsOnRay g es (r .0) inner) p)
 
   pub without-hits : (s : Sets g) (es : List Entry) (k : Kind) (p : Float) → setsAfter g s es r k p ≡ (s r k p && not (holds (hitsOnList g es r k) p))
   unfolding setsAfter

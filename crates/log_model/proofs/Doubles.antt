@@ -44,25 +44,25 @@ module _ (g : DexelGrid) (log : List Float) (d : DoubleCells log) (r : Ray g) wh
   hi-double i outer = d (6 * i + 3)
   hi-double i inner = d (6 * i + 5)
 
-  from-doubles : (i n : ℕ) (w : HitKind) → All Double (hitsOnRay g (entriesFrom log i n) r w)
+  from-doubles : (i n : ℕ) (w : HitKind) → All Double (hitsOnRay g (entriesFrom log i n) (r .0) w)
   unfolding hitsOnRay entriesFrom
   from-doubles i zero w = tt
-  from-doubles i (suc n) w = go (namesRay g (entryAt log i) r) (from-doubles (suc i) n w)
+  from-doubles i (suc n) w = go (namesRay g (entryAt log i) (r .0)) (from-doubles (suc i) n w)
     where
-      go : (b : Bool) → All Double (hitsOnRay g (entriesFrom log (suc i) n) r w)
-          → All Double (cond b (hitLo w (entryAt log i) ∷ hitHi w (entryAt log i) ∷ hitsOnRay g (entriesFrom log (suc i) n) r w)
-          (hitsOnRay g (entriesFrom log (suc i) n) r w))
+      go : (b : Bool) → All Double (hitsOnRay g (entriesFrom log (suc i) n) (r .0) w)
+          → All Double (cond b (hitLo w (entryAt log i) ∷ hitHi w (entryAt log i) ∷ hitsOnRay g (entriesFrom log (suc i) n) (r .0) w)
+          (hitsOnRay g (entriesFrom log (suc i) n) (r .0) w))
       go true h = (lo-double i w, (hi-double i w, h))
       go false h = h
 
-  pub pairs-doubles : (w : HitKind) → All Double (hitsOnRay g (entries log) r w)
+  pub pairs-doubles : (w : HitKind) → All Double (hitsOnRay g (entries log) (r .0) w)
   unfolding entries
   pairs-doubles w = from-doubles 0 (entryCount log) w
 
   pub hits-doubles : (k : Kind) → All Double (hitsOnList g (entries log) r k)
   unfolding hitsOnList
   hits-doubles Possible = pairs-doubles inner
-  hits-doubles Certain = all-append Double (hitsOnRay g (entries log) r outer) (hitsOnRay g (entries log) r inner)
+  hits-doubles Certain = all-append Double (hitsOnRay g (entries log) (r .0) outer) (hitsOnRay g (entries log) (r .0) inner)
       (pairs-doubles outer) (pairs-doubles inner)
 
 -- ---- both

@@ -28,48 +28,48 @@ within-same lo hi lo′ hi′ p a b t =
 record Taker (g : DexelGrid) (es : List Entry) (r : Ray g) (w : HitKind) (p : Float) : Type 0 where
   entry : Entry
   in-log : List·Memᴰ entry es
-  on-ray : namesRay g entry r ≡ true
+  on-ray : namesRay g entry (r .0) ≡ true
   does : within (hitLo w entry) (hitHi w entry) p ≡ true
 
 module _ (g : DexelGrid) (r : Ray g) (w : HitKind) (p : Float) where
-  pub pairs-cons : (e : Entry) (es : List Entry) (b : Bool) → namesRay g e r ≡ b
-      → holds (hitsOnRay g (e ∷ es) r w) p ≡ (b && within (hitLo w e) (hitHi w e) p || holds (hitsOnRay g es r w) p)
+  pub pairs-cons : (e : Entry) (es : List Entry) (b : Bool) → namesRay g e (r .0) ≡ b
+      → holds (hitsOnRay g (e ∷ es) (r .0) w) p ≡ (b && within (hitLo w e) (hitHi w e) p || holds (hitsOnRay g es (r .0) w) p)
   unfolding hitsOnRay holds
-  pairs-cons e es true h = ap (λ (b : Bool). holds (cond b (hitLo w e ∷ hitHi w e ∷ hitsOnRay g es r w) (hitsOnRay g es r w)) p) h
-  pairs-cons e es false h = ap (λ (b : Bool). holds (cond b (hitLo w e ∷ hitHi w e ∷ hitsOnRay g es r w) (hitsOnRay g es r w)) p) h
+  pairs-cons e es true h = ap (λ (b : Bool). holds (cond b (hitLo w e ∷ hitHi w e ∷ hitsOnRay g es (r .0) w) (hitsOnRay g es (r .0) w)) p) h
+  pairs-cons e es false h = ap (λ (b : Bool). holds (cond b (hitLo w e ∷ hitHi w e ∷ hitsOnRay g es (r .0) w) (hitsOnRay g es (r .0) w)) p) h
 
-  taker : (es : List Entry) → holds (hitsOnRay g es r w) p ≡ true → Taker g es r w p
+  taker : (es : List Entry) → holds (hitsOnRay g es (r .0) w) p ≡ true → Taker g es r w p
   unfolding hitsOnRay holds
   taker [] t = absurd (false≢true t)
-  taker (e ∷ es) t = go (namesRay g e r) refl (taker es)
+  taker (e ∷ es) t = go (namesRay g e (r .0)) refl (taker es)
     where
       later : Taker g es r w p → Taker g (e ∷ es) r w p
       later f = record { entry = f .entry; in-log = List·Memᴰ·tail (f .in-log); on-ray = f .on-ray; does = f .does }
 
-      go : (b : Bool) → namesRay g e r ≡ b → (holds (hitsOnRay g es r w) p ≡ true → Taker g es r w p) → Taker g (e ∷ es) r w p
-      go true h f = elim (or-cases (within (hitLo w e) (hitHi w e) p) (holds (hitsOnRay g es r w) p) (sym (pairs-cons e es true h) ∙ t)) [
+      go : (b : Bool) → namesRay g e (r .0) ≡ b → (holds (hitsOnRay g es (r .0) w) p ≡ true → Taker g es r w p) → Taker g (e ∷ es) r w p
+      go true h f = elim (or-cases (within (hitLo w e) (hitHi w e) p) (holds (hitsOnRay g es (r .0) w) p) (sym (pairs-cons e es true h) ∙ t)) [
         | inl u ↦ record { entry = e; in-log = List·Memᴰ·head refl; on-ray = h; does = u }
         | inr u ↦ later (f u)
       ]
       go false h f = later (f (sym (pairs-cons e es false h) ∙ t))
 
-  of-taker : (es : List Entry) (e : Entry) → List·Memᴰ e es → namesRay g e r ≡ true → within (hitLo w e) (hitHi w e) p ≡ true → holds (hitsOnRay g es r w) p ≡ true
+  of-taker : (es : List Entry) (e : Entry) → List·Memᴰ e es → namesRay g e (r .0) ≡ true → within (hitLo w e) (hitHi w e) p ≡ true → holds (hitsOnRay g es (r .0) w) p ≡ true
   of-taker [] e i a b = absurd (List·Memᴰ·not-nil i)
   of-taker (f ∷ es) e i a b = go (List·Memᴰ·cases-cons i) (λ j. of-taker es e j a b)
     where
-      go : (e ≡ f) ⊎ List·Memᴰ e es → (List·Memᴰ e es → holds (hitsOnRay g es r w) p ≡ true) → holds (hitsOnRay g (f ∷ es) r w) p ≡ true
+      go : (e ≡ f) ⊎ List·Memᴰ e es → (List·Memᴰ e es → holds (hitsOnRay g es (r .0) w) p ≡ true) → holds (hitsOnRay g (f ∷ es) (r .0) w) p ≡ true
       go (inl q) _ =
-          pairs-cons f es true (subst (λ (x : Entry). namesRay g x r ≡ true) q a)
-          ∙ or-left (within (hitLo w f) (hitHi w f) p) (holds (hitsOnRay g es r w) p) (subst (λ (x : Entry). within (hitLo w x) (hitHi w x) p ≡ true) q b)
+          pairs-cons f es true (subst (λ (x : Entry). namesRay g x (r .0) ≡ true) q a)
+          ∙ or-left (within (hitLo w f) (hitHi w f) p) (holds (hitsOnRay g es (r .0) w) p) (subst (λ (x : Entry). within (hitLo w x) (hitHi w x) p ≡ true) q b)
       go (inr j) more =
-          pairs-cons f es (namesRay g f r) refl ∙ or-right (namesRay g f r && within (hitLo w f) (hitHi w f) p) (holds (hitsOnRay g es r w) p) (more j)
+          pairs-cons f es (namesRay g f (r .0)) refl ∙ or-right (namesRay g f (r .0) && within (hitLo w f) (hitHi w f) p) (holds (hitsOnRay g es (r .0) w) p) (more j)
 
 -- ---- lists of logs
 
 -- an outer or an inner pair of the logs holds p
 heldBy : (g : DexelGrid) → List (List Float) → Ray g → HitKind → Float → Bool
 heldBy g [] r w p = false
-heldBy g (l ∷ ls) r w p = holds (hitsOnRay g (entries l) r w) p || heldBy g ls r w p
+heldBy g (l ∷ ls) r w p = holds (hitsOnRay g (entries l) (r .0) w) p || heldBy g ls r w p
 
 -- the logs take p from the list of kind k
 pub takenBy : (g : DexelGrid) → List (List Float) → Ray g → Kind → Float → Bool
@@ -95,21 +95,21 @@ module _ (g : DexelGrid) (r : Ray g) (p : Float) where
   from-possible : (ls : List (List Float)) → takenBy g ls r Possible p ≡ heldBy g ls r inner p
   unfolding takenBy heldBy removed
   from-possible [] = refl
-  from-possible (l ∷ ls) = ap (_||_ (holds (hitsOnRay g (entries l) r inner) p)) (from-possible ls)
+  from-possible (l ∷ ls) = ap (_||_ (holds (hitsOnRay g (entries l) (r .0) inner) p)) (from-possible ls)
 
   from-certain : (ls : List (List Float)) → takenBy g ls r Certain p ≡ (heldBy g ls r outer p || heldBy g ls r inner p)
   unfolding takenBy heldBy removed
   from-certain [] = refl
   from-certain (l ∷ ls) =
-      ap (_||_ (holds (hitsOnRay g (entries l) r outer) p || holds (hitsOnRay g (entries l) r inner) p)) (from-certain ls)
-      ∙ by-kinds (holds (hitsOnRay g (entries l) r outer) p) (holds (hitsOnRay g (entries l) r inner) p) (heldBy g ls r outer p) (heldBy g ls r inner p)
+      ap (_||_ (holds (hitsOnRay g (entries l) (r .0) outer) p || holds (hitsOnRay g (entries l) (r .0) inner) p)) (from-certain ls)
+      ∙ by-kinds (holds (hitsOnRay g (entries l) (r .0) outer) p) (holds (hitsOnRay g (entries l) (r .0) inner) p) (heldBy g ls r outer p) (heldBy g ls r inner p)
 
   to-lies : (ls : List (List Float)) (w : HitKind) → heldBy g ls r w p ≡ true → InHit g ls r w p
   unfolding heldBy InHit
   to-lies [] w t = absurd (false≢true t)
-  to-lies (l ∷ ls) w t = go (or-cases (holds (hitsOnRay g (entries l) r w) p) (heldBy g ls r w p) t) (to-lies ls w)
+  to-lies (l ∷ ls) w t = go (or-cases (holds (hitsOnRay g (entries l) (r .0) w) p) (heldBy g ls r w p) t) (to-lies ls w)
     where
-      go : (holds (hitsOnRay g (entries l) r w) p ≡ true) ⊎ (heldBy g ls r w p ≡ true) → (heldBy g ls r w p ≡ true → InHit g ls r w p) → InHit g (l ∷ ls) r w p
+      go : (holds (hitsOnRay g (entries l) (r .0) w) p ≡ true) ⊎ (heldBy g ls r w p ≡ true) → (heldBy g ls r w p ≡ true → InHit g ls r w p) → InHit g (l ∷ ls) r w p
       go (inl u) _ =
           let f = taker g r w p (entries l) u in (
             record {
@@ -128,17 +128,17 @@ module _ (g : DexelGrid) (r : Ray g) (p : Float) where
             t,
           )
 
-  held-in : (ls : List (List Float)) (w : HitKind) (l : List Float) (e : Entry) → List·Memᴰ l ls → List·Memᴰ e (entries l) → namesRay g e r ≡ true
+  held-in : (ls : List (List Float)) (w : HitKind) (l : List Float) (e : Entry) → List·Memᴰ l ls → List·Memᴰ e (entries l) → namesRay g e (r .0) ≡ true
       → within (hitLo w e) (hitHi w e) p ≡ true → heldBy g ls r w p ≡ true
   unfolding heldBy
   held-in [] w l e i j a b = absurd (List·Memᴰ·not-nil i)
   held-in (m ∷ ls) w l e i j a b = go (List·Memᴰ·cases-cons i) (λ k. held-in ls w l e k j a b)
     where
-      go : (l ≡ m) ⊎ List·Memᴰ l ls → (List·Memᴰ l ls → heldBy g ls r w p ≡ true) → (holds (hitsOnRay g (entries m) r w) p || heldBy g ls r w p) ≡ true
+      go : (l ≡ m) ⊎ List·Memᴰ l ls → (List·Memᴰ l ls → heldBy g ls r w p ≡ true) → (holds (hitsOnRay g (entries m) (r .0) w) p || heldBy g ls r w p) ≡ true
       go (inl q) _ =
-          or-left (holds (hitsOnRay g (entries m) r w) p) (heldBy g ls r w p)
+          or-left (holds (hitsOnRay g (entries m) (r .0) w) p) (heldBy g ls r w p)
           (of-taker g r w p (entries m) e (subst (λ (x : List Float). List·Memᴰ e (entries x)) q j) a b)
-      go (inr k) more = or-right (holds (hitsOnRay g (entries m) r w) p) (heldBy g ls r w p) (more k)
+      go (inr k) more = or-right (holds (hitsOnRay g (entries m) (r .0) w) p) (heldBy g ls r w p) (more k)
 
   of-lies : (ls : List (List Float)) (w : HitKind) → InHit g ls r w p → heldBy g ls r w p ≡ true
   unfolding InHit

@@ -115,18 +115,18 @@ module _ (g : DexelGrid) (e : Entry) where
   unfolding entryRay rayNumber
   named-below h = omega (arith, offset-le g (worldAxis (wholeOf (e .axis))), named h .index-below)
 
-  pub names-it : (h : namesSomeRay g e ≡ true) → namesRay g e (entryRay g e, named-below h) ≡ true
+  pub names-it : (h : namesSomeRay g e ≡ true) → namesRay g e (entryRay g e) ≡ true
   unfolding namesRay
   names-it h = both (namesSomeRay g e) (eqb (entryRay g e) (entryRay g e)) h (eq-eqb (entryRay g e) (entryRay g e) refl)
 
   -- and there is no other
-  pub names-only : (r : Ray g) → namesRay g e r ≡ true → (namesSomeRay g e ≡ true) × (entryRay g e ≡ r .0)
+  pub names-only : (r : Ray g) → namesRay g e (r .0) ≡ true → (namesSomeRay g e ≡ true) × (entryRay g e ≡ r .0)
   unfolding namesRay
   names-only r h = (and-left (namesSomeRay g e) (eqb (entryRay g e) (r .0)) h, eqb-true (entryRay g e) (r .0) (and-right (namesSomeRay g e) (eqb (entryRay g e) (r .0)) h))
 
   -- THE LAW: an entry names the ray r exactly when its axis and index, as numbers, are those of r
   pub names-is : rayCount g ≤ 2 ^ 53 → (r : Ray g)
-      → (namesRay g e r ≡ true)
+      → (namesRay g e (r .0) ≡ true)
       ↔ ((a i : ℕ) × (a < 3) × (i < raysAlong g (worldAxis a)) × (eq (e .axis) (ofInt binary64 (pos a)) ≡ true) × (eq (e .index) (ofInt binary64 (pos i)) ≡ true) × (rayNumber g (worldAxis a) i ≡ r .0))
   unfolding namesRay entryRay
   names-is few r = (to, from)
@@ -137,7 +137,7 @@ module _ (g : DexelGrid) (e : Entry) where
       small : (a i : ℕ) → i < raysAlong g (worldAxis a) → i ≤ 2 ^ 53
       small a i h = omega (arith, offset-le g (worldAxis a))
 
-      to : namesRay g e r ≡ true
+      to : namesRay g e (r .0) ≡ true
           → (a i : ℕ) × (a < 3) × (i < raysAlong g (worldAxis a)) × (eq (e .axis) (ofInt binary64 (pos a)) ≡ true) × (eq (e .index) (ofInt binary64 (pos i)) ≡ true) × (rayNumber g (worldAxis a) i ≡ r .0)
       to h =
           let (o, q) = names-only r h in
@@ -154,7 +154,7 @@ module _ (g : DexelGrid) (e : Entry) where
           )
 
       from : (a i : ℕ) × (a < 3) × (i < raysAlong g (worldAxis a)) × (eq (e .axis) (ofInt binary64 (pos a)) ≡ true) × (eq (e .index) (ofInt binary64 (pos i)) ≡ true) × (rayNumber g (worldAxis a) i ≡ r .0)
-          → namesRay g e r ≡ true
+          → namesRay g e (r .0) ≡ true
       from (a, i, h, k, x, y, q) =
           let (u, v) = whole-is (e .axis) a (below a h) .0 x in
           let (s, t) = whole-is (e .index) i (small a i k) .0 y in

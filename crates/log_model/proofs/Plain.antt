@@ -87,7 +87,7 @@ module _ (spec : DexelStockSpec) (g : DexelGrid) where
     -- certain loses what possible loses
     lost-too : (r : Ray g) (p : Float) → removed g (entries (c .log)) r Possible p ≡ true → removed g (entries (c .log)) r Certain p ≡ true
     unfolding removed
-    lost-too r p t = or-right (holds (hitsOnRay g (entries (c .log)) r outer) p) (holds (hitsOnRay g (entries (c .log)) r inner) p) t
+    lost-too r p t = or-right (holds (hitsOnRay g (entries (c .log)) (r .0) outer) p) (holds (hitsOnRay g (entries (c .log)) (r .0) inner) p) t
 
     inside-still : (r : Ray g) (p : Float) → holds (less (s .lists r Certain) (hitsOnList g (entries (c .log)) r Certain)) p ≡ true
         → holds (less (s .lists r Possible) (hitsOnList g (entries (c .log)) r Possible)) p ≡ true

@@ -28,7 +28,7 @@ module _ (g : DexelGrid) (lists : Ray g → Kind → List Float) (es : List Entr
   -- what certain keeps, possible keeps
   spared : (p : Float) → removed g es r Certain p ≡ false → removed g es r Possible p ≡ false
   unfolding removed
-  spared p h = second (holds (hitsOnRay g es r outer) p) (holds (hitsOnRay g es r inner) p) h
+  spared p h = second (holds (hitsOnRay g es (r .0) outer) p) (holds (hitsOnRay g es (r .0) inner) p) h
     where
       second : (a b : Bool) → (a || b) ≡ false → b ≡ false
       second true b h = absurd (clash true refl h)

@@ -57,8 +57,8 @@ startsLeft l hits = countDistinct (λ x. holds l x && not (holds hits x)) (losOf
 -- the pairs whose points a log takes from a list
 unfoldable pub hitsOnList : (g : DexelGrid) → List Entry → Ray g → Kind → List Float
 unfolding hitsOnRay
-hitsOnList g es r Possible = hitsOnRay g es r inner
-hitsOnList g es r Certain = hitsOnRay g es r outer ++ hitsOnRay g es r inner
+hitsOnList g es r Possible = hitsOnRay g es (r .0) inner
+hitsOnList g es r Certain = hitsOnRay g es (r .0) outer ++ hitsOnRay g es (r .0) inner
 
 -- a list of the ray would change
 unfoldable pub isRayChanged : (g : DexelGrid) → (Ray g → Kind → List Float) → List Entry → Ray g → Bool

@@ -74,9 +74,9 @@ unfolding rayNumber
 entryRay g e = rayNumber g (worldAxis (wholeOf (e .axis))) (wholeOf (e .index))
 
 -- the entry names the ray r
-unfoldable pub namesRay : (g : DexelGrid) → Entry → Ray g → Bool
+unfoldable pub namesRay : DexelGrid → Entry → (ray : ℕ) → Bool
 unfolding namesSomeRay entryRay
-namesRay g e r = namesSomeRay g e && eqb (entryRay g e) (r .0)
+namesRay g e ray = namesSomeRay g e && eqb (entryRay g e) ray
 
 -- ---- the points that a log takes
 
@@ -94,16 +94,16 @@ hitHi outer e = e .outerHi
 hitHi inner e = e .innerHi
 
 -- the outer or the inner pairs of the entries that name the ray r, as a flat list. Pairs without lo < hi hold no point.
-unfoldable pub hitsOnRay : (g : DexelGrid) → List Entry → Ray g → HitKind → List Float
+unfoldable pub hitsOnRay : DexelGrid → List Entry → (ray : ℕ) → HitKind → List Float
 unfolding namesRay hitLo hitHi
-hitsOnRay g [] r w = []
-hitsOnRay g (e ∷ es) r w = cond (namesRay g e r) (hitLo w e ∷ hitHi w e ∷ hitsOnRay g es r w) (hitsOnRay g es r w)
+hitsOnRay g [] ray w = []
+hitsOnRay g (e ∷ es) ray w = cond (namesRay g e ray) (hitLo w e ∷ hitHi w e ∷ hitsOnRay g es ray w) (hitsOnRay g es ray w)
 
 -- a log takes the points of its inner hits from possible, those of its outer and inner hits from certain
 unfoldable pub removed : (g : DexelGrid) → List Entry → Ray g → Kind → Float → Bool
 unfolding hitsOnRay holds
-removed g es r Possible p = holds (hitsOnRay g es r inner) p
-removed g es r Certain p = holds (hitsOnRay g es r outer) p || holds (hitsOnRay g es r inner) p
+removed g es r Possible p = holds (hitsOnRay g es (r .0) inner) p
+removed g es r Certain p = holds (hitsOnRay g es (r .0) outer) p || holds (hitsOnRay g es (r .0) inner) p
 
 -- ---- hits, for the claims about a whole list of logs
 
@@ -113,7 +113,7 @@ pub record Hit (g : DexelGrid) (logs : List (List Float)) (r : Ray g) (w : HitKi
   pub entry : Entry
   pub in-logs : List·Memᴰ log logs
   pub in-log : List·Memᴰ entry (entries log)
-  pub on-ray : namesRay g entry r ≡ true
+  pub on-ray : namesRay g entry (r .0) ≡ true
   pub proper : lt (hitLo w entry) (hitHi w entry) ≡ true
 
 -- p lies in a hit of one of the logs

@@ -9,7 +9,7 @@ use native.Mathlib.Nat.{le-refl, le-of-lt}
 use lib.ListN.{length}
 use lib.Ieee.{Float}
 use Rattle.refusal.specs.Refusal.{Cause, cause, Due, NoneDue}
-use Rattle.spans.specs.Spans.{Point, ListOf}
+use Rattle.spans.specs.Spans.{Point, ListOf, setMinus, holds}
 use Rattle.grid.specs.Rays.{rayCount, Ray}
 use Rattle.grid.specs.declared.DexelStockSpec.{DexelStockSpec}
 use Rattle.grid.specs.declared.DexelGrid.{DexelGrid}
@@ -25,7 +25,7 @@ Sets g = Ray g → Kind → Float → Bool
 -- the sets without the points that a log takes
 unfoldable pub setsAfter : (g : DexelGrid) → Sets g → List Entry → Sets g
 unfolding removed
-setsAfter g s es r k p = s r k p && not (removed g es r k p)
+setsAfter g s es r k p = setMinus (s r k) (removed g es r k) p
 
 -- a set of the ray r would change: not all points stay
 unfoldable pub RayChanges : (g : DexelGrid) → Sets g → List Entry → Ray g → Type 0

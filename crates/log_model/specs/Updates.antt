@@ -20,7 +20,7 @@ listSets g lists r k = holds (lists r k)
 -- p and c are both lists of the ray after the log, end by end. They are the sound lists of what it leaves: `exact-possible` and
 -- `exact-certain` in proofs.
 abbrev pub MergedByLog : (g : DexelGrid) → (Ray g → Kind → List Float) → List Entry → Ray g → (p c : List Float) → Type 0
-MergedByLog g lists es r p c = MergedExactly (lists r Possible) (lists r Certain) (hitsOnRay g es r outer) (hitsOnRay g es r inner) p c
+MergedByLog g lists es r p c = MergedExactly (lists r Possible) (lists r Certain) (hitsOnRay g es (r .0) outer) (hitsOnRay g es (r .0) inner) p c
 
 -- the updates of the rays from `ray` to the last one, in order, and how many of these rays change
 pub data MergeUpdates (g : DexelGrid) (lists : Ray g → Kind → List Float) (es : List Entry) : (ray : ℕ) → List Update → (changed : ℕ) → Type 0 where

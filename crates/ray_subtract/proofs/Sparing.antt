@@ -8,12 +8,12 @@ use native.Mathlib.Omega.{arith}
 use lib.ListN.{length}
 use lib.Ieee.{Float}
 use Rattle.logic.proofs.Bools.{and-right, and-not-or, or-neither, not-true, not-false, found-not, by-cases, clash}
-use Rattle.spans.specs.Spans.{holds, sound, equal, ListOf}
+use Rattle.spans.specs.Spans.{holds, sound, equal, ListOf, setMinus}
 use Rattle.spans.proofs.Sets.{sound-mod, equal-holds, same-set}
 use Rattle.spans.specs.Overlay.{lessOf}
 use Rattle.span_overlay.proofs.Less.{less-list, less-apart, less-moves}
 use Rattle.span_cover.specs.Cover.{Meets}
-use Rattle.ray_subtract.specs.Subtract.{eitherHit, spared, newCells, ListAfterHits}
+use Rattle.ray_subtract.specs.Subtract.{eitherHit, newCells, ListAfterHits}
 use Rattle.ray_subtract.specs.Steps.{cellsFrom, SoundListAt, WrittenAt, lessHits, Becomes, newList, ReducePost, MergeWithinPre, MergeWithinPost}
 use Rattle.ray_subtract.specs.declared.MergedList.{MergedList}
 use Rattle.ray_subtract.proofs.Places.{part-length, part-past, part-front, between-both, between-same, lies-past}
@@ -23,7 +23,7 @@ use Rattle.ray_subtract.proofs.Places.{part-length, part-past, part-fro
 equal-self : (a : List Float) → sound a ≡ true → equal a a ≡ true
 equal-self a s = same-set a a s s (λ p n. refl)
 
-module _ (a l : List Float) (hit : Float → Bool) (left : ListOf (spared a hit) l) where
+module _ (a l : List Float) (hit : Float → Bool) (left : ListOf (setMinus (holds a) hit) l) where
   -- where no boundary moves, no point is hit; where one does, some point is
   pub still-unhit : equal a l ≡ true → (p : Float) → holds a p ≡ true → hit p ≡ false
   still-unhit e p h = not-true (hit p) (and-right (holds a p) (not (hit p)) (sym (left .points p) ∙ sym (equal-holds a l e p) ∙ h))
@@ -37,7 +37,7 @@ module _ (a l : List Float) (hit : Float → Bool) (left : ListOf (spared a hit)
 
 -- less the outer and then the inner hits: the points in neither
 pub less-both-list : (a o i : List Float) → sound a ≡ true → sound o ≡ true → sound i ≡ true
-    → ListOf (spared a (eitherHit o i)) (lessOf (lessOf a o) i)
+    → ListOf (setMinus (holds a) (eitherHit o i)) (lessOf (lessOf a o) i)
 less-both-list a o i sa so si =
     let first = less-list a o sa so in
     let second = less-list (lessOf a o) i (first .isSound) si in
@@ -109,7 +109,7 @@ module _ {a list : List Float} (sa : sound a ≡ true) (sl : sound list ≡ true
       }
 
 -- what becomes of a list, by the points that are hit
-pub becomes-spared : {a list l : List Float} {hit hit′ : Float → Bool} {r : MergedList} → ListOf (spared a hit) list
+pub becomes-spared : {a list l : List Float} {hit hit′ : Float → Bool} {r : MergedList} → ListOf (setMinus (holds a) hit) list
     → ((p : Float) → hit p ≡ hit′ p) → Becomes a list r → l ≡ list → ListAfterHits a hit′ r l
 becomes-spared {a} left same b e = rw e (record {
   moves = b .moves;

@@ -6,16 +6,12 @@ use Prim.Native.Nat.{ℕ, _+_, _*_}
 use lib.Dec.{leb}
 use lib.ListN.{length, take, drop}
 use lib.Ieee.{Float}
-use Rattle.spans.specs.Spans.{holds, equal, ListOf}
+use Rattle.spans.specs.Spans.{holds, equal, ListOf, setMinus}
 use Rattle.ray_subtract.specs.declared.MergedList.{MergedList}
 
 -- the points that certain loses; possible loses those of the inner hits alone
 abbrev pub eitherHit : List Float → List Float → Float → Bool
 eitherHit outer inner p = holds outer p || holds inner p
-
--- the points of a list that lie in no hit
-abbrev pub spared : List Float → (Float → Bool) → Float → Bool
-spared list hit p = holds list p && not (hit p)
 
 -- the cells that a list takes in the work buffer: none where it did not move
 abbrev pub newCells : MergedList → ℕ
@@ -28,5 +24,5 @@ handedBack part before work at = cond (part .moved && leb (at + 2 * part .pairs)
 -- a list and what becomes of it: whether a boundary of it moved, which points are left, and how many pairs
 pub record ListAfterHits (before : List Float) (hit : Float → Bool) (part : MergedList) (after : List Float) : Type 0 where
   pub moves : part .moved ≡ not (equal before after)
-  pub list : ListOf (spared before hit) after
+  pub list : ListOf (setMinus (holds before) hit) after
   pub pairs : length after ≡ 2 * part .pairs

@@ -6,9 +6,9 @@ use Prim.Native.Nat.{ℕ, _%_, _≤_}
 use lib.ListN.{length}
 use lib.Ieee.{Float, binary64, ofBits}
 use Rattle.refusal.specs.Refusal.{Cause, cause, Due, NoneDue}
-use Rattle.spans.specs.Spans.{holds, equal, ListOf}
+use Rattle.spans.specs.Spans.{holds, equal, ListOf, setMinus}
 use Rattle.spans.specs.Rays.{ValidRay, MergedExactly}
-use Rattle.ray_subtract.specs.Subtract.{eitherHit, spared}
+use Rattle.ray_subtract.specs.Subtract.{eitherHit}
 use Rattle.ray_input.specs.Format.{letterP, letterC, letterO, letterI, bitsAt, textPairs, total, readable}
 use Rattle.ray_output.specs.Output.{answerText, refusedText}
 use Rattle.ray_input.specs.Steps.{Appended}
@@ -36,7 +36,7 @@ textInner s = textPairs letterI s (total s)
 pub record ListPrinted (list : List Float) (hit : Float → Bool) (moved : Bool) (after : List Float) : Type 0 where
   pub moves : moved ≡ not (equal list after)
   pub same : moved ≡ false → after ≡ list
-  pub left : ListOf (spared list hit) after
+  pub left : ListOf (setMinus (holds list) hit) after
 
 -- both lists after the merge, end by end, and their text
 pub record Written (lo hi : Float) (possible certain outer inner : List Float) (text : List ℕ) : Type 0 where

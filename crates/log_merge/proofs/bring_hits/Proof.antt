@@ -5,8 +5,7 @@ use mathlib.Core.Path.{_≡_}
 use Prim.Native.Nat.{_-_}
 use lib.ListN.{length, take, drop, length-drop}
 use lib.Seq.{length-take-le}
-use Rattle.log_model.specs.Logs.{entries}
-use Rattle.log_entries.specs.Named.{hitsOnRayNumber}
+use Rattle.log_model.specs.Logs.{entries, hitsOnRay}
 use Rattle.log_entries.proofs.Sizes.{named-even}
 use Rattle.log_group.specs.Groups.{hitKindOf}
 use Rattle.log_merge.proofs.Bringing.{copied-size, hits-brought}
@@ -19,7 +18,7 @@ part-long y =
     let s = y .before .before .before .before in
     let a = s .args in
     let w = y .gather-hits .last .1 .1 .0 in
-    let size = copied-size (hitsOnRayNumber (a .g) (entries (a .log .now)) (a .ray) (hitKindOf (a .inner))) (a .work .now) (a .at) w (y .gather-hits .result) (s .pre .3) (y .gather-hits .ensures) in
+    let size = copied-size (hitsOnRay (a .g) (entries (a .log .now)) (a .ray) (hitKindOf (a .inner))) (a .work .now) (a .at) w (y .gather-hits .result) (s .pre .3) (y .gather-hits .ensures) in
     omega (arith, size, length-drop (a .at) w, length-take-le (length w - a .at) (drop (a .at) w) (omega (arith, length-drop (a .at) w)))
 
 normalize-front-requires : tie.Need-normalize-front-requires
@@ -36,7 +35,7 @@ returns c =
     let y = z .before .before .before .before in
     let s = y .before .before .before .before in
     let a = s .args in
-    hits-brought (hitsOnRayNumber (a .g) (entries (a .log .now)) (a .ray) (hitKindOf (a .inner))) (a .work .now) (y .gather-hits .last .1 .1 .0) (z .normalize-front .last .0) (a .at) (y .gather-hits .result) (z .normalize-front .result)
+    hits-brought (hitsOnRay (a .g) (entries (a .log .now)) (a .ray) (hitKindOf (a .inner))) (a .work .now) (y .gather-hits .last .1 .1 .0) (z .normalize-front .last .0) (a .at) (y .gather-hits .result) (z .normalize-front .result)
     (s .pre .3) (y .gather-hits .ensures) (z .normalize-front .kept .0) (z .normalize-front .ensures)
 
 pub bring-hits-spec : {M : Type 1} → statement M
