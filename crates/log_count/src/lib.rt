@@ -7,7 +7,7 @@ ghost use Rattle.store_read.specs.Reading.{Readable};
 ghost use Rattle.log_model.specs.Logs.{entryCount};
 ghost use Rattle.log_keys.specs.Keys.{hitsTo};
 ghost use Rattle.log_gather.specs.Gathering.{Shaped};
-ghost use Rattle.log_count.specs.RayTotals.{CountPost};
+ghost use Rattle.log_count.specs.Totals.{CountPost};
 ghost use Rattle.log_count.specs.Steps.{EndListPost, CountListPost, AddRayPre, AddRayPost, CountPre, KeysOf, TakePartPre, TakePartPost};
 ghost use Rattle.store.specs.Store.{cells};
 use grid::DexelGrid;

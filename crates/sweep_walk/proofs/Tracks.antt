@@ -42,7 +42,7 @@ use Rattle.grid.specs.Facts.{GridFacts}
 use Rattle.store.specs.Store.{Cells}
 
 -- ---- a sound store can be read along every axis
-module _ (spec : DexelStockSpec) (g : DexelGrid) (c : CellRange) (s : Sweepable spec g c) where
+module _ (spec : DexelStockSpec) (g : DexelGrid) (c : Cells) (s : Sweepable spec g c) where
   some : (a : WorldAxis) → cellsAlong g a ≤ spec .«max_rays»
   some = each (λ (n : ℕ). n ≤ spec .«max_rays») _ _ _ (s .facts .few0) (s .facts .few1) (s .facts .few2)
 
@@ -98,12 +98,12 @@ module _ (spec : DexelStockSpec) (g : DexelGrid) (f : GridFacts spec g) where
   rectangle-inside p l a = inside _ _ (cellsAcross spec g p l (crossOf a .u)) (cellsAcross spec g p l (crossOf a .v)) (met-under (crossOf a .u) _) (met-under (crossOf a .v) _)
 
 -- what the walk over a rectangle asks for
-pub record RectReady (n : ℕ) (t : AxisRays) (c : CellRange) (q : RayRange) : Type 0 where
+pub record RectReady (n : ℕ) (t : AxisRays) (c : Cells) (q : RayRange) : Type 0 where
   pub rays : AxisReady n t (c .spans) (c .links) (c .heads)
   pub row : q .u1 < t .row
   pub rows : q .v1 < t .rows
 
-pub rect-ready : (spec : DexelStockSpec) (g : DexelGrid) (c : CellRange) → Sweepable spec g c → (p : Profile) (l : ChordOnAxis) (a : WorldAxis) (t : AxisRays) (r : RayRect) (q : RayRange)
+pub rect-ready : (spec : DexelStockSpec) (g : DexelGrid) (c : Cells) → Sweepable spec g c → (p : Profile) (l : ChordOnAxis) (a : WorldAxis) (t : AxisRays) (r : RayRect) (q : RayRange)
     → t ≡ trackOf g a → r ≡ rectangleOf spec g p l a → r ≡ Rays q → RectReady (spec .«max_intervals») t c q
 rect-ready spec g c s p l a t r q e h k = subst (λ (x : AxisRays). RectReady (spec .«max_intervals») x c q) (sym e) (made (subst (Inside (cellsAlong g (crossOf a .u)) (cellsAlong g (crossOf a .v))) (sym h ∙ k) (rectangle-inside spec g (s .facts) p l a)))
   where
