@@ -10,7 +10,7 @@ ghost use Rattle.grid.specs.Rays.{rayCount};
 ghost use Rattle.log_model.specs.Logs.{entryCount};
 ghost use Rattle.log_entries.specs.Named.{EachNamed};
 ghost use Rattle.log_gather.specs.Gathering.{Shaped};
-ghost use Rattle.log_count.specs.RayTotals.{Countable, CountPost};
+ghost use Rattle.log_count.specs.Totals.{Countable, CountPost};
 ghost use Rattle.log_count.specs.Steps.{CountPre};
 ghost use Rattle.log_budget.specs.Answer.{budgetNumber, budgetIn};
 ghost use Rattle.log_budget.specs.Steps.{BatchKeys, RunEnd, NextBatchPre, NextBatchPost, CountNextPost};
