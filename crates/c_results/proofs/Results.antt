@@ -41,9 +41,11 @@ not-below : 0 < 0 → ⊥
 not-below h = omega (arith, h)
 
 module _ {A S : Type 0} (numbers : A → S → Type 0) (refused : ℕ → A) (promise : A → Type 0) where
-  pub answered : (a : A) (r : ℕ) (before after : S) → ((k : ℕ) → promise (refused k) → 0 < k) → promise a → HandedAs numbers refused a r before after
+  pub answered : (a : A) (r : ℕ) (before after : S) → ((k : ℕ) → promise (refused k) → 0 < k) → promise a
+      → HandedAs numbers refused a r before after
       → AnsweredBy numbers refused promise r before after
-  answered a r before after above p (inl h) = subst (λ (x : ℕ). AnsweredBy numbers refused promise x before after) (sym (h .1)) (a, (h .0, p))
+  answered a r before after above p (inl h) =
+      subst (λ (x : ℕ). AnsweredBy numbers refused promise x before after) (sym (h .1)) (a, (h .0, p))
   answered a zero before after above p (inr h) = absurd (not-below (above 0 (subst promise (h .0) p)))
   answered a (suc k) before after above p (inr h) = (subst promise (h .0) p, h .1)
 
@@ -67,28 +69,42 @@ fill-above s units c k = due-above (fillCauses s units c) k (omega arith, (omega
 pub volume-above : (s : DexelStockSpec) (units : List ℕ) (c : Cells) (intervals k : ℕ) → Due (volumeCauses s units c intervals) k → 0 < k
 unfolding gridCauses
 volume-above s units c intervals k =
-    due-above (volumeCauses s units c intervals) k (omega arith, (omega arith, (omega arith, (omega arith, (omega arith, (omega arith, tt))))))
+    due-above (volumeCauses s units c intervals) k
+    (omega arith, (omega arith, (omega arith, (omega arith, (omega arith, (omega arith, tt))))))
 
-pub changes-above : (spec : DexelStockSpec) (units : List ℕ) (base : ℕ) (s : Stock) (changes : List ℕ) (pairs : List Float) (k : ℕ) → Due (changeCommitCauses spec units base s changes pairs) k → 0 < k
+pub changes-above : (spec : DexelStockSpec) (units : List ℕ) (base : ℕ) (s : Stock) (changes : List ℕ)
+    (pairs : List Float) (k : ℕ) → Due (changeCommitCauses spec units base s changes pairs) k → 0 < k
 unfolding gridCauses
 changes-above spec units base s changes pairs k =
-    due-above (changeCommitCauses spec units base s changes pairs) k
-    (omega arith, (omega arith, (omega arith, (omega arith, (omega arith, (omega arith, (omega arith, (omega arith, (omega arith, (omega arith, tt))))))))))
+    due-above (changeCommitCauses spec units base s changes pairs) k (
+      omega arith,
+      (
+        omega arith,
+        (
+          omega arith,
+          (omega arith, (omega arith, (omega arith, (omega arith, (omega arith, (omega arith, (omega arith, tt))))))),
+        ),
+      ),
+    )
 
 -- the number of an answer
 number : LogAnswer → ℕ
 number (changed n) = n
 number (refused k) = k
 
-log-above : (spec : DexelStockSpec) (units : List ℕ) (s t : Stock) (c : Commit) (k : ℕ) (r : GridAnswer) → ByCauses spec units r → CommitOnAnyGrid r spec s c (refused k) t → 0 < k
+log-above : (spec : DexelStockSpec) (units : List ℕ) (s t : Stock) (c : Commit) (k : ℕ) (r : GridAnswer)
+    → ByCauses spec units r → CommitOnAnyGrid r spec s c (refused k) t → 0 < k
 unfolding CommitOnAnyGrid AnswerDue logCommitCauses number
 log-above spec units s t c k (Accepted g) b p =
-    due-above (logCommitCauses spec g (lentStore spec g .lent s) (¬ SoundStock spec g s) (pointSets g (lentStore spec g) s) (s .generation) c) k
+    due-above (logCommitCauses spec g (lentStore spec g .lent s) (¬ SoundStock spec g s)
+    (pointSets g (lentStore spec g) s) (s .generation) c) k
     (omega arith, (omega arith, (omega arith, (omega arith, (omega arith, (omega arith, tt)))))) (p .answers)
 log-above spec units s t c k (Refused j) b p = subst (λ (x : ℕ). 0 < x) (same k j (p .0)) (grid-above spec units j b)
   where
     same : (k j : ℕ) → refused k ≡ refused j → j ≡ k
     same k j e = ap number (sym e)
 
-pub commit-above : (spec : DexelStockSpec) (units : List ℕ) (s t : Stock) (log : List Float) (allowance : ℕ) (work work′ : List Float) (k : ℕ) → LogCommitPost spec units s log allowance work (CommitAnswer.Refused k) t work′ → 0 < k
-commit-above spec units s t log allowance work work′ k p = log-above spec units s t (commitOf log allowance work) k (p .described) (p .by) (p .promise)
+pub commit-above : (spec : DexelStockSpec) (units : List ℕ) (s t : Stock) (log : List Float) (allowance : ℕ)
+    (work work′ : List Float) (k : ℕ) → LogCommitPost spec units s log allowance work (CommitAnswer.Refused k) t work′ → 0 < k
+commit-above spec units s t log allowance work work′ k p =
+    log-above spec units s t (commitOf log allowance work) k (p .described) (p .by) (p .promise)

@@ -19,17 +19,38 @@ use Rattle.c_results.specs.Numbers.{AnsweredBy, HandedAs, sweptNumbers}
 use Rattle.c_results.proofs.Results.{answered, due-above}
 use Rattle.store.specs.Store.{Cells}
 
-sweep-above : (units : List ℕ) (s : Setting) (intervals : ℕ) (chords : List Float) (budget len k : ℕ) → Due (sweepCauses units s intervals chords budget len) k → 0 < k
+sweep-above : (units : List ℕ) (s : Setting) (intervals : ℕ) (chords : List Float) (budget len k : ℕ)
+    → Due (sweepCauses units s intervals chords budget len) k → 0 < k
 unfolding gridCauses
 sweep-above units s intervals chords budget len k =
-    due-above (sweepCauses units s intervals chords budget len) k
-    (omega arith, (omega arith, (omega arith, (omega arith, (omega arith, (omega arith, (omega arith, (omega arith, (omega arith, (omega arith, (omega arith, tt)))))))))))
+    due-above (sweepCauses units s intervals chords budget len) k (
+      omega arith,
+      (
+        omega arith,
+        (
+          omega arith,
+          (
+            omega arith,
+            (
+              omega arith,
+              (
+                omega arith,
+                (omega arith, (omega arith, (omega arith, (omega arith, (omega arith, tt))))),
+              ),
+            ),
+          ),
+        ),
+      ),
+    )
 
-module _ (spec : DexelStockSpec) (units : List ℕ) (c : Cells) (intervals : ℕ) (cutter : PreparedCutter) (guard : Float) (chords : List Float) (budget : ℕ) (log after : List Float) where
+module _ (spec : DexelStockSpec) (units : List ℕ) (c : Cells) (intervals : ℕ) (cutter : PreparedCutter)
+    (guard : Float) (chords : List Float) (budget : ℕ) (log after : List Float) where
   abbrev Promise : Axis → CutterShape → SweepAnswer → Type 0
-  Promise a h = SweepPost (sweepCauses units (settingOf spec a h cutter guard c) intervals chords budget (length log)) (settingOf spec a h cutter guard c) intervals chords log after
+  Promise a h = SweepPost (sweepCauses units (settingOf spec a h cutter guard c) intervals chords budget (length log))
+      (settingOf spec a h cutter guard c) intervals chords log after
 
-  pub swept-by : (a b : Axis) (h k : CutterShape) (s : SweepAnswer) (r : ℕ) (x y : Totals) → a ≡ b → h ≡ k → Promise a h s → HandedAs sweptNumbers SweepAnswer.Refused s r x y
+  pub swept-by : (a b : Axis) (h k : CutterShape) (s : SweepAnswer) (r : ℕ) (x y : Totals) → a ≡ b → h ≡ k
+      → Promise a h s → HandedAs sweptNumbers SweepAnswer.Refused s r x y
       → AnsweredBy sweptNumbers SweepAnswer.Refused (Promise b k) r x y
   swept-by a b h k s r x y e f p n =
       answered sweptNumbers SweepAnswer.Refused (Promise b k) s r x y

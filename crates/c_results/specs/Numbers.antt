@@ -19,8 +19,9 @@ use Rattle.stock.specs.declared.CommitAnswer.{CommitAnswer}
 use Rattle.sweep.specs.declared.SweepAnswer.{SweepAnswer}
 use Rattle.sweep.specs.declared.Totals.{Totals}
 
--- What a C function leaves, where `numbers` says which numbers an accepted answer is handed back as. Accepted: the caller's numbers are those of an
--- answer of which the entry's own promise holds. Refused: the promise holds of the refusal with this number, and the caller's numbers are as before.
+-- What a C function leaves, where `numbers` says which numbers an accepted answer is handed back as. Accepted: the
+-- caller's numbers are those of an answer of which the entry's own promise holds. Refused: the promise holds of the
+-- refusal with this number, and the caller's numbers are as before.
 abbrev pub AnsweredBy : {A S : Type 0} → (A → S → Type 0) → (ℕ → A) → (A → Type 0) → (refusal : ℕ) → (before after : S) → Type 0
 AnsweredBy {A} numbers refused promise zero before after = (a : A) × (numbers a after × promise a)
 AnsweredBy numbers refused promise (suc k) before after = promise (refused (suc k)) × (after ≡ before)

@@ -153,7 +153,8 @@ pub fn hand_committed(a: CommitAnswer, changed: &mut u64) -> u32
 
 // Hands the totals of a sweep back as numbers.
 pub fn hand_swept(s: SweepAnswer, entries: &mut usize, visits: &mut u64) -> u32
-    ensures { λ r. ⌜ HandedAs sweptNumbers SweepAnswer.Refused s r (totals (now (entries .entry)) (now (visits .entry))) (totals (now (entries .exit)) (now (visits .exit))) ⌝ }
+    ensures { λ r. ⌜ HandedAs sweptNumbers SweepAnswer.Refused s r
+        (totals (now (entries .entry)) (now (visits .entry))) (totals (now (entries .exit)) (now (visits .exit))) ⌝ }
 {
     match s {
         SweepAnswer::Accepted(t) => {

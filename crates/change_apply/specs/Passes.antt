@@ -17,11 +17,14 @@ pub record ChangesFit (spec : DexelStockSpec) (g : DexelGrid) (c : Cells) (total
   pub room : Room (spec .«max_intervals») (2 * rayCount g) c
   pub isSound : SoundCells spec g c total
   pub good : AllGood spec g c pairs 0 (changesOf changes pairs)
-  pub budget : total - pairsFreed (spec .«max_intervals») c (updatesIn g changes pairs) + pairsLaid (updatesIn g changes pairs) ≤ spec .«max_intervals»
+  pub budget : total - pairsFreed (spec .«max_intervals») c (updatesIn g changes pairs)
+      + pairsLaid (updatesIn g changes pairs) ≤ spec .«max_intervals»
 
 -- the lists of all changed rays are freed, whatever the pairs are that will be laid
 abbrev pub FreeAllPost : DexelStockSpec → DexelGrid → List ℕ → (before after : Cells) → Type 0
-FreeAllPost spec g changes before after = (total : ℕ) (pairs : List Float) → ChangesFit spec g before total changes pairs → after ≡ freedAll (spec .«max_intervals») before (updatesIn g changes pairs)
+FreeAllPost spec g changes before after = (total : ℕ) (pairs : List Float)
+    → ChangesFit spec g before total changes pairs
+    → after ≡ freedAll (spec .«max_intervals») before (updatesIn g changes pairs)
 
 -- the lists of all changed rays were freed
 pub record ChangesFreed (spec : DexelStockSpec) (g : DexelGrid) (changes : List ℕ) (pairs : List Float) (now : Cells) : Type 0 where

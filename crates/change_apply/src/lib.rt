@@ -19,8 +19,11 @@ fn free_changes(
     heads: &mut [u64],
     changes: &[u64],
 )
-    requires { ⌜ ((total : ℕ) × (pairs : List Float) × ChangesFit spec g (cells (now spans) (now links) (now heads)) total (now changes) pairs) ⌝ }
-    ensures { λ _. ⌜ FreeAllPost spec g (now (changes .entry)) (cells (now (spans .entry)) (now (links .entry)) (now (heads .entry))) (cells (now (spans .exit)) (now (links .exit)) (now (heads .exit))) ⌝ }
+    requires { ⌜ ((total : ℕ) × (pairs : List Float)
+        × ChangesFit spec g (cells (now spans) (now links) (now heads)) total (now changes) pairs) ⌝ }
+    ensures { λ _. ⌜ FreeAllPost spec g (now (changes .entry))
+        (cells (now (spans .entry)) (now (links .entry)) (now (heads .entry)))
+        (cells (now (spans .exit)) (now (links .exit)) (now (heads .exit))) ⌝ }
 {
     let count = changes.len() / 6;
     let mut k: usize = 0;
@@ -58,7 +61,8 @@ fn lay_changes(
 )
     requires { ⌜ ChangesFreed spec g (now changes) (now pairs) (cells (now spans) (now links) (now heads)) ⌝ }
     ensures { λ _. ⌜ cells (now (spans .exit)) (now (links .exit)) (now (heads .exit))
-        ≡ laidAll (spec .«max_intervals») (cells (now (spans .entry)) (now (links .entry)) (now (heads .entry))) (updatesIn g (now (changes .entry)) (now (pairs .entry))) ⌝ }
+        ≡ laidAll (spec .«max_intervals») (cells (now (spans .entry)) (now (links .entry)) (now (heads .entry)))
+        (updatesIn g (now (changes .entry)) (now (pairs .entry))) ⌝ }
 {
     let count = changes.len() / 6;
     let mut at: usize = 0;
@@ -97,7 +101,8 @@ pub fn apply_changes(
 )
     requires { ⌜ ((total : ℕ) × ChangesFit spec g (cells (now spans) (now links) (now heads)) total (now changes) (now pairs)) ⌝ }
     ensures { λ _. ⌜ cells (now (spans .exit)) (now (links .exit)) (now (heads .exit))
-        ≡ applied (spec .«max_intervals») (cells (now (spans .entry)) (now (links .entry)) (now (heads .entry))) (updatesIn g (now (changes .entry)) (now (pairs .entry))) ⌝ }
+        ≡ applied (spec .«max_intervals») (cells (now (spans .entry)) (now (links .entry)) (now (heads .entry)))
+        (updatesIn g (now (changes .entry)) (now (pairs .entry))) ⌝ }
 {
     free_changes(spec, g, spans, links, heads, changes);
     lay_changes(spec, g, spans, links, heads, changes, pairs);

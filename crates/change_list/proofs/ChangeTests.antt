@@ -41,14 +41,17 @@ module _ (lo hi : Float) (p q p′ q′ : List Float) where
   pub only-3 : (r : Bool) → Covers q q′ r → not r ≡ true → Decides (IsRemoval lo hi p q p′ q′) false
   only-3 r t n = never (IsRemoval lo hi p q p′ q′) (λ l. clash r (covers-tells q q′ r t .1 (l .certain-loses)) (not-true r n))
 
-  pub only-made : (r : Bool) → ValidRay lo hi p′ q′ → Within p p′ → Within q q′ → (equal p′ p && equal q′ q) ≡ not r → Decides (IsRemoval lo hi p q p′ q′) r
+  pub only-made : (r : Bool) → ValidRay lo hi p′ q′ → Within p p′ → Within q q′ → (equal p′ p && equal q′ q) ≡ not r
+      → Decides (IsRemoval lo hi p q p′ q′) r
   only-made true v a b e = ((λ t. record { valid = v; possible-loses = a; certain-loses = b; differs = e }), (λ l. refl))
   only-made false v a b e = never (IsRemoval lo hi p q p′ q′) (λ l. clash (equal p′ p && equal q′ q) e (l .differs))
 
-  pub only-4 : (r : Bool) → ValidRay lo hi p′ q′ → Within p p′ → Within q q′ → r ≡ equal p′ p → not r ≡ true → Decides (IsRemoval lo hi p q p′ q′) true
+  pub only-4 : (r : Bool) → ValidRay lo hi p′ q′ → Within p p′ → Within q q′ → r ≡ equal p′ p → not r ≡ true
+      → Decides (IsRemoval lo hi p q p′ q′) true
   only-4 r v a b e n = only-made true v a b (ap (λ (t : Bool). t && equal q′ q) (sym e ∙ not-true r n))
 
-  pub only-5 : (r s : Bool) → ValidRay lo hi p′ q′ → Within p p′ → Within q q′ → r ≡ equal p′ p → not r ≡ false → s ≡ equal q′ q → Decides (IsRemoval lo hi p q p′ q′) (not s)
+  pub only-5 : (r s : Bool) → ValidRay lo hi p′ q′ → Within p p′ → Within q q′ → r ≡ equal p′ p → not r ≡ false
+      → s ≡ equal q′ q → Decides (IsRemoval lo hi p q p′ q′) (not s)
   only-5 r s v a b e n f = only-made (not s) v a b (ap (λ (t : Bool). t && equal q′ q) (passes (equal p′ p) r e n) ∙ sym f ∙ twice s)
     where
       twice : (b : Bool) → b ≡ not (not b)
@@ -57,35 +60,54 @@ module _ (lo hi : Float) (p q p′ q′ : List Float) where
 
 -- ---- `had` and `cuts`
 module _ (spec : DexelStockSpec) (g : DexelGrid) (c : Cells) (ray : ℕ) (p q : List Float) where
-  pub had-no : (r : Bool) → r ≡ equal (rayList spec c ray Possible) p → not r ≡ true → false ≡ (equal (rayList spec c ray Possible) p && equal (rayList spec c ray Certain) q)
+  pub had-no : (r : Bool) → r ≡ equal (rayList spec c ray Possible) p → not r ≡ true
+      → false ≡ (equal (rayList spec c ray Possible) p && equal (rayList spec c ray Certain) q)
   had-no r e n = sym (ap (λ (t : Bool). t && equal (rayList spec c ray Certain) q) (sym e ∙ not-true r n))
 
-  pub had-second : (r s : Bool) → r ≡ equal (rayList spec c ray Possible) p → not r ≡ false → s ≡ equal (rayList spec c ray Certain) q → s ≡ (equal (rayList spec c ray Possible) p && equal (rayList spec c ray Certain) q)
-  had-second r s e n f = f ∙ sym (ap (λ (t : Bool). t && equal (rayList spec c ray Certain) q) (passes (equal (rayList spec c ray Possible) p) r e n))
+  pub had-second : (r s : Bool) → r ≡ equal (rayList spec c ray Possible) p → not r ≡ false
+      → s ≡ equal (rayList spec c ray Certain) q
+      → s ≡ (equal (rayList spec c ray Possible) p && equal (rayList spec c ray Certain) q)
+  had-second r s e n f = f ∙ sym
+      (ap (λ (t : Bool). t && equal (rayList spec c ray Certain) q) (passes (equal (rayList spec c ray Possible) p) r e n))
 
   -- the old lists are sound, as the store's are
-  pub old-sound : SoundWithRoom spec g c → ray < rayCount g → (r : Bool) → r ≡ (equal (rayList spec c ray Possible) p && equal (rayList spec c ray Certain) q) → not r ≡ false → (sound p ≡ true) × (sound q ≡ true)
+  pub old-sound : SoundWithRoom spec g c → ray < rayCount g → (r : Bool)
+      → r ≡ (equal (rayList spec c ray Possible) p && equal (rayList spec c ray Certain) q) → not r ≡ false
+      → (sound p ≡ true) × (sound q ≡ true)
   old-sound lent l r e n =
       let w = passes (equal (rayList spec c ray Possible) p && equal (rayList spec c ray Certain) q) r e n in
       let v = lent .isSound .valid ray l in (
-        sound-equal (rayList spec c ray Possible) p (and-left (equal (rayList spec c ray Possible) p) (equal (rayList spec c ray Certain) q) w) (v .possible-sound),
-        sound-equal (rayList spec c ray Certain) q (and-right (equal (rayList spec c ray Possible) p) (equal (rayList spec c ray Certain) q) w) (v .certain-sound),
+        sound-equal (rayList spec c ray Possible) p
+            (and-left (equal (rayList spec c ray Possible) p) (equal (rayList spec c ray Certain) q) w) (v .possible-sound),
+        sound-equal (rayList spec c ray Certain) q
+            (and-right (equal (rayList spec c ray Possible) p) (equal (rayList spec c ray Certain) q) w) (v .certain-sound),
       )
 
   module _ (p′ q′ : List Float) where
-    pub cuts-no : (r : Bool) → r ≡ (equal (rayList spec c ray Possible) p && equal (rayList spec c ray Certain) q) → not r ≡ true → Decides (ChangeAllowed spec g c ray p q p′ q′) false
-    cuts-no r e n = fails (ChangeAllowed spec g c ray p q p′ q′) (equal (rayList spec c ray Possible) p && equal (rayList spec c ray Certain) q) r e n (λ k. k .was)
+    pub cuts-no : (r : Bool) → r ≡ (equal (rayList spec c ray Possible) p && equal (rayList spec c ray Certain) q)
+        → not r ≡ true → Decides (ChangeAllowed spec g c ray p q p′ q′) false
+    cuts-no r e n = fails (ChangeAllowed spec g c ray p q p′ q′)
+        (equal (rayList spec c ray Possible) p && equal (rayList spec c ray Certain) q) r e n (λ k. k .was)
 
-    pub cuts-rest : (r s : Bool) (b : RayBounds) → r ≡ (equal (rayList spec c ray Possible) p && equal (rayList spec c ray Certain) q) → not r ≡ false → b ≡ boundsOf spec g ray → Decides (IsRemoval (b .lo) (b .hi) p q p′ q′) s → Decides (ChangeAllowed spec g c ray p q p′ q′) s
+    pub cuts-rest : (r s : Bool) (b : RayBounds)
+        → r ≡ (equal (rayList spec c ray Possible) p && equal (rayList spec c ray Certain) q) → not r ≡ false
+        → b ≡ boundsOf spec g ray → Decides (IsRemoval (b .lo) (b .hi) p q p′ q′) s
+        → Decides (ChangeAllowed spec g c ray p q p′ q′) s
     cuts-rest r s b e n f t =
-        let u : Decides (IsRemoval (boundsOf spec g ray .lo) (boundsOf spec g ray .hi) p q p′ q′) s = subst (λ (x : RayBounds). Decides (IsRemoval (x .lo) (x .hi) p q p′ q′) s) f t in (
-          (λ y. record { was = passes (equal (rayList spec c ray Possible) p && equal (rayList spec c ray Certain) q) r e n; loses = u .0 y }),
+        let u : Decides (IsRemoval (boundsOf spec g ray .lo) (boundsOf spec g ray .hi) p q p′ q′) s =
+        subst (λ (x : RayBounds). Decides (IsRemoval (x .lo) (x .hi) p q p′ q′) s) f t in (
+          (λ y. record {
+            was = passes (equal (rayList spec c ray Possible) p && equal (rayList spec c ray Certain) q)
+                r e n;
+            loses = u .0 y;
+          }),
           (λ k. u .1 (k .loses)),
         )
 
 -- ---- `cuts_at`: a part of the pairs that is lent
 module _ (spec : DexelStockSpec) (g : DexelGrid) (c : Cells) (ray : ℕ) (r : Bool) where
-  pub cuts-parts : (p q p′ q′ a b a′ b′ : List Float) → p ≡ a → q ≡ b → p′ ≡ a′ → q′ ≡ b′ → Decides (ChangeAllowed spec g c ray p q p′ q′) r → Decides (ChangeAllowed spec g c ray a b a′ b′) r
+  pub cuts-parts : (p q p′ q′ a b a′ b′ : List Float) → p ≡ a → q ≡ b → p′ ≡ a′ → q′ ≡ b′
+      → Decides (ChangeAllowed spec g c ray p q p′ q′) r → Decides (ChangeAllowed spec g c ray a b a′ b′) r
   cuts-parts p q p′ q′ a b a′ b′ e f e′ f′ t =
       subst (λ (x : List Float). Decides (ChangeAllowed spec g c ray x b a′ b′) r) e
       (subst (λ (x : List Float). Decides (ChangeAllowed spec g c ray p x a′ b′) r) f

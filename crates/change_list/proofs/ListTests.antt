@@ -41,10 +41,12 @@ module _ (h : ChangeHead) (left : ℕ) where
   pub fits-2 : h .«before_possible» ≤ left → left - h .«before_possible» < h .«before_certain» → Decides (pairsIn h ≤ left) false
   fits-2 g l = never (pairsIn h ≤ left) (λ p. omega arith)
 
-  pub fits-3 : h .«before_possible» ≤ left → h .«before_certain» ≤ left - h .«before_possible» → left - h .«before_possible» - h .«before_certain» < h .«after_possible» → Decides (pairsIn h ≤ left) false
+  pub fits-3 : h .«before_possible» ≤ left → h .«before_certain» ≤ left - h .«before_possible»
+      → left - h .«before_possible» - h .«before_certain» < h .«after_possible» → Decides (pairsIn h ≤ left) false
   fits-3 g f l = never (pairsIn h ≤ left) (λ p. omega arith)
 
-  pub fits-4 : h .«before_possible» ≤ left → h .«before_certain» ≤ left - h .«before_possible» → h .«after_possible» ≤ left - h .«before_possible» - h .«before_certain»
+  pub fits-4 : h .«before_possible» ≤ left → h .«before_certain» ≤ left - h .«before_possible»
+      → h .«after_possible» ≤ left - h .«before_possible» - h .«before_certain»
       → Decides (pairsIn h ≤ left) (leb (h .«after_certain») (left - h .«before_possible» - h .«before_certain» - h .«after_possible»))
   fits-4 g f e = (
     (λ t. let l = leb-true (h .«after_certain») (left - h .«before_possible» - h .«before_certain» - h .«after_possible») t in omega arith),
@@ -59,7 +61,8 @@ module _ (g : DexelGrid) (axis index from : ℕ) where
   pub no-ray : (rays : ℕ) → rays ≡ raysAlong g (worldAxis axis) → rays ≤ index → Decides (Names g axis index from) false
   no-ray rays e l = never (Names g axis index from) (λ p. omega (arith, p .below, e))
 
-  pub a-ray : (rays ray : ℕ) → axis ≤ 2 → rays ≡ raysAlong g (worldAxis axis) → index < rays → ray ≡ changeRay g axis index → Decides (Names g axis index from) (leb from ray)
+  pub a-ray : (rays ray : ℕ) → axis ≤ 2 → rays ≡ raysAlong g (worldAxis axis) → index < rays
+      → ray ≡ changeRay g axis index → Decides (Names g axis index from) (leb from ray)
   a-ray rays ray d e l f = (
     (λ t. record { digit = d; below = omega (arith, e, l); ascends = omega (arith, leb-true from ray t, f) }),
     (λ p. le-leb from ray (omega (arith, p .ascends, f))),
@@ -79,32 +82,46 @@ module _ (spec : DexelStockSpec) (g : DexelGrid) (c : Cells) (pairs : List Float
   abbrev GoodHere : Type 0
   GoodHere = Good spec g c pairs (cur .from) (changeBy h pairs (cur .at))
 
-  pub change-long : (r : Bool) → length pairs % 2 ≡ 0 → cur .at % 2 ≡ 0 → cur .at ≤ length pairs → Decides (pairsIn h ≤ (length pairs - cur .at) / 2) r → not r ≡ true → CheckChangePost spec g c pairs h cur Bad
+  pub change-long : (r : Bool) → length pairs % 2 ≡ 0 → cur .at % 2 ≡ 0 → cur .at ≤ length pairs
+      → Decides (pairsIn h ≤ (length pairs - cur .at) / 2) r → not r ≡ true → CheckChangePost spec g c pairs h cur Bad
   change-long r even-p even-a l t n = bad-due _ (λ (k : GoodHere). clash r (t .1 (let w = k .within in omega arith)) (not-true r n))
 
-  pub change-fits : (r : Bool) → length pairs % 2 ≡ 0 → cur .at % 2 ≡ 0 → cur .at ≤ length pairs → Decides (pairsIn h ≤ (length pairs - cur .at) / 2) r → not r ≡ false → changeBy h pairs (cur .at) .past ≤ length pairs
+  pub change-fits : (r : Bool) → length pairs % 2 ≡ 0 → cur .at % 2 ≡ 0 → cur .at ≤ length pairs
+      → Decides (pairsIn h ≤ (length pairs - cur .at) / 2) r → not r ≡ false → changeBy h pairs (cur .at) .past ≤ length pairs
   change-fits r even-p even-a l t n = let w = t .0 (not-false r n) in omega arith
 
-  pub change-unnamed : (r : Bool) → Decides (Names g (h .axis) (h .index) (cur .from)) r → not r ≡ true → CheckChangePost spec g c pairs h cur Bad
+  pub change-unnamed : (r : Bool) → Decides (Names g (h .axis) (h .index) (cur .from)) r → not r ≡ true
+      → CheckChangePost spec g c pairs h cur Bad
   change-unnamed r t n = bad-due _ (λ (k : GoodHere). clash r (t .1 (k .names)) (not-true r n))
 
   pub change-uncut : (ray : ℕ) (r : Bool) → ray ≡ changeRay g (h .axis) (h .index)
-      → Decides (ChangeAllowed spec g c ray (changeBy h pairs (cur .at) .possible-before) (changeBy h pairs (cur .at) .certain-before) (changeBy h pairs (cur .at) .possible-after) (changeBy h pairs (cur .at) .certain-after)) r
+      → Decides (ChangeAllowed spec g c ray (changeBy h pairs (cur .at) .possible-before)
+      (changeBy h pairs (cur .at) .certain-before) (changeBy h pairs (cur .at) .possible-after)
+      (changeBy h pairs (cur .at) .certain-after)) r
       → not r ≡ true → CheckChangePost spec g c pairs h cur Bad
   change-uncut ray r e t n =
       bad-due _ (λ (k : GoodHere). clash r
-      (t .1 (subst (λ (x : ℕ). ChangeAllowed spec g c x (changeBy h pairs (cur .at) .possible-before) (changeBy h pairs (cur .at) .certain-before) (changeBy h pairs (cur .at) .possible-after) (changeBy h pairs (cur .at) .certain-after)) (sym e) (k .cuts)))
+      (t .1 (subst (λ (x : ℕ). ChangeAllowed spec g c x (changeBy h pairs (cur .at) .possible-before)
+      (changeBy h pairs (cur .at) .certain-before) (changeBy h pairs (cur .at) .possible-after)
+      (changeBy h pairs (cur .at) .certain-after)) (sym e) (k .cuts)))
       (not-true r n))
 
-  pub change-done : (ray : ℕ) (r : Bool) (next : ChangeCursor) → ray ≡ changeRay g (h .axis) (h .index) → changeBy h pairs (cur .at) .past ≤ length pairs → Names g (h .axis) (h .index) (cur .from)
-      → Decides (ChangeAllowed spec g c ray (changeBy h pairs (cur .at) .possible-before) (changeBy h pairs (cur .at) .certain-before) (changeBy h pairs (cur .at) .possible-after) (changeBy h pairs (cur .at) .certain-after)) r
-      → not r ≡ false → next ≡ cursorOf (end4 h (cur .at)) (ray + 1) (cur .before + h .«before_possible» + h .«before_certain») (cur .after + h .«after_possible» + h .«after_certain»)
+  pub change-done : (ray : ℕ) (r : Bool) (next : ChangeCursor) → ray ≡ changeRay g (h .axis) (h .index)
+      → changeBy h pairs (cur .at) .past ≤ length pairs → Names g (h .axis) (h .index) (cur .from)
+      → Decides (ChangeAllowed spec g c ray (changeBy h pairs (cur .at) .possible-before)
+      (changeBy h pairs (cur .at) .certain-before) (changeBy h pairs (cur .at) .possible-after)
+      (changeBy h pairs (cur .at) .certain-after)) r
+      → not r ≡ false → next ≡ cursorOf (end4 h (cur .at)) (ray + 1)
+      (cur .before + h .«before_possible» + h .«before_certain») (cur .after + h .«after_possible» + h .«after_certain»)
       → CheckChangePost spec g c pairs h cur (Next next)
   change-done ray r next e w m t n f = (
     record {
       within = w;
       names = m;
-      cuts = subst (λ (x : ℕ). ChangeAllowed spec g c x (changeBy h pairs (cur .at) .possible-before) (changeBy h pairs (cur .at) .certain-before) (changeBy h pairs (cur .at) .possible-after) (changeBy h pairs (cur .at) .certain-after)) e (t .0 (not-false r n));
+      cuts = subst (λ (x : ℕ). ChangeAllowed spec g c x (changeBy h pairs (cur .at) .possible-before)
+          (changeBy h pairs (cur .at) .certain-before) (changeBy h pairs (cur .at) .possible-after)
+          (changeBy h pairs (cur .at) .certain-after)) e (t .0 (not-false r n));
     },
-    f ∙ ap (λ (x : ℕ). cursorOf (end4 h (cur .at)) (x + 1) (cur .before + h .«before_possible» + h .«before_certain») (cur .after + h .«after_possible» + h .«after_certain»)) e,
+    f ∙ ap (λ (x : ℕ). cursorOf (end4 h (cur .at)) (x + 1) (cur .before + h .«before_possible» + h .«before_certain»)
+        (cur .after + h .«after_possible» + h .«after_certain»)) e,
   )

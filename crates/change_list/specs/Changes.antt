@@ -1,5 +1,6 @@
--- A change list as a caller lends it, and what makes its changes good.
--- Six numbers tell a change: its axis, its index, and how many pairs its four lists have: possible and certain before, possible and certain after. The lists stand end to end in the lent pairs, in that order.
+-- A change list as a caller lends it, and what makes its changes good. Six numbers tell a change: its axis, its
+-- index, and how many pairs its four lists have: possible and certain before, possible and certain after. The lists
+-- stand end to end in the lent pairs, in that order.
 use mathlib.Core.List.{List, [], _∷_}
 use Prim.Native.Nat.{ℕ, zero, suc, _+_, _*_, _/_, _≤_, _<_}
 use lib.ListN.{length, getD}
@@ -66,7 +67,8 @@ changeBy h pairs at =
 unfoldable pub changesFrom : List ℕ → List Float → (count k at : ℕ) → List Change
 unfolding headAt
 changesFrom changes pairs zero k at = []
-changesFrom changes pairs (suc r) k at = changeBy (headAt changes k) pairs at ∷ changesFrom changes pairs r (suc k) (end4 (headAt changes k) at)
+changesFrom changes pairs (suc r) k at =
+    changeBy (headAt changes k) pairs at ∷ changesFrom changes pairs r (suc k) (end4 (headAt changes k) at)
 
 -- all whole changes
 abbrev pub changesOf : List ℕ → List Float → List Change
@@ -86,7 +88,8 @@ pub record Names (g : DexelGrid) (axis index from : ℕ) : Type 0 where
 pub record Good (spec : DexelStockSpec) (g : DexelGrid) (c : Cells) (pairs : List Float) (from : ℕ) (d : Change) : Type 0 where
   pub within : d .past ≤ length pairs
   pub names : Names g (d .axis) (d .index) from
-  pub cuts : ChangeAllowed spec g c (changeRay g (d .axis) (d .index)) (d .possible-before) (d .certain-before) (d .possible-after) (d .certain-after)
+  pub cuts : ChangeAllowed spec g c (changeRay g (d .axis) (d .index)) (d .possible-before) (d .certain-before)
+      (d .possible-after) (d .certain-after)
 
 unfoldable pub AllGood : DexelStockSpec → DexelGrid → Cells → List Float → ℕ → List Change → Type 0
 AllGood spec g c pairs from [] = Unit {0}

@@ -28,7 +28,8 @@ cursorOf at from before after = record { at = at; from = from; before = before; 
 -- past a change: the cell past its lists, one more than its ray, and the sums of the pairs before and after
 abbrev pub onward : DexelGrid → ChangeHead → ChangeCursor → ChangeCursor
 onward g h cur =
-    cursorOf (end4 h (cur .at)) (changeRay g (h .axis) (h .index) + 1) (cur .before + h .«before_possible» + h .«before_certain») (cur .after + h .«after_possible» + h .«after_certain»)
+    cursorOf (end4 h (cur .at)) (changeRay g (h .axis) (h .index) + 1)
+    (cur .before + h .«before_possible» + h .«before_certain») (cur .after + h .«after_possible» + h .«after_certain»)
 
 -- the cursor stands within whole pairs, and its sums are of pairs before it
 pub record Stands (pairs : List Float) (cur : ChangeCursor) : Type 0 where
@@ -52,7 +53,8 @@ CheckChangePost spec g c pairs h cur (Next n) = Good spec g c pairs (cur .from) 
 abbrev pub CheckChangesPost : DexelStockSpec → DexelGrid → Cells → List Float → List Change → ChangeCheck → Type 0
 CheckChangesPost spec g c pairs ds Bad = Due (badCauses (AllGood spec g c pairs 0 ds)) (checkNumber Bad)
 CheckChangesPost spec g c pairs ds (Next n) =
-    AllGood spec g c pairs 0 ds × (n .before ≡ pairsFreed (spec .«max_intervals») c (updatesOf g ds)) × (n .after ≡ pairsLaid (updatesOf g ds)) × (2 * n .after ≤ length pairs)
+    AllGood spec g c pairs 0 ds × (n .before ≡ pairsFreed (spec .«max_intervals») c (updatesOf g ds))
+    × (n .after ≡ pairsLaid (updatesOf g ds)) × (2 * n .after ≤ length pairs)
 
 -- the store has room and is sound
 pub record SoundWithRoom (spec : DexelStockSpec) (g : DexelGrid) (c : Cells) : Type 0 where

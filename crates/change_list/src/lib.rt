@@ -140,7 +140,8 @@ fn check_change(
     cur: ChangeCursor,
 ) -> ChangeCheck
     requires { ⌜ SoundWithRoom spec g (cells (now spans) (now links) (now heads)) × Stands (now pairs) cur ⌝ }
-    ensures { λ r. ⌜ CheckChangePost spec g (cells (now (spans .entry)) (now (links .entry)) (now (heads .entry))) (now (pairs .entry)) h cur r ⌝ }
+    ensures { λ r. ⌜ CheckChangePost spec g (cells (now (spans .entry)) (now (links .entry)) (now (heads .entry)))
+        (now (pairs .entry)) h cur r ⌝ }
 {
     if !fits(h, (pairs.len() - cur.at) / 2) {
         return ChangeCheck::Bad;
@@ -189,7 +190,8 @@ pub fn check_changes(
     pairs: &[f64],
 ) -> ChangeCheck
     requires { ⌜ SoundWithRoom spec g (cells (now spans) (now links) (now heads)) × (length (now pairs) % 2 ≡ 0) ⌝ }
-    ensures { λ r. ⌜ CheckChangesPost spec g (cells (now (spans .entry)) (now (links .entry)) (now (heads .entry))) (now (pairs .entry)) (changesOf (now (changes .entry)) (now (pairs .entry))) r ⌝ }
+    ensures { λ r. ⌜ CheckChangesPost spec g (cells (now (spans .entry)) (now (links .entry)) (now (heads .entry)))
+        (now (pairs .entry)) (changesOf (now (changes .entry)) (now (pairs .entry))) r ⌝ }
 {
     let count = changes.len() / 6;
     let mut cur = ChangeCursor {
@@ -240,7 +242,8 @@ fn had(
     q: &[f64],
 ) -> bool
     requires { ⌜ ChainsInRoom spec g (cells (now spans) (now links) (now heads)) × (ray < rayCount g) ⌝ }
-    ensures { λ r. ⌜ r ≡ (equal (rayList spec (cells (now (spans .entry)) (now (links .entry)) (now (heads .entry))) ray Possible) (now (p .entry))
+    ensures { λ r. ⌜ r ≡ (equal (rayList spec (cells (now (spans .entry)) (now (links .entry)) (now (heads .entry)))
+        ray Possible) (now (p .entry))
         && equal (rayList spec (cells (now (spans .entry)) (now (links .entry)) (now (heads .entry))) ray Certain) (now (q .entry))) ⌝ }
 {
     let n = spec.max_intervals as usize;
@@ -285,7 +288,9 @@ fn cuts(
     nq: &[f64],
 ) -> bool
     requires { ⌜ SoundWithRoom spec g (cells (now spans) (now links) (now heads)) × (ray < rayCount g) ⌝ }
-    ensures { λ r. ⌜ Decides (ChangeAllowed spec g (cells (now (spans .entry)) (now (links .entry)) (now (heads .entry))) ray (now (p .entry)) (now (q .entry)) (now (np .entry)) (now (nq .entry))) r ⌝ }
+    ensures { λ r. ⌜ Decides (ChangeAllowed spec g
+        (cells (now (spans .entry)) (now (links .entry)) (now (heads .entry))) ray (now (p .entry)) (now (q .entry))
+        (now (np .entry)) (now (nq .entry))) r ⌝ }
 {
     if !had(spec, g, spans, links, heads, ray, p, q) {
         return false;
@@ -309,9 +314,13 @@ pub fn cuts_at(
     ap: usize,
     ac: usize,
 ) -> bool
-    requires { ⌜ SoundWithRoom spec g (cells (now spans) (now links) (now heads)) × (ray < rayCount g) × (at + 2 * bp + 2 * bc + 2 * ap + 2 * ac ≤ length (now pairs)) ⌝ }
-    ensures { λ r. ⌜ Decides (ChangeAllowed spec g (cells (now (spans .entry)) (now (links .entry)) (now (heads .entry))) ray (pairsFrom (now (pairs .entry)) at bp) (pairsFrom (now (pairs .entry)) (at + 2 * bp) bc)
-        (pairsFrom (now (pairs .entry)) (at + 2 * bp + 2 * bc) ap) (pairsFrom (now (pairs .entry)) (at + 2 * bp + 2 * bc + 2 * ap) ac)) r ⌝ }
+    requires { ⌜ SoundWithRoom spec g (cells (now spans) (now links) (now heads)) × (ray < rayCount g)
+        × (at + 2 * bp + 2 * bc + 2 * ap + 2 * ac ≤ length (now pairs)) ⌝ }
+    ensures { λ r. ⌜ Decides (ChangeAllowed spec g
+        (cells (now (spans .entry)) (now (links .entry)) (now (heads .entry))) ray
+        (pairsFrom (now (pairs .entry)) at bp) (pairsFrom (now (pairs .entry)) (at + 2 * bp) bc)
+        (pairsFrom (now (pairs .entry)) (at + 2 * bp + 2 * bc) ap)
+        (pairsFrom (now (pairs .entry)) (at + 2 * bp + 2 * bc + 2 * ap) ac)) r ⌝ }
 {
     let e = at + 2 * bp;
     let f = e + 2 * bc;

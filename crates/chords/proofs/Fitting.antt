@@ -45,7 +45,8 @@ module _ (f : Frame) (chords : List Float) (i : ℕ) where
   unfolding chordFits
   ends-out r e t = sym (ap (λ (b : Bool). b && numbersFit (chordOf f chords i)) (sym e ∙ t))
 
-  pub ends-in : (r s : Bool) (c : Chord) → r ≡ endsFit chords i → r ≡ true → c ≡ chordOf f chords i → s ≡ numbersFit c → s ≡ chordFits f chords i
+  pub ends-in : (r s : Bool) (c : Chord) → r ≡ endsFit chords i → r ≡ true → c ≡ chordOf f chords i → s ≡ numbersFit c
+      → s ≡ chordFits f chords i
   unfolding chordFits
   ends-in r s c e t k n = n ∙ ap numbersFit k ∙ sym (ap (λ (b : Bool). b && numbersFit (chordOf f chords i)) (sym e ∙ t))
 
@@ -57,8 +58,11 @@ module _ (f : Frame) (guard : Float) (chords : List Float) where
 
   pub chord-out : (i : ℕ) (r : Bool) → i < length chords / 8 → r ≡ chordFits f chords i → not r ≡ true → false ≡ chordsFit f guard chords
   unfolding chordsFit
-  chord-out i r l e t = sym (and-false (guardFits guard) (every (chordFits f chords) (length chords / 8)) (not-every (chordFits f chords) i (length chords / 8) r l e t))
+  chord-out i r l e t = sym (and-false (guardFits guard) (every (chordFits f chords) (length chords / 8))
+      (not-every (chordFits f chords) i (length chords / 8) r l e t))
 
-  pub all-fit : (i : ℕ) (r : Bool) → i ≡ length chords / 8 → r ≡ guardFits guard → not r ≡ false → every (chordFits f chords) i ≡ true → true ≡ chordsFit f guard chords
+  pub all-fit : (i : ℕ) (r : Bool) → i ≡ length chords / 8 → r ≡ guardFits guard → not r ≡ false
+      → every (chordFits f chords) i ≡ true → true ≡ chordsFit f guard chords
   unfolding chordsFit
-  all-fit i r n e t h = sym (both (guardFits guard) (every (chordFits f chords) (length chords / 8)) (sym e ∙ not-false r t) (ap (every (chordFits f chords)) (sym n) ∙ h))
+  all-fit i r n e t h = sym (both (guardFits guard) (every (chordFits f chords) (length chords / 8))
+      (sym e ∙ not-false r t) (ap (every (chordFits f chords)) (sym n) ∙ h))

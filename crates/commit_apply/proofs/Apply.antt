@@ -73,14 +73,17 @@ module _ (spec : DexelStockSpec) (g : DexelGrid) (c : Cells) (log w : List Float
       -- each update finds room once all lists are freed
       each : EachLayable (spec .«max_intervals») (freedAll (spec .«max_intervals») c us) us
       each =
-          let f : FreedAll (spec .«max_intervals») (2 * rayCount g) (ready .total) c us (freedAll (spec .«max_intervals») c us) = freed-all (ready .sound .store) (ready .room) in-order in
-          each-layable (f .isSound (ready .total - pairsFreed (spec .«max_intervals») c us) (omega (arith, f .fewer))) (kept-room (f .kept) (ready .room)) in-order (all-empty (ready .sound .store) (ready .room) in-order) fits
+          let f : FreedAll (spec .«max_intervals») (2 * rayCount g) (ready .total) c us
+          (freedAll (spec .«max_intervals») c us) = freed-all (ready .sound .store) (ready .room) in-order in
+          each-layable (f .isSound (ready .total - pairsFreed (spec .«max_intervals») c us) (omega (arith, f .fewer)))
+          (kept-room (f .kept) (ready .room)) in-order (all-empty (ready .sound .store) (ready .room) in-order) fits
 
     module _ (rays : ℕ) (e : rays ≡ rayCount g) where
       us-is : updatesFrom w₂ (rays + length log / 6) (rays + length log / 6 + 2 * rays) 0 rays ≡ us
       us-is = ap (λ (x : ℕ). updatesFrom w₂ (x + entryCount log) (x + entryCount log + 2 * x) 0 x) e
 
-      end-is : listsEnd w₂ (rays + length log / 6) (rays + length log / 6 + 2 * rays) 0 rays ≡ listsEnd w₂ (rayCount g + entryCount log) (rayCount g + entryCount log + 2 * rayCount g) 0 (rayCount g)
+      end-is : listsEnd w₂ (rays + length log / 6) (rays + length log / 6 + 2 * rays) 0 rays
+          ≡ listsEnd w₂ (rayCount g + entryCount log) (rayCount g + entryCount log + 2 * rayCount g) 0 (rayCount g)
       end-is = ap (λ (x : ℕ). listsEnd w₂ (x + entryCount log) (x + entryCount log + 2 * x) 0 x) e
 
       -- the sizes lie in the work buffer
@@ -98,7 +101,8 @@ module _ (spec : DexelStockSpec) (g : DexelGrid) (c : Cells) (log w : List Float
         store = subst (λ (x : ℕ). ChainsSound (spec .«max_intervals») (2 * x) (ready .total) c) (sym e) (ready .sound .store);
       }
 
-      module _ (d : Cells) (freed : (q : ℕ) → d ≡ freedAll (spec .«max_intervals») c (updatesFrom w₂ (rays + length log / 6) q 0 rays)) where
+      module _ (d : Cells) (freed : (q : ℕ)
+          → d ≡ freedAll (spec .«max_intervals») c (updatesFrom w₂ (rays + length log / 6) q 0 rays)) where
         d-is : d ≡ freedAll (spec .«max_intervals») c us
         d-is = freed (rays + length log / 6 + 2 * rays) ∙ ap (freedAll (spec .«max_intervals») c) us-is
 
@@ -112,7 +116,9 @@ module _ (spec : DexelStockSpec) (g : DexelGrid) (c : Cells) (log w : List Float
           cursor = no-cursor (spec .«max_intervals») d;
         }
 
-        pub done : (b : Cells) (w₃ : List Float) → b ≡ laidAll (spec .«max_intervals») d (updatesFrom w₂ (rays + length log / 6) (rays + length log / 6 + 2 * rays) 0 rays)
+        pub done : (b : Cells) (w₃ : List Float)
+            → b ≡ laidAll (spec .«max_intervals») d
+            (updatesFrom w₂ (rays + length log / 6) (rays + length log / 6 + 2 * rays) 0 rays)
             → w₃ ≡ take 0 w₂ ++ replicate (length w₂ - 0) plusZero → ApplyPost spec g c log w m b w₃
         unfolding applied
         done b w₃ laid clear = record {
@@ -129,5 +135,6 @@ module _ (spec : DexelStockSpec) (g : DexelGrid) (c : Cells) (log w : List Float
             all n = omega arith
 
 -- the work buffer keeps its size
-pub cleared-size : (spec : DexelStockSpec) (g : DexelGrid) (c : Cells) (log w : List Float) (m : ℕ) (d : Cells) (w₃ : List Float) → ApplyPost spec g c log w m d w₃ → length w₃ ≡ length w
+pub cleared-size : (spec : DexelStockSpec) (g : DexelGrid) (c : Cells) (log w : List Float) (m : ℕ) (d : Cells)
+    (w₃ : List Float) → ApplyPost spec g c log w m d w₃ → length w₃ ≡ length w
 cleared-size spec g c log w m d w₃ r = ap length (r .cleared) ∙ length-replicate (length w) plusZero

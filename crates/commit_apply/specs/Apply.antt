@@ -29,7 +29,8 @@ pub record ApplyPre (spec : DexelStockSpec) (g : DexelGrid) (c : Cells) (log wor
   pub few-pairs : pairsAfter g (rayLists spec g c) (entries log) ≤ spec .«max_intervals»
 
 -- the log's updates are done, and the work buffer is all plus zero
-pub record ApplyPost (spec : DexelStockSpec) (g : DexelGrid) (c : Cells) (log work : List Float) (m : ℕ) (d : Cells) (work′ : List Float) : Type 0 where
+pub record ApplyPost (spec : DexelStockSpec) (g : DexelGrid) (c : Cells) (log work : List Float) (m : ℕ) (d : Cells)
+    (work′ : List Float) : Type 0 where
   pub updates : List Update
   pub merges : MergeUpdates g (rayLists spec g c) (entries log) 0 updates m
   pub left : d ≡ applied (spec .«max_intervals») c updates

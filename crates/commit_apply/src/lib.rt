@@ -4,8 +4,8 @@ ghost use Rattle.store.specs.Store.{cells};
 use grid::DexelGrid;
 use grid::DexelStockSpec;
 
-// Cuts the lists of a sound store: the entries are grouped and merged in the work buffer, then the lists of all changed rays are freed and laid
-// again. Says how many rays changed.
+// Cuts the lists of a sound store: the entries are grouped and merged in the work buffer, then the lists of all
+// changed rays are freed and laid again. Says how many rays changed.
 pub fn cut_lists(
     spec: DexelStockSpec,
     g: DexelGrid,
@@ -16,7 +16,8 @@ pub fn cut_lists(
     work: &mut [f64],
 ) -> u64
     requires { ⌜ ApplyPre spec g (cells (now spans) (now links) (now heads)) (now log) (now work) ⌝ }
-    ensures { λ r. ⌜ ApplyPost spec g (cells (now (spans .entry)) (now (links .entry)) (now (heads .entry))) (now (log .entry)) (now (work .entry)) r
+    ensures { λ r. ⌜ ApplyPost spec g (cells (now (spans .entry)) (now (links .entry)) (now (heads .entry)))
+        (now (log .entry)) (now (work .entry)) r
         (cells (now (spans .exit)) (now (links .exit)) (now (heads .exit))) (now (work .exit)) ⌝ }
 {
     log_group::group(g, log, work);

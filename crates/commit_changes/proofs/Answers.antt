@@ -27,7 +27,8 @@ use Rattle.commit_changes.specs.declared.ChangeVerdict.the-variants.{Fit
 use Rattle.store.specs.Store.{Cells}
 
 -- ---- over a grid that is accepted
-module _ (spec : DexelStockSpec) (g : DexelGrid) (s : Stock) (changes : List ℕ) (pairs : List Float) (base : ℕ) (r : ChangeVerdict) (ens : VerdictBy (changeCauses spec g base s changes pairs) spec g s changes pairs r) where
+module _ (spec : DexelStockSpec) (g : DexelGrid) (s : Stock) (changes : List ℕ) (pairs : List Float) (base : ℕ)
+    (r : ChangeVerdict) (ens : VerdictBy (changeCauses spec g base s changes pairs) spec g s changes pairs r) where
   pub judged-no : (k : ℕ) → r ≡ No k → ChangesPostBy (changeCauses spec g base s changes pairs) spec g changes pairs s s (Refused k)
   judged-no k e = (subst (VerdictBy (changeCauses spec g base s changes pairs) spec g s changes pairs) e ens, refl)
 
@@ -48,40 +49,65 @@ module _ (spec : DexelStockSpec) (g : DexelGrid) (s : Stock) (changes : List ℕ
     leaves : ChangesEffect spec g changes pairs s (changedStock spec g s changes pairs)
     leaves =
         let f = judged-fitting in
-        let u = changes-update spec g (s .cells) pairs (s .intervals) (f .isSound) (f .room) (changesOf changes pairs) (f .good) (f .budget) in
+        let u = changes-update spec g (s .cells) pairs (s .intervals) (f .isSound) (f .room) (changesOf changes pairs)
+        (f .good) (f .budget) in
         record {
           is = refl;
-          isSound = changes-sound spec g (s .cells) pairs (s .intervals) (f .isSound) (f .room) (changesOf changes pairs) (f .good) (f .budget);
+          isSound = changes-sound spec g (s .cells) pairs (s .intervals) (f .isSound) (f .room)
+              (changesOf changes pairs) (f .good) (f .budget);
           changed-rays = λ d m.
-              let h = changed-has spec g (s .cells) pairs (changesOf changes pairs) 0 (f .good) d m (rayList spec (s .cells) (changeRay g (d .axis) (d .index)) Possible) (rayList spec (s .cells) (changeRay g (d .axis) (d .index)) Certain) in
-              let b = h .below in
-              (u .lists (2 * changeRay g (d .axis) (d .index)) (omega arith) ∙ h .possible, u .lists (2 * changeRay g (d .axis) (d .index) + 1) (omega arith) ∙ h .certain);
+              let h = changed-has spec g (s .cells) pairs (changesOf changes pairs) 0 (f .good) d m
+              (rayList spec (s .cells) (changeRay g (d .axis) (d .index)) Possible)
+              (rayList spec (s .cells) (changeRay g (d .axis) (d .index)) Certain) in
+              let b = h .below in (
+                u .lists (2 * changeRay g (d .axis) (d .index)) (omega arith) ∙ h .possible,
+                u .lists (2 * changeRay g (d .axis) (d .index) + 1) (omega arith) ∙ h .certain,
+              );
           other-rays = λ ray l apart.
-              let h = other-keeps spec g (s .cells) pairs (changesOf changes pairs) ray apart (rayList spec (s .cells) ray Possible) (rayList spec (s .cells) ray Certain) in
+              let h = other-keeps spec g (s .cells) pairs (changesOf changes pairs) ray apart
+              (rayList spec (s .cells) ray Possible) (rayList spec (s .cells) ray Certain) in
               (u .lists (2 * ray) (omega arith) ∙ h .0, u .lists (2 * ray + 1) (omega arith) ∙ h .1);
           kept = u .kept;
         }
 
     pub judged-fits : (d : Cells) → d ≡ applied (spec .«max_intervals») (s .cells) (updatesIn g changes pairs)
-        → ChangesPostBy (changeCauses spec g base s changes pairs) spec g changes pairs s (record { cells = d; generation = s .generation + 1; intervals = t }) (Changed (length changes / 6))
+        → ChangesPostBy (changeCauses spec g base s changes pairs) spec g changes pairs s
+        (record { cells = d; generation = s .generation + 1; intervals = t }) (Changed (length changes / 6))
     judged-fits d h =
         let is : record { cells = d; generation = s .generation + 1; intervals = t } ≡ changedStock spec g s changes pairs
         = ap (λ (x : Cells). record { cells = x; generation = s .generation + 1; intervals = t }) h
-        ∙ ap (λ (x : ℕ). record { cells = applied (spec .«max_intervals») (s .cells) (updatesIn g changes pairs); generation = s .generation + 1; intervals = x }) (told .1) in
+        ∙ ap (λ (x : ℕ). record {
+          cells = applied (spec .«max_intervals») (s .cells) (updatesIn g changes pairs);
+          generation = s .generation + 1;
+          intervals = x;
+        }) (told .1) in
         (told .0, refl, subst (ChangesEffect spec g changes pairs s) (sym is) leaves)
 
 -- ---- over any description
 module _ (spec : DexelStockSpec) (units : List ℕ) (s : Stock) (changes : List ℕ) (pairs : List Float) (base : ℕ) where
-  pub grid-accepted : (g : DexelGrid) (after : Stock) (r : CommitAnswer) → gridOf spec units ≡ Griddable g → ChangesPostBy (changeCauses spec g base s changes pairs) spec g changes pairs s after r
+  pub grid-accepted : (g : DexelGrid) (after : Stock) (r : CommitAnswer) → gridOf spec units ≡ Griddable g
+      → ChangesPostBy (changeCauses spec g base s changes pairs) spec g changes pairs s after r
       → ChangesPostBy (changeCommitCauses spec units base s changes pairs) spec (gridIn spec) changes pairs s after r
   grid-accepted g after r h f =
       let a = accepted spec units g h in
-      at r (a .0) (subst (λ (x : DexelGrid). ChangesPostBy (changeCauses spec x base s changes pairs) spec x changes pairs s after r) (a .1) f)
+      at r (a .0) (subst (λ (x : DexelGrid). ChangesPostBy (changeCauses spec x base s changes pairs)
+      spec x changes pairs s after r) (a .1) f)
     where
-      at : (r : CommitAnswer) → NoneDue (gridCauses spec units) → ChangesPostBy (changeCauses spec (gridIn spec) base s changes pairs) spec (gridIn spec) changes pairs s after r
+      at : (r : CommitAnswer) → NoneDue (gridCauses spec units)
+          → ChangesPostBy (changeCauses spec (gridIn spec) base s changes pairs) spec (gridIn spec) changes pairs s after r
           → ChangesPostBy (changeCommitCauses spec units base s changes pairs) spec (gridIn spec) changes pairs s after r
       at (Refused k) n f = (due-second (gridCauses spec units) (changeCauses spec (gridIn spec) base s changes pairs) k n (f .0), f .1)
-      at (Changed m) n f = (none-in-both (gridCauses spec units) (changeCauses spec (gridIn spec) base s changes pairs) n (f .0), f .1, f .2)
+      at (Changed m) n f = (
+        none-in-both (gridCauses spec units)
+            (changeCauses spec (gridIn spec) base s changes pairs) n (f .0),
+        f .1,
+        f .2,
+      )
 
-  pub grid-refused : (k : ℕ) → gridOf spec units ≡ NoGrid k → ChangesPostBy (changeCommitCauses spec units base s changes pairs) spec (gridIn spec) changes pairs s s (Refused k)
-  grid-refused k h = (due-first (gridCauses spec units) (changeCauses spec (gridIn spec) base s changes pairs) k (refused spec units k h), refl)
+  pub grid-refused : (k : ℕ) → gridOf spec units ≡ NoGrid k
+      → ChangesPostBy (changeCommitCauses spec units base s changes pairs) spec (gridIn spec) changes pairs s s (Refused k)
+  grid-refused k h = (
+    due-first (gridCauses spec units) (changeCauses spec (gridIn spec) base s changes pairs) k
+        (refused spec units k h),
+    refl,
+  )

@@ -38,38 +38,54 @@ module _ (spec : DexelStockSpec) (g : DexelGrid) (s : Stock) (changes : List ℕ
         due-first (badCauses (AllGood spec g (s .cells) pairs 0 (changesOf changes pairs))) _ 13
         (subst (CheckChangesPost spec g (s .cells) pairs (changesOf changes pairs)) e ens)
 
-    module _ (cur : ChangeCursor) (e : r ≡ Next cur) (room : Room (spec .«max_intervals») (2 * rayCount g) (s .cells)) (sound : SoundStock spec g s) where
+    module _ (cur : ChangeCursor) (e : r ≡ Next cur) (room : Room (spec .«max_intervals») (2 * rayCount g) (s .cells))
+        (sound : SoundStock spec g s) where
       told : CheckChangesPost spec g (s .cells) pairs (changesOf changes pairs) (Next cur)
       told = subst (CheckChangesPost spec g (s .cells) pairs (changesOf changes pairs)) e ens
 
       -- no more pairs are freed than the store has
       pub freed-fewer : cur .before ≤ s .intervals
       freed-fewer =
-          let f = freed-all (sound .store) room (good-ascend spec g (s .cells) pairs (changesOf changes pairs) 0 0 (omega arith) (told .0)) in
+          let f = freed-all (sound .store) room
+          (good-ascend spec g (s .cells) pairs (changesOf changes pairs) 0 0 (omega arith) (told .0)) in
           omega (arith, told .1, f .fewer)
 
       -- the total needs no more than 64 bits
       pub total-fits : length (s .cells .spans) < 2 ^ 64 → length pairs < 2 ^ 64 → s .intervals - cur .before + cur .after < 2 ^ 64
       total-fits hs hp =
-          let most = free-records (spec .«max_intervals») (2 * rayCount g) (s .intervals) (s .cells .spans) (s .cells .links) (s .cells .heads) (sound .store) in
+          let most = free-records (spec .«max_intervals») (2 * rayCount g) (s .intervals) (s .cells .spans)
+          (s .cells .links) (s .cells .heads) (sound .store) in
           omega (arith, most, room .in-spans, told .3)
 
       total-is : s .intervals - cur .before + cur .after ≡ intervalsAfter spec g s changes pairs
-      total-is = ap (λ (x : ℕ). s .intervals - x + cur .after) (told .1) ∙ ap (λ (x : ℕ). s .intervals - pairsFreed (spec .«max_intervals») (s .cells) (updatesIn g changes pairs) + x) (told .2)
+      total-is = ap (λ (x : ℕ). s .intervals - x + cur .after) (told .1)
+          ∙ ap (λ (x : ℕ). s .intervals - pairsFreed (spec .«max_intervals») (s .cells) (updatesIn g changes pairs)
+          + x) (told .2)
 
-      pub over-budget : spec .«max_intervals» < s .intervals - cur .before + cur .after → VerdictBy (changeListCauses spec g s changes pairs) spec g s changes pairs (Refused 10)
+      pub over-budget : spec .«max_intervals» < s .intervals - cur .before + cur .after
+          → VerdictBy (changeListCauses spec g s changes pairs) spec g s changes pairs (Refused 10)
       unfolding Due
-      over-budget l = inr ((λ (bad : AllGood spec g (s .cells) pairs 0 (changesOf changes pairs) → ⊥). bad (told .0)), inl (subst (λ (x : ℕ). spec .«max_intervals» < x) total-is l, refl))
+      over-budget l = inr (
+        (λ (bad : AllGood spec g (s .cells) pairs 0 (changesOf changes pairs) → ⊥). bad (told .0)),
+        inl (subst (λ (x : ℕ). spec .«max_intervals» < x) total-is l, refl),
+      )
 
       module _ (l : s .intervals - cur .before + cur .after ≤ spec .«max_intervals») where
         within : spec .«max_intervals» < intervalsAfter spec g s changes pairs → ⊥
         within h = omega (arith, total-is)
 
-        pub last-generation : s .generation ≡ 18446744073709551615 → VerdictBy (changeListCauses spec g s changes pairs) spec g s changes pairs (Refused 15)
+        pub last-generation : s .generation ≡ 18446744073709551615
+            → VerdictBy (changeListCauses spec g s changes pairs) spec g s changes pairs (Refused 15)
         unfolding Due
-        last-generation h = inr ((λ (bad : AllGood spec g (s .cells) pairs 0 (changesOf changes pairs) → ⊥). bad (told .0)), inr (within, inl (h, refl)))
+        last-generation h = inr (
+          (λ (bad : AllGood spec g (s .cells) pairs 0 (changesOf changes pairs) → ⊥). bad
+              (told .0)),
+          inr (within, inl (h, refl)),
+        )
 
-        pub list-fits : (s .generation ≡ 18446744073709551615 → ⊥) → VerdictBy (changeListCauses spec g s changes pairs) spec g s changes pairs (Fits (s .intervals - cur .before + cur .after))
+        pub list-fits : (s .generation ≡ 18446744073709551615 → ⊥)
+            → VerdictBy (changeListCauses spec g s changes pairs) spec g s changes pairs
+            (Fits (s .intervals - cur .before + cur .after))
         unfolding NoneDue
         list-fits h = (
           ((λ (bad : AllGood spec g (s .cells) pairs 0 (changesOf changes pairs) → ⊥). bad (told .0)), (within, (h, tt))),
@@ -79,7 +95,8 @@ module _ (spec : DexelStockSpec) (g : DexelGrid) (s : Stock) (changes : List ℕ
 
   -- ---- 12, 11, 14
   module _ (base : ℕ) where
-    pub too-short : isShort spec g (s .cells) ≡ true → VerdictBy (changeCauses spec g base s changes pairs) spec g s changes pairs (Refused 12)
+    pub too-short : isShort spec g (s .cells) ≡ true
+        → VerdictBy (changeCauses spec g base s changes pairs) spec g s changes pairs (Refused 12)
     unfolding Due
     too-short h = inl (h, refl)
 
@@ -87,11 +104,13 @@ module _ (spec : DexelStockSpec) (g : DexelGrid) (s : Stock) (changes : List ℕ
       not-short : isShort spec g (s .cells) ≡ true → ⊥
       not-short h = clash (isShort spec g (s .cells)) h long
 
-      pub unsound : ChangeInputBad spec g s changes pairs → VerdictBy (changeCauses spec g base s changes pairs) spec g s changes pairs (Refused 11)
+      pub unsound : ChangeInputBad spec g s changes pairs
+          → VerdictBy (changeCauses spec g base s changes pairs) spec g s changes pairs (Refused 11)
       unfolding Due
       unsound h = inr (not-short, inl (h, refl))
 
-      pub store-unsound : (r : Bool) → Decides (SoundStock spec g s) r → not r ≡ true → VerdictBy (changeCauses spec g base s changes pairs) spec g s changes pairs (Refused 11)
+      pub store-unsound : (r : Bool) → Decides (SoundStock spec g s) r → not r ≡ true
+          → VerdictBy (changeCauses spec g base s changes pairs) spec g s changes pairs (Refused 11)
       store-unsound r t h = unsound (inl (λ p. clash r (t .1 p) (not-true r h)))
 
       module _ (sound : SoundStock spec g s) (six : length changes % 6 ≡ 0) (two : length pairs % 2 ≡ 0) where
@@ -100,11 +119,14 @@ module _ (spec : DexelStockSpec) (g : DexelGrid) (s : Stock) (changes : List ℕ
         not-unsound (inr (inl h)) = h six
         not-unsound (inr (inr h)) = h two
 
-        pub other-base : (base ≡ s .generation → ⊥) → VerdictBy (changeCauses spec g base s changes pairs) spec g s changes pairs (Refused 14)
+        pub other-base : (base ≡ s .generation → ⊥)
+            → VerdictBy (changeCauses spec g base s changes pairs) spec g s changes pairs (Refused 14)
         unfolding Due
         other-base h = inr (not-short, inr (not-unsound, inl (h, refl)))
 
-        pub list-judged : base ≡ s .generation → (r : ChangeVerdict) → VerdictBy (changeListCauses spec g s changes pairs) spec g s changes pairs r → VerdictBy (changeCauses spec g base s changes pairs) spec g s changes pairs r
+        pub list-judged : base ≡ s .generation → (r : ChangeVerdict)
+            → VerdictBy (changeListCauses spec g s changes pairs) spec g s changes pairs r
+            → VerdictBy (changeCauses spec g base s changes pairs) spec g s changes pairs r
         unfolding Due NoneDue
         list-judged e (Refused k) d = inr (not-short, inr (not-unsound, inr ((λ (ne : base ≡ s .generation → ⊥). ne e), d)))
         list-judged e (Fits t) d = ((not-short, (not-unsound, ((λ (ne : base ≡ s .generation → ⊥). ne e), d .0))), d .1, d .2)

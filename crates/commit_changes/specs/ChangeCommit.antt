@@ -19,13 +19,16 @@ use Rattle.change_list.specs.Changes.{Change, changesOf, changeRay, AllGood, up
 
 -- the intervals after the changes
 abbrev pub intervalsAfter : DexelStockSpec → DexelGrid → Stock → List ℕ → List Float → ℕ
-intervalsAfter spec g s changes pairs = s .intervals - pairsFreed (spec .«max_intervals») (s .cells) (updatesIn g changes pairs) + pairsLaid (updatesIn g changes pairs)
+intervalsAfter spec g s changes pairs =
+    s .intervals - pairsFreed (spec .«max_intervals») (s .cells) (updatesIn g changes pairs)
+    + pairsLaid (updatesIn g changes pairs)
 
 -- 11: the store is not sound, or part of a change or of a pair is over
 abbrev pub ChangeInputBad : DexelStockSpec → DexelGrid → Stock → List ℕ → List Float → Type 0
 ChangeInputBad spec g s changes pairs = (SoundStock spec g s → ⊥) ⊎ ((length changes % 6 ≡ 0 → ⊥) ⊎ (length pairs % 2 ≡ 0 → ⊥))
 
--- of a sound store: 13 a change that `validate` turns away, or whose lists reach past the lent pairs; 10 intervals after the commit above `max_intervals`; 15 generation at its maximum
+-- of a sound store: 13 a change that `validate` turns away, or whose lists reach past the lent pairs; 10 intervals
+-- after the commit above `max_intervals`; 15 generation at its maximum
 abbrev pub changeListCauses : DexelStockSpec → DexelGrid → Stock → List ℕ → List Float → List Cause
 changeListCauses spec g s changes pairs =
     badCauses (AllGood spec g (s .cells) pairs 0 (changesOf changes pairs))
@@ -52,21 +55,30 @@ changedStock spec g s changes pairs =
       intervals = intervalsAfter spec g s changes pairs;
     }
 
--- what an accepted commit leaves: that stock, which is sound; a changed ray has the change's new lists, any other its own; the cells past the records and heads are kept
-pub record ChangesEffect (spec : DexelStockSpec) (g : DexelGrid) (changes : List ℕ) (pairs : List Float) (before after : Stock) : Type 0 where
+-- what an accepted commit leaves: that stock, which is sound; a changed ray has the change's new lists, any other its
+-- own; the cells past the records and heads are kept
+pub record ChangesEffect (spec : DexelStockSpec) (g : DexelGrid) (changes : List ℕ) (pairs : List Float)
+    (before after : Stock) : Type 0 where
   pub is : after ≡ changedStock spec g before changes pairs
   pub isSound : SoundStock spec g after
   pub changed-rays : (d : Change) → List·Memᴰ d (changesOf changes pairs)
-      → (rayList spec (after .cells) (changeRay g (d .axis) (d .index)) Possible ≡ d .possible-after) × (rayList spec (after .cells) (changeRay g (d .axis) (d .index)) Certain ≡ d .certain-after)
-  pub other-rays : (ray : ℕ) → ray < rayCount g → ((d : Change) → List·Memᴰ d (changesOf changes pairs) → ray ≡ changeRay g (d .axis) (d .index) → ⊥)
-      → (rayList spec (after .cells) ray Possible ≡ rayList spec (before .cells) ray Possible) × (rayList spec (after .cells) ray Certain ≡ rayList spec (before .cells) ray Certain)
+      → (rayList spec (after .cells) (changeRay g (d .axis) (d .index)) Possible ≡ d .possible-after)
+      × (rayList spec (after .cells) (changeRay g (d .axis) (d .index)) Certain ≡ d .certain-after)
+  pub other-rays : (ray : ℕ) → ray < rayCount g
+      → ((d : Change) → List·Memᴰ d (changesOf changes pairs) → ray ≡ changeRay g (d .axis) (d .index) → ⊥)
+      → (rayList spec (after .cells) ray Possible ≡ rayList spec (before .cells) ray Possible)
+      × (rayList spec (after .cells) ray Certain ≡ rayList spec (before .cells) ray Certain)
   pub kept : CellsPastKept (spec .«max_intervals») (2 * rayCount g) (before .cells) (after .cells)
 
 -- a refused call gives the number that is due and leaves the stock as it was; an accepted one, with no cause, answers how many rays changed
 abbrev pub ChangesPostBy : List Cause → DexelStockSpec → DexelGrid → List ℕ → List Float → (before after : Stock) → CommitAnswer → Type 0
 ChangesPostBy causes spec g changes pairs before after (Refused k) = Due causes k × (after ≡ before)
-ChangesPostBy causes spec g changes pairs before after (Changed n) = NoneDue causes × (n ≡ length changes / 6) × ChangesEffect spec g changes pairs before after
+ChangesPostBy causes spec g changes pairs before after (Changed n) = NoneDue causes × (n ≡ length changes / 6)
+    × ChangesEffect spec g changes pairs before after
 
 -- the change commit of document 01
-abbrev pub ChangesPost : DexelStockSpec → (units : List ℕ) → (base : ℕ) → List ℕ → List Float → (before after : Stock) → CommitAnswer → Type 0
-ChangesPost spec units base changes pairs before after answer = ChangesPostBy (changeCommitCauses spec units base before changes pairs) spec (gridIn spec) changes pairs before after answer
+abbrev pub ChangesPost : DexelStockSpec → (units : List ℕ) → (base : ℕ) → List ℕ → List Float → (before after : Stock)
+    → CommitAnswer → Type 0
+ChangesPost spec units base changes pairs before after answer =
+    ChangesPostBy (changeCommitCauses spec units base before changes pairs) spec (gridIn spec)
+    changes pairs before after answer

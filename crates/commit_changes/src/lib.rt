@@ -35,8 +35,11 @@ fn judge_list(
     changes: &[u64],
     pairs: &[f64],
 ) -> ChangeVerdict
-    requires { ⌜ Room (spec .«max_intervals») (2 * rayCount g) (cells (now spans) (now links) (now heads)) × SoundCells spec g (cells (now spans) (now links) (now heads)) intervals × (length (now pairs) % 2 ≡ 0) ⌝ }
-    ensures { λ r. ⌜ ListVerdict spec g (stock (now (spans .entry)) (now (links .entry)) (now (heads .entry)) generation intervals) (now (changes .entry)) (now (pairs .entry)) r ⌝ }
+    requires { ⌜ Room (spec .«max_intervals») (2 * rayCount g) (cells (now spans) (now links) (now heads))
+        × SoundCells spec g (cells (now spans) (now links) (now heads)) intervals × (length (now pairs) % 2 ≡ 0) ⌝ }
+    ensures { λ r. ⌜ ListVerdict spec g
+        (stock (now (spans .entry)) (now (links .entry)) (now (heads .entry)) generation intervals)
+        (now (changes .entry)) (now (pairs .entry)) r ⌝ }
 {
     let ChangeCheck::Next(cur) = change_list::check_changes(
         spec,
@@ -73,7 +76,9 @@ fn judge(
     pairs: &[f64],
 ) -> ChangeVerdict
     requires { ⌜ GridFacts spec g ⌝ }
-    ensures { λ r. ⌜ GridVerdict spec g base (stock (now (spans .entry)) (now (links .entry)) (now (heads .entry)) generation intervals) (now (changes .entry)) (now (pairs .entry)) r ⌝ }
+    ensures { λ r. ⌜ GridVerdict spec g base
+        (stock (now (spans .entry)) (now (links .entry)) (now (heads .entry)) generation intervals)
+        (now (changes .entry)) (now (pairs .entry)) r ⌝ }
 {
     if stock::is_short(spec, g, spans, links, heads) {
         return ChangeVerdict::Refused(12);
@@ -201,7 +206,8 @@ pub fn commit_changes(
 ) -> CommitAnswer
     ensures { λ r. ⌜ ChangesPost spec (now (units .entry)) base (now (changes .entry)) (now (pairs .entry))
         (stock (now (spans .entry)) (now (links .entry)) (now (heads .entry)) (now (tally .entry) .generation) (now (tally .entry) .intervals))
-        (stock (now (spans .exit)) (now (links .exit)) (now (heads .exit)) (now (tally .exit) .generation) (now (tally .exit) .intervals)) r ⌝ }
+        (stock (now (spans .exit)) (now (links .exit)) (now (heads .exit)) (now (tally .exit) .generation)
+        (now (tally .exit) .intervals)) r ⌝ }
 {
     let done = commit_changes_on(
         tally.generation,

@@ -86,17 +86,23 @@ module _ (spec : DexelStockSpec) (g : DexelGrid) (s : Stock) (log : List Float) 
 
   few-cells : isShort spec g (s .cells) ≡ true → LogBuffersShort spec g (lentStore spec g .lent s) (commitOf log allowance work)
   unfolding isShort LogBuffersShort
-  few-cells h = elim (or-cases (ltb (length (s .cells .spans) / 2) (spec .«max_intervals»)) (ltb (length (s .cells .links) / 2) (spec .«max_intervals») || ltb (length (s .cells .heads)) (2 * rayCount g)) h) [
-    | inl a ↦ inl (min-left (length (s .cells .spans) / 2) (length (s .cells .links) / 2) (spec .«max_intervals») (ltb-true _ _ a))
-    | inr b ↦ elim (or-cases (ltb (length (s .cells .links) / 2) (spec .«max_intervals»)) (ltb (length (s .cells .heads)) (2 * rayCount g)) b) [
-      | inl d ↦ inl (min-right (length (s .cells .spans) / 2) (length (s .cells .links) / 2) (spec .«max_intervals») (ltb-true _ _ d))
-      | inr d ↦ inr (inl (ltb-true _ _ d))
-    ]
-  ]
+  few-cells h = elim (or-cases (ltb (length (s .cells .spans) / 2) (spec .«max_intervals»))
+      (ltb (length (s .cells .links) / 2) (spec .«max_intervals») || ltb (length (s .cells .heads)) (2 * rayCount g)) h) [
+        | inl a ↦ inl (min-left (length (s .cells .spans) / 2) (length (s .cells .links) / 2) (spec .«max_intervals») (ltb-true _ _ a))
+        | inr b ↦ elim (or-cases (ltb (length (s .cells .links) / 2) (spec .«max_intervals»))
+            (ltb (length (s .cells .heads)) (2 * rayCount g)) b) [
+              | inl d ↦ inl (min-right (length (s .cells .spans) / 2) (length (s .cells .links) / 2)
+                  (spec .«max_intervals») (ltb-true _ _ d))
+              | inr d ↦ inr (inl (ltb-true _ _ d))
+            ]
+      ]
 
-  enough : Room (spec .«max_intervals») (2 * rayCount g) (s .cells) → workNeeded (spec .«max_intervals») log ≤ length work / 2 → ¬ LogBuffersShort spec g (lentStore spec g .lent s) (commitOf log allowance work)
+  enough : Room (spec .«max_intervals») (2 * rayCount g) (s .cells)
+      → workNeeded (spec .«max_intervals») log ≤ length work / 2
+      → ¬ LogBuffersShort spec g (lentStore spec g .lent s) (commitOf log allowance work)
   unfolding LogBuffersShort
-  enough room w (inl h) = min-both (length (s .cells .spans) / 2) (length (s .cells .links) / 2) (spec .«max_intervals») (omega (arith, room .in-spans)) (omega (arith, room .in-links)) h
+  enough room w (inl h) = min-both (length (s .cells .spans) / 2) (length (s .cells .links) / 2)
+      (spec .«max_intervals») (omega (arith, room .in-spans)) (omega (arith, room .in-links)) h
   enough room w (inr (inl h)) = omega (arith, room .in-heads)
   enough room w (inr (inr h)) = omega arith
 
@@ -110,7 +116,8 @@ module _ (spec : DexelStockSpec) (g : DexelGrid) (s : Stock) (log : List Float) 
   unfolding pointSets
   lists sound r k = record { isSound = lent-laws spec g .sound-list s sound r k; points = λ p. refl }
 
-  refused-by : (k : ℕ) → Due (stockLogCauses spec g s (commitOf log allowance work)) (suc k) → LogCheckPost spec g s log allowance work (suc k)
+  refused-by : (k : ℕ) → Due (stockLogCauses spec g s (commitOf log allowance work)) (suc k)
+      → LogCheckPost spec g s log allowance work (suc k)
   refused-by k d = record { passed = λ e. absurd (omega arith); due = λ ne. d }
 
   -- 12
@@ -118,17 +125,20 @@ module _ (spec : DexelStockSpec) (g : DexelGrid) (s : Stock) (log : List Float) 
   unfolding logCommitCauses Due
   short-due r e h = refused-by 11 (inl (few-cells (sym e ∙ h), refl))
 
-  pub work-due : (r : Bool) → r ≡ ltb (length work / 2) (workNeeded (spec .«max_intervals») log) → r ≡ true → LogCheckPost spec g s log allowance work 12
+  pub work-due : (r : Bool) → r ≡ ltb (length work / 2) (workNeeded (spec .«max_intervals») log) → r ≡ true
+      → LogCheckPost spec g s log allowance work 12
   unfolding logCommitCauses Due LogBuffersShort
   work-due r e h = refused-by 11 (inl (inr (inr (ltb-true _ _ (sym e ∙ h))), refl))
 
   pub room-of-test : (r : Bool) → r ≡ isShort spec g (s .cells) → r ≡ false → Room (spec .«max_intervals») (2 * rayCount g) (s .cells)
   room-of-test r e h = room-of spec g (s .cells) (sym e ∙ h)
 
-  pub work-of-test : (r : Bool) → r ≡ ltb (length work / 2) (workNeeded (spec .«max_intervals») log) → r ≡ false → workNeeded (spec .«max_intervals») log ≤ length work / 2
+  pub work-of-test : (r : Bool) → r ≡ ltb (length work / 2) (workNeeded (spec .«max_intervals») log) → r ≡ false
+      → workNeeded (spec .«max_intervals») log ≤ length work / 2
   work-of-test r e h = ltb-false _ _ (sym e ∙ h)
 
-  module _ (room : Room (spec .«max_intervals») (2 * rayCount g) (s .cells)) (w : workNeeded (spec .«max_intervals») log ≤ length work / 2) where
+  module _ (room : Room (spec .«max_intervals») (2 * rayCount g) (s .cells))
+      (w : workNeeded (spec .«max_intervals») log ≤ length work / 2) where
     -- 11
     pub part-due : (length log % 6 ≡ 0 → ⊥) → LogCheckPost spec g s log allowance work 11
     unfolding logCommitCauses Due LogInputBad
@@ -157,35 +167,65 @@ module _ (spec : DexelStockSpec) (g : DexelGrid) (s : Stock) (log : List Float) 
         named-of-test r t h = t .yes (not-false r h)
 
         module _ (named : EachNamed g log) where
-          same-rays : changedRayCount g (rayLists spec g (s .cells)) (entries log) ≡ changedRayCount g (rayLists spec g (s .cells)) (entries log)
+          same-rays : changedRayCount g (rayLists spec g (s .cells)) (entries log)
+              ≡ changedRayCount g (rayLists spec g (s .cells)) (entries log)
           same-rays = refl
 
           same-pairs : pairsAfter g (rayLists spec g (s .cells)) (entries log) ≡ pairsAfter g (rayLists spec g (s .cells)) (entries log)
           same-pairs = refl
 
           module _ (b : BudgetAnswer) (e : budgetNumber b ≡ budgetOf allowance (spec .«max_intervals»)
-              (changedRayCount g (rayLists spec g (s .cells)) (entries log)) (pairsAfter g (rayLists spec g (s .cells)) (entries log))) where
+              (changedRayCount g (rayLists spec g (s .cells)) (entries log))
+              (pairsAfter g (rayLists spec g (s .cells)) (entries log))) where
             -- 9
             pub rays-due : Doubles g (rayLists spec g (s .cells)) (entries log) → b ≡ Rays → LogCheckPost spec g s log allowance work 9
             unfolding logCommitCauses Due
             rays-due o h =
                 let t = rays-passed allowance (spec .«max_intervals») (changedRayCount g (rayLists spec g (s .cells)) (entries log))
                 (pairsAfter g (rayLists spec g (s .cells)) (entries log)) (sym (ap budgetNumber h) ∙ e) in
-                let d = rays-by spec g (lentStore spec g .lent s) (pointSets g (lentStore spec g) s) (rayLists spec g (s .cells)) (lists sound)
+                let d = rays-by spec g (lentStore spec g .lent s) (pointSets g (lentStore spec g) s)
+                (rayLists spec g (s .cells)) (lists sound)
                 (s .generation) (commitOf log allowance work) o in
-                refused-by 8 (inr (enough room w, inr (good whole sound, inr (below, inr (each-no g log named, inl (d .0 (ap (ltb allowance) (sym same-rays) ∙ t), refl))))))
+                refused-by 8 (inr (
+                  enough room w,
+                  inr (
+                    good whole sound,
+                    inr (
+                      below,
+                      inr (each-no g log named, inl (d .0 (ap (ltb allowance) (sym same-rays) ∙ t), refl)),
+                    ),
+                  ),
+                ))
 
             -- 10
-            pub intervals-due : Doubles g (rayLists spec g (s .cells)) (entries log) → b ≡ Intervals → LogCheckPost spec g s log allowance work 10
+            pub intervals-due : Doubles g (rayLists spec g (s .cells)) (entries log) → b ≡ Intervals
+                → LogCheckPost spec g s log allowance work 10
             unfolding logCommitCauses Due
             intervals-due o h =
                 let t = intervals-passed allowance (spec .«max_intervals») (changedRayCount g (rayLists spec g (s .cells)) (entries log))
                 (pairsAfter g (rayLists spec g (s .cells)) (entries log)) (sym (ap budgetNumber h) ∙ e) in
-                let d = rays-by spec g (lentStore spec g .lent s) (pointSets g (lentStore spec g) s) (rayLists spec g (s .cells)) (lists sound)
+                let d = rays-by spec g (lentStore spec g .lent s) (pointSets g (lentStore spec g) s)
+                (rayLists spec g (s .cells)) (lists sound)
                 (s .generation) (commitOf log allowance work) o in
-                let i = intervals-by spec g (lentStore spec g .lent s) (pointSets g (lentStore spec g) s) (rayLists spec g (s .cells)) (lists sound)
+                let i = intervals-by spec g (lentStore spec g .lent s) (pointSets g (lentStore spec g) s)
+                (rayLists spec g (s .cells)) (lists sound)
                 (s .generation) (commitOf log allowance work) o in
-                refused-by 9 (inr (enough room w, inr (good whole sound, inr (below, inr (each-no g log named, inr (d .1 (ap (ltb allowance) (sym same-rays) ∙ t .0), inl (i .0 (ap (ltb (spec .«max_intervals»)) (sym same-pairs) ∙ t .1), refl)))))))
+                refused-by 9 (inr (
+                  enough room w,
+                  inr (
+                    good whole sound,
+                    inr (
+                      below,
+                      inr (
+                        each-no g log named,
+                        inr (
+                          d .1 (ap (ltb allowance) (sym same-rays) ∙ t .0),
+                          inl (i .0 (ap (ltb (spec .«max_intervals»)) (sym same-pairs) ∙ t .1), refl),
+                        ),
+                      ),
+                    ),
+                  ),
+                ))
 
             -- none
             pub all-passed : s .generation < 2 ^ 64 → b ≡ Kept → LogCheckPost spec g s log allowance work 0
@@ -200,8 +240,11 @@ module _ (spec : DexelStockSpec) (g : DexelGrid) (s : Stock) (log : List Float) 
                     sound = sound;
                     below = under (s .generation) fits below;
                     named = named;
-                    few-rays = ltb-false allowance (changedRayCount g (rayLists spec g (s .cells)) (entries log)) (ap (ltb allowance) (sym same-rays) ∙ t .0);
-                    few-pairs = ltb-false (spec .«max_intervals») (pairsAfter g (rayLists spec g (s .cells)) (entries log)) (ap (ltb (spec .«max_intervals»)) (sym same-pairs) ∙ t .1);
+                    few-rays = ltb-false allowance (changedRayCount g (rayLists spec g (s .cells)) (entries log))
+                        (ap (ltb allowance) (sym same-rays) ∙ t .0);
+                    few-pairs = ltb-false (spec .«max_intervals»)
+                        (pairsAfter g (rayLists spec g (s .cells)) (entries log))
+                        (ap (ltb (spec .«max_intervals»)) (sym same-pairs) ∙ t .1);
                   };
                   due = λ ne. absurd (ne refl);
                 }
@@ -216,7 +259,8 @@ module _ (spec : DexelStockSpec) (g : DexelGrid) (s : Stock) (log : List Float) 
   passes-none o p =
       let d = rays-by spec g (lentStore spec g .lent s) (pointSets g (lentStore spec g) s) (rayLists spec g (s .cells)) (lists (p .sound))
       (s .generation) (commitOf log allowance work) o in
-      let i = intervals-by spec g (lentStore spec g .lent s) (pointSets g (lentStore spec g) s) (rayLists spec g (s .cells)) (lists (p .sound))
+      let i = intervals-by spec g (lentStore spec g .lent s) (pointSets g (lentStore spec g) s)
+      (rayLists spec g (s .cells)) (lists (p .sound))
       (s .generation) (commitOf log allowance work) o in (
         enough (p .room) (p .work-room),
         (
@@ -225,7 +269,14 @@ module _ (spec : DexelStockSpec) (g : DexelGrid) (s : Stock) (log : List Float) 
             (λ z. under (s .generation) (p .below) z),
             (
               each-no g log (p .named),
-              (d .1 (le-ltb allowance (changedRayCount g (rayLists spec g (s .cells)) (entries log)) (p .few-rays)), (i .1 (le-ltb (spec .«max_intervals») (pairsAfter g (rayLists spec g (s .cells)) (entries log)) (p .few-pairs)), tt)),
+              (
+                d .1 (le-ltb allowance (changedRayCount g (rayLists spec g (s .cells)) (entries log)) (p .few-rays)),
+                (
+                  i .1 (le-ltb (spec .«max_intervals») (pairsAfter g (rayLists spec g (s .cells)) (entries log))
+                      (p .few-pairs)),
+                  tt,
+                ),
+              ),
             ),
           ),
         ),

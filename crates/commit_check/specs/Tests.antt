@@ -18,7 +18,8 @@ use Rattle.log_entries.specs.Named.{EachNamed}
 use Rattle.store.specs.Steps.{Room}
 
 -- every test of the commit is passed
-pub record LogChecked (spec : DexelStockSpec) (g : DexelGrid) (s : Stock) (log : List Float) (allowance : ℕ) (work : List Float) : Type 0 where
+pub record LogChecked (spec : DexelStockSpec) (g : DexelGrid) (s : Stock) (log : List Float) (allowance : ℕ)
+    (work : List Float) : Type 0 where
   pub room : Room (spec .«max_intervals») (2 * rayCount g) (s .cells)
   pub work-room : workNeeded (spec .«max_intervals») log ≤ length work / 2
   pub whole : length log % 6 ≡ 0
@@ -30,9 +31,11 @@ pub record LogChecked (spec : DexelStockSpec) (g : DexelGrid) (s : Stock) (log :
 
 -- the causes of a log commit on a stock
 abbrev pub stockLogCauses : (spec : DexelStockSpec) (g : DexelGrid) → Stock → Commit → List Cause
-stockLogCauses spec g s c = logCommitCauses spec g (lentStore spec g .lent s) (¬ SoundStock spec g s) (pointSets g (lentStore spec g) s) (s .generation) c
+stockLogCauses spec g s c = logCommitCauses spec g (lentStore spec g .lent s) (¬ SoundStock spec g s)
+    (pointSets g (lentStore spec g) s) (s .generation) c
 
 -- the answer of all tests: 0 where each is passed, else the number that is due
-pub record LogCheckPost (spec : DexelStockSpec) (g : DexelGrid) (s : Stock) (log : List Float) (allowance : ℕ) (work : List Float) (r : ℕ) : Type 0 where
+pub record LogCheckPost (spec : DexelStockSpec) (g : DexelGrid) (s : Stock) (log : List Float) (allowance : ℕ)
+    (work : List Float) (r : ℕ) : Type 0 where
   pub passed : r ≡ 0 → LogChecked spec g s log allowance work
   pub due : (r ≡ 0 → ⊥) → Due (stockLogCauses spec g s (commitOf log allowance work)) r

@@ -19,7 +19,8 @@ fn is_work_short(n: usize, log: &[f64], work: &[f64]) -> bool
     work.len() / 2 < 6 * n + 18 * (log.len() / 6)
 }
 
-// Document 01's number of the first cause that is present, and 0 where there is none. It writes nothing, so that a refused commit leaves every cell.
+// Document 01's number of the first cause that is present, and 0 where there is none. It writes nothing, so that a
+// refused commit leaves every cell.
 pub fn refusal(
     spec: DexelStockSpec,
     g: DexelGrid,
@@ -33,7 +34,9 @@ pub fn refusal(
     work: &[f64],
 ) -> u32
     requires { ⌜ GridFacts spec g ⌝ }
-    ensures { λ r. ⌜ LogCheckPost spec g (stock (now (spans .entry)) (now (links .entry)) (now (heads .entry)) generation intervals) (now (log .entry)) allowance (now (work .entry)) r ⌝ }
+    ensures { λ r. ⌜ LogCheckPost spec g
+        (stock (now (spans .entry)) (now (links .entry)) (now (heads .entry)) generation intervals) (now (log .entry))
+        allowance (now (work .entry)) r ⌝ }
 {
     if stock::is_short(spec, g, spans, links, heads) {
         return 12;

@@ -35,7 +35,8 @@ use Rattle.grid.specs.Facts.{GridFacts}
 
 module _ (spec : DexelStockSpec) (g : DexelGrid) (s : Stock) (log : List Float) (allowance : ℕ) (work : List Float) where
   -- a refused commit
-  pub refuse : (k : ℕ) → LogCheckPost spec g s log allowance work k → (k ≡ 0 → ⊥) → LogCommitOnGrid spec g s log allowance work (Refused k) s work
+  pub refuse : (k : ℕ) → LogCheckPost spec g s log allowance work k → (k ≡ 0 → ⊥)
+      → LogCommitOnGrid spec g s log allowance work (Refused k) s work
   unfolding AnswerDue CommitEffect
   refuse k t ne = record { promise = record { answers = t .due ne; leaves = refl }; left = refl }
 
@@ -68,7 +69,11 @@ module _ (spec : DexelStockSpec) (g : DexelGrid) (s : Stock) (log : List Float) 
       left-is : record { cells = d; generation = s .generation + 1; intervals = total } ≡ committedStock spec s (done .updates)
       left-is =
           ap₂ (λ (x : Cells) (y : ℕ). record { cells = x; generation = y; intervals = total }) (done .left) (add-one (s .generation))
-          ∙ ap (λ (x : ℕ). record { cells = applied (spec .«max_intervals») (s .cells) (done .updates); generation = suc (s .generation); intervals = x }) number
+          ∙ ap (λ (x : ℕ). record {
+            cells = applied (spec .«max_intervals») (s .cells) (done .updates);
+            generation = suc (s .generation);
+            intervals = x;
+          }) number
         where
           number : total ≡ s .intervals - pairsFreed (spec .«max_intervals») (s .cells) (done .updates) + pairsLaid (done .updates)
           number =
@@ -77,7 +82,8 @@ module _ (spec : DexelStockSpec) (g : DexelGrid) (s : Stock) (log : List Float) 
               (cut-sound spec g s (passes .sound) (passes .room) (entries log) doubles (done .updates) m asked
               (passes .few-pairs) .store)
 
-      pub accept : LogCommitOnGrid spec g s log allowance work (Changed m) (record { cells = d; generation = s .generation + 1; intervals = total }) work′
+      pub accept : LogCommitOnGrid spec g s log allowance work (Changed m)
+          (record { cells = d; generation = s .generation + 1; intervals = total }) work′
       unfolding AnswerDue CommitEffect pointSets
       accept = record {
         promise = record {
@@ -102,7 +108,8 @@ module _ (spec : DexelStockSpec) (g : DexelGrid) (s : Stock) (log : List Float) 
 
 -- a description that `grid` accepts, and one that it refuses
 module _ (spec : DexelStockSpec) (units : List ℕ) (s : Stock) (log : List Float) (allowance : ℕ) (work : List Float) where
-  pub on-grid : (g : DexelGrid) (a : CommitAnswer) (t : Stock) (work′ : List Float) → gridOf spec units ≡ Griddable g → LogCommitOnGrid spec g s log allowance work a t work′ → LogCommitPost spec units s log allowance work a t work′
+  pub on-grid : (g : DexelGrid) (a : CommitAnswer) (t : Stock) (work′ : List Float) → gridOf spec units ≡ Griddable g
+      → LogCommitOnGrid spec g s log allowance work a t work′ → LogCommitPost spec units s log allowance work a t work′
   unfolding CommitOnAnyGrid
   on-grid g a t work′ e o = record {
     described = Griddable g;

@@ -27,7 +27,8 @@ answerOf (Refused k) = refused k
 
 -- An accepted commit leaves the stock with the log's updates done. The cells past the counted records and past the heads are as before, and
 -- the work buffer is all plus zero.
-pub record AcceptedCells (spec : DexelStockSpec) (g : DexelGrid) (s : Stock) (log work : List Float) (m : ℕ) (t : Stock) (work′ : List Float) : Type 0 where
+pub record AcceptedCells (spec : DexelStockSpec) (g : DexelGrid) (s : Stock) (log work : List Float) (m : ℕ)
+    (t : Stock) (work′ : List Float) : Type 0 where
   pub updates : List Update
   pub merges : MergeUpdates g (rayLists spec g (s .cells)) (entries log) 0 updates m
   pub left : t ≡ committedStock spec s updates
@@ -35,17 +36,20 @@ pub record AcceptedCells (spec : DexelStockSpec) (g : DexelGrid) (s : Stock) (lo
   pub cleared : work′ ≡ replicate (length work) plusZero
 
 -- a refused commit leaves the work buffer untouched; that it leaves the stock is in the promise
-abbrev pub LogCellsPost : (spec : DexelStockSpec) (g : DexelGrid) (s : Stock) (log work : List Float) → CommitAnswer → (t : Stock) (work′ : List Float) → Type 0
+abbrev pub LogCellsPost : (spec : DexelStockSpec) (g : DexelGrid) (s : Stock) (log work : List Float) → CommitAnswer
+    → (t : Stock) (work′ : List Float) → Type 0
 LogCellsPost spec g s log work (Changed m) t work′ = AcceptedCells spec g s log work m t work′
 LogCellsPost spec g s log work (Refused k) t work′ = work′ ≡ work
 
 -- the same, whatever the description is
-abbrev pub LogCellsOnAnyGrid : GridAnswer → (spec : DexelStockSpec) (s : Stock) (log work : List Float) → CommitAnswer → (t : Stock) (work′ : List Float) → Type 0
+abbrev pub LogCellsOnAnyGrid : GridAnswer → (spec : DexelStockSpec) (s : Stock) (log work : List Float) → CommitAnswer
+    → (t : Stock) (work′ : List Float) → Type 0
 LogCellsOnAnyGrid (Griddable g) spec s log work a t work′ = LogCellsPost spec g s log work a t work′
 LogCellsOnAnyGrid (NoGrid k) spec s log work a t work′ = work′ ≡ work
 
 -- THE LOG COMMIT: what a run of logs is made of, and every cell of every buffer
-pub record LogCommitPost (spec : DexelStockSpec) (units : List ℕ) (s : Stock) (log : List Float) (allowance : ℕ) (work : List Float) (a : CommitAnswer) (t : Stock) (work′ : List Float) : Type 0 where
+pub record LogCommitPost (spec : DexelStockSpec) (units : List ℕ) (s : Stock) (log : List Float) (allowance : ℕ)
+    (work : List Float) (a : CommitAnswer) (t : Stock) (work′ : List Float) : Type 0 where
   -- the answer of `grid`, by document 01's causes 1 to 4
   pub described : GridAnswer
   pub by : ByCauses spec units described

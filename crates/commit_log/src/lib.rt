@@ -25,7 +25,9 @@ fn commit_grid(
     work: &mut [f64],
 ) -> Outcome
     requires { ⌜ GridFacts spec g ⌝ }
-    ensures { λ r. ⌜ LogCommitOnGrid spec g (stock (now (spans .entry)) (now (links .entry)) (now (heads .entry)) generation intervals) (now (log .entry)) allowance (now (work .entry)) (r .answer)
+    ensures { λ r. ⌜ LogCommitOnGrid spec g
+        (stock (now (spans .entry)) (now (links .entry)) (now (heads .entry)) generation intervals) (now (log .entry))
+        allowance (now (work .entry)) (r .answer)
         (stock (now (spans .exit)) (now (links .exit)) (now (heads .exit)) (r .generation) (r .intervals)) (now (work .exit)) ⌝ }
 {
     let k = commit_check::refusal(
@@ -69,8 +71,12 @@ pub fn commit_log_on(
     allowance: u64,
     work: &mut [f64],
 ) -> Outcome
-    ensures { λ r. ⌜ LogCommitPost spec (now (units .entry)) (stock (now (spans .entry)) (now (links .entry)) (now (heads .entry)) generation intervals) (now (log .entry)) allowance
-        (now (work .entry)) (r .answer) (stock (now (spans .exit)) (now (links .exit)) (now (heads .exit)) (r .generation) (r .intervals)) (now (work .exit)) ⌝ }
+    ensures { λ r. ⌜ LogCommitPost spec (now (units .entry))
+        (stock (now (spans .entry)) (now (links .entry)) (now (heads .entry)) generation intervals) (now (log .entry))
+        allowance
+        (now (work .entry)) (r .answer)
+        (stock (now (spans .exit)) (now (links .exit)) (now (heads .exit)) (r .generation) (r .intervals))
+        (now (work .exit)) ⌝ }
 {
     match grid_from_spec::grid(spec, units) {
         GridAnswer::Accepted(g) => commit_grid(
@@ -105,8 +111,12 @@ pub fn commit_log(
     allowance: u64,
     work: &mut [f64],
 ) -> CommitAnswer
-    ensures { λ r. ⌜ LogCommitPost spec (now (units .entry)) (stock (now (spans .entry)) (now (links .entry)) (now (heads .entry)) (now (tally .entry) .generation) (now (tally .entry) .intervals))
-        (now (log .entry)) allowance (now (work .entry)) r (stock (now (spans .exit)) (now (links .exit)) (now (heads .exit)) (now (tally .exit) .generation) (now (tally .exit) .intervals)) (now (work .exit)) ⌝ }
+    ensures { λ r. ⌜ LogCommitPost spec (now (units .entry))
+        (stock (now (spans .entry)) (now (links .entry)) (now (heads .entry)) (now (tally .entry) .generation)
+        (now (tally .entry) .intervals))
+        (now (log .entry)) allowance (now (work .entry)) r
+        (stock (now (spans .exit)) (now (links .exit)) (now (heads .exit)) (now (tally .exit) .generation)
+        (now (tally .exit) .intervals)) (now (work .exit)) ⌝ }
 {
     let done = commit_log_on(
         tally.generation,

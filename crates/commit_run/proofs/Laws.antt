@@ -23,7 +23,19 @@ use Rattle.log_model.specs.Model.{LogAnswer, changed, refused, modelAfter}
 use Rattle.log_model.specs.Runs.{modelStart}
 use Rattle.log_model.specs.View.{lentStore, CommitOnAnyGrid}
 use Rattle.commit_log.specs.LogCommit.{answerOf, LogCellsOnAnyGrid}
-use Rattle.commit_run.specs.RunLogs.{commitsTo, answerBy, answersTo, answerCode, answerNumber, answered, CommitsTo, none, more, RunOnGridPost, RunLogsPost}
+use Rattle.commit_run.specs.RunLogs.{
+  commitsTo,
+  answerBy,
+  answersTo,
+  answerCode,
+  answerNumber,
+  answered,
+  CommitsTo,
+  none,
+  more,
+  RunOnGridPost,
+  RunLogsPost,
+}
 use Rattle.commit_run.proofs.Turns.{told-at}
 use Rattle.commit_run.specs.Refused.{AllRefused}
 use Rattle.grid.specs.Rays.{Ray}
@@ -32,7 +44,8 @@ use Rattle.grid.specs.Rays.{Ray}
 
 module _ (spec : DexelStockSpec) (units : List ℕ) (k : ℕ) (due : Due (gridCauses spec units) k) where
   -- one commit on it
-  refuses : (d : GridAnswer) (s t : Stock) (c : Commit) (a : LogAnswer) (log work work′ : List Float) (x : CommitAnswer) → ByCauses spec units d
+  refuses : (d : GridAnswer) (s t : Stock) (c : Commit) (a : LogAnswer) (log work work′ : List Float)
+      (x : CommitAnswer) → ByCauses spec units d
       → CommitOnAnyGrid d spec s c a t
       → LogCellsOnAnyGrid d spec s log work x t work′ → (a ≡ refused k) × (t ≡ s) × (work′ ≡ work)
   unfolding CommitOnAnyGrid

@@ -24,7 +24,23 @@ use Rattle.log_model.proofs.RunCorrect.{extend}
 use Rattle.log_model.proofs.Doubles.{DoubleCells, list-doubles}
 use Rattle.log_model.proofs.View.{demand3-lent}
 use Rattle.commit_log.specs.LogCommit.{answerOf}
-use Rattle.commit_run.specs.RunLogs.{beginOf, logFrom, commitAt, commitsTo, answerBy, answersTo, answerCode, answerNumber, answered, RunStepPost, CommitsTo, none, more, RunOnGridPost, RunLogsPost}
+use Rattle.commit_run.specs.RunLogs.{
+  beginOf,
+  logFrom,
+  commitAt,
+  commitsTo,
+  answerBy,
+  answersTo,
+  answerCode,
+  answerNumber,
+  answered,
+  RunStepPost,
+  CommitsTo,
+  none,
+  more,
+  RunOnGridPost,
+  RunLogsPost,
+}
 
 -- the two numbers of an answer tell it
 by-numbers : (a : CommitAnswer) → answerBy (answerCode a) (answerNumber a) ≡ answerOf a
@@ -36,9 +52,11 @@ pub told-at : (answers : List ℕ) (i : ℕ) (a : CommitAnswer) → 2 * i + 1 < 
     → answerBy (getD (answered answers i a) (2 * i) 0) (getD (answered answers i a) (2 * i + 1) 0) ≡ answerOf a
 told-at answers i a fits =
     let first : getD (answered answers i a) (2 * i) 0 ≡ answerCode a =
-    getD-set-other (set answers (2 * i) (answerCode a)) (2 * i + 1) (2 * i) (answerNumber a) 0 (λ (e : 2 * i ≡ 2 * i + 1). omega arith) ∙ getD-set-same answers (2 * i) (answerCode a) 0 (omega arith) in
+    getD-set-other (set answers (2 * i) (answerCode a)) (2 * i + 1) (2 * i) (answerNumber a) 0
+    (λ (e : 2 * i ≡ 2 * i + 1). omega arith) ∙ getD-set-same answers (2 * i) (answerCode a) 0 (omega arith) in
     let second : getD (answered answers i a) (2 * i + 1) 0 ≡ answerNumber a =
-    getD-set-same (set answers (2 * i) (answerCode a)) (2 * i + 1) (answerNumber a) 0 (omega (arith, length-set answers (2 * i) (answerCode a))) in
+    getD-set-same (set answers (2 * i) (answerCode a)) (2 * i + 1) (answerNumber a) 0
+    (omega (arith, length-set answers (2 * i) (answerCode a))) in
     ap₂ answerBy first second ∙ by-numbers a
 
 -- and the answers before it stay
@@ -47,14 +65,21 @@ unfolding answersTo
 told-before answers i a zero h = refl
 told-before answers i a (suc k) h =
     let same : (q : ℕ) → q < 2 * i → getD (answered answers i a) q 0 ≡ getD answers q 0 = λ q l.
-    getD-set-other (set answers (2 * i) (answerCode a)) (2 * i + 1) q (answerNumber a) 0 (λ (e : q ≡ 2 * i + 1). omega arith) ∙ getD-set-other answers (2 * i) q (answerCode a) 0 (λ (e : q ≡ 2 * i). omega arith) in
-    ap₂ (λ (l : List LogAnswer) (x : LogAnswer). l ++ (x ∷ [])) (told-before answers i a k (omega arith)) (ap₂ answerBy (same (2 * k) (omega arith)) (same (2 * k + 1) (omega arith)))
+    getD-set-other (set answers (2 * i) (answerCode a)) (2 * i + 1) q (answerNumber a) 0
+    (λ (e : q ≡ 2 * i + 1). omega arith)
+    ∙ getD-set-other answers (2 * i) q (answerCode a) 0 (λ (e : q ≡ 2 * i). omega arith) in
+    ap₂ (λ (l : List LogAnswer) (x : LogAnswer). l ++ (x ∷ [])) (told-before answers i a k (omega arith))
+    (ap₂ answerBy (same (2 * k) (omega arith)) (same (2 * k + 1) (omega arith)))
 
 -- the first i commits are run, the next log begins at cell `at`, and each buffer has its size
-pub record RunTo (spec : DexelStockSpec) (units : List ℕ) (s : Stock) (logs : List Float) (ends allowances : List ℕ) (work₀ : List Float) (answers₀ : List ℕ) (i : ℕ) (t : Stock) (at : ℕ) (work : List Float) (answers : List ℕ) : Type 0 where
+pub record RunTo (spec : DexelStockSpec) (units : List ℕ) (s : Stock) (logs : List Float) (ends allowances : List ℕ)
+    (work₀ : List Float) (answers₀ : List ℕ) (i : ℕ) (t : Stock) (at : ℕ) (work : List Float) (answers : List ℕ)
+    : Type 0 where
   pub most : i ≤ length ends
   pub begins : at ≡ beginOf ends i
-  pub run : NoneDue (gridCauses spec units) → Run spec (gridIn spec) (lentStore spec (gridIn spec)) s (commitsTo logs ends allowances (length work₀ / 2) i) (answersTo answers i) t
+  pub run : NoneDue (gridCauses spec units)
+      → Run spec (gridIn spec) (lentStore spec (gridIn spec)) s (commitsTo logs ends allowances (length work₀ / 2) i)
+      (answersTo answers i) t
   pub commits : CommitsTo spec units logs ends allowances s work₀ answers₀ i t work answers
   pub doubles : DoubleCells (t .cells .spans)
   pub spans-size : length (t .cells .spans) ≡ length (s .cells .spans)
@@ -81,12 +106,15 @@ run-start spec units s logs ends allowances work answers d = record {
 }
 
 -- a commit on a description without a cause is a step of a run
-on-grid : (spec : DexelStockSpec) (units : List ℕ) (d : GridAnswer) (s t : Stock) (c : Commit) (a : LogAnswer) → NoneDue (gridCauses spec units) → ByCauses spec units d → CommitOnAnyGrid d spec s c a t → CommitPromise spec (gridIn spec) (lentStore spec (gridIn spec)) s c a t
+on-grid : (spec : DexelStockSpec) (units : List ℕ) (d : GridAnswer) (s t : Stock) (c : Commit) (a : LogAnswer)
+    → NoneDue (gridCauses spec units) → ByCauses spec units d → CommitOnAnyGrid d spec s c a t
+    → CommitPromise spec (gridIn spec) (lentStore spec (gridIn spec)) s c a t
 unfolding CommitOnAnyGrid
 on-grid spec units (Accepted g) s t c a e b x = subst (λ (h : DexelGrid). CommitPromise spec h (lentStore spec h) s c a t) (b .1) x
 on-grid spec units (Refused k) s t c a e b x = absurd (none-due (gridCauses spec units) k e b)
 
-pub run-next : (spec : DexelStockSpec) (units : List ℕ) (s : Stock) (logs : List Float) (ends allowances : List ℕ) (work₀ : List Float) (answers₀ : List ℕ) (i : ℕ) (t : Stock) (at : ℕ) (work : List Float) (answers : List ℕ)
+pub run-next : (spec : DexelStockSpec) (units : List ℕ) (s : Stock) (logs : List Float) (ends allowances : List ℕ)
+    (work₀ : List Float) (answers₀ : List ℕ) (i : ℕ) (t : Stock) (at : ℕ) (work : List Float) (answers : List ℕ)
     (u : Stock) (work′ : List Float) (answers′ : List ℕ)
     → RunTo spec units s logs ends allowances work₀ answers₀ i t at work answers → i < length ends → 2 * length ends ≤ length answers₀
     → RunStepPost spec units t (logFrom logs at (getD ends i 0)) (getD allowances i 0) work answers i u work′ answers′
@@ -99,12 +127,19 @@ run-next spec units s logs ends allowances work₀ answers₀ i t at work answer
   most = omega arith;
   begins = begins;
   run = λ e.
-      subst (λ (vs : List LogAnswer). Run spec (gridIn spec) (lentStore spec (gridIn spec)) s (commitsTo logs ends allowances (length work₀ / 2) (i + 1)) vs u) (sym answers-are)
-      (subst (λ (k : ℕ). Run spec (gridIn spec) (lentStore spec (gridIn spec)) s (commitsTo logs ends allowances (length work₀ / 2) k) (answersTo answers i ++ (answerOf (x .answer) ∷ [])) u) one-more
-      (extend spec (gridIn spec) (lentStore spec (gridIn spec)) (r .run e) (on-grid spec units (x .commits .described) t u (commitAt logs ends allowances (length work₀ / 2) i) (answerOf (x .answer)) e (x .commits .by)
-      (subst (λ (c : Commit). CommitOnAnyGrid (x .commits .described) spec t c (answerOf (x .answer)) u) same-commit (x .commits .promise)))));
+      subst (λ (vs : List LogAnswer). Run spec (gridIn spec) (lentStore spec (gridIn spec)) s
+      (commitsTo logs ends allowances (length work₀ / 2) (i + 1)) vs u) (sym answers-are)
+      (subst (λ (k : ℕ). Run spec (gridIn spec) (lentStore spec (gridIn spec)) s
+      (commitsTo logs ends allowances (length work₀ / 2) k) (answersTo answers i ++ (answerOf (x .answer) ∷ []))
+      u) one-more
+      (extend spec (gridIn spec) (lentStore spec (gridIn spec)) (r .run e)
+      (on-grid spec units (x .commits .described) t u (commitAt logs ends allowances (length work₀ / 2) i)
+      (answerOf (x .answer)) e (x .commits .by)
+      (subst (λ (c : Commit). CommitOnAnyGrid (x .commits .described) spec t c (answerOf (x .answer)) u) same-commit
+      (x .commits .promise)))));
   commits = subst (λ (k : ℕ). CommitsTo spec units logs ends allowances s work₀ answers₀ k u work′ answers′) one-more
-      (more (r .commits) (subst (λ (b : ℕ). RunStepPost spec units t (logFrom logs b (getD ends i 0)) (getD allowances i 0) work answers i u work′ answers′) (r .begins) x));
+      (more (r .commits) (subst (λ (b : ℕ). RunStepPost spec units t (logFrom logs b (getD ends i 0))
+      (getD allowances i 0) work answers i u work′ answers′) (r .begins) x));
   doubles = d;
   spans-size = za ∙ r .spans-size;
   links-size = zb ∙ r .links-size;
@@ -120,7 +155,11 @@ run-next spec units s logs ends allowances work₀ answers₀ i t at work answer
     begins = ap (beginOf ends) one-more
 
     same-commit : commitOf (logFrom logs at (getD ends i 0)) (getD allowances i 0) work ≡ commitAt logs ends allowances (length work₀ / 2) i
-    same-commit = ap₂ (λ (b : ℕ) (w : ℕ). record { log = logFrom logs b (getD ends i 0); allowance = getD allowances i 0; work = w }) (r .begins) (ap (λ (n : ℕ). n / 2) (r .work-size))
+    same-commit = ap₂ (λ (b : ℕ) (w : ℕ). record {
+      log = logFrom logs b (getD ends i 0);
+      allowance = getD allowances i 0;
+      work = w;
+    }) (r .begins) (ap (λ (n : ℕ). n / 2) (r .work-size))
 
     fits : 2 * i + 1 < length answers
     fits = omega (arith, r .answers-size)
@@ -128,9 +167,11 @@ run-next spec units s logs ends allowances work₀ answers₀ i t at work answer
     answers-are : answersTo answers′ (i + 1) ≡ answersTo answers i ++ (answerOf (x .answer) ∷ [])
     answers-are =
         ap (answersTo answers′) (sym one-more) ∙ ap (λ (l : List ℕ). answersTo l (suc i)) (x .told)
-        ∙ ap₂ (λ (l : List LogAnswer) (v : LogAnswer). l ++ (v ∷ [])) (told-before answers i (x .answer) i (omega arith)) (told-at answers i (x .answer) fits)
+        ∙ ap₂ (λ (l : List LogAnswer) (v : LogAnswer). l ++ (v ∷ []))
+        (told-before answers i (x .answer) i (omega arith)) (told-at answers i (x .answer) fits)
 
-pub run-end : (spec : DexelStockSpec) (units : List ℕ) (s : Stock) (logs : List Float) (ends allowances : List ℕ) (work₀ : List Float) (answers₀ : List ℕ) (i : ℕ) (t : Stock) (at : ℕ) (work : List Float) (answers : List ℕ)
+pub run-end : (spec : DexelStockSpec) (units : List ℕ) (s : Stock) (logs : List Float) (ends allowances : List ℕ)
+    (work₀ : List Float) (answers₀ : List ℕ) (i : ℕ) (t : Stock) (at : ℕ) (work : List Float) (answers : List ℕ)
     → RunTo spec units s logs ends allowances work₀ answers₀ i t at work answers → length ends ≤ i
     → RunLogsPost spec units logs ends allowances s work₀ answers₀ t work answers
 unfolding RunOnGridPost
@@ -139,8 +180,14 @@ run-end spec units s logs ends allowances work₀ answers₀ i t at work answers
     record {
       commits = subst (λ (k : ℕ). CommitsTo spec units logs ends allowances s work₀ answers₀ k t work answers) all (r .commits);
       ran = λ e.
-          let run : Run spec (gridIn spec) (lentStore spec (gridIn spec)) s (commitsTo logs ends allowances (length work₀ / 2) (length ends)) (answersTo answers (length ends)) t =
-          subst (λ (k : ℕ). Run spec (gridIn spec) (lentStore spec (gridIn spec)) s (commitsTo logs ends allowances (length work₀ / 2) k) (answersTo answers k) t) all (r .run e) in
-          record { run = run; settled = λ sound. demand3-lent spec (gridIn spec) .settles s t (commitsTo logs ends allowances (length work₀ / 2) (length ends)) (answersTo answers (length ends)) sound run };
+          let run : Run spec (gridIn spec) (lentStore spec (gridIn spec)) s
+          (commitsTo logs ends allowances (length work₀ / 2) (length ends)) (answersTo answers (length ends)) t =
+          subst (λ (k : ℕ). Run spec (gridIn spec) (lentStore spec (gridIn spec)) s
+          (commitsTo logs ends allowances (length work₀ / 2) k) (answersTo answers k) t) all (r .run e) in
+          record {
+            run = run;
+            settled = λ sound. demand3-lent spec (gridIn spec) .settles s t
+                (commitsTo logs ends allowances (length work₀ / 2) (length ends)) (answersTo answers (length ends)) sound run;
+          };
       doubles = list-doubles spec t (r .doubles);
     }

@@ -1,5 +1,5 @@
--- A list of log commits as a caller lends it: the logs end to end in one slice, the cell where each ends, and each one's allowance. Two numbers
--- tell each answer: 0 and how many rays changed, or 1 and the refusal's number.
+-- A list of log commits as a caller lends it: the logs end to end in one slice, the cell where each ends, and each
+-- one's allowance. Two numbers tell each answer: 0 and how many rays changed, or 1 and the refusal's number.
 use mathlib.Core.Path.{_≡_}
 use mathlib.Core.List.{List, [], _∷_, _++_}
 use Prim.Native.Nat.{ℕ, zero, suc, _+_, _-_, _*_, _/_, _≤_, _<_}
@@ -37,7 +37,8 @@ logFrom logs at end = take (end - at) (drop at logs)
 
 -- commit i, with a work buffer of `work` pairs, and the first k commits
 abbrev pub commitAt : List Float → (ends allowances : List ℕ) → (work i : ℕ) → Commit
-commitAt logs ends allowances work i = record { log = logFrom logs (beginOf ends i) (getD ends i 0); allowance = getD allowances i 0; work = work }
+commitAt logs ends allowances work i =
+    record { log = logFrom logs (beginOf ends i) (getD ends i 0); allowance = getD allowances i 0; work = work }
 
 unfoldable pub commitsTo : List Float → (ends allowances : List ℕ) → (work k : ℕ) → List Commit
 commitsTo logs ends allowances work zero = []
@@ -65,18 +66,23 @@ abbrev pub answered : List ℕ → ℕ → CommitAnswer → List ℕ
 answered answers i a = set (set answers (2 * i) (answerCode a)) (2 * i + 1) (answerNumber a)
 
 -- one commit of the list, and its answer in its two cells
-pub record RunStepPost (spec : DexelStockSpec) (units : List ℕ) (s : Stock) (log : List Float) (allowance : ℕ) (work : List Float) (answers : List ℕ) (i : ℕ) (t : Stock) (work′ : List Float) (answers′ : List ℕ) : Type 0 where
+pub record RunStepPost (spec : DexelStockSpec) (units : List ℕ) (s : Stock) (log : List Float) (allowance : ℕ)
+    (work : List Float) (answers : List ℕ) (i : ℕ) (t : Stock) (work′ : List Float) (answers′ : List ℕ) : Type 0 where
   pub answer : CommitAnswer
   pub commits : LogCommitPost spec units s log allowance work answer t work′
   pub told : answers′ ≡ answered answers i answer
 
--- The first i commits one after the other, whatever the description is: each on the stock, the work buffer and the answers that the one before left
-pub data CommitsTo (spec : DexelStockSpec) (units : List ℕ) (logs : List Float) (ends allowances : List ℕ) (s : Stock) (work : List Float) (answers : List ℕ) : ℕ → Stock → List Float → List ℕ → Type 0 where
+-- The first i commits one after the other, whatever the description is: each on the stock, the work buffer and the
+-- answers that the one before left
+pub data CommitsTo (spec : DexelStockSpec) (units : List ℕ) (logs : List Float) (ends allowances : List ℕ) (s : Stock)
+    (work : List Float) (answers : List ℕ) : ℕ → Stock → List Float → List ℕ → Type 0 where
   none : CommitsTo spec units logs ends allowances s work answers 0 s work answers
   more : {i : ℕ} {t u : Stock} {w v : List Float} {ks ls : List ℕ} → CommitsTo spec units logs ends allowances s work answers i t w ks
-      → RunStepPost spec units t (logFrom logs (beginOf ends i) (getD ends i 0)) (getD allowances i 0) w ks i u v ls → CommitsTo spec units logs ends allowances s work answers (suc i) u v ls
+      → RunStepPost spec units t (logFrom logs (beginOf ends i) (getD ends i 0)) (getD allowances i 0) w ks i u v ls
+      → CommitsTo spec units logs ends allowances s work answers (suc i) u v ls
 
--- A list of log commits was run from the stock s to the stock t: it is a run of logs, and from a sound stock all that demand 3 says holds of it
+-- A list of log commits was run from the stock s to the stock t: it is a run of logs, and from a sound stock all that
+-- demand 3 says holds of it
 pub record RunPost (spec : DexelStockSpec) (g : DexelGrid) (s : Stock) (cs : List Commit) (vs : List LogAnswer) (t : Stock) : Type 0 where
   pub run : Run spec g (lentStore spec g) s cs vs t
   pub settled : SoundStock spec g s → RunMeetsModel spec g (lentStore spec g) s cs vs t
@@ -87,7 +93,8 @@ RunOnGridPost spec units s cs vs t = NoneDue (gridCauses spec units) → RunPost
 
 -- ALL OF A RUN: every cell of every buffer, commit by commit, and what demand 3 says of the whole. So a refused description leaves all but
 -- the answers (`refused-all` in proofs/Laws), and each list that is left is the only one of doubles with its points (`only-one` there).
-pub record RunLogsPost (spec : DexelStockSpec) (units : List ℕ) (logs : List Float) (ends allowances : List ℕ) (s : Stock) (work : List Float) (answers : List ℕ) (t : Stock) (work′ : List Float) (answers′ : List ℕ) : Type 0 where
+pub record RunLogsPost (spec : DexelStockSpec) (units : List ℕ) (logs : List Float) (ends allowances : List ℕ)
+    (s : Stock) (work : List Float) (answers : List ℕ) (t : Stock) (work′ : List Float) (answers′ : List ℕ) : Type 0 where
   pub commits : CommitsTo spec units logs ends allowances s work answers (length ends) t work′ answers′
   pub ran : RunOnGridPost spec units s (commitsTo logs ends allowances (length work / 2) (length ends)) (answersTo answers′ (length ends)) t
   -- each end of every list that is left is a double

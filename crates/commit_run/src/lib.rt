@@ -45,8 +45,12 @@ fn run_one(
     i: usize,
 ) -> Tally
     requires { ⌜ (at ≤ end) × (end ≤ length (now logs)) × (2 * i + 1 < length (now answers)) ⌝ }
-    ensures { λ r. ⌜ RunStepPost spec (now (units .entry)) (stock (now (spans .entry)) (now (links .entry)) (now (heads .entry)) (tally .generation) (tally .intervals)) (logFrom (now (logs .entry)) at end) allowance
-        (now (work .entry)) (now (answers .entry)) i (stock (now (spans .exit)) (now (links .exit)) (now (heads .exit)) (r .generation) (r .intervals)) (now (work .exit)) (now (answers .exit)) ⌝ }
+    ensures { λ r. ⌜ RunStepPost spec (now (units .entry))
+        (stock (now (spans .entry)) (now (links .entry)) (now (heads .entry)) (tally .generation) (tally .intervals))
+        (logFrom (now (logs .entry)) at end) allowance
+        (now (work .entry)) (now (answers .entry)) i
+        (stock (now (spans .exit)) (now (links .exit)) (now (heads .exit)) (r .generation) (r .intervals))
+        (now (work .exit)) (now (answers .exit)) ⌝ }
 {
     let done = commit_log::commit_log_on(
         tally.generation,
@@ -85,7 +89,8 @@ pub fn run_logs(
     requires { ⌜ Lends (now logs) (now ends) (now allowances) (now answers) ⌝ }
     ensures { λ r. ⌜ RunLogsPost spec (now (units .entry)) (now (logs .entry)) (now (ends .entry)) (now (allowances .entry))
         (stock (now (spans .entry)) (now (links .entry)) (now (heads .entry)) (tally .generation) (tally .intervals)) (now (work .entry)) (now (answers .entry))
-        (stock (now (spans .exit)) (now (links .exit)) (now (heads .exit)) (r .generation) (r .intervals)) (now (work .exit)) (now (answers .exit)) ⌝ }
+        (stock (now (spans .exit)) (now (links .exit)) (now (heads .exit)) (r .generation) (r .intervals))
+        (now (work .exit)) (now (answers .exit)) ⌝ }
 {
     let count = ends.len();
     let mut left = tally;

@@ -1,11 +1,13 @@
-// Replays recorded runs of commits, change lists and logs, on one store each: answers of camlib and document 01's refusals, read from standard input.
+// Replays recorded runs of commits, change lists and logs, on one store each: answers of camlib and document 01's
+// refusals, read from standard input.
 //
-// A row has 2890 bytes: 170 words of 16 hexadecimal digits, a space or the newline after each. oracle/harness/src/bin/record_commits.rs, which records
-// them, says what they are. A row starts a run or is one commit of it, on the store as the commits before left it. The answer, the small record and
-// every cell of the spans, the links, the heads and the work buffer are compared bit for bit, the cells that are not lent too. The commits are called
-// with the small record by value, as the C interface calls them.
-// For each entry it writes how many rows agree and how many differ, and how many runs were started, then how many rows can't be read, and the number
-// of the first row that differs.
+// A row has 2890 bytes: 170 words of 16 hexadecimal digits, a space or the newline after each.
+// oracle/harness/src/bin/record_commits.rs, which records them, says what they are. A row starts a run or is one
+// commit of it, on the store as the commits before left it. The answer, the small record and every cell of the spans,
+// the links, the heads and the work buffer are compared bit for bit, the cells that are not lent too. The commits are
+// called with the small record by value, as the C interface calls them. For each entry it writes how many rows agree
+// and how many differ, and how many runs were started, then how many rows can't be read, and the number of the first
+// row that differs.
 use stock::CommitAnswer;
 use vector_rows::RowCounts;
 use vector_rows::RowOutcome;
@@ -25,7 +27,8 @@ struct Shown {
     store: Store,
 }
 
-// Words 1, 3 to 11: the description; 15: the base generation; 16, 17: the cells of the changes and of the pairs; they stand from 94 and from 130 on.
+// Words 1, 3 to 11: the description; 15: the base generation; 16, 17: the cells of the changes and of the pairs; they
+// stand from 94 and from 130 on.
 fn changes_in(
     w: &[u64; 170],
     generation: u64,
@@ -113,7 +116,8 @@ fn store_agrees(w: &[u64; 170], spans: &[f64], links: &[u64], heads: &[u64]) -> 
     vector_rows::numbers_agree(heads, w, 82, 12)
 }
 
-// Words 18 to 21: the refusal, 0 for none, the changed rays, the generation and the interval total. An accepted log commit clears the work buffer.
+// Words 18 to 21: the refusal, 0 for none, the changed rays, the generation and the interval total. An accepted log
+// commit clears the work buffer.
 fn answer_agrees(w: &[u64; 170], o: stock::RowOutcome, work: &[f64]) -> bool {
     if o.generation != w[20] {
         return false;

@@ -2,7 +2,8 @@
 ghost use mathlib.Core.Path.{_≡_};
 ghost use Rattle.cutter.specs.Cutter.{isFinite, arcAt, cuttingRadius, offTool, shankDiameter, radiusAt, cutRadius, cutMax, cutMin};
 
-// Document 01's `CutterShape`: Bull has the corner radius, Drill the point angle, Chamfer the included angle and the tip diameter, Dovetail the flank angle.
+// Document 01's `CutterShape`: Bull has the corner radius, Drill the point angle, Chamfer the included angle and the
+// tip diameter, Dovetail the flank angle.
 pub enum CutterShape {
     Flat,
     Ball,

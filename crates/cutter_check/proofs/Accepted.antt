@@ -1,4 +1,5 @@
--- A tool within document 01's limits, whatever its shape: over the cutting part every section cuts, so that the neck and the shank have no part in `cut_radius`.
+-- A tool within document 01's limits, whatever its shape: over the cutting part every section cuts, so that the neck
+-- and the shank have no part in `cut_radius`.
 use mathlib.Core.Path.{_≡_, refl, ap}
 use mathlib.Core.Bool.{Bool, true, false, cond, _&&_, false≢true}
 use lib.Ieee.{Float, nan, inf, fin, ofBits, lt, le, eq}
@@ -37,7 +38,8 @@ clamped x lo hi n h = go (lt x lo) (lt hi x) refl refl
           below = not-lt→le hi x (le-number lo hi h .1) n q;
         }
 
-pub section-cuts : (shape : CutterShape) (c : PreparedCutter) (z : Float) → lengthsFit c ≡ true → Window plusZero (c .«cutting_length_mm») z → radiusAt shape c z ≡ Cutting (cuttingRadius shape c z)
+pub section-cuts : (shape : CutterShape) (c : PreparedCutter) (z : Float) → lengthsFit c ≡ true
+    → Window plusZero (c .«cutting_length_mm») z → radiusAt shape c z ≡ Cutting (cuttingRadius shape c z)
 unfolding lengthsFit radiusAt offTool
 section-cuts shape c z h w =
     let fits : le (c .«cutting_length_mm») (c .«overall_length_mm») ≡ true = and-left _ (le (c .«overall_length_mm») million) h in
@@ -46,14 +48,17 @@ section-cuts shape c z h w =
     rw (finite-between z (w .above) most, le→not-lt plusZero z (w .above), le→not-lt z (c .«overall_length_mm») top, w .below)
 
 -- for every shape, and for every height that is a number
-pub cut-radius-cuts : (shape : CutterShape) (c : PreparedCutter) (h : Float) → withinLimits shape c ≡ true → Number h → cutRadius shape c h ≡ cuttingRadius shape c (clampOf h plusZero (c .«cutting_length_mm»))
+pub cut-radius-cuts : (shape : CutterShape) (c : PreparedCutter) (h : Float) → withinLimits shape c ≡ true → Number h
+    → cutRadius shape c h ≡ cuttingRadius shape c (clampOf h plusZero (c .«cutting_length_mm»))
 unfolding withinLimits sizesFit aboveZero cutRadius
 cut-radius-cuts shape c h t n =
     let rest = lengthsFit c && (diametersFit c && shapeFits shape (c .slope)) in
     let sizes : sizesFit c ≡ true = and-left (sizesFit c) (heightsFit c && rest) t in
     let lengths : lengthsFit c ≡ true =
-    and-left (lengthsFit c) (diametersFit c && shapeFits shape (c .slope)) (and-right (heightsFit c) rest (and-right (sizesFit c) (heightsFit c && rest) t)) in
+    and-left (lengthsFit c) (diametersFit c && shapeFits shape (c .slope))
+    (and-right (heightsFit c) rest (and-right (sizesFit c) (heightsFit c && rest) t)) in
     let cutting : aboveZero (c .«cutting_length_mm») ≡ true =
-    and-left _ (aboveZero (c .radius)) (and-right (aboveZero (c .«diameter_mm»)) (aboveZero (c .«cutting_length_mm») && aboveZero (c .radius)) sizes) in
+    and-left _ (aboveZero (c .radius))
+    (and-right (aboveZero (c .«diameter_mm»)) (aboveZero (c .«cutting_length_mm») && aboveZero (c .radius)) sizes) in
     let length : le plusZero (c .«cutting_length_mm») ≡ true = lt→le _ _ (and-left _ (le (c .«cutting_length_mm») million) cutting) in
     ap radiusOf (section-cuts shape c _ lengths (clamped h plusZero (c .«cutting_length_mm») n length))

@@ -1,9 +1,19 @@
--- The floor of a finite double is the greatest whole number that is not above it (`floor-greatest`), and the ceiling the least that is not below it (`ceil-least`);
--- an infinity and a NaN come back as they are. Assumes nothing.
+-- The floor of a finite double is the greatest whole number that is not above it (`floor-greatest`), and the ceiling
+-- the least that is not below it (`ceil-least`); an infinity and a NaN come back as they are. Assumes nothing.
 use mathlib.Core.Path.{_≡_, refl, sym, ap, _∙_, subst}
 use mathlib.Core.Bool.{Bool, true, false, true≢false}
 use Prim.Native.Nat.{ℕ, _+_, _*_, _/_, _%_, _≤_, _<_, zero-le}
-use native.Mathlib.Nat.{le-trans, le-of-eq, mul-one, mul-right-comm, mul-le-mul-right, le-of-mul-le-mul-right, le-div-iff-mul-le, mul-mod-left, zero-mul}
+use native.Mathlib.Nat.{
+  le-trans,
+  le-of-eq,
+  mul-one,
+  mul-right-comm,
+  mul-le-mul-right,
+  le-of-mul-le-mul-right,
+  le-div-iff-mul-le,
+  mul-mod-left,
+  zero-mul,
+}
 use native.Mathlib.Omega.{arith}
 use lib.Dec.{T}
 use lib.IntN.{ℤ}
@@ -41,7 +51,8 @@ none a d D h = le-of-mul-le-mul-right (le-trans h (le-of-eq (sym (zero-mul d))))
 -- ---- every whole y that is at most x is at most w, where w is the whole number q
 
 module _ (w : Float) (q m : ℕ) (e : ℤ) where
-  under-positive : HasValue w false q 1 → ((c : ℕ) → c * down e ≤ m * up e → c ≤ q) → (y : Float) → Whole y → le y (fin false m e) ≡ true → le y w ≡ true
+  under-positive : HasValue w false q 1 → ((c : ℕ) → c * down e ≤ m * up e → c ≤ q) → (y : Float) → Whole y
+      → le y (fin false m e) ≡ true → le y w ≡ true
   under-positive h g nan v l = absurd v
   under-positive h g (inf t) v l = absurd v
   under-positive h g (fin t n d) v l = go w h t l
@@ -53,16 +64,21 @@ module _ (w : Float) (q m : ℕ) (e : ℤ) where
       is = exact-div (n * up d) (down d) v
 
       small : le (fin false n d) (fin false m e) ≡ true → c ≤ q
-      small k = g c (le-of-mul-le-mul-right (le-trans (le-of-eq (mul-right-comm c (down e) (down d) ∙ ap (λ (z : ℕ). z * down e) (sym is))) (le→side (fin false n d) (fin false m e) k)) (down-pos d))
+      small k = g c (le-of-mul-le-mul-right
+          (le-trans (le-of-eq (mul-right-comm c (down e) (down d) ∙ ap (λ (z : ℕ). z * down e) (sym is)))
+          (le→side (fin false n d) (fin false m e) k)) (down-pos d))
 
       go : (w : Float) → HasValue w false q 1 → (t : Bool) → le (fin t n d) (fin false m e) ≡ true → le (fin t n d) w ≡ true
       go nan h t k = absurd h
       go (inf s) h t k = absurd h
       go (fin true o j) h t k = absurd (true≢false (h .0))
       go (fin false o j) h true k = side→le (fin true n d) (fin false o j) (fin-number true n d) (fin-number false o j) zero-le
-      go (fin false o j) h false k = side→le (fin false n d) (fin false o j) (fin-number false n d) (fin-number false o j) (ordered (n * up d) c (down d) (o * up j) q (down j) is (h .1) (small k))
+      go (fin false o j) h false k =
+          side→le (fin false n d) (fin false o j) (fin-number false n d) (fin-number false o j)
+          (ordered (n * up d) c (down d) (o * up j) q (down j) is (h .1) (small k))
 
-  under-negative : HasValue w true q 1 → ((c : ℕ) → m * up e ≤ c * down e → q ≤ c) → (y : Float) → Whole y → le y (fin true m e) ≡ true → le y w ≡ true
+  under-negative : HasValue w true q 1 → ((c : ℕ) → m * up e ≤ c * down e → q ≤ c) → (y : Float) → Whole y
+      → le y (fin true m e) ≡ true → le y w ≡ true
   under-negative h g nan v l = absurd v
   under-negative h g (inf t) v l = absurd v
   under-negative h g (fin t n d) v l = go w h t l
@@ -74,13 +90,16 @@ module _ (w : Float) (q m : ℕ) (e : ℤ) where
       is = exact-div (n * up d) (down d) v
 
       large : le (fin true n d) (fin true m e) ≡ true → q ≤ c
-      large k = g c (le-of-mul-le-mul-right (le-trans (le→side (fin true n d) (fin true m e) k) (le-of-eq (ap (λ (z : ℕ). z * down e) is ∙ mul-right-comm c (down d) (down e)))) (down-pos d))
+      large k = g c (le-of-mul-le-mul-right
+          (le-trans (le→side (fin true n d) (fin true m e) k)
+          (le-of-eq (ap (λ (z : ℕ). z * down e) is ∙ mul-right-comm c (down d) (down e)))) (down-pos d))
 
       go : (w : Float) → HasValue w true q 1 → (t : Bool) → le (fin t n d) (fin true m e) ≡ true → le (fin t n d) w ≡ true
       go nan h t k = absurd h
       go (inf s) h t k = absurd h
       go (fin false o j) h t k = absurd (true≢false (sym (h .0)))
-      go (fin true o j) h true k = side→le (fin true n d) (fin true o j) (fin-number true n d) (fin-number true o j) (turned (n * up d) c (down d) (o * up j) q (down j) is (h .1) (large k))
+      go (fin true o j) h true k = side→le (fin true n d) (fin true o j) (fin-number true n d) (fin-number true o j)
+          (turned (n * up d) c (down d) (o * up j) q (down j) is (h .1) (large k))
       go (fin true o j) h false k =
           let both = le→side (fin false n d) (fin true m e) k in
           let y-zero = none (n * up d) (down e) (down-pos e) (left (n * up d * down e) (m * up e * down d) both) in
@@ -107,14 +126,16 @@ floor-greatest false m e t =
       double = unfold floorOf in round-fits binary64 false (m * up e / down e) 1;
       whole = value-whole (floorOf (fin false m e)) false (m * up e / down e) (floor-exact false m e t);
       below = floor-le (fin false m e) t (fin-number false m e);
-      greatest = under-positive (floorOf (fin false m e)) (m * up e / down e) m e (floor-exact false m e t) (λ c h. le-div-iff-mul-le (down-pos e) .1 h);
+      greatest = under-positive (floorOf (fin false m e)) (m * up e / down e) m e (floor-exact false m e t)
+          (λ c h. le-div-iff-mul-le (down-pos e) .1 h);
     }
 floor-greatest true m e t =
     record {
       double = unfold floorOf in round-fits binary64 true (ceilDiv (m * up e) (down e)) 1;
       whole = value-whole (floorOf (fin true m e)) true (ceilDiv (m * up e) (down e)) (floor-exact true m e t);
       below = floor-le (fin true m e) t (fin-number true m e);
-      greatest = under-negative (floorOf (fin true m e)) (ceilDiv (m * up e) (down e)) m e (floor-exact true m e t) (λ c h. ceil-below (m * up e) (down e) c (down-pos e) h);
+      greatest = under-negative (floorOf (fin true m e)) (ceilDiv (m * up e) (down e)) m e (floor-exact true m e t)
+          (λ c h. ceil-below (m * up e) (down e) c (down-pos e) h);
     }
 
 -- a whole number, negated
@@ -135,11 +156,13 @@ turn x r f =
       double = neg-fits binary64 r (f .double);
       whole = neg-whole r (f .whole);
       above = subst (λ (z : Float). le z (neg r) ≡ true) (neg-neg x) (le-neg (neg x) r ∙ f .below);
-      least = λ y v l. subst (λ (z : Float). le (neg r) z ≡ true) (neg-neg y) (le-neg r (neg y) ∙ f .greatest (neg y) (neg-whole y v) (le-neg y x ∙ l));
+      least = λ y v l. subst (λ (z : Float). le (neg r) z ≡ true) (neg-neg y)
+          (le-neg r (neg y) ∙ f .greatest (neg y) (neg-whole y v) (le-neg y x ∙ l));
     }
 
 pub ceil-least : (s : Bool) (m : ℕ) (e : ℤ) → T (fits binary64 (fin s m e)) → CeilOf (fin s m e) (ceilOf (fin s m e))
-ceil-least s m e t = subst (λ (r : Float). CeilOf (fin s m e) r) (ceil-is (fin s m e)) (turn (fin s m e) (floorOf (neg (fin s m e))) (floored s m e (neg-fits binary64 (fin s m e) t)))
+ceil-least s m e t = subst (λ (r : Float). CeilOf (fin s m e) r) (ceil-is (fin s m e))
+    (turn (fin s m e) (floorOf (neg (fin s m e))) (floored s m e (neg-fits binary64 (fin s m e) t)))
 
 -- an infinity and a NaN come back as they are
 pub inf-kept : (s : Bool) → (floorOf (inf s) ≡ inf s) × (ceilOf (inf s) ≡ inf s)

@@ -6,8 +6,9 @@ use lib.Ieee.{Float, binary64, isNan, toBits}
 use Rattle.doubles.specs.declared.Ordering.{Ordering}
 use Rattle.doubles.specs.declared.Ordering.the-variants.{Less, Equal, Greater}
 
--- The `total_cmp` order: Rust compares the bits as signed numbers, all but the sign flipped where the sign is set. This is that number, counted up from the lowest.
--- A NaN has no bits here. Every NaN counts as one, above all else, where Rust has a positive one with all digits set.
+-- The `total_cmp` order: Rust compares the bits as signed numbers, all but the sign flipped where the sign is set.
+-- This is that number, counted up from the lowest. A NaN has no bits here. Every NaN counts as one, above all else,
+-- where Rust has a positive one with all digits set.
 unfoldable pub keyOfBits : ℕ → ℕ
 keyOfBits b = cond (ltb b (2 ^ 63)) (b + 2 ^ 63) (2 ^ 64 - 1 - b)
 

@@ -1,5 +1,6 @@
--- A root from the root of its upper half (P. Zimmermann, Karatsuba Square Root, 1999), where the lower half of the radicand is zero: the root of m * B * B from the root s of m, for a B that is not above 2 s.
--- With (m - s * s) * B = 2 s * low + u and u < 2 s, it is s * B + low, or one less where low * low is above u * B. Assumes nothing.
+-- A root from the root of its upper half (P. Zimmermann, Karatsuba Square Root, 1999), where the lower half of the
+-- radicand is zero: the root of m * B * B from the root s of m, for a B that is not above 2 s. With (m - s * s) * B =
+-- 2 s * low + u and u < 2 s, it is s * B + low, or one less where low * low is above u * B. Assumes nothing.
 use mathlib.Core.Path.{_≡_, refl, sym, ap, subst}
 use Prim.Native.Nat.{ℕ, zero, suc, _+_, _-_, _*_, _≤_, _<_}
 use native.Mathlib.Nat.{le-trans, le-of-eq, mul-le-mul-right, mul-le-mul, le-of-mul-le-mul-right}
@@ -14,7 +15,8 @@ module _ (m B s low u : ℕ) (r : IsRoot m s) (pos : 0 < s) (wide : B ≤ 2 * s)
       whole : s * s ≤ m → m ≡ s * s + (m - s * s)
       whole h = omega arith
 
-      regroup : (d : ℕ) → m ≡ s * s + d → d * B * B ≡ (low * (s * 2) + u) * B → m * B * B + low * low ≡ (s * B + low) * (s * B + low) + u * B
+      regroup : (d : ℕ) → m ≡ s * s + d → d * B * B ≡ (low * (s * 2) + u) * B
+          → m * B * B + low * low ≡ (s * B + low) * (s * B + low) + u * B
       regroup d g h = subst (λ (x : ℕ). x * B * B + low * low ≡ (s * B + low) * (s * B + low) + u * B) (sym g) product
         where
           product : (s * s + d) * B * B + low * low ≡ (s * B + low) * (s * B + low) + u * B
@@ -41,7 +43,8 @@ module _ (m B s low u : ℕ) (r : IsRoot m s) (pos : 0 < s) (wide : B ≤ 2 * s)
       lower : m * B * B + low * low ≡ (s * B + low) * (s * B + low) + u * B → (s * B + low) * (s * B + low) ≤ m * B * B
       lower g = omega arith
 
-      upper : m * B * B + low * low ≡ (s * B + low) * (s * B + low) + u * B → suc u * B ≤ s * 2 * B → m * B * B < suc (s * B + low) * suc (s * B + low)
+      upper : m * B * B + low * low ≡ (s * B + low) * (s * B + low) + u * B → suc u * B ≤ s * 2 * B
+          → m * B * B < suc (s * B + low) * suc (s * B + low)
       upper g k = omega arith
 
   pub less : u * B < low * low → IsRoot (m * B * B) (s * B + low - 1)
@@ -55,7 +58,8 @@ module _ (m B s low u : ℕ) (r : IsRoot m s) (pos : 0 < s) (wide : B ≤ 2 * s)
 
       go : (c : ℕ) → low ≡ c → IsRoot (m * B * B) (s * B + low - 1)
       go zero z = absurd (none z)
-      go (suc c) z = subst (λ (x : ℕ). IsRoot (m * B * B) x) (sym taken) (lower equation small, upper equation (subst (λ (x : ℕ). u * B < x * x) z h))
+      go (suc c) z = subst (λ (x : ℕ). IsRoot (m * B * B) x) (sym taken)
+          (lower equation small, upper equation (subst (λ (x : ℕ). u * B < x * x) z h))
         where
           taken : s * B + low - 1 ≡ s * B + c
           taken = omega arith
@@ -67,8 +71,10 @@ module _ (m B s low u : ℕ) (r : IsRoot m s) (pos : 0 < s) (wide : B ≤ 2 * s)
           small : suc c * suc c ≤ 2 * s * B
           small = mul-le-mul (le-trans (le-of-eq (sym z)) (le-trans low-le wide)) (le-trans (le-of-eq (sym z)) low-le)
 
-          lower : m * B * B + suc c * suc c ≡ (s * B + suc c) * (s * B + suc c) + u * B → suc c * suc c ≤ 2 * s * B → (s * B + c) * (s * B + c) ≤ m * B * B
+          lower : m * B * B + suc c * suc c ≡ (s * B + suc c) * (s * B + suc c) + u * B → suc c * suc c ≤ 2 * s * B
+              → (s * B + c) * (s * B + c) ≤ m * B * B
           lower g k = omega arith
 
-          upper : m * B * B + suc c * suc c ≡ (s * B + suc c) * (s * B + suc c) + u * B → u * B < suc c * suc c → m * B * B < suc (s * B + c) * suc (s * B + c)
+          upper : m * B * B + suc c * suc c ≡ (s * B + suc c) * (s * B + suc c) + u * B → u * B < suc c * suc c
+              → m * B * B < suc (s * B + c) * suc (s * B + c)
           upper g k = omega arith

@@ -1,14 +1,66 @@
--- `squareRoot` of a positive finite value is the value of the format that is nearest to the exact root (`nearest-root`), in either format. Assumes nothing.
+-- `squareRoot` of a positive finite value is the value of the format that is nearest to the exact root
+-- (`nearest-root`), in either format. Assumes nothing.
 use mathlib.Core.Path.{_≡_, refl, sym, ap, _∙_, subst}
 use Prim.Native.Nat.{ℕ, zero, suc, _+_, _-_, _*_, _/_, _^_, _≤_, _<_, compare, Ordering, Ordering·lt, Ordering·eq, Ordering·gt}
-use native.Mathlib.Nat.{le-refl, le-trans, le-of-mul-le-mul-right, le-of-eq, le-of-lt, le-of-suc-le-suc, sub-add-cancel, lt-of-lt-of-le, lt-of-le-of-lt, lt-of-not-le, not-le-of-lt, lt-irrefl, mul-pos, mul-le-mul-right, mul-lt-mul-of-pos-right, lt-of-mul-lt-mul-right, mul-mul-mul-comm, mul-assoc, mul-one, one-mul, add-mul, mul-comm, mul-right-comm, zero-lt-suc, le-div-iff-mul-le, div-lt-iff-lt-mul, eq-of-mul-eq-mul-right, div-one, mul-div-cancel}
+use native.Mathlib.Nat.{
+  le-refl,
+  le-trans,
+  le-of-mul-le-mul-right,
+  le-of-eq,
+  le-of-lt,
+  le-of-suc-le-suc,
+  sub-add-cancel,
+  lt-of-lt-of-le,
+  lt-of-le-of-lt,
+  lt-of-not-le,
+  not-le-of-lt,
+  lt-irrefl,
+  mul-pos,
+  mul-le-mul-right,
+  mul-lt-mul-of-pos-right,
+  lt-of-mul-lt-mul-right,
+  mul-mul-mul-comm,
+  mul-assoc,
+  mul-one,
+  one-mul,
+  add-mul,
+  mul-comm,
+  mul-right-comm,
+  zero-lt-suc,
+  le-div-iff-mul-le,
+  div-lt-iff-lt-mul,
+  eq-of-mul-eq-mul-right,
+  div-one,
+  mul-div-cancel,
+}
 use native.Mathlib.Omega.{arith}
 use native.Mathlib.Decide.{decLe}
 use mathlib.Core.Bool.{true, false}
 use lib.IntN.{ℤ, pos, negsuc}
 use lib.Dec.{T, lit≤}
 use lib.Pow.{pow-add, pow-pos, pow-mono, pow-lt, shl-lt}
-use lib.Ieee.{Float, nan, inf, fin, Format, binary32, binary64, prec, emax, low, up, down, size, nearest, units, fits, hid, ofBits, toBits, le}
+use lib.Ieee.{
+  Float,
+  nan,
+  inf,
+  fin,
+  Format,
+  binary32,
+  binary64,
+  prec,
+  emax,
+  low,
+  up,
+  down,
+  size,
+  nearest,
+  units,
+  fits,
+  hid,
+  ofBits,
+  toBits,
+  le,
+}
 use lib.Ieee.Order.{le-of-values}
 use lib.Ieee.Bits.{ofBits-toBits}
 use lib.Ieee.Digits.{size-lt}
@@ -30,13 +82,19 @@ power-le : (a b : ℕ) → 2 ^ a ≤ 2 ^ b → a ≤ b
 power-le a b h = le-of-suc-le-suc (lt-of-not-le (λ (g : suc b ≤ a). lt-irrefl (2 ^ b) (lt-of-lt-of-le (pow-lt g) h)))
 
 value-shape : (f : Format) (m : ℕ) (e : ℤ) → m < 2 ^ prec f → down e ≤ 2 ^ low f → Shape f (m * up e * 2 ^ low f / down e)
-value-shape f m (pos k) h d = (m, k + low f, h, div-one (m * 2 ^ k * 2 ^ low f) ∙ mul-assoc m (2 ^ k) (2 ^ low f) ∙ ap (λ (x : ℕ). m * x) (sym (pow-add 2 k (low f))))
+value-shape f m (pos k) h d = (
+  m,
+  k + low f,
+  h,
+  div-one (m * 2 ^ k * 2 ^ low f) ∙ mul-assoc m (2 ^ k) (2 ^ low f) ∙ ap (λ (x : ℕ). m * x) (sym (pow-add 2 k (low f))),
+)
 value-shape f m (negsuc k) h d = (
   m,
   low f - suc k,
   h,
   ap (λ (x : ℕ). x * 2 ^ low f / 2 ^ suc k) (mul-one m)
-      ∙ ap (λ (x : ℕ). m * x / 2 ^ suc k) (ap (λ (x : ℕ). 2 ^ x) (sym (sub-add-cancel (power-le (suc k) (low f) d))) ∙ pow-add 2 (low f - suc k) (suc k))
+      ∙ ap (λ (x : ℕ). m * x / 2 ^ suc k)
+      (ap (λ (x : ℕ). 2 ^ x) (sym (sub-add-cancel (power-le (suc k) (low f) d))) ∙ pow-add 2 (low f - suc k) (suc k))
       ∙ ap (λ (x : ℕ). x / 2 ^ suc k) (sym (mul-assoc m (2 ^ (low f - suc k)) (2 ^ suc k)))
       ∙ mul-div-cancel (m * 2 ^ (low f - suc k)) (pow-pos (suc k)),
 )
@@ -63,7 +121,8 @@ no-value-between p M i k q Y P h e lo l = go (decLe k i)
     go : Dec (k ≤ i) → suc q * 2 ^ k ≤ Y
     go (yes g) =
         let Z = M * 2 ^ (i - k) in
-        let is : Y ≡ Z * 2 ^ k = e ∙ ap (λ (x : ℕ). M * 2 ^ x) (sym (back g)) ∙ ap (λ (x : ℕ). M * x) (pow-add 2 (i - k) k) ∙ sym (mul-assoc M (2 ^ (i - k)) (2 ^ k)) in
+        let is : Y ≡ Z * 2 ^ k = e ∙ ap (λ (x : ℕ). M * 2 ^ x) (sym (back g))
+        ∙ ap (λ (x : ℕ). M * x) (pow-add 2 (i - k) k) ∙ sym (mul-assoc M (2 ^ (i - k)) (2 ^ k)) in
         le-trans (mul-le-mul-right (2 ^ k) (lt-of-mul-lt-mul-right (2 ^ k) (lt-of-lt-of-le l (le-of-eq is)))) (le-of-eq (sym is))
     go (no n) =
         absurd (not-le-of-lt l
@@ -98,7 +157,10 @@ module _ (a Q0 Q1 Y : ℕ) (lower : Q0 * Q0 ≤ a) (upper : a < Q1 * Q1) (gap : 
               grows x = omega arith
 
   upper-beats : (Q0 + Q1) * (Q0 + Q1) < 4 * a → Beats a Q1 Y
-  upper-beats h = (λ l. lt-of-lt-of-le twice (square-le (Q1 + Q1) (Q1 + Y) (more l)), λ l. lt-of-le-of-lt (square-le (Q1 + Y) (Q0 + Q1) (less (under l))) h)
+  upper-beats h = (
+    λ l. lt-of-lt-of-le twice (square-le (Q1 + Q1) (Q1 + Y) (more l)),
+    λ l. lt-of-le-of-lt (square-le (Q1 + Y) (Q0 + Q1) (less (under l))) h,
+  )
     where
       more : Q1 < Y → Q1 + Q1 ≤ Q1 + Y
       more g = omega arith
@@ -113,7 +175,8 @@ module _ (a Q0 Q1 Y : ℕ) (lower : Q0 * Q0 ≤ a) (upper : a < Q1 * Q1) (gap : 
       less g = omega arith
 
 -- ---- no tie: a is a multiple of 4 ^ k, and an odd square is none of 4
-no-tie : (p M j k q a : ℕ) → 2 ≤ p → M < 2 ^ p → a ≡ M * 2 ^ j → 2 ^ (p - 1) ≤ q → q * 2 ^ k * (q * 2 ^ k) ≤ a → 4 * a ≡ (2 * q + 1) * 2 ^ k * ((2 * q + 1) * 2 ^ k) → ⊥
+no-tie : (p M j k q a : ℕ) → 2 ≤ p → M < 2 ^ p → a ≡ M * 2 ^ j → 2 ^ (p - 1) ≤ q → q * 2 ^ k * (q * 2 ^ k) ≤ a
+    → 4 * a ≡ (2 * q + 1) * 2 ^ k * ((2 * q + 1) * 2 ^ k) → ⊥
 no-tie p M j k q a P h e lo b t = go (decLe (k + k) j)
   where
     room : j < k + k → p + j ≤ p - 1 + k + (p - 1 + k)
@@ -131,7 +194,10 @@ no-tie p M j k q a P h e lo b t = go (decLe (k + k) j)
     go : Dec (k + k ≤ j) → ⊥
     go (yes g) =
         let N = M * 2 ^ (j - (k + k)) in
-        let is : a ≡ N * (2 ^ k * 2 ^ k) = e ∙ ap (λ (x : ℕ). M * 2 ^ x) (sym (back g)) ∙ ap (λ (x : ℕ). M * x) (pow-add 2 (j - (k + k)) (k + k) ∙ ap (λ (x : ℕ). 2 ^ (j - (k + k)) * x) (pow-add 2 k k)) ∙ sym (mul-assoc M (2 ^ (j - (k + k))) (2 ^ k * 2 ^ k)) in
+        let is : a ≡ N * (2 ^ k * 2 ^ k) = e ∙ ap (λ (x : ℕ). M * 2 ^ x) (sym (back g))
+        ∙ ap (λ (x : ℕ). M * x) (pow-add 2 (j - (k + k)) (k + k)
+        ∙ ap (λ (x : ℕ). 2 ^ (j - (k + k)) * x) (pow-add 2 k k))
+        ∙ sym (mul-assoc M (2 ^ (j - (k + k))) (2 ^ k * 2 ^ k)) in
         odd-square N
         (eq-of-mul-eq-mul-right (2 ^ k * 2 ^ k) (mul-pos (pow-pos k) (pow-pos k)) (4 * N) ((2 * q + 1) * (2 * q + 1))
         (mul-assoc 4 N (2 ^ k * 2 ^ k) ∙ ap (λ (x : ℕ). 4 * x) (sym is) ∙ t ∙ mul-mul-mul-comm (2 * q + 1) (2 ^ k) (2 * q + 1) (2 ^ k)))
@@ -154,7 +220,8 @@ power-lt : (a b : ℕ) → 2 ^ a < 2 ^ b → a < b
 power-lt a b h = lt-of-not-le (λ (g : b ≤ a). not-le-of-lt h (pow-mono g))
 
 -- ---- the root of X units, for an X above 0 that is a value's magnitude
-module _ (f : Format) (x : Float) (X : ℕ) (X-is : magnitude f x ≡ X) (X-pos : 0 < X) (X-shape : Shape f X) (X-under : X < 2 ^ (low f + suc (emax f))) where
+module _ (f : Format) (x : Float) (X : ℕ) (X-is : magnitude f x ≡ X) (X-pos : 0 < X) (X-shape : Shape f X)
+    (X-under : X < 2 ^ (low f + suc (emax f))) where
   abbrev p : ℕ
   p = prec f
 
@@ -177,7 +244,9 @@ module _ (f : Format) (x : Float) (X : ℕ) (X-is : magnitude f x ≡ X) (X-pos 
       (le-of-suc-le-suc
       (square-lt (2 ^ (p - 1)) (suc (wholeRoot a))
       (lt-of-le-of-lt
-      (le-trans (le-of-eq (sym (pow-add 2 (p - 1) (p - 1)))) (le-trans (pow-mono (digits-enough f)) (le-trans (le-of-eq (sym (one-mul (2 ^ low f)))) (mul-le-mul-right (2 ^ low f) X-pos))))
+      (le-trans (le-of-eq (sym (pow-add 2 (p - 1) (p - 1))))
+      (le-trans (pow-mono (digits-enough f))
+      (le-trans (le-of-eq (sym (one-mul (2 ^ low f)))) (mul-le-mul-right (2 ^ low f) X-pos))))
       (whole-root a .1))))
       (size-lt (wholeRoot a))))
     where
@@ -195,7 +264,8 @@ module _ (f : Format) (x : Float) (X : ℕ) (X-is : magnitude f x ≡ X) (X-pos 
       half
       (power-lt (p - 1 + k + (p - 1 + k)) (low f + suc (emax f) + low f)
       (lt-of-le-of-lt
-      (le-trans (le-of-eq (pow-add 2 (p - 1 + k) (p - 1 + k) ∙ ap (λ (z : ℕ). z * z) (pow-add 2 (p - 1) k))) (le-trans (square-le (2 ^ (p - 1) * 2 ^ k) (q * 2 ^ k) (mul-le-mul-right (2 ^ k) q-lo)) (bracket p a .0)))
+      (le-trans (le-of-eq (pow-add 2 (p - 1 + k) (p - 1 + k) ∙ ap (λ (z : ℕ). z * z) (pow-add 2 (p - 1) k)))
+      (le-trans (square-le (2 ^ (p - 1) * 2 ^ k) (q * 2 ^ k) (mul-le-mul-right (2 ^ k) q-lo)) (bracket p a .0)))
       (shl-lt (low f + suc (emax f)) (low f) X-under)))
       (two-exponents f)
     where
@@ -211,13 +281,16 @@ module _ (f : Format) (x : Float) (X : ℕ) (X-is : magnitude f x ≡ X) (X-pos 
   finish : (N : ℕ) → 0 < N → N ≤ 2 ^ p → ((Y : ℕ) → Shape f Y → Beats a (N * 2 ^ k) Y) → NearestRoot f x (units f false N k)
   finish N N-pos N-le beats =
       let r = units f false N k in
-      let l : N * 2 ^ k < 2 ^ (low f + suc (emax f)) = lt-of-le-of-lt (mul-le-mul-right (2 ^ k) N-le) (lt-of-le-of-lt (le-of-eq (sym (pow-add 2 p k))) (pow-lt in-range)) in
+      let l : N * 2 ^ k < 2 ^ (low f + suc (emax f)) =
+      lt-of-le-of-lt (mul-le-mul-right (2 ^ k) N-le)
+      (lt-of-le-of-lt (le-of-eq (sym (pow-add 2 p k))) (pow-lt in-range)) in
       let v : HasValue r false (N * 2 ^ k) (2 ^ low f) = units-val f false N k l in
       let b : (y : Float) → T (fits f y) → Beats (magnitude f x * 2 ^ low f) (magnitude f r) (magnitude f y) =
       λ y t. subst (λ (z : ℕ). Beats (z * 2 ^ low f) (magnitude f r) (magnitude f y)) (sym X-is)
       (subst (λ (z : ℕ). Beats a z (magnitude f y)) (sym (magnitude-at f r (N * 2 ^ k) v)) (beats (magnitude f y) (shape f y t))) in
       record {
-        holds = subst (λ (z : Float). T (fits f z)) (sym (units-is f N k l)) (odd-fits f (suc p) false N k (lt-of-le-of-lt N-le (pow-lt (le-refl (suc p)))) N-le l);
+        holds = subst (λ (z : Float). T (fits f z)) (sym (units-is f N k l))
+            (odd-fits f (suc p) false N k (lt-of-le-of-lt N-le (pow-lt (le-refl (suc p)))) N-le l);
         above-zero = positive-of-value r (N * 2 ^ k) (2 ^ low f) v (mul-pos N-pos (pow-pos k));
         nearer = λ y t. record { above = b y t .0; below = b y t .1 };
       }
@@ -225,32 +298,43 @@ module _ (f : Format) (x : Float) (X : ℕ) (X-is : magnitude f x ≡ X) (X-pos 
   gap : (Y : ℕ) → Shape f Y → q * 2 ^ k < Y → suc q * 2 ^ k ≤ Y
   gap Y s l = no-value-between p (s .0) (s .1) k q Y P (s .2) (s .3) q-lo l
 
-  by-order : (o : Ordering) → Compared o (4 * a) ((2 * q + 1) * 2 ^ k * ((2 * q + 1) * 2 ^ k)) → NearestRoot f x (units f false (nearest q o) k)
+  by-order : (o : Ordering) → Compared o (4 * a) ((2 * q + 1) * 2 ^ k * ((2 * q + 1) * 2 ^ k))
+      → NearestRoot f x (units f false (nearest q o) k)
   by-order Ordering·lt c =
       finish q q-pos (le-of-lt (kept-under p a))
-      (λ Y s. lower-beats a (q * 2 ^ k) (suc q * 2 ^ k) Y (bracket p a .0) (bracket p a .1) (gap Y s) (lt-of-lt-of-le c (le-of-eq (ap (λ (z : ℕ). z * z) (sym middle)))))
+      (λ Y s. lower-beats a (q * 2 ^ k) (suc q * 2 ^ k) Y (bracket p a .0) (bracket p a .1) (gap Y s)
+      (lt-of-lt-of-le c (le-of-eq (ap (λ (z : ℕ). z * z) (sym middle)))))
   by-order Ordering·gt c =
       finish (suc q) (lt-of-lt-of-le q-pos (le-of-lt (le-refl (suc q)))) (kept-under p a)
-      (λ Y s. upper-beats a (q * 2 ^ k) (suc q * 2 ^ k) Y (bracket p a .0) (bracket p a .1) (gap Y s) (lt-of-le-of-lt (le-of-eq (ap (λ (z : ℕ). z * z) middle)) c))
+      (λ Y s. upper-beats a (q * 2 ^ k) (suc q * 2 ^ k) Y (bracket p a .0) (bracket p a .1) (gap Y s)
+      (lt-of-le-of-lt (le-of-eq (ap (λ (z : ℕ). z * z) middle)) c))
   by-order Ordering·eq c =
       absurd (no-tie p (X-shape .0) (X-shape .1 + low f) k q a (two f) (X-shape .2)
-      (ap (λ (z : ℕ). z * 2 ^ low f) (X-shape .3) ∙ mul-assoc (X-shape .0) (2 ^ X-shape .1) (2 ^ low f) ∙ ap (λ (z : ℕ). X-shape .0 * z) (sym (pow-add 2 (X-shape .1) (low f))))
+      (ap (λ (z : ℕ). z * 2 ^ low f) (X-shape .3) ∙ mul-assoc (X-shape .0) (2 ^ X-shape .1) (2 ^ low f)
+      ∙ ap (λ (z : ℕ). X-shape .0 * z) (sym (pow-add 2 (X-shape .1) (low f))))
       q-lo (bracket p a .0) c)
 
   of-units : NearestRoot f x (rootOfUnits f X)
-  of-units = subst (λ (r : Float). NearestRoot f x r) (sym (root-is f X)) (by-order (compare (4 * a) ((2 * q + 1) * 2 ^ k * ((2 * q + 1) * 2 ^ k))) (compared (4 * a) ((2 * q + 1) * 2 ^ k * ((2 * q + 1) * 2 ^ k))))
+  of-units = subst (λ (r : Float). NearestRoot f x r) (sym (root-is f X))
+      (by-order (compare (4 * a) ((2 * q + 1) * 2 ^ k * ((2 * q + 1) * 2 ^ k)))
+      (compared (4 * a) ((2 * q + 1) * 2 ^ k * ((2 * q + 1) * 2 ^ k))))
 
 -- ---- the theorem
 -- the bounds of a value above zero that the format holds
-bounds : (f : Format) (m : ℕ) (e : ℤ) → T (fits f (fin false (suc m) e)) → (0 < magnitude f (fin false (suc m) e)) × (magnitude f (fin false (suc m) e) < 2 ^ (low f + suc (emax f)))
+bounds : (f : Format) (m : ℕ) (e : ℤ) → T (fits f (fin false (suc m) e)) → (0 < magnitude f (fin false (suc m) e))
+    × (magnitude f (fin false (suc m) e) < 2 ^ (low f + suc (emax f)))
 unfolding magnitude
 bounds f m e t =
     let h = held f false (suc m) e t in (
       le-div-iff-mul-le (down-pos e) .1
-          (le-trans (le-of-eq (one-mul (down e))) (le-trans (h .fine) (le-trans (le-of-eq (sym (one-mul (2 ^ low f)))) (mul-le-mul-right (2 ^ low f) (mul-pos (zero-lt-suc m) (up-pos e)))))),
+          (le-trans (le-of-eq (one-mul (down e)))
+          (le-trans (h .fine) (le-trans (le-of-eq (sym (one-mul (2 ^ low f))))
+          (mul-le-mul-right (2 ^ low f) (mul-pos (zero-lt-suc m) (up-pos e)))))),
       div-lt-iff-lt-mul (down-pos e) .1
           (lt-of-lt-of-le (mul-lt-mul-of-pos-right (h .under) (pow-pos (low f)))
-          (le-of-eq (mul-right-comm (2 ^ suc (emax f)) (down e) (2 ^ low f) ∙ ap (λ (z : ℕ). z * down e) (mul-comm (2 ^ suc (emax f)) (2 ^ low f) ∙ sym (pow-add 2 (low f) (suc (emax f))))))),
+          (le-of-eq (mul-right-comm (2 ^ suc (emax f)) (down e) (2 ^ low f)
+          ∙ ap (λ (z : ℕ). z * down e) (mul-comm (2 ^ suc (emax f)) (2 ^ low f)
+          ∙ sym (pow-add 2 (low f) (suc (emax f))))))),
     )
 
 pub nearest-root : (f : Format) (x : Float) → T (fits f x) → T (positive x) → NearestRoot f x (squareRoot f x)
@@ -266,7 +350,8 @@ nearest-root f (fin false (suc m) e) t h =
 
 -- ---- there is only one such value
 magnitudes : (f : Format) (x r s : Float) → NearestRoot f x r → NearestRoot f x s → magnitude f r < magnitude f s → ⊥
-magnitudes f x r s h k l = clash (magnitude f r) (magnitude f s) (4 * (magnitude f x * 2 ^ low f)) (h .nearer s (k .holds) .above l) (k .nearer r (h .holds) .below l)
+magnitudes f x r s h k l = clash (magnitude f r) (magnitude f s) (4 * (magnitude f x * 2 ^ low f))
+    (h .nearer s (k .holds) .above l) (k .nearer r (h .holds) .below l)
   where
     clash : (a b c : ℕ) → c < (a + b) * (a + b) → (b + a) * (b + a) < c → ⊥
     clash a b c u v = omega arith
@@ -279,7 +364,8 @@ by-magnitude f (fin false m e) (fin false n d) p q h = ap (λ (z : ℕ). 0 + (si
 pub nearest-unique : (f : Format) (x r s : Float) → NearestRoot f x r → NearestRoot f x s → r ≡ s
 nearest-unique f x r s h k =
     sym (ofBits-toBits f r (h .holds))
-    ∙ ap (λ (b : ℕ). ofBits f b) (by-magnitude f r s (h .above-zero) (k .above-zero) (same (magnitude f r) (magnitude f s) (magnitudes f x r s h k) (magnitudes f x s r k h)))
+    ∙ ap (λ (b : ℕ). ofBits f b) (by-magnitude f r s (h .above-zero) (k .above-zero)
+    (same (magnitude f r) (magnitude f s) (magnitudes f x r s h k) (magnitudes f x s r k h)))
     ∙ ofBits-toBits f s (k .holds)
   where
     same : (a b : ℕ) → (a < b → ⊥) → (b < a → ⊥) → a ≡ b
@@ -287,7 +373,8 @@ nearest-unique f x r s h k =
 
 -- ---- laws for callers
 -- The root grows with its argument: by magnitudes, and as values.
-pub root-mono : (f : Format) (x y : Float) → T (fits f x) → T (positive x) → T (fits f y) → T (positive y) → magnitude f x ≤ magnitude f y → magnitude f (squareRoot f x) ≤ magnitude f (squareRoot f y)
+pub root-mono : (f : Format) (x y : Float) → T (fits f x) → T (positive x) → T (fits f y) → T (positive y)
+    → magnitude f x ≤ magnitude f y → magnitude f (squareRoot f x) ≤ magnitude f (squareRoot f y)
 root-mono f x y s p t q h = le-of-suc-le-suc (lt-of-not-le contrary)
   where
     contrary : suc (magnitude f (squareRoot f y)) ≤ magnitude f (squareRoot f x) → ⊥
@@ -308,26 +395,39 @@ whole-units : (f : Format) (m : ℕ) (e : ℤ) → down e ≤ 2 ^ low f → m * 
 whole-units f m (pos k) d = multiple (m * 2 ^ k * 2 ^ low f) (m * 2 ^ k * 2 ^ low f) 1 (pow-pos 0) (sym (mul-one (m * 2 ^ k * 2 ^ low f)))
 whole-units f m (negsuc k) d =
     multiple (m * 1 * 2 ^ low f) (m * 1 * 2 ^ (low f - suc k)) (2 ^ suc k) (pow-pos (suc k))
-    (ap (λ (x : ℕ). m * 1 * x) (ap (λ (x : ℕ). 2 ^ x) (sym (sub-add-cancel (power-le (suc k) (low f) d))) ∙ pow-add 2 (low f - suc k) (suc k)) ∙ sym (mul-assoc (m * 1) (2 ^ (low f - suc k)) (2 ^ suc k)))
+    (ap (λ (x : ℕ). m * 1 * x) (ap (λ (x : ℕ). 2 ^ x) (sym (sub-add-cancel (power-le (suc k) (low f) d)))
+    ∙ pow-add 2 (low f - suc k) (suc k)) ∙ sym (mul-assoc (m * 1) (2 ^ (low f - suc k)) (2 ^ suc k)))
 
 in-units : (f : Format) (x : Float) → T (fits f x) → T (positive x) → HasValue x false (magnitude f x) (2 ^ low f)
 unfolding magnitude
 in-units f (fin false m e) t p = (refl, whole-units f m e (held f false m e t .fine))
 
-pub root-keeps-order : (f : Format) (x y : Float) → T (fits f x) → T (positive x) → T (fits f y) → T (positive y) → T (le x y) → T (le (squareRoot f x) (squareRoot f y))
+pub root-keeps-order : (f : Format) (x y : Float) → T (fits f x) → T (positive x) → T (fits f y) → T (positive y)
+    → T (le x y) → T (le (squareRoot f x) (squareRoot f y))
 root-keeps-order f x y s p t q h =
     let U = 2 ^ low f in
     let u = nearest-root f x s p in
     let v = nearest-root f y t q in
-    le-of-values (squareRoot f x) (squareRoot f y) (magnitude f (squareRoot f x)) U (magnitude f (squareRoot f y)) U (pow-pos (low f)) (pow-pos (low f))
+    le-of-values (squareRoot f x) (squareRoot f y) (magnitude f (squareRoot f x)) U (magnitude f (squareRoot f y)) U
+    (pow-pos (low f)) (pow-pos (low f))
     (in-units f (squareRoot f x) (u .holds) (u .above-zero)) (in-units f (squareRoot f y) (v .holds) (v .above-zero))
-    (mul-le-mul-right U (root-mono f x y s p t q (le-of-mul-le-mul-right (values-of-le x y (magnitude f x) U (magnitude f y) U p q (in-units f x s p) (in-units f y t q) h) (pow-pos (low f)))))
+    (mul-le-mul-right U (root-mono f x y s p t q
+    (le-of-mul-le-mul-right (values-of-le x y (magnitude f x) U (magnitude f y) U p q (in-units f x s p)
+    (in-units f y t q) h) (pow-pos (low f)))))
 
 -- Where x is the square of a value r of the format, its root is r.
-pub root-of-square : (f : Format) (x r : Float) → T (fits f x) → T (positive x) → T (fits f r) → T (positive r) → magnitude f x * 2 ^ low f ≡ magnitude f r * magnitude f r → squareRoot f x ≡ r
+pub root-of-square : (f : Format) (x r : Float) → T (fits f x) → T (positive x) → T (fits f r) → T (positive r)
+    → magnitude f x * 2 ^ low f ≡ magnitude f r * magnitude f r → squareRoot f x ≡ r
 root-of-square f x r s p t q e =
     nearest-unique f x (squareRoot f x) r (nearest-root f x s p)
-    (record { holds = t; above-zero = q; nearer = λ y u. record { above = above (magnitude f r) (magnitude f y) (magnitude f x * 2 ^ low f) e; below = below (magnitude f r) (magnitude f y) (magnitude f x * 2 ^ low f) e } })
+    (record {
+      holds = t;
+      above-zero = q;
+      nearer = λ y u. record {
+        above = above (magnitude f r) (magnitude f y) (magnitude f x * 2 ^ low f) e;
+        below = below (magnitude f r) (magnitude f y) (magnitude f x * 2 ^ low f) e;
+      };
+    })
   where
     above : (R Y a : ℕ) → a ≡ R * R → R < Y → 4 * a < (R + Y) * (R + Y)
     above R Y a g l = lt-of-lt-of-le (step g) (square-le (suc (R + R)) (R + Y) (sum l))

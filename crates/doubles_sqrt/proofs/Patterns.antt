@@ -1,8 +1,28 @@
--- Bit patterns of the positive finite values: how large the value is in units, its root by that number, and the pattern of a rounded root. Assumes nothing.
+-- Bit patterns of the positive finite values: how large the value is in units, its root by that number, and the
+-- pattern of a rounded root. Assumes nothing.
 use mathlib.Core.Path.{_≡_, refl, sym, ap, _∙_, subst}
 use mathlib.Core.Logic.{_⊎_, inl, inr}
 use Prim.Native.Nat.{ℕ, zero, suc, _+_, _-_, _*_, _/_, _%_, _^_, _≤_, _<_}
-use native.Mathlib.Nat.{le-trans, le-of-eq, le-refl, lt-of-lt-of-le, lt-of-le-of-lt, not-le-of-lt, lt-irrefl, eq-or-lt-of-le, mod-eq-of-lt, zero-add, zero-mul, mul-assoc, mul-comm, mul-pos, mul-le-mul-right, mul-lt-mul-of-pos-right, mul-div-cancel, pow-succ'}
+use native.Mathlib.Nat.{
+  le-trans,
+  le-of-eq,
+  le-refl,
+  lt-of-lt-of-le,
+  lt-of-le-of-lt,
+  not-le-of-lt,
+  lt-irrefl,
+  eq-or-lt-of-le,
+  mod-eq-of-lt,
+  zero-add,
+  zero-mul,
+  mul-assoc,
+  mul-comm,
+  mul-pos,
+  mul-le-mul-right,
+  mul-lt-mul-of-pos-right,
+  mul-div-cancel,
+  pow-succ',
+}
 use native.Mathlib.Omega.{arith}
 use mathlib.Core.Bool.{Bool, true, false, cond, true≢false}
 use lib.IntN.{ℤ}
@@ -30,10 +50,13 @@ unfolding squareRoot
 root-at f nan X P h = absurd h
 root-at f (inf s) X P h = absurd h
 root-at f (fin true m e) X P h = absurd (true≢false (h .0))
-root-at f (fin false zero e) X P h = absurd (lt-irrefl 0 (subst (λ (x : ℕ). 0 < x) (sym (h .1) ∙ ap (λ (x : ℕ). x * 2 ^ low f) (zero-mul (up e)) ∙ zero-mul (2 ^ low f)) (mul-pos P (down-pos e))))
+root-at f (fin false zero e) X P h =
+    absurd (lt-irrefl 0 (subst (λ (x : ℕ). 0 < x)
+    (sym (h .1) ∙ ap (λ (x : ℕ). x * 2 ^ low f) (zero-mul (up e)) ∙ zero-mul (2 ^ low f)) (mul-pos P (down-pos e))))
 root-at f (fin false (suc m) e) X P h = ap (λ (x : ℕ). rootOfUnits f x) (units-of f false (suc m) e X (h .1))
 
-bits-at : (f : Format) (v : Float) (X : ℕ) → HasValue v false X (2 ^ low f) → toBits f v ≡ (size X - prec f) * hid f + X / 2 ^ (size X - prec f)
+bits-at : (f : Format) (v : Float) (X : ℕ) → HasValue v false X (2 ^ low f)
+    → toBits f v ≡ (size X - prec f) * hid f + X / 2 ^ (size X - prec f)
 unfolding toBits
 bits-at f nan X h = absurd h
 bits-at f (inf s) X h = absurd h
@@ -87,9 +110,11 @@ written p q h P lo hi = go (eq-or-lt-of-le hi)
     go (inl e) =
         let X = q * 2 ^ h in
         let is : X ≡ 2 ^ (p + h) = ap (λ (x : ℕ). x * 2 ^ h) e ∙ sym (pow-add 2 p h) in
-        let z : size X - p ≡ suc h = more (size X) (size-exact X (p + h) (le-of-eq (sym is)) (lt-of-le-of-lt (le-of-eq is) (pow-lt (le-refl (suc (p + h)))))) in
+        let z : size X - p ≡ suc h = more (size X)
+        (size-exact X (p + h) (le-of-eq (sym is)) (lt-of-le-of-lt (le-of-eq is) (pow-lt (le-refl (suc (p + h)))))) in
         let cut : X / 2 ^ suc h ≡ 2 ^ (p - 1) =
-        ap (λ (x : ℕ). x / 2 ^ suc h) (ap (λ (x : ℕ). x * 2 ^ h) (e ∙ top) ∙ mul-assoc (2 ^ (p - 1)) 2 (2 ^ h) ∙ ap (λ (x : ℕ). 2 ^ (p - 1) * x) (sym (pow-succ' 2 h)))
+        ap (λ (x : ℕ). x / 2 ^ suc h) (ap (λ (x : ℕ). x * 2 ^ h) (e ∙ top) ∙ mul-assoc (2 ^ (p - 1)) 2 (2 ^ h)
+        ∙ ap (λ (x : ℕ). 2 ^ (p - 1) * x) (sym (pow-succ' 2 h)))
         ∙ mul-div-cancel (2 ^ (p - 1)) (pow-pos (suc h)) in
         carried (pattern p X (size X)) (h * 2 ^ (p - 1) + q) (2 ^ (p - 1))
         (ap (λ (k : ℕ). k * 2 ^ (p - 1) + X / 2 ^ k) z ∙ ap (λ (x : ℕ). suc h * 2 ^ (p - 1) + x) cut)
@@ -99,20 +124,24 @@ pub units-bits : (f : Format) (q h : ℕ) → 0 < prec f → 2 ^ (prec f - 1) �
     → units f false q h ≡ ofBits f (h * hid f + q)
 units-bits f q h P lo hi b =
     let v = odd (suc (prec f)) false q h (low f) in
-    let l : q * 2 ^ h < 2 ^ (low f + suc (emax f)) = lt-of-le-of-lt (mul-le-mul-right (2 ^ h) hi) (lt-of-le-of-lt (le-of-eq (sym (pow-add 2 (prec f) h))) (pow-lt b)) in
+    let l : q * 2 ^ h < 2 ^ (low f + suc (emax f)) =
+    lt-of-le-of-lt (mul-le-mul-right (2 ^ h) hi) (lt-of-le-of-lt (le-of-eq (sym (pow-add 2 (prec f) h))) (pow-lt b)) in
     units-is f q h l
     ∙ sym (ofBits-toBits f v (odd-fits f (suc (prec f)) false q h (lt-of-le-of-lt hi (pow-lt (le-refl (suc (prec f))))) hi l))
     ∙ ap (λ (x : ℕ). ofBits f x) (bits-at f v (q * 2 ^ h) (odd-sign (suc (prec f)) false q h (low f)) ∙ written (prec f) q h P lo hi)
 
 -- ---- the value of a binary64 pattern that is positive and finite: 0x7ff0_0000_0000_0000 is the infinity's
-pub ofBits-is : (b : ℕ) → ofBits binary64 b ≡ ofFields binary64 (leb 0x8000_0000_0000_0000 b) (b % 0x8000_0000_0000_0000 / 0x10_0000_0000_0000) (b % 0x10_0000_0000_0000)
+pub ofBits-is : (b : ℕ) → ofBits binary64 b
+    ≡ ofFields binary64 (leb 0x8000_0000_0000_0000 b) (b % 0x8000_0000_0000_0000 / 0x10_0000_0000_0000)
+    (b % 0x10_0000_0000_0000)
 unfolding ofBits
 ofBits-is b = refl
 
 under-ones : (t x : ℕ) → suc x < 2047 → ofFields binary64 false (suc x) t ≡ odd 53 false (0x10_0000_0000_0000 + t) x 1074
 unfolding ofFields
 under-ones t x h =
-    cond-no (eqb (suc x) 2047) (cond (eqb t 0) (inf false) nan) (odd 53 false (0x10_0000_0000_0000 + t) x 1074) (not-T (eqb (suc x) 2047) (λ (u : T (eqb (suc x) 2047)). differ (eqb→eq (suc x) 2047 u)))
+    cond-no (eqb (suc x) 2047) (cond (eqb t 0) (inf false) nan) (odd 53 false (0x10_0000_0000_0000 + t) x 1074)
+    (not-T (eqb (suc x) 2047) (λ (u : T (eqb (suc x) 2047)). differ (eqb→eq (suc x) 2047 u)))
   where
     differ : suc x ≡ 2047 → ⊥
     differ e = omega arith
@@ -124,18 +153,23 @@ at-zero t = refl
 small : (b : ℕ) → b < 0x7ff0_0000_0000_0000 → b < 0x8000_0000_0000_0000
 small b h = omega arith
 
-positive-fields : (b : ℕ) → b < 0x7ff0_0000_0000_0000 → ofBits binary64 b ≡ ofFields binary64 false (b / 0x10_0000_0000_0000) (b % 0x10_0000_0000_0000)
+positive-fields : (b : ℕ) → b < 0x7ff0_0000_0000_0000
+    → ofBits binary64 b ≡ ofFields binary64 false (b / 0x10_0000_0000_0000) (b % 0x10_0000_0000_0000)
 positive-fields b h =
     ofBits-is b
     ∙ ap (λ (s : Bool). ofFields binary64 s (b % 0x8000_0000_0000_0000 / 0x10_0000_0000_0000) (b % 0x10_0000_0000_0000))
-    (is-false (leb 0x8000_0000_0000_0000 b) (not-T (leb 0x8000_0000_0000_0000 b) (λ (u : T (leb 0x8000_0000_0000_0000 b)). not-le-of-lt (small b h) (leb→le 0x8000_0000_0000_0000 b u))))
+    (is-false (leb 0x8000_0000_0000_0000 b)
+    (not-T (leb 0x8000_0000_0000_0000 b)
+    (λ (u : T (leb 0x8000_0000_0000_0000 b)). not-le-of-lt (small b h) (leb→le 0x8000_0000_0000_0000 b u))))
     ∙ ap (λ (x : ℕ). ofFields binary64 false (x / 0x10_0000_0000_0000) (b % 0x10_0000_0000_0000)) (mod-eq-of-lt (small b h))
 
 -- subnormal: the pattern is the number of units
 pub subnormal : (b : ℕ) → b < 0x10_0000_0000_0000 → HasValue (ofBits binary64 b) false (b * 2 ^ 0) (2 ^ low binary64)
 subnormal b h =
     subst (λ (v : Float). HasValue v false (b * 2 ^ 0) (2 ^ low binary64))
-    (sym (positive-fields b (finite b h) ∙ ap (λ (x : ℕ). ofFields binary64 false x (b % 0x10_0000_0000_0000)) (no-field b h) ∙ at-zero (b % 0x10_0000_0000_0000) ∙ ap (λ (x : ℕ). odd 53 false x 0 1074) (mod-eq-of-lt h)))
+    (sym (positive-fields b (finite b h)
+    ∙ ap (λ (x : ℕ). ofFields binary64 false x (b % 0x10_0000_0000_0000)) (no-field b h)
+    ∙ at-zero (b % 0x10_0000_0000_0000) ∙ ap (λ (x : ℕ). odd 53 false x 0 1074) (mod-eq-of-lt h)))
     (odd-sign 53 false b 0 1074)
   where
     finite : (b : ℕ) → b < 0x10_0000_0000_0000 → b < 0x7ff0_0000_0000_0000
@@ -146,7 +180,8 @@ subnormal b h =
 
 -- normal: the digits with the leading one, moved up by one less than the exponent's field
 pub normal : (b : ℕ) → 0x10_0000_0000_0000 ≤ b → b < 0x7ff0_0000_0000_0000
-    → HasValue (ofBits binary64 b) false ((0x10_0000_0000_0000 + b % 0x10_0000_0000_0000) * 2 ^ (b / 0x10_0000_0000_0000 - 1)) (2 ^ low binary64)
+    → HasValue (ofBits binary64 b) false
+    ((0x10_0000_0000_0000 + b % 0x10_0000_0000_0000) * 2 ^ (b / 0x10_0000_0000_0000 - 1)) (2 ^ low binary64)
 normal b h k =
     let t = b % 0x10_0000_0000_0000 in
     let x = b / 0x10_0000_0000_0000 - 1 in

@@ -1,8 +1,27 @@
--- What `rootOfUnits` works out, in whole numbers: the digits that it keeps bracket the root (`bracket`), and how a program gets its result.
--- Where a is A * 4 ^ h and the root of A has as many digits as the format keeps, the result is the root s of 4 A, rounded to its half, with h digits after it (`rounded`). Assumes nothing.
+-- What `rootOfUnits` works out, in whole numbers: the digits that it keeps bracket the root (`bracket`), and how a
+-- program gets its result. Where a is A * 4 ^ h and the root of A has as many digits as the format keeps, the result
+-- is the root s of 4 A, rounded to its half, with h digits after it (`rounded`). Assumes nothing.
 use mathlib.Core.Path.{_≡_, refl, sym, ap, _∙_, subst}
 use Prim.Native.Nat.{ℕ, zero, suc, _+_, _-_, _*_, _/_, _%_, _^_, _≤_, _<_, compare, Ordering, Ordering·lt, Ordering·eq, Ordering·gt}
-use native.Mathlib.Nat.{le-trans, le-of-eq, le-of-suc-le-suc, lt-of-lt-of-le, lt-of-le-of-lt, lt-of-not-le, not-le-of-lt, le-antisymm, lt-suc-self, mul-pos, mul-le-mul-right, mul-lt-mul-of-pos-right, mul-mul-mul-comm, mul-assoc, div-mul-le-self, div-lt-iff-lt-mul, le-div-iff-mul-le}
+use native.Mathlib.Nat.{
+  le-trans,
+  le-of-eq,
+  le-of-suc-le-suc,
+  lt-of-lt-of-le,
+  lt-of-le-of-lt,
+  lt-of-not-le,
+  not-le-of-lt,
+  le-antisymm,
+  lt-suc-self,
+  mul-pos,
+  mul-le-mul-right,
+  mul-lt-mul-of-pos-right,
+  mul-mul-mul-comm,
+  mul-assoc,
+  div-mul-le-self,
+  div-lt-iff-lt-mul,
+  le-div-iff-mul-le,
+}
 use native.Mathlib.Omega.{arith}
 use mathlib.Core.Bool.{false, not}
 use lib.Dec.{T, isLe, isEq, eqb, leb→le, nleb→lt, eqb→eq, eqb-refl}
@@ -69,12 +88,14 @@ kept p a = wholeRoot a / 2 ^ dropped p a
 abbrev pub core : Format → ℕ → ℕ → ℕ → Float
 core f a q k = units f false (nearest q (compare (4 * a) ((2 * q + 1) * 2 ^ k * ((2 * q + 1) * 2 ^ k)))) k
 
-pub root-is : (f : Format) (n : ℕ) → rootOfUnits f n ≡ core f (n * 2 ^ low f) (kept (prec f) (n * 2 ^ low f)) (dropped (prec f) (n * 2 ^ low f))
+pub root-is : (f : Format) (n : ℕ)
+    → rootOfUnits f n ≡ core f (n * 2 ^ low f) (kept (prec f) (n * 2 ^ low f)) (dropped (prec f) (n * 2 ^ low f))
 unfolding rootOfUnits
 root-is f n = refl
 
 -- the root lies from q * 2 ^ k up to (q + 1) * 2 ^ k
-pub bracket : (p a : ℕ) → (kept p a * 2 ^ dropped p a * (kept p a * 2 ^ dropped p a) ≤ a) × (a < suc (kept p a) * 2 ^ dropped p a * (suc (kept p a) * 2 ^ dropped p a))
+pub bracket : (p a : ℕ) → (kept p a * 2 ^ dropped p a * (kept p a * 2 ^ dropped p a) ≤ a)
+    × (a < suc (kept p a) * 2 ^ dropped p a * (suc (kept p a) * 2 ^ dropped p a))
 bracket p a =
     let w = wholeRoot a in
     let k = dropped p a in
@@ -88,7 +109,9 @@ bracket p a =
 pub kept-ge : (p a : ℕ) → 0 < p → p ≤ size (wholeRoot a) → 2 ^ (p - 1) ≤ kept p a
 kept-ge p a P h =
     let k = dropped p a in
-    le-div-iff-mul-le (pow-pos k) .1 (le-trans (le-of-eq (sym (pow-add 2 (p - 1) k))) (size-reaches (wholeRoot a) (p - 1 + k) (in-use (size (wholeRoot a)))))
+    le-div-iff-mul-le (pow-pos k) .1
+    (le-trans (le-of-eq (sym (pow-add 2 (p - 1) k)))
+    (size-reaches (wholeRoot a) (p - 1 + k) (in-use (size (wholeRoot a)))))
   where
     in-use : (z : ℕ) → p - 1 + (size (wholeRoot a) - p) < size (wholeRoot a)
     in-use z = omega arith
@@ -98,7 +121,8 @@ kept-under p a = kept-lt p (wholeRoot a)
 
 -- ---- a number's digits, from two powers of two around it
 pub size-exact : (n z : ℕ) → 2 ^ z ≤ n → n < 2 ^ suc z → size n ≡ suc z
-size-exact n z h k = le-antisymm (size-le n (suc z) k) (lt-of-not-le (λ (g : size n ≤ z). not-le-of-lt (lt-of-lt-of-le (size-lt n) (pow-mono g)) h))
+size-exact n z h k = le-antisymm (size-le n (suc z) k)
+    (lt-of-not-le (λ (g : size n ≤ z). not-le-of-lt (lt-of-lt-of-le (size-lt n) (pow-mono g)) h))
 
 -- ---- A root of h more digits: with a = A * 4 ^ h, the root of a keeps the root q of A
 module _ (p A h q a : ℕ) (P : 0 < p) (e : a ≡ A * (2 ^ h * 2 ^ h)) (r : IsRoot A q) (lo : 2 ^ (p - 1) ≤ q) (hi : q < 2 ^ p) where
@@ -114,7 +138,8 @@ module _ (p A h q a : ℕ) (P : 0 < p) (e : a ≡ A * (2 ^ h * 2 ^ h)) (r : IsRo
   at-most =
       square-lt (wholeRoot a) (suc q * 2 ^ h)
       (lt-of-le-of-lt (le-trans (whole-root a .0) (le-of-eq e))
-      (lt-of-lt-of-le (mul-lt-mul-of-pos-right (r .1) (mul-pos (pow-pos h) (pow-pos h))) (le-of-eq (mul-mul-mul-comm (suc q) (suc q) (2 ^ h) (2 ^ h)))))
+      (lt-of-lt-of-le (mul-lt-mul-of-pos-right (r .1) (mul-pos (pow-pos h) (pow-pos h)))
+      (le-of-eq (mul-mul-mul-comm (suc q) (suc q) (2 ^ h) (2 ^ h)))))
 
   divided : wholeRoot a / 2 ^ h ≡ q
   divided = le-antisymm (le-of-suc-le-suc (div-lt-iff-lt-mul (pow-pos h) .1 at-most)) (le-div-iff-mul-le (pow-pos h) .1 at-least)
@@ -184,7 +209,8 @@ picks A h a q s zero e d l r =
     below : 4 * a < (2 * q + 1) * 2 ^ h * ((2 * q + 1) * 2 ^ h)
     below =
         lt-of-le-of-lt (le-of-eq (scaled-four A h a e))
-        (lt-of-lt-of-le (mul-lt-mul-of-pos-right (lt-of-lt-of-le (r .1) (le-of-eq side)) (mul-pos (pow-pos h) (pow-pos h))) (le-of-eq (sym (scaled-square q h))))
+        (lt-of-lt-of-le (mul-lt-mul-of-pos-right (lt-of-lt-of-le (r .1) (le-of-eq side))
+        (mul-pos (pow-pos h) (pow-pos h))) (le-of-eq (sym (scaled-square q h))))
 
     same : q ≡ (s + 1) / 2
     same = omega arith
@@ -197,7 +223,8 @@ picks A h a q s (suc zero) e d l r =
     above : (2 * q + 1) * 2 ^ h * ((2 * q + 1) * 2 ^ h) < 4 * a
     above =
         lt-of-le-of-lt (le-of-eq (scaled-square q h))
-        (lt-of-lt-of-le (mul-lt-mul-of-pos-right (no-tie (subst (λ (x : ℕ). x * x ≤ 4 * A) d (r .0))) (mul-pos (pow-pos h) (pow-pos h))) (le-of-eq (sym (scaled-four A h a e))))
+        (lt-of-lt-of-le (mul-lt-mul-of-pos-right (no-tie (subst (λ (x : ℕ). x * x ≤ 4 * A) d (r .0)))
+        (mul-pos (pow-pos h) (pow-pos h))) (le-of-eq (sym (scaled-four A h a e))))
 
     same : suc q ≡ (s + 1) / 2
     same = omega arith
@@ -206,7 +233,8 @@ picks A h a q s (suc (suc b)) e d l r = absurd (too-large b l)
     too-large : (b : ℕ) → suc (suc b) < 2 → ⊥
     too-large b h = omega arith
 
-pub rounded : (f : Format) (n A h s : ℕ) → 0 < prec f → n * 2 ^ low f ≡ A * (2 ^ h * 2 ^ h) → IsRoot (4 * A) s → 2 ^ (prec f - 1) ≤ s / 2 → s / 2 < 2 ^ prec f
+pub rounded : (f : Format) (n A h s : ℕ) → 0 < prec f → n * 2 ^ low f ≡ A * (2 ^ h * 2 ^ h) → IsRoot (4 * A) s
+    → 2 ^ (prec f - 1) ≤ s / 2 → s / 2 < 2 ^ prec f
     → rootOfUnits f n ≡ units f false ((s + 1) / 2) h
 rounded f n A h s P e r lo hi =
     let a = n * 2 ^ low f in

@@ -1,7 +1,19 @@
 -- Squares of whole numbers: they keep the order, and `wholeRoot n` is the one r with r * r ≤ n < (r + 1) * (r + 1). Assumes nothing.
 use mathlib.Core.Path.{_≡_, ap, _∙_, subst}
 use Prim.Native.Nat.{ℕ, zero, suc, _+_, _*_, _/_, _^_, _≤_, _<_}
-use native.Mathlib.Nat.{le-of-suc-le-suc, lt-of-lt-of-le, lt-of-le-of-lt, lt-of-not-le, not-le-of-lt, le-antisymm, mul-le-mul, le-add-right, add-suc, suc-add, pow-suc}
+use native.Mathlib.Nat.{
+  le-of-suc-le-suc,
+  lt-of-lt-of-le,
+  lt-of-le-of-lt,
+  lt-of-not-le,
+  not-le-of-lt,
+  le-antisymm,
+  mul-le-mul,
+  le-add-right,
+  add-suc,
+  suc-add,
+  pow-suc,
+}
 use native.Mathlib.Omega.{arith}
 use mathlib.Core.Bool.{Bool, true, false, not, cond}
 use lib.Dec.{T, leb, leb→le, nleb→lt}
@@ -30,7 +42,8 @@ root-unique n r s h k =
 step : (n r : ℕ) → IsRoot (n / 4) r → IsRoot n (cond (leb (suc (2 * r) * suc (2 * r)) n) (suc (2 * r)) (2 * r))
 step n r h = go (leb (suc (2 * r) * suc (2 * r)) n) (leb→le (suc (2 * r) * suc (2 * r)) n) (nleb→lt (suc (2 * r) * suc (2 * r)) n)
   where
-    go : (b : Bool) → (T b → suc (2 * r) * suc (2 * r) ≤ n) → (T (not b) → n < suc (2 * r) * suc (2 * r)) → IsRoot n (cond b (suc (2 * r)) (2 * r))
+    go : (b : Bool) → (T b → suc (2 * r) * suc (2 * r) ≤ n) → (T (not b) → n < suc (2 * r) * suc (2 * r))
+        → IsRoot n (cond b (suc (2 * r)) (2 * r))
     go true y z = (y tt, upper (h .1))
       where
         upper : n / 4 < suc r * suc r → n < suc (suc (2 * r)) * suc (suc (2 * r))
@@ -46,7 +59,8 @@ digits-root zero n h = omega arith
 digits-root (suc j) n h = step n (rootDigits j (n / 4)) (digits-root j (n / 4) (quarter (2 ^ (j + j)) (subst (λ (x : ℕ). n < x) twice h)))
   where
     twice : 2 ^ (suc j + suc j) ≡ 2 ^ (j + j) * 2 * 2
-    twice = ap (λ (x : ℕ). 2 ^ x) (suc-add j (suc j) ∙ ap suc (add-suc j j)) ∙ pow-suc 2 (suc (j + j)) ∙ ap (λ (x : ℕ). x * 2) (pow-suc 2 (j + j))
+    twice = ap (λ (x : ℕ). 2 ^ x) (suc-add j (suc j) ∙ ap suc (add-suc j j)) ∙ pow-suc 2 (suc (j + j))
+        ∙ ap (λ (x : ℕ). x * 2) (pow-suc 2 (j + j))
 
     quarter : (p : ℕ) → n < p * 2 * 2 → n / 4 < p
     quarter p g = omega arith

@@ -1,4 +1,5 @@
-// Holds the functions on doubles, and `<`, `<=`, `*` and `/`, to recorded answers of the machine's own arithmetic, read from standard input.
+// Holds the functions on doubles, and `<`, `<=`, `*` and `/`, to recorded answers of the machine's own arithmetic,
+// read from standard input.
 //
 // A row has 71 bytes: the function's number in two hexadecimal digits, three arguments and the answer in 16 digits each, a space
 // before each of these four, and a newline. An argument that the function does not take is 0. The one NaN is 7ff8000000000000.

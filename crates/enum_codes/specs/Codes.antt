@@ -17,7 +17,8 @@ unfoldable pub lowShape : ℕ → (m n : Float) → CutterShape
 lowShape kind m n = cond (eqb kind 0) Flat (cond (eqb kind 1) Ball (cond (eqb kind 2) (Bull m) (cond (eqb kind 3) (Drill m) (Chamfer m n))))
 
 unfoldable pub highShape : ℕ → (m : Float) → CutterShape
-highShape kind m = cond (eqb kind 5) Beam (cond (eqb kind 6) Probe (cond (eqb kind 7) Lollipop (cond (eqb kind 8) (Dovetail m) (Dovetail nan))))
+highShape kind m = cond (eqb kind 5) Beam
+    (cond (eqb kind 6) Probe (cond (eqb kind 7) Lollipop (cond (eqb kind 8) (Dovetail m) (Dovetail nan))))
 
 unfoldable pub namedShape : (kind : ℕ) → (m n : Float) → CutterShape
 namedShape kind m n = cond (ltb kind 5) (lowShape kind m n) (highShape kind m)

@@ -1,4 +1,5 @@
--- A turned interval holds a point exactly when the interval holds the turned point, whatever the sign, the interval and the point, a NaN too.
+-- A turned interval holds a point exactly when the interval holds the turned point, whatever the sign, the interval
+-- and the point, a NaN too.
 use mathlib.Core.Path.{_≡_, refl, sym, ap, _∙_}
 use mathlib.Core.Bool.{Bool, true, false, _&&_}
 use lib.Ieee.{Float, neg, lt, le}

@@ -1,5 +1,5 @@
--- The tool's frame (sweep.rs: `Axis::frame`, `local`, `local_axis`, `world`). local[i] = sign[i] * world[perm[i]], where perm is first, first + 1,
--- first + 2 modulo 3, and sign is 1, sign, sign.
+-- The tool's frame (sweep.rs: `Axis::frame`, `local`, `local_axis`, `world`). local[i] = sign[i] * world[perm[i]],
+-- where perm is first, first + 1, first + 2 modulo 3, and sign is 1, sign, sign.
 use mathlib.Core.Bool.{cond}
 use Prim.Native.Nat.{ℕ, _+_, _-_, _%_}
 use lib.Dec.{eqb, ltb}

@@ -1,4 +1,5 @@
--- Which points a turned interval holds: those whose own turn the interval holds, where a negative sign moves the end that belongs to it over.
+-- Which points a turned interval holds: those whose own turn the interval holds, where a negative sign moves the end
+-- that belongs to it over.
 use mathlib.Core.Path.{_≡_}
 use mathlib.Core.Bool.{Bool, cond, _&&_}
 use lib.Ieee.{Float, neg, lt, le}
@@ -27,5 +28,6 @@ toHi i p = lt (i .lo) p && le p (i .hi)
 pub record FrameTurned (s : Float) (i : Pair) (p : Float) : Type 0 where
   pub closed-is : closed (turned s i) p ≡ closed i (turnedPoint s p)
   pub between-is : between (turned s i) p ≡ between i (turnedPoint s p)
-  -- a span holds lo and not hi; turned by a positive sign it still does, by a negative one it holds the points whose turn lies above lo and up to hi
+  -- a span holds lo and not hi; turned by a positive sign it still does, by a negative one it holds the points whose
+  -- turn lies above lo and up to hi
   pub span-is : fromLo (turned s i) p ≡ cond (lt plusZero s) (fromLo i p) (toHi i (neg p))

@@ -1,4 +1,5 @@
--- The answer of `grid` is given by document 01's causes: the tests in doubles, which are those of the Rust, find the same causes as whole numbers do. Assumes nothing.
+-- The answer of `grid` is given by document 01's causes: the tests in doubles, which are those of the Rust, find the
+-- same causes as whole numbers do. Assumes nothing.
 use mathlib.Core.Path.{_≡_, refl, sym, ap, _∙_, subst}
 use mathlib.Core.Logic.{inl, inr}
 use mathlib.Core.Bool.{Bool, true, false, cond, not, true≢false}
@@ -14,7 +15,18 @@ use Rattle.grid.specs.Axes.{byDigit, worldAxis, alongOf, cellsAlong}
 use Rattle.grid.specs.Grid.{whole}
 use Rattle.grid.specs.FromSpec.{anyAbove, isMm, sizesOf, extentsOf, misdescribed, raysOf, tooFine, gridOver, gridOf}
 use Rattle.grid.specs.Rays.{rayCount}
-use Rattle.grid.specs.Causes.{Misdescribed, Crowded, OverBudget, TooFine, dimsIn, gridIn, gridCauses, ByCauses, GridPost, units-not-mm}
+use Rattle.grid.specs.Causes.{
+  Misdescribed,
+  Crowded,
+  OverBudget,
+  TooFine,
+  dimsIn,
+  gridIn,
+  gridCauses,
+  ByCauses,
+  GridPost,
+  units-not-mm,
+}
 use Rattle.grid.specs.declared.Vec3.{Vec3}
 use Rattle.grid.specs.declared.WorldAxis.{WorldAxis}
 use Rattle.grid.specs.declared.DexelStockSpec.{DexelStockSpec}
@@ -78,7 +90,8 @@ module _ (s : DexelStockSpec) (ceiling : s .«max_rays» < 2 ^ 32) where
   few-cells n = go (anyAbove (dimsIn s) (whole (s .«max_rays»))) refl
     where
       go : (b : Bool) → anyAbove (dimsIn s) (whole (s .«max_rays»)) ≡ b → Few
-      go true e = let o = above-axis (dimsIn s) (whole (s .«max_rays»)) e in absurd (n (inl (o .0, ltb-true _ _ (sym (axis-test (o .0)) ∙ o .1))))
+      go true e = let o = above-axis (dimsIn s) (whole (s .«max_rays»)) e in
+          absurd (n (inl (o .0, ltb-true _ _ (sym (axis-test (o .0)) ∙ o .1))))
       go false e = few e
 
   dims-are : Few → dimsIn s ≡ wholes (gridIn s .c0) (gridIn s .c1) (gridIn s .c2)
@@ -89,19 +102,24 @@ module _ (s : DexelStockSpec) (ceiling : s .«max_rays» < 2 ^ 32) where
     unfolding rayCount
     rays-test =
         ap (λ (d : Vec3). lt (whole (s .«max_rays»)) (raysOf d)) (dims-are f)
-        ∙ total-test (gridIn s .c0) (gridIn s .c1) (gridIn s .c2) (s .«max_rays») (f .some0) (f .some1) (f .some2) (f .few0) (f .few1) (f .few2) ceiling
+        ∙ total-test (gridIn s .c0) (gridIn s .c1) (gridIn s .c2) (s .«max_rays») (f .some0) (f .some1) (f .some2)
+        (f .few0) (f .few1) (f .few2) ceiling
 
     pub rays-exact : rayCount (gridIn s) ≤ s .«max_rays» → whole (rayCount (gridIn s)) ≡ raysOf (dimsIn s)
     unfolding rayCount
     rays-exact h =
         sym (ap raysOf (dims-are f)
-        ∙ total-exact (gridIn s .c0) (gridIn s .c1) (gridIn s .c2) (s .«max_rays») (f .some0) (f .some1) (f .some2) (f .few0) (f .few1) (f .few2) ceiling h)
+        ∙ total-exact (gridIn s .c0) (gridIn s .c1) (gridIn s .c2) (s .«max_rays») (f .some0) (f .some1) (f .some2)
+        (f .few0) (f .few1) (f .few2) ceiling h)
 
-    pub intervals-test : rayCount (gridIn s) ≤ s .«max_rays» → lt (whole (s .«max_intervals»)) (mul binary64 two (raysOf (dimsIn s))) ≡ ltb (s .«max_intervals») (2 * rayCount (gridIn s))
+    pub intervals-test : rayCount (gridIn s) ≤ s .«max_rays»
+        → lt (whole (s .«max_intervals»)) (mul binary64 two (raysOf (dimsIn s)))
+        ≡ ltb (s .«max_intervals») (2 * rayCount (gridIn s))
     unfolding rayCount
     intervals-test h =
         ap (λ (d : Vec3). lt (whole (s .«max_intervals»)) (mul binary64 two (raysOf d))) (dims-are f)
-        ∙ twice-test (gridIn s .c0) (gridIn s .c1) (gridIn s .c2) (s .«max_rays») (f .some0) (f .some1) (f .some2) (f .few0) (f .few1) (f .few2) ceiling h (s .«max_intervals»)
+        ∙ twice-test (gridIn s .c0) (gridIn s .c1) (gridIn s .c2) (s .«max_rays») (f .some0) (f .some1) (f .some2)
+        (f .few0) (f .few1) (f .few2) ceiling h (s .«max_intervals»)
 
     not-crowded : rayCount (gridIn s) ≤ s .«max_rays» → Crowded s (gridIn s) → ⊥
     unfolding Crowded byDigit
@@ -145,13 +163,15 @@ module _ (s : DexelStockSpec) (units : List ℕ) where
       third l true e = inr (n1, inr (not-crowded s ceiling f l, inl (ltb-true _ _ (sym (intervals-test s ceiling f l) ∙ e), refl)))
       third l false e =
           let k : 2 * rayCount (gridIn s) ≤ s .«max_intervals» = ltb-false _ _ (sym (intervals-test s ceiling f l) ∙ e) in
-          fourth (not-crowded s ceiling f l) (λ (o : s .«max_intervals» < 2 * rayCount (gridIn s)). omega arith) (tooFine (s .«min_mm») (s .«max_mm») (gridIn s)) refl
+          fourth (not-crowded s ceiling f l) (λ (o : s .«max_intervals» < 2 * rayCount (gridIn s)). omega arith)
+          (tooFine (s .«min_mm») (s .«max_mm») (gridIn s)) refl
 
       second : (b : Bool) → lt (whole (s .«max_rays»)) (raysOf (dimsIn s)) ≡ b
           → ByCauses s units (cond b (Refused 2) (from3 s))
       unfolding Due gridCauses Crowded
       second true e = inr (n1, inl (inr (ltb-true _ _ (sym (rays-test s ceiling f) ∙ e)), refl))
-      second false e = third (ltb-false _ _ (sym (rays-test s ceiling f) ∙ e)) (lt (whole (s .«max_intervals»)) (mul binary64 two (raysOf (dimsIn s)))) refl
+      second false e = third (ltb-false _ _ (sym (rays-test s ceiling f) ∙ e))
+          (lt (whole (s .«max_intervals»)) (mul binary64 two (raysOf (dimsIn s)))) refl
 
     over : s .«max_rays» < 2 ^ 32 → ByCauses s units (gridOver s (extentsOf s) (dimsIn s))
     unfolding gridOver Due gridCauses Crowded
@@ -159,14 +179,16 @@ module _ (s : DexelStockSpec) (units : List ℕ) where
       where
         go : (b : Bool) → anyAbove (dimsIn s) (whole (s .«max_rays»)) ≡ b
             → ByCauses s units (cond b (Refused 2) (from2 s))
-        go true e = let o = above-axis (dimsIn s) (whole (s .«max_rays»)) e in inr (n1, inl (inl (o .0, ltb-true _ _ (sym (axis-test s ceiling (o .0)) ∙ o .1)), refl))
+        go true e = let o = above-axis (dimsIn s) (whole (s .«max_rays»)) e in
+            inr (n1, inl (inl (o .0, ltb-true _ _ (sym (axis-test s ceiling (o .0)) ∙ o .1)), refl))
         go false e = second ceiling (few s ceiling e) (lt (whole (s .«max_rays»)) (raysOf (dimsIn s))) refl
 
   pub grid-by-causes : ByCauses s units (gridOf s units)
   unfolding gridOf Due gridCauses
   grid-by-causes = go (isMm units) refl (misdescribed s (sizesOf s) (extentsOf s)) refl
     where
-      go : (b : Bool) → isMm units ≡ b → (c : Bool) → misdescribed s (sizesOf s) (extentsOf s) ≡ c → ByCauses s units (cond (not b) (Refused 1) (cond c (Refused 1) (gridOver s (extentsOf s) (dimsIn s))))
+      go : (b : Bool) → isMm units ≡ b → (c : Bool) → misdescribed s (sizesOf s) (extentsOf s) ≡ c
+          → ByCauses s units (cond (not b) (Refused 1) (cond c (Refused 1) (gridOver s (extentsOf s) (dimsIn s))))
       go false m c e = inl (units-not-mm (not-mm units m), refl)
       go true m true e = inl (clause s (sizesOf s) units e, refl)
       go true m false e =

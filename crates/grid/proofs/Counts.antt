@@ -1,4 +1,5 @@
--- Whole numbers as doubles: their order, sums and products, and the cells of an extent, which are a whole number from 1 up or infinity. Assumes nothing.
+-- Whole numbers as doubles: their order, sums and products, and the cells of an extent, which are a whole number from
+-- 1 up or infinity. Assumes nothing.
 use mathlib.Core.Path.{_≡_, refl, sym, ap, _∙_, subst}
 use mathlib.Core.Bool.{Bool, true, false, true≢false}
 use Prim.Native.Nat.{ℕ, zero, suc, _+_, _-_, _*_, _/_, _^_, _≤_, _<_, min}
@@ -40,14 +41,18 @@ lt-values (fin false m e) (fin true n d) a b p q h = absurd (true≢false (q .0)
 lt-values (fin false m e) (fin false n d) a b p q h =
     let x : m * up e ≡ a * down e = sym (mul-one (m * up e)) ∙ p .1 in
     let y : n * up d ≡ b * down d = sym (mul-one (n * up d)) ∙ q .1 in
-    lt-ltb (m * up e * down d) (n * up d * down e) (rw (x, y, mul-assoc a (down e) (down d), mul-assoc b (down d) (down e), mul-comm (down d) (down e)) (mul-lt-mul-of-pos-right h (mul-pos (down-pos e) (down-pos d))))
+    lt-ltb (m * up e * down d) (n * up d * down e)
+    (rw (x, y, mul-assoc a (down e) (down d), mul-assoc b (down d) (down e), mul-comm (down d) (down e))
+    (mul-lt-mul-of-pos-right h (mul-pos (down-pos e) (down-pos d))))
 
 -- a whole number below 2 ^ 53 compares with any other as the double does, though the other may be rounded
 pub lt-whole : (i j : ℕ) → i < 2 ^ 53 → lt (whole i) (whole j) ≡ ltb i j
 lt-whole i j h = go (ltb i j) (ltb-true i j) (ltb-false i j)
   where
     go : (b : Bool) → (b ≡ true → i < j) → (b ≡ false → j ≤ i) → lt (whole i) (whole j) ≡ b
-    go true f g = lt-le-trans (whole i) (whole (suc i)) (whole j) (lt-values (whole i) (whole (suc i)) i (suc i) (value i (omega arith)) (value (suc i) h) (omega arith)) (le-wholes (suc i) j (f refl))
+    go true f g = lt-le-trans (whole i) (whole (suc i)) (whole j)
+        (lt-values (whole i) (whole (suc i)) i (suc i) (value i (omega arith)) (value (suc i) h) (omega arith))
+        (le-wholes (suc i) j (f refl))
     go false f g = le→not-lt (whole j) (whole i) (le-wholes j i (g refl))
 
 pub lt-whole-right : (i j : ℕ) → j ≤ 2 ^ 53 → lt (whole i) (whole j) ≡ ltb i j
@@ -83,7 +88,9 @@ at-least-1 (fin false m d) false zero v e =
     rw (lt-ltb (m * up d * 1) (1 * 1 * down d) (omega arith)) one-cells
 at-least-1 (fin false m d) false (suc n) v e =
     let l : 1 * down d ≤ suc n * down d = mul-le-mul-right (down d) (omega arith) in
-    rw (le-ltb (m * up d * 1) (1 * 1 * down d) (rw (v .1) (omega arith))) (subst Cells (sym (whole-is e)) (counted (suc n) (omega arith) (subst (λ (x : Float). HasValue x false (suc n) 1) (whole-is e) v)))
+    rw (le-ltb (m * up d * 1) (1 * 1 * down d) (rw (v .1) (omega arith)))
+    (subst Cells (sym (whole-is e))
+    (counted (suc n) (omega arith) (subst (λ (x : Float). HasValue x false (suc n) 1) (whole-is e) v)))
   where
     whole-is : fin false m d ≡ round binary64 false (suc n) 1 → fin false m d ≡ whole (suc n)
     whole-is e = e ∙ unfold ofInt in refl
@@ -106,7 +113,9 @@ unfolding toUnsigned
 count-of nan n v = absurd v
 count-of (inf s) n v = absurd v
 count-of (fin true m e) n v = absurd (true≢false (v .0))
-count-of (fin false m e) n v = ap (λ (k : ℕ). min k (2 ^ 64 - 1)) (ap (λ (k : ℕ). k / down e) (sym (mul-one (m * up e)) ∙ v .1) ∙ mul-div-cancel n (down-pos e))
+count-of (fin false m e) n v =
+    ap (λ (k : ℕ). min k (2 ^ 64 - 1))
+    (ap (λ (k : ℕ). k / down e) (sym (mul-one (m * up e)) ∙ v .1) ∙ mul-div-cancel n (down-pos e))
 
 pub above-inf : (i : ℕ) → i ≤ 2 ^ 53 → lt (whole i) (inf false) ≡ true
 above-inf i h = go (whole i) (value i h)

@@ -17,7 +17,20 @@ use Rattle.doubles.proofs.Order.{not-le→lt, lt→not-le, fin-number, nan-none
 use Rattle.grid.specs.Axes.{byDigit, byAxis, worldAxis, alongOf}
 use Rattle.grid.specs.Grid.{isBetween, allBetween}
 use Rattle.grid.specs.FromSpec.{leastSize, anyBelow, anyAbove, isMm, extentsOf, misdescribed}
-use Rattle.grid.specs.Causes.{mm, OutOf, Misdescribed, version-not-1, units-not-mm, min-out, max-out, size-out, no-rays, too-many-rays, no-intervals, thin}
+use Rattle.grid.specs.Causes.{
+  mm,
+  OutOf,
+  Misdescribed,
+  version-not-1,
+  units-not-mm,
+  min-out,
+  max-out,
+  size-out,
+  no-rays,
+  too-many-rays,
+  no-intervals,
+  thin,
+}
 use Rattle.grid.specs.declared.Vec3.{Vec3}
 use Rattle.grid.specs.declared.WorldAxis.{WorldAxis}
 use Rattle.grid.specs.declared.DexelStockSpec.{DexelStockSpec}
@@ -117,10 +130,13 @@ unfolding isBetween absOf ofBits neg
 bound-test nan = unfold le lt eq in refl
 bound-test (inf true) = unfold le lt eq in refl
 bound-test (inf false) = unfold le lt eq in refl
-bound-test (fin false m e) = sym (ap (λ (b : Bool). b && le (fin false m e) million) (side→le (neg million) (fin false m e) (finite-number (neg million) refl) (fin-number false m e) (omega arith)))
+bound-test (fin false m e) = sym
+    (ap (λ (b : Bool). b && le (fin false m e) million)
+    (side→le (neg million) (fin false m e) (finite-number (neg million) refl) (fin-number false m e) (omega arith)))
 bound-test (fin true m e) =
     sym (le-neg million (fin false m e)) ∙ sym (and-true (le (neg million) (fin true m e)))
-    ∙ ap (λ (b : Bool). le (neg million) (fin true m e) && b) (sym (side→le (fin true m e) million (fin-number true m e) (finite-number million refl) (omega arith)))
+    ∙ ap (λ (b : Bool). le (neg million) (fin true m e) && b)
+    (sym (side→le (fin true m e) million (fin-number true m e) (finite-number million refl) (omega arith)))
 
 -- ---- the units
 
@@ -133,7 +149,8 @@ mm-list (x ∷ y ∷ []) h =
     let p = eqb-true x 109 (k .0) in
     let q = eqb-true y 109 (k .1) in
     rw (p, q)
-mm-list (x ∷ y ∷ z ∷ l) h = absurd (none (eqb-true (length (x ∷ y ∷ z ∷ l)) 2 (and-both (eqb (length (x ∷ y ∷ z ∷ l)) 2) (eqb x 109 && eqb y 109) h .0)))
+mm-list (x ∷ y ∷ z ∷ l) h = absurd
+    (none (eqb-true (length (x ∷ y ∷ z ∷ l)) 2 (and-both (eqb (length (x ∷ y ∷ z ∷ l)) 2) (eqb x 109 && eqb y 109) h .0)))
   where
     none : suc (suc (suc (length l))) ≡ 2 → ⊥
     none e = omega arith
@@ -156,14 +173,16 @@ size-finite : finite leastSize ≡ true
 unfolding ofBits
 size-finite = refl
 
-out-axis : (p : Vec3) (lo hi : Float) → finite lo ≡ true → finite hi ≡ true → allBetween p lo hi ≡ false → (a : WorldAxis) × OutOf lo hi (alongOf p a)
+out-axis : (p : Vec3) (lo hi : Float) → finite lo ≡ true → finite hi ≡ true → allBetween p lo hi ≡ false
+    → (a : WorldAxis) × OutOf lo hi (alongOf p a)
 unfolding allBetween byDigit
 out-axis p lo hi f g h = go (isBetween (p .x) lo hi) (isBetween (p .y) lo hi) refl refl h
   where
     out : (x : Float) → isBetween x lo hi ≡ false → OutOf lo hi x
     out = out-of lo hi (finite-number lo f) (finite-number hi g)
 
-    go : (u v : Bool) → isBetween (p .x) lo hi ≡ u → isBetween (p .y) lo hi ≡ v → (u && (v && isBetween (p .z) lo hi)) ≡ false → (a : WorldAxis) × OutOf lo hi (alongOf p a)
+    go : (u v : Bool) → isBetween (p .x) lo hi ≡ u → isBetween (p .y) lo hi ≡ v
+        → (u && (v && isBetween (p .z) lo hi)) ≡ false → (a : WorldAxis) × OutOf lo hi (alongOf p a)
     go false v x y k = (worldAxis 0, out (p .x) x)
     go true false x y k = (worldAxis 1, out (p .y) y)
     go true true x y k = (worldAxis 2, out (p .z) k)
@@ -223,8 +242,10 @@ module _ (s : DexelStockSpec) (sizes : Vec3) where
   unfolding misdescribed
   clause units h =
       ⊎-elim (λ t. version-not-1 (eqb-false _ _ (not-true _ t)))
-      (λ k. ⊎-elim (λ t. let o = out-axis (s .«min_mm») (neg million) million low-finite million-finite (not-true _ t) in min-out (o .0) (o .1))
-      (λ k. ⊎-elim (λ t. let o = out-axis (s .«max_mm») (neg million) million low-finite million-finite (not-true _ t) in max-out (o .0) (o .1))
+      (λ k. ⊎-elim (λ t. let o = out-axis (s .«min_mm») (neg million) million low-finite million-finite (not-true _ t)
+      in min-out (o .0) (o .1))
+      (λ k. ⊎-elim (λ t. let o = out-axis (s .«max_mm») (neg million) million low-finite million-finite (not-true _ t)
+      in max-out (o .0) (o .1))
       (λ k. ⊎-elim (λ t. let o = out-axis sizes leastSize million size-finite million-finite (not-true _ t) in size-out (o .0) (o .1))
       (λ k. ⊎-elim (λ t. no-rays (eqb-true _ _ t))
       (λ k. ⊎-elim (λ t. too-many-rays (ltb-true _ _ t))

@@ -1,4 +1,5 @@
--- Sizes of extents and steps: what is within ±1e6 has a finite extent, an extent that is not below 1e-6 is one of a box whose min is below its max, and a step is finite. Assumes nothing.
+-- Sizes of extents and steps: what is within ±1e6 has a finite extent, an extent that is not below 1e-6 is one of a
+-- box whose min is below its max, and a step is finite. Assumes nothing.
 use mathlib.Core.Path.{_≡_, refl, sym, _∙_, subst}
 use mathlib.Core.Bool.{Bool, true, false, cond, not, true≢false}
 use Prim.Native.Nat.{ℕ, zero, suc, _+_, _-_, _*_, _^_, _≤_, _<_}
@@ -70,7 +71,8 @@ round-plain-sized n d k p h small = go (round binary64 false n d) (round-plain n
 
 round-sized : (s : Bool) (n d k : ℕ) → 0 < d → n ≤ k * d → k ≤ 2 ^ 53 → Sized k (round binary64 s n d)
 round-sized false n d k p h small = round-plain-sized n d k p h small
-round-sized true n d k p h small = subst (Sized k) (neg-round binary64 false n d) (turned (round binary64 false n d) (round-plain-sized n d k p h small))
+round-sized true n d k p h small =
+    subst (Sized k) (neg-round binary64 false n d) (turned (round binary64 false n d) (round-plain-sized n d k p h small))
   where
     turned : (x : Float) → Sized k x → Sized k (neg x)
     turned nan h = absurd h
@@ -107,7 +109,8 @@ sub-sized k (inf s) y h l small = absurd h
 sub-sized k (fin s m e) nan h l small = absurd l
 sub-sized k (fin s m e) (inf t) h l small = absurd l
 sub-sized k (fin s m e) (fin t n d) h l small =
-    sum-sized s (m * up e * down d) (not t) (n * up d * down e) (down e * down d) (k * 2) (mul-pos (down-pos e) (down-pos d)) (both-sized (m * up e) (n * up d) k (down e) (down d) h l) small
+    sum-sized s (m * up e * down d) (not t) (n * up d * down e) (down e * down d) (k * 2)
+    (mul-pos (down-pos e) (down-pos d)) (both-sized (m * up e) (n * up d) k (down e) (down d) h l) small
 
 -- ---- a difference that is not below 1e-6
 
@@ -117,11 +120,13 @@ micro-number = refl
 
 negative-low : (n d : ℕ) → lt (round binary64 true n d) millionth ≡ true
 unfolding ofBits
-negative-low n d = subst (λ (x : Float). lt x millionth ≡ true) (neg-round binary64 false n d) (go (round binary64 false n d) (round-plain n d))
+negative-low n d = subst (λ (x : Float). lt x millionth ≡ true) (neg-round binary64 false n d)
+    (go (round binary64 false n d) (round-plain n d))
   where
     go : (x : Float) → Plain x → lt (neg x) millionth ≡ true
     go x endless = unfold neg lt in refl
-    go x (number m e) = unfold neg in side→lt (fin true m e) millionth (fin-number true m e) (micro-number) (let p = down-pos e in omega arith)
+    go x (number m e) = unfold neg in
+        side→lt (fin true m e) millionth (fin-number true m e) (micro-number) (let p = down-pos e in omega arith)
 
 zero-low : (n d : ℕ) → 0 < d → n ≡ 0 → lt (round binary64 false n d) millionth ≡ true
 unfolding ofBits lt round
@@ -137,20 +142,26 @@ low-difference (fin true m e) (fin false n d) f g h = negative-low (m * up e * d
 low-difference (fin false m e) (fin true n d) f g h =
     let l = le→side (fin false m e) (fin true n d) h in
     zero-low (m * up e * down d + n * up d * down e) (down e * down d) (mul-pos (down-pos e) (down-pos d)) (omega arith)
-low-difference (fin false m e) (fin false n d) f g h = go (m * up e * down d) (n * up d * down e) (le→side (fin false m e) (fin false n d) h)
+low-difference (fin false m e) (fin false n d) f g h =
+    go (m * up e * down d) (n * up d * down e) (le→side (fin false m e) (fin false n d) h)
   where
-    go : (a b : ℕ) → a ≤ b → lt (cond (ltb a b) (round binary64 true (b - a) (down e * down d)) (round binary64 false (a - b) (down e * down d))) millionth ≡ true
+    go : (a b : ℕ) → a ≤ b → lt (cond (ltb a b) (round binary64 true (b - a) (down e * down d))
+        (round binary64 false (a - b) (down e * down d))) millionth ≡ true
     go a b l = pick (ltb a b)
       where
-        pick : (u : Bool) → lt (cond u (round binary64 true (b - a) (down e * down d)) (round binary64 false (a - b) (down e * down d))) millionth ≡ true
+        pick : (u : Bool) → lt (cond u (round binary64 true (b - a) (down e * down d))
+            (round binary64 false (a - b) (down e * down d))) millionth ≡ true
         pick true = negative-low (b - a) (down e * down d)
         pick false = zero-low (a - b) (down e * down d) (mul-pos (down-pos e) (down-pos d)) (omega arith)
 low-difference (fin true m e) (fin true n d) f g h = go (m * up e * down d) (n * up d * down e) (le→side (fin true m e) (fin true n d) h)
   where
-    go : (a b : ℕ) → b ≤ a → lt (cond (ltb a b) (round binary64 false (b - a) (down e * down d)) (round binary64 (ltb b a) (a - b) (down e * down d))) millionth ≡ true
+    go : (a b : ℕ) → b ≤ a → lt (cond (ltb a b) (round binary64 false (b - a) (down e * down d))
+        (round binary64 (ltb b a) (a - b) (down e * down d))) millionth ≡ true
     go a b l = pick (ltb a b) (ltb b a) (ltb-false b a)
       where
-        pick : (u v : Bool) → (v ≡ false → a ≤ b) → lt (cond u (round binary64 false (b - a) (down e * down d)) (round binary64 v (a - b) (down e * down d))) millionth ≡ true
+        pick : (u v : Bool) → (v ≡ false → a ≤ b)
+            → lt (cond u (round binary64 false (b - a) (down e * down d))
+            (round binary64 v (a - b) (down e * down d))) millionth ≡ true
         pick true v k = zero-low (b - a) (down e * down d) (mul-pos (down-pos e) (down-pos d)) (omega arith)
         pick false true k = negative-low (a - b) (down e * down d)
         pick false false k = let j = k refl in zero-low (a - b) (down e * down d) (mul-pos (down-pos e) (down-pos d)) (omega arith)
@@ -180,4 +191,6 @@ step-sized k (fin s m e) (fin t (suc q) d) n h p v small =
     let l : m * up e * down d ≤ k * down e * down d = mul-le-mul-right (down d) h in
     let j : 1 * (k * down e * down d) ≤ n * (k * down e * down d) = mul-le-mul-right (k * down e * down d) p in
     let i : m * up e * down d ≤ k * (suc q * up d * down e) = rw y (omega arith) in
-    rw (ne-eqb (suc q) 0 (λ (z : suc q ≡ 0). omega arith)) (round-sized (unlike s t) (m * up e * down d) (suc q * up d * down e) k (rw y (mul-pos (mul-pos p (down-pos d)) (down-pos e))) i small)
+    rw (ne-eqb (suc q) 0 (λ (z : suc q ≡ 0). omega arith))
+    (round-sized (unlike s t) (m * up e * down d) (suc q * up d * down e) k
+    (rw y (mul-pos (mul-pos p (down-pos d)) (down-pos e))) i small)

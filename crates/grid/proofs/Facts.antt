@@ -30,11 +30,13 @@ use Rattle.grid.specs.Facts.{GridFacts}
 
 -- ---- along an axis
 
-extent-axis : (s : DexelStockSpec) (a : WorldAxis) → alongOf (extentsOf s) a ≡ sub binary64 (alongOf (s .«max_mm») a) (alongOf (s .«min_mm») a)
+extent-axis : (s : DexelStockSpec) (a : WorldAxis)
+    → alongOf (extentsOf s) a ≡ sub binary64 (alongOf (s .«max_mm») a) (alongOf (s .«min_mm») a)
 unfolding byDigit
 extent-axis s a = go (a .0)
   where
-    go : (n : ℕ) → alongOf (extentsOf s) (worldAxis n) ≡ sub binary64 (alongOf (s .«max_mm») (worldAxis n)) (alongOf (s .«min_mm») (worldAxis n))
+    go : (n : ℕ) → alongOf (extentsOf s) (worldAxis n)
+        ≡ sub binary64 (alongOf (s .«max_mm») (worldAxis n)) (alongOf (s .«min_mm») (worldAxis n))
     go zero = refl
     go (suc zero) = refl
     go (suc (suc n)) = refl
@@ -43,12 +45,14 @@ step-axis : (s : DexelStockSpec) (a : WorldAxis) → stepAlong (gridIn s) a ≡ 
 unfolding byDigit
 step-axis s a = go (a .0)
   where
-    go : (n : ℕ) → stepAlong (gridIn s) (worldAxis n) ≡ div binary64 (alongOf (extentsOf s) (worldAxis n)) (alongOf (dimsIn s) (worldAxis n))
+    go : (n : ℕ) → stepAlong (gridIn s) (worldAxis n)
+        ≡ div binary64 (alongOf (extentsOf s) (worldAxis n)) (alongOf (dimsIn s) (worldAxis n))
     go zero = refl
     go (suc zero) = refl
     go (suc (suc n)) = refl
 
-exact-axis : (s : DexelStockSpec) (ceiling : s .«max_rays» < 2 ^ 32) → Few s ceiling → (a : WorldAxis) → whole (cellsAlong (gridIn s) a) ≡ alongOf (dimsIn s) a
+exact-axis : (s : DexelStockSpec) (ceiling : s .«max_rays» < 2 ^ 32) → Few s ceiling → (a : WorldAxis)
+    → whole (cellsAlong (gridIn s) a) ≡ alongOf (dimsIn s) a
 unfolding byDigit
 exact-axis s ceiling f a = go (a .0)
   where
@@ -75,7 +79,8 @@ micro-above = refl
 
 -- ---- the facts
 
-module _ (s : DexelStockSpec) (p : Passes s (sizesOf s)) (n2 : Crowded s (gridIn s) → ⊥) (n3 : OverBudget s (gridIn s) → ⊥) (n4 : TooFine s (gridIn s) → ⊥) where
+module _ (s : DexelStockSpec) (p : Passes s (sizesOf s)) (n2 : Crowded s (gridIn s) → ⊥)
+    (n3 : OverBudget s (gridIn s) → ⊥) (n4 : TooFine s (gridIn s) → ⊥) where
   ceiling : s .«max_rays» < 2 ^ 32
   ceiling = let l = p .few-rays in omega arith
 
@@ -96,15 +101,18 @@ module _ (s : DexelStockSpec) (p : Passes s (sizesOf s)) (n2 : Crowded s (gridIn
   cells-some = each (λ (n : ℕ). 1 ≤ n) _ _ _ (few-here .some0) (few-here .some1) (few-here .some2)
 
   cells-small : (a : WorldAxis) → cellsAlong (gridIn s) a ≤ 2 ^ 53
-  cells-small a = let l = each (λ (n : ℕ). n ≤ s .«max_rays») _ _ _ (few-here .few0) (few-here .few1) (few-here .few2) a in omega (arith, ceiling)
+  cells-small a = let l = each (λ (n : ℕ). n ≤ s .«max_rays») _ _ _ (few-here .few0) (few-here .few1) (few-here .few2)
+      a in omega (arith, ceiling)
 
   steps-sized : (a : WorldAxis) → Sized 2000000 (stepAlong (gridIn s) a)
   steps-sized a =
       subst (Sized 2000000) (sym (step-axis s a))
       (step-sized 2000000 (alongOf (extentsOf s) a) (alongOf (dimsIn s) a) (cellsAlong (gridIn s) a)
-      (subst (Sized 2000000) (sym (extent-axis s a)) (sub-sized 1000000 (alongOf (s .«max_mm») a) (alongOf (s .«min_mm») a) (max-sized a) (min-sized a) (omega arith)))
+      (subst (Sized 2000000) (sym (extent-axis s a))
+      (sub-sized 1000000 (alongOf (s .«max_mm») a) (alongOf (s .«min_mm») a) (max-sized a) (min-sized a) (omega arith)))
       (cells-some a)
-      (subst (λ (w : Float). HasValue w false (cellsAlong (gridIn s) a) 1) (exact-axis s ceiling few-here a) (value (cellsAlong (gridIn s) a) (cells-small a)))
+      (subst (λ (w : Float). HasValue w false (cellsAlong (gridIn s) a) 1) (exact-axis s ceiling few-here a)
+      (value (cellsAlong (gridIn s) a) (cells-small a)))
       (omega arith))
 
   steps-finite : (a : WorldAxis) → finite (stepAlong (gridIn s) a) ≡ true
@@ -116,7 +124,9 @@ module _ (s : DexelStockSpec) (p : Passes s (sizesOf s)) (n2 : Crowded s (gridIn
   steps-least a =
       let l = leastStep (s .«min_mm») (s .«max_mm») in
       let u = larger-from millionth _ micro-number in
-      le-trans millionth l (stepAlong (gridIn s) a) u (not-lt→le (stepAlong (gridIn s) a) l (finite-number (stepAlong (gridIn s) a) (steps-finite a)) (le-number millionth l u .1) (none (lt (stepAlong (gridIn s) a) l) (λ e. n4 (a, e))))
+      le-trans millionth l (stepAlong (gridIn s) a) u
+      (not-lt→le (stepAlong (gridIn s) a) l (finite-number (stepAlong (gridIn s) a) (steps-finite a))
+      (le-number millionth l u .1) (none (lt (stepAlong (gridIn s) a) l) (λ e. n4 (a, e))))
     where
       none : (b : Bool) → (b ≡ true → ⊥) → b ≡ false
       none true h = absurd (h refl)
@@ -124,7 +134,9 @@ module _ (s : DexelStockSpec) (p : Passes s (sizesOf s)) (n2 : Crowded s (gridIn
 
   boxes : (a : WorldAxis) → lt (alongOf (s .«min_mm») a) (alongOf (s .«max_mm») a) ≡ true
   boxes a =
-      box (alongOf (s .«min_mm») a) (alongOf (s .«max_mm») a) (sized-finite 1000000 (alongOf (s .«min_mm») a) (min-sized a)) (sized-finite 1000000 (alongOf (s .«max_mm») a) (max-sized a))
+      box (alongOf (s .«min_mm») a) (alongOf (s .«max_mm») a)
+      (sized-finite 1000000 (alongOf (s .«min_mm») a) (min-sized a))
+      (sized-finite 1000000 (alongOf (s .«max_mm») a) (max-sized a))
       (subst (λ (x : Float). lt x millionth ≡ false) (extent-axis s a) (p .thick a))
 
   total-le : rayCount (gridIn s) ≤ s .«max_rays»
@@ -159,7 +171,9 @@ pub grid-facts : (s : DexelStockSpec) (units : List ℕ) (g : DexelGrid) → gri
 unfolding NoneDue gridCauses
 grid-facts s units g h =
     let b : ByCauses s units (Accepted g) = subst (ByCauses s units) h (grid-by-causes s units) in
-    subst (GridFacts s) (sym (b .1)) (made s (described (b .0 .0) (misdescribed s (sizesOf s) (extentsOf s)) refl) (b .0 .1 .0) (b .0 .1 .1 .0) (b .0 .1 .1 .1 .0))
+    subst (GridFacts s) (sym (b .1))
+    (made s (described (b .0 .0) (misdescribed s (sizesOf s) (extentsOf s)) refl) (b .0 .1 .0) (b .0 .1 .1 .0)
+    (b .0 .1 .1 .1 .0))
   where
     described : (Misdescribed s (sizesOf s) units → ⊥) → (c : Bool) → misdescribed s (sizesOf s) (extentsOf s) ≡ c → Passes s (sizesOf s)
     described n true e = absurd (n (clause s (sizesOf s) units e))

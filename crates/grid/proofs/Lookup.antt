@@ -29,7 +29,8 @@ cut-le (inf false) n small h = absurd (true≢false (sym (above-inf n small) ∙
 cut-le (fin true m e) n small h = omega arith
 cut-le (fin false m e) n small h =
     let p = le-number (whole n) (whole n) (le-wholes n n (omega arith)) .0 in
-    let l : m * up e ≤ n * down e = at-most (whole n) n m e (value n small) (not-lt→le (whole n) (fin false m e) p (fin-number false m e) h) in
+    let l : m * up e ≤ n * down e =
+    at-most (whole n) n m e (value n small) (not-lt→le (whole n) (fin false m e) p (fin-number false m e) h) in
     let d = down-pos e in
     let q : m * up e / down e < suc n = div-lt-iff-lt-mul d .1 (omega arith) in
     omega arith
@@ -52,5 +53,6 @@ cell-below s g f a x =
     let p = cells-positive s g f a in
     let l = each (λ (n : ℕ). n ≤ s .«max_rays») _ _ _ (f .few0) (f .few1) (f .few2) a in
     let c = f .ceiling in
-    let k = clamp-le (floorOf (div binary64 (sub binary64 x (alongOf (s .«min_mm») a)) (stepAlong g a))) (cellsAlong g a - 1) (omega arith) in
+    let k = clamp-le (floorOf (div binary64 (sub binary64 x (alongOf (s .«min_mm») a)) (stepAlong g a)))
+    (cellsAlong g a - 1) (omega arith) in
     omega arith

@@ -1,4 +1,5 @@
--- How the rays of a grid are numbered: the three axes' rays make up all rays, and a ray's number and its axis and index give each other. Assumes nothing.
+-- How the rays of a grid are numbered: the three axes' rays make up all rays, and a ray's number and its axis and
+-- index give each other. Assumes nothing.
 use mathlib.Core.Path.{_≡_, refl, ap, _∙_}
 use mathlib.Core.Bool.{Bool, true, false, cond}
 use Prim.Native.Nat.{ℕ, zero, suc, _+_, _%_, _≤_, _<_}
@@ -43,7 +44,8 @@ before-le g ray = go (ltb ray o1) (ltb ray o2) (ltb-false ray o1) (ltb-false ray
     o2 : ℕ
     o2 = offset g (worldAxis 2)
 
-    go : (x y : Bool) → (x ≡ false → o1 ≤ ray) → (y ≡ false → o2 ≤ ray) → offset g (cond x (worldAxis 0) (cond y (worldAxis 1) (worldAxis 2))) ≤ ray
+    go : (x y : Bool) → (x ≡ false → o1 ≤ ray) → (y ≡ false → o2 ≤ ray)
+        → offset g (cond x (worldAxis 0) (cond y (worldAxis 1) (worldAxis 2))) ≤ ray
     go true y h k = omega arith
     go false true h k = h refl
     go false false h k = k refl
@@ -59,7 +61,8 @@ unfolding rayNumber rayIndex
 number-of g ray = omega (arith, before-le g ray)
 
 -- where a ray stands against the offsets decides its axis
-axis-by : (g : DexelGrid) (ray : ℕ) (x y : Bool) → ltb ray (offset g (worldAxis 1)) ≡ x → ltb ray (offset g (worldAxis 2)) ≡ y → rayAxis g ray ≡ cond x (worldAxis 0) (cond y (worldAxis 1) (worldAxis 2))
+axis-by : (g : DexelGrid) (ray : ℕ) (x y : Bool) → ltb ray (offset g (worldAxis 1)) ≡ x
+    → ltb ray (offset g (worldAxis 2)) ≡ y → rayAxis g ray ≡ cond x (worldAxis 0) (cond y (worldAxis 1) (worldAxis 2))
 unfolding rayAxis
 axis-by g ray x y h k = rw (h, k)
 
@@ -72,7 +75,8 @@ pub ray-of : (g : DexelGrid) (ray : ℕ) → ray < rayCount g → RayOf g ray
 unfolding rayIndex
 ray-of g ray h = go (ltb ray (offset g (worldAxis 1))) (ltb ray (offset g (worldAxis 2))) refl refl
   where
-    ends : (offset g (worldAxis 1) ≡ raysAlong g (worldAxis 0)) × (offset g (worldAxis 2) ≡ raysAlong g (worldAxis 0) + raysAlong g (worldAxis 1)) × (offset g (worldAxis 0) ≡ 0)
+    ends : (offset g (worldAxis 1) ≡ raysAlong g (worldAxis 0))
+        × (offset g (worldAxis 2) ≡ raysAlong g (worldAxis 0) + raysAlong g (worldAxis 1)) × (offset g (worldAxis 0) ≡ 0)
     ends = unfold offset byDigit in (refl, refl, refl)
 
     go : (x y : Bool) → ltb ray (offset g (worldAxis 1)) ≡ x → ltb ray (offset g (worldAxis 2)) ≡ y → RayOf g ray
@@ -81,7 +85,16 @@ ray-of g ray h = go (ltb ray (offset g (worldAxis 1))) (ltb ray (offset g (world
         record { digit = rw e (omega arith); below = rw e (omega (arith, ltb-true ray (offset g (worldAxis 1)) p, ends .0, ends .2)) }
     go false true p q =
         let e : rayAxis g ray ≡ worldAxis 1 = axis-by g ray false true p q in
-        record { digit = rw e (omega arith); below = rw e (omega (arith, ltb-false ray (offset g (worldAxis 1)) p, ltb-true ray (offset g (worldAxis 2)) q, ends .0, ends .1)) }
+        record {
+          digit = rw e (omega arith);
+          below = rw e (omega (
+            arith,
+            ltb-false ray (offset g (worldAxis 1)) p,
+            ltb-true ray (offset g (worldAxis 2)) q,
+            ends .0,
+            ends .1,
+          ));
+        }
     go false false p q =
         let e : rayAxis g ray ≡ worldAxis 2 = axis-by g ray false false p q in
         record { digit = rw e (omega arith); below = rw e (omega (arith, ltb-false ray (offset g (worldAxis 2)) q, total-is g, ends .1)) }
@@ -101,9 +114,11 @@ axis-of-number g a index l h = go (a .0) l h
     go (suc (suc n)) l h =
         let r = rayNumber g (worldAxis 2) index in
         let z : 2 ≡ suc (suc n) = omega arith in
-        axis-by g r false false (le-ltb r (offset g (worldAxis 1)) (omega arith)) (le-ltb r (offset g (worldAxis 2)) (omega arith)) ∙ ap worldAxis z
+        axis-by g r false false (le-ltb r (offset g (worldAxis 1)) (omega arith))
+        (le-ltb r (offset g (worldAxis 2)) (omega arith)) ∙ ap worldAxis z
 
-pub index-of-number : (g : DexelGrid) (a : WorldAxis) (index : ℕ) → a .0 ≤ 2 → index < raysAlong g a → rayIndex g (rayNumber g a index) ≡ index
+pub index-of-number : (g : DexelGrid) (a : WorldAxis) (index : ℕ) → a .0 ≤ 2 → index < raysAlong g a
+    → rayIndex g (rayNumber g a index) ≡ index
 unfolding rayIndex
 index-of-number g a index l h = rw (axis-of-number g a index l h) (unfold rayNumber in omega arith)
 

@@ -1,5 +1,6 @@
--- `grid` of document 01, as the Rust works it out: each operation on doubles is rounded, in the Rust's order, and the tests are those of the Rust.
--- specs/Causes.antt has the refusals in document 01's own words; `grid-by-causes` in proofs/Causes.antt shows that they say the same.
+-- `grid` of document 01, as the Rust works it out: each operation on doubles is rounded, in the Rust's order, and the
+-- tests are those of the Rust. specs/Causes.antt has the refusals in document 01's own words; `grid-by-causes` in
+-- proofs/Causes.antt shows that they say the same.
 use mathlib.Core.Bool.{Bool, cond, not, _&&_, _||_}
 use mathlib.Core.List.{List}
 use Prim.Native.Nat.{ℕ}
@@ -93,7 +94,8 @@ raysOf d = add binary64 (add binary64 (mul binary64 (d .x) (d .y)) (mul binary64
 -- the largest size of a bound, at least 1
 unfoldable pub magnitudeOf : (min max : Vec3) → Float
 magnitudeOf p q =
-    largerOf (largerOf (largerOf (largerOf (largerOf (largerOf one (absOf (p .x))) (absOf (p .y))) (absOf (p .z))) (absOf (q .x))) (absOf (q .y))) (absOf (q .z))
+    largerOf (largerOf (largerOf (largerOf (largerOf (largerOf one (absOf (p .x))) (absOf (p .y))) (absOf (p .z)))
+    (absOf (q .x))) (absOf (q .y))) (absOf (q .z))
 
 -- max (1e-6, 128 epsilon × magnitude)
 unfoldable pub leastStep : (min max : Vec3) → Float

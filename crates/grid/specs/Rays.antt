@@ -45,7 +45,8 @@ half = ofBits binary64 0x3fe0_0000_0000_0000
 -- the cell along an axis that x lies in, or the nearest
 unfoldable pub cellAt : DexelStockSpec → DexelGrid → WorldAxis → (x : Float) → ℕ
 cellAt s g a x =
-    toUnsigned 64 (clampOf (floorOf (div binary64 (sub binary64 x (alongOf (s .«min_mm») a)) (stepAlong g a))) (ofBits binary64 0) (whole (cellsAlong g a - 1)))
+    toUnsigned 64 (clampOf (floorOf (div binary64 (sub binary64 x (alongOf (s .«min_mm») a)) (stepAlong g a)))
+    (ofBits binary64 0) (whole (cellsAlong g a - 1)))
 
 -- a ray, by its number
 abbrev pub Ray : DexelGrid → Type 0

@@ -28,13 +28,18 @@ module _ (text : List ℕ) (k j v : ℕ) (h : j < length text) where
   first : hexNumber v (take (suc k) (drop j text)) ≡ hexNumber v (getD text j 0 ∷ take k (drop (suc j) text))
   first = ap (λ (l : List ℕ). hexNumber v (take (suc k) l)) (drop-cons text j 0 h)
 
-  pub more : hexDigit (getD text j 0) < 16 → hexNumber v (take (suc k) (drop j text)) ≡ hexNumber (v * 16 + hexDigit (getD text j 0)) (take k (drop (suc j) text))
+  pub more : hexDigit (getD text j 0) < 16
+      → hexNumber v (take (suc k) (drop j text)) ≡ hexNumber (v * 16 + hexDigit (getD text j 0)) (take k (drop (suc j) text))
   unfolding hexNumber
-  more l = first ∙ ap (λ (b : Bool). cond b (hexNumber (v * 16 + hexDigit (getD text j 0)) (take k (drop (suc j) text))) Missing) (lt-ltb (hexDigit (getD text j 0)) 16 l)
+  more l = first ∙ ap (λ (b : Bool). cond b
+      (hexNumber (v * 16 + hexDigit (getD text j 0)) (take k (drop (suc j) text))) Missing)
+      (lt-ltb (hexDigit (getD text j 0)) 16 l)
 
   pub stop : 16 ≤ hexDigit (getD text j 0) → hexNumber v (take (suc k) (drop j text)) ≡ Missing
   unfolding hexNumber
-  stop l = first ∙ ap (λ (b : Bool). cond b (hexNumber (v * 16 + hexDigit (getD text j 0)) (take k (drop (suc j) text))) Missing) (le-ltb (hexDigit (getD text j 0)) 16 l)
+  stop l = first ∙ ap (λ (b : Bool). cond b
+      (hexNumber (v * 16 + hexDigit (getD text j 0)) (take k (drop (suc j) text))) Missing)
+      (le-ltb (hexDigit (getD text j 0)) 16 l)
 
 -- `value` is what the first i of the n digits at place k count
 pub record Read (text : List ℕ) (k n value i : ℕ) : Type 0 where
@@ -43,7 +48,12 @@ pub record Read (text : List ℕ) (k n value i : ℕ) : Type 0 where
   pub within : i ≤ n
 
 pub read-none : (text : List ℕ) (k n : ℕ) → Read text k n 0 0
-read-none text k n = record { same = ap (λ (j : ℕ). hexNumber 0 (take j (drop (k + 0) text))) (sub-zero n) ∙ ap (λ (j : ℕ). hexNumber 0 (take n (drop j text))) (add-zero k); small = lit< tt; within = zero-le }
+read-none text k n = record {
+  same = ap (λ (j : ℕ). hexNumber 0 (take j (drop (k + 0) text))) (sub-zero n)
+      ∙ ap (λ (j : ℕ). hexNumber 0 (take n (drop j text))) (add-zero k);
+  small = lit< tt;
+  within = zero-le;
+}
 
 pub small-at : (value i : ℕ) → value < 2 ^ (4 * i) → i < 16 → value < 2 ^ 60
 small-at value i h l = lt-of-lt-of-le h (pow-mono exponent)
@@ -84,7 +94,8 @@ module _ (text : List ℕ) (k n value i : ℕ) (r : Read text k n value i) (l : 
       grown a b p f g = omega arith
 
   pub read-stop : 16 ≤ hexDigit (getD text (k + i) 0) → hexNumber 0 (take n (drop k text)) ≡ Missing
-  read-stop d = sym (r .same) ∙ ap (λ (j : ℕ). hexNumber value (take j (drop (k + i) text))) left ∙ stop text (n - (i + 1)) (k + i) value place d
+  read-stop d = sym (r .same) ∙ ap (λ (j : ℕ). hexNumber value (take j (drop (k + i) text))) left
+      ∙ stop text (n - (i + 1)) (k + i) value place d
 
 pub read-all : (text : List ℕ) (k n value : ℕ) → Read text k n value n → Value value ≡ hexNumber 0 (take n (drop k text))
 unfolding hexNumber

@@ -9,8 +9,10 @@ use Rattle.cutter_check.specs.declared.ToolCheck.the-variants.{Accepted, Refuse
 use Rattle.inner.specs.Geometry.{CheckedAs}
 use Rattle.cutter_check.specs.Steps.{ToolCheckPost}
 
-pub accepted : (shape : CutterShape) (c : PreparedCutter) (t : ToolCheck) → t ≡ Accepted → ToolCheckPost shape c t → CheckedAs (ToolCheckPost shape c) 0
+pub accepted : (shape : CutterShape) (c : PreparedCutter) (t : ToolCheck) → t ≡ Accepted → ToolCheckPost shape c t
+    → CheckedAs (ToolCheckPost shape c) 0
 accepted shape c t e h = inl (subst (ToolCheckPost shape c) e h, refl)
 
-pub refused : (shape : CutterShape) (c : PreparedCutter) (t : ToolCheck) (k : ℕ) → t ≡ Refused k → ToolCheckPost shape c t → CheckedAs (ToolCheckPost shape c) k
+pub refused : (shape : CutterShape) (c : PreparedCutter) (t : ToolCheck) (k : ℕ) → t ≡ Refused k
+    → ToolCheckPost shape c t → CheckedAs (ToolCheckPost shape c) k
 refused shape c t k e h = inr (subst (ToolCheckPost shape c) e h)

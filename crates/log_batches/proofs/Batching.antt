@@ -26,7 +26,8 @@ key-fits {n} {w = w} h d i l x = omega (arith, key-below d (w .width) n i l x, h
 
 module _ (rays : ℕ → ℕ) (n first : ℕ) where
   -- THE LAW of narrowing: the keys below the new width times n are those of the narrower batch
-  pub narrowed : {passed v w : ℕ} {before after : List ℕ} {m r : ℕ} → passed ≤ n → w ≤ v → KeysKept (λ key. ltb key (w * n)) before m after r
+  pub narrowed : {passed v w : ℕ} {before after : List ℕ} {m r : ℕ} → passed ≤ n → w ≤ v
+      → KeysKept (λ key. ltb key (w * n)) before m after r
       → Batched rays n first passed v before m → Batched rays n first passed w after r
   narrowed {w = w} {after = after} past less kept b = record {
     each = λ t h.
@@ -150,8 +151,8 @@ module _ {first ray n i : ℕ} where
           rw (← e) (added rays n first old (omega arith) (omega arith) (s .room f));
     }
 
--- how far a ray is past the first, as the machine tells: below the width it is the difference, and a ray that is at least the width past it, or
--- below the first, is none of the batch
+-- how far a ray is past the first, as the machine tells: below the width it is the difference, and a ray that is at
+-- least the width past it, or below the first, is none of the batch
 module _ {first ray d : ℕ} (e : (d + first) % 2 ^ 64 ≡ ray) (small : d < 2 ^ 64) (low : first < 2 ^ 64) where
   pub past-none : {w : ℕ} → w ≤ d → first ≤ ray → ray < first + w → ⊥
   past-none h f l = omega arith

@@ -40,7 +40,8 @@ pub record CountedBelow (spec : DexelStockSpec) (g : DexelGrid) (c : Cells) (log
 pub same-shape : (a b : List Float) → length a ≡ length b → Shaped b → Shaped a
 same-shape a b size s = record { quarters = rw size (s .quarters); least = rw size (s .least) }
 
-module _ {spec : DexelStockSpec} {g : DexelGrid} {c : Cells} {log : List Float} {first width : ℕ} {keys : List ℕ} {m : ℕ} {before : RayTotals}
+module _ {spec : DexelStockSpec} {g : DexelGrid} {c : Cells} {log : List Float} {first width : ℕ} {keys : List ℕ}
+    {m : ℕ} {before : RayTotals}
     {buffer : List Float} (a : CountPre spec g c log first before buffer) (b : BatchKeys g log first width keys m) where
   -- a key in terms of its entry
   key-parts : (t i : ℕ) → i < entryCount log → first ≤ entryRay g (entryAt log i)
@@ -52,7 +53,8 @@ module _ {spec : DexelStockSpec} {g : DexelGrid} {c : Cells} {log : List Float} 
       (omega arith, ap (λ (k : ℕ). k % entryCount log) e ∙ remainder d (entryCount log) i h)
 
   -- each key is one of an entry on its ray, which the batch has
-  key-ray : (t : ℕ) → t < m → (entryRay g (entryOfKey log (getD keys t 0)) ≡ rayAt log first keys t) × (rayAt log first keys t < first + width)
+  key-ray : (t : ℕ) → t < m → (entryRay g (entryOfKey log (getD keys t 0)) ≡ rayAt log first keys t)
+      × (rayAt log first keys t < first + width)
   unfolding entryOfKey
   key-ray t h =
       let (i, l, x, y, e) = b .batched .each t h in
@@ -125,7 +127,8 @@ module _ {spec : DexelStockSpec} {g : DexelGrid} {c : Cells} {log : List Float} 
           let f : j < m = omega arith in
           omega (arith, rays-ascend i j (omega (arith, e .past)) f, e .other f, rays-ascend j k l h)
 
-      pub reached-turn : {r : RayTotals} → Prefixed spec g c log (rayAt log first keys i + 1) r → CountedBelow spec g c log first width keys m j r
+      pub reached-turn : {r : RayTotals} → Prefixed spec g c log (rayAt log first keys i + 1) r
+          → CountedBelow spec g c log first width keys m j r
       reached-turn p = record {
         upto = rayAt log first keys i + 1;
         least = omega arith;
@@ -161,7 +164,8 @@ module _ {spec : DexelStockSpec} {g : DexelGrid} {c : Cells} {log : List Float} 
 
   -- ---- the end
 
-  pub reached-end : {i : ℕ} {t : RayTotals} → m ≤ i → CountedBelow spec g c log first width keys m i t → Prefixed spec g c log (first + width) t
+  pub reached-end : {i : ℕ} {t : RayTotals} → m ≤ i → CountedBelow spec g c log first width keys m i t
+      → Prefixed spec g c log (first + width) t
   reached-end {i} {t} l s =
       pass-rays spec g c (a .counting .intervals) log (a .counting .countable) t (s .upto) (first + width)
       (s .most) (b .inside) none (s .prefixed)

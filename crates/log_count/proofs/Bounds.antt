@@ -95,7 +95,8 @@ module _ (spec : DexelStockSpec) (g : DexelGrid) (c : Cells) (intervals : ℕ) (
   pub total-is : intervals ≡ sumBelow (pairsOf spec c) (rayCount g)
   unfolding stock pairTotal pairsOf
   total-is = lent-laws spec g .all-pairs stock isStock
-      ∙ sum-over g (λ r. length (rayList spec c (r .0) Possible) / 2 + length (rayList spec c (r .0) Certain) / 2) (pairsOf spec c) (λ r. refl)
+      ∙ sum-over g (λ r. length (rayList spec c (r .0) Possible) / 2 + length (rayList spec c (r .0) Certain) / 2)
+      (pairsOf spec c) (λ r. refl)
 
   pub total-fits : intervals ≤ spec .«max_intervals»
   total-fits = omega (
@@ -105,9 +106,11 @@ module _ (spec : DexelStockSpec) (g : DexelGrid) (c : Cells) (intervals : ℕ) (
   )
 
   -- the counts of the causes 9 and 10 as sums by number
-  pub changed-is : changedRayCount g (rayLists spec g c) (entries log) ≡ sumBelow (λ ray. cond (rayChangeCount spec g c log ray) 1 0) (rayCount g)
+  pub changed-is : changedRayCount g (rayLists spec g c) (entries log)
+      ≡ sumBelow (λ ray. cond (rayChangeCount spec g c log ray) 1 0) (rayCount g)
   unfolding changedRayCount isRayChanged rayChangeCount hitsOnList
-  changed-is = sum-over g (λ r. cond (isRayChanged g (rayLists spec g c) (entries log) r) 1 0) (λ ray. cond (rayChangeCount spec g c log ray) 1 0)
+  changed-is = sum-over g (λ r. cond (isRayChanged g (rayLists spec g c) (entries log) r) 1 0)
+      (λ ray. cond (rayChangeCount spec g c log ray) 1 0)
       (λ r. refl)
 
   pub left-is : pairsAfter g (rayLists spec g c) (entries log) ≡ sumBelow (leftOf spec g c log) (rayCount g)
@@ -156,7 +159,8 @@ module _ (spec : DexelStockSpec) (g : DexelGrid) (c : Cells) (intervals : ℕ) (
 
     pub unchanged : rayChangeCount spec g c log ray ≡ false
     unfolding rayChangeCount
-    unchanged = ap₂ (λ (o i : List Float). isHitBy (rayList spec c ray Possible) i || isHitBy (rayList spec c ray Certain) (o ++ i)) (no-pairs outer)
+    unchanged = ap₂ (λ (o i : List Float). isHitBy (rayList spec c ray Possible) i
+        || isHitBy (rayList spec c ray Certain) (o ++ i)) (no-pairs outer)
         (no-pairs inner)
         ∙ ap₂ _||_ (no-hits (rayList spec c ray Possible)) (no-hits (rayList spec c ray Certain))
 
@@ -176,14 +180,20 @@ module _ (spec : DexelStockSpec) (g : DexelGrid) (c : Cells) (intervals : ℕ) (
       one true k = omega arith
       one false k = omega arith
 
-      go : (l : List ℕ) → namedFrom g log ray 0 (entryCount log) ≡ l → (b : Bool) → rayChangeCount spec g c log ray ≡ b → cond b 1 0 ≤ length l
+      go : (l : List ℕ) → namedFrom g log ray 0 (entryCount log) ≡ l → (b : Bool)
+          → rayChangeCount spec g c log ray ≡ b → cond b 1 0 ≤ length l
       go [] u b e = subst (λ (x : Bool). cond x 1 0 ≤ 0) (sym (unchanged ray h u) ∙ e) (omega arith)
       go (i ∷ l) u b e = one b (length l)
 
   -- ---- THE LAWS of the cheap test
 
   pub rays-le : changedRayCount g (rayLists spec g c) (entries log) ≤ entryCount log
-  rays-le = omega (arith, changed-is, all-entries, sum-le (λ ray. cond (rayChangeCount spec g c log ray) 1 0) entriesOf (rayCount g) changed-le)
+  rays-le = omega (
+    arith,
+    changed-is,
+    all-entries,
+    sum-le (λ ray. cond (rayChangeCount spec g c log ray) 1 0) entriesOf (rayCount g) changed-le,
+  )
 
   -- no log changes more rays than it has entries, or than there are
   pub rays-allowed : {a : ℕ} → (entryCount log ≤ a) ⊎ (rayCount g ≤ a) → changedRayCount g (rayLists spec g c) (entries log) ≤ a

@@ -87,7 +87,8 @@ frontOf false w = w .inner
 
 module _ (w : LongPart) (x : Float) where
   -- what lies below one of them lies below the front
-  pub below-front : Number (w .outer) → Number (w .inner) → (certain : Bool) (k : HitKind) → LosesKind certain k → lt x (kindFront k w) ≡ true
+  pub below-front : Number (w .outer) → Number (w .inner) → (certain : Bool) (k : HitKind) → LosesKind certain k
+      → lt x (kindFront k w) ≡ true
       → lt x (frontOf certain w) ≡ true
   below-front n m false inner inner-hit h = h
   below-front n m true inner inner-hit h = elim (by-cases (lt (w .outer) (w .inner))) [

@@ -16,7 +16,8 @@ use Rattle.log_entries.specs.Named.{beforeAxis}
 
 module _ (g : DexelGrid) where
   -- of a whole number below 3
-  by-number : (k : ℕ) → k < 3 → beforeAxis (ofInt binary64 (pos k)) (raysAlong g (worldAxis 0)) (raysAlong g (worldAxis 1)) ≡ offset g (worldAxis k)
+  by-number : (k : ℕ) → k < 3 → beforeAxis (ofInt binary64 (pos k)) (raysAlong g (worldAxis 0))
+      (raysAlong g (worldAxis 1)) ≡ offset g (worldAxis k)
   unfolding beforeAxis offset byDigit le ofBits ofInt
   by-number zero h = refl
   by-number (suc zero) h = refl
@@ -33,7 +34,8 @@ module _ (g : DexelGrid) where
       ∙ by-number (wholeOf axis) h
 
   -- the number of the ray that an entry names
-  pub ray-of : (e : Entry) → namesSomeRay g e ≡ true → beforeAxis (e .axis) (raysAlong g (worldAxis 0)) (raysAlong g (worldAxis 1)) + wholeOf (e .index) ≡ entryRay g e
+  pub ray-of : (e : Entry) → namesSomeRay g e ≡ true
+      → beforeAxis (e .axis) (raysAlong g (worldAxis 0)) (raysAlong g (worldAxis 1)) + wholeOf (e .index) ≡ entryRay g e
   unfolding entryRay rayNumber
   ray-of e h = let n = named g e h in ap (λ (k : ℕ). k + wholeOf (e .index)) (before-axis (e .axis) (n .axis-whole) (n .axis-digit))
 

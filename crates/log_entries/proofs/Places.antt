@@ -9,7 +9,20 @@ use lib.Ieee.{Float}
 use Rattle.logic.proofs.Bools.{clash}
 use Rattle.grid.specs.Rays.{rayCount, Ray}
 use Rattle.grid.specs.declared.DexelGrid.{DexelGrid}
-use Rattle.log_model.specs.Logs.{Entry, entryAt, entriesFrom, entryCount, entries, namesSomeRay, entryRay, namesRay, HitKind, hitLo, hitHi, hitsOnRay}
+use Rattle.log_model.specs.Logs.{
+  Entry,
+  entryAt,
+  entriesFrom,
+  entryCount,
+  entries,
+  namesSomeRay,
+  entryRay,
+  namesRay,
+  HitKind,
+  hitLo,
+  hitHi,
+  hitsOnRay,
+}
 use Rattle.log_model.specs.Model.{NamesNoRay}
 use Rattle.log_model.proofs.Entries.{entry-at}
 use Rattle.log_model.proofs.Naming.{named-below}
@@ -26,7 +39,8 @@ pub all-rest : {P : ℕ → Type 0} (i k : ℕ) → AllFrom P i (suc k) → AllF
 all-rest i k f j a b = f j (omega arith) (omega arith)
 
 -- the ray of an entry that names one is below the count of all rays
-pub each-below : (g : DexelGrid) (log : List Float) → EachNamed g log → (i : ℕ) → i < entryCount log → entryRay g (entryAt log i) < rayCount g
+pub each-below : (g : DexelGrid) (log : List Float) → EachNamed g log → (i : ℕ) → i < entryCount log
+    → entryRay g (entryAt log i) < rayCount g
 unfolding EachNamed
 each-below g log all i h = named-below g (entryAt log i) (all i h)
 
@@ -50,8 +64,10 @@ module _ (g : DexelGrid) (log : List Float) (ray : ℕ) where
 
       left : (m : ℕ) → 0 + m ≡ m
       left m = omega arith
-  named-append i (suc k) m = subst (λ (n : ℕ). namedFrom g log ray i n ≡ namedFrom g log ray i (suc k) ++ namedFrom g log ray (i + suc k) m) (one k m)
-      (go (eqb (entryRay g (entryAt log i)) ray) (named-append (suc i) k m ∙ ap (λ (j : ℕ). namedFrom g log ray (suc i) k ++ namedFrom g log ray j m) (next i k)))
+  named-append i (suc k) m = subst
+      (λ (n : ℕ). namedFrom g log ray i n ≡ namedFrom g log ray i (suc k) ++ namedFrom g log ray (i + suc k) m) (one k m)
+      (go (eqb (entryRay g (entryAt log i)) ray)
+      (named-append (suc i) k m ∙ ap (λ (j : ℕ). namedFrom g log ray (suc i) k ++ namedFrom g log ray j m) (next i k)))
     where
       one : (k m : ℕ) → suc (k + m) ≡ suc k + m
       one k m = omega arith
@@ -69,7 +85,8 @@ module _ (g : DexelGrid) (log : List Float) (ray : ℕ) where
       → pairsAt log (namedFrom g log ray i k) w ≡ hitsOnRay g (entriesFrom log i k) ray w
   unfolding pairsAt namedFrom hitsOnRay entriesFrom
   pairs-from w i zero h = refl
-  pairs-from w i (suc k) h = go (eqb (entryRay g (entryAt log i)) ray) (namesSomeRay g (entryAt log i)) (all-first i k h) (pairs-from w (suc i) k (all-rest i k h))
+  pairs-from w i (suc k) h = go (eqb (entryRay g (entryAt log i)) ray) (namesSomeRay g (entryAt log i))
+      (all-first i k h) (pairs-from w (suc i) k (all-rest i k h))
     where
       lo : Float
       lo = hitLo w (entryAt log i)

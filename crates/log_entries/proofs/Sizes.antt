@@ -15,7 +15,8 @@ module _ (g : DexelGrid) (ray : ℕ) (w : HitKind) where
   named-even [] = refl
   named-even (e ∷ es) = go (namesSomeRay g e && eqb (entryRay g e) ray) (named-even es)
     where
-      go : (b : Bool) → length (hitsOnRay g es ray w) % 2 ≡ 0 → length (cond b (hitLo w e ∷ hitHi w e ∷ hitsOnRay g es ray w) (hitsOnRay g es ray w)) % 2 ≡ 0
+      go : (b : Bool) → length (hitsOnRay g es ray w) % 2 ≡ 0
+          → length (cond b (hitLo w e ∷ hitHi w e ∷ hitsOnRay g es ray w) (hitsOnRay g es ray w)) % 2 ≡ 0
       go true h = omega arith
       go false h = h
 
@@ -25,6 +26,7 @@ module _ (g : DexelGrid) (ray : ℕ) (w : HitKind) where
   named-most [] = omega arith
   named-most (e ∷ es) = go (namesSomeRay g e && eqb (entryRay g e) ray) (named-most es)
     where
-      go : (b : Bool) → length (hitsOnRay g es ray w) ≤ 2 * length es → length (cond b (hitLo w e ∷ hitHi w e ∷ hitsOnRay g es ray w) (hitsOnRay g es ray w)) ≤ 2 * length (e ∷ es)
+      go : (b : Bool) → length (hitsOnRay g es ray w) ≤ 2 * length es
+          → length (cond b (hitLo w e ∷ hitHi w e ∷ hitsOnRay g es ray w) (hitsOnRay g es ray w)) ≤ 2 * length (e ∷ es)
       go true h = omega arith
       go false h = omega arith

@@ -28,7 +28,8 @@ valued m q e (fin false n d) v h =
     once : (a b : ℕ) → a * 1 ≡ b → a ≡ b
     once a b e = omega (arith, e)
 
-pub castable : (x : Float) → isWhole x ≡ true → le (ofBits binary64 0x3ff0_0000_0000_0000) x ≡ true → lt x (ofBits binary64 0x41f0_0000_0000_0000) ≡ true
+pub castable : (x : Float) → isWhole x ≡ true → le (ofBits binary64 0x3ff0_0000_0000_0000) x ≡ true
+    → lt x (ofBits binary64 0x41f0_0000_0000_0000) ≡ true
     → T (inUnsigned binary64 32 x) × (toUnsigned 32 x ≡ toUnsigned 64 x)
 unfolding isWhole le lt ofBits ofInt toUnsigned inUnsigned whole
 castable nan w a b = absurd (false≢true a)
@@ -43,7 +44,9 @@ castable (fin true m e) w a b = absurd (none (m * up e) (down e) (down-pos e) a)
         no e = omega arith
 castable (fin false m e) w a b = (
   subst T (sym (both (whole binary64 (fin false m e)) (ltb q (2 ^ 32))
-      (both (eqb (m * up e % down e) 0 && leb q (2 ^ prec binary64)) true (both (eqb (m * up e % down e) 0) (leb q (2 ^ prec binary64)) divides (le-leb q (2 ^ prec binary64) (omega (arith, below)))) refl)
+      (both (eqb (m * up e % down e) 0 && leb q (2 ^ prec binary64)) true
+      (both (eqb (m * up e % down e) 0) (leb q (2 ^ prec binary64)) divides
+      (le-leb q (2 ^ prec binary64) (omega (arith, below)))) refl)
       (lt-ltb q (2 ^ 32) below))) tt,
   omega (arith, below),
 )
@@ -58,7 +61,8 @@ castable (fin false m e) w a b = (
     most = omega (arith, below)
 
     value : m * up e ≡ m * up e / down e * down e
-    value = valued m (m * up e / down e) e (round binary64 false (m * up e / down e) 1) (round-whole binary64 false (m * up e / down e) (omega (arith, below)))
+    value = valued m (m * up e / down e) e (round binary64 false (m * up e / down e) 1)
+        (round-whole binary64 false (m * up e / down e) (omega (arith, below)))
         (subst (λ (k : ℕ). eq (fin false m e) (round binary64 false k 1) ≡ true) most w)
 
     divides : eqb (m * up e % down e) 0 ≡ true

@@ -27,7 +27,8 @@ beforeAxis axis first second =
 -- of the places i to i + k - 1 those whose entry is on the ray, in a log whose entries each name one
 unfoldable pub namedFrom : DexelGrid → List Float → (ray i k : ℕ) → List ℕ
 namedFrom g log ray i zero = []
-namedFrom g log ray i (suc k) = cond (eqb (entryRay g (entryAt log i)) ray) (i ∷ namedFrom g log ray (suc i) k) (namedFrom g log ray (suc i) k)
+namedFrom g log ray i (suc k) =
+    cond (eqb (entryRay g (entryAt log i)) ray) (i ∷ namedFrom g log ray (suc i) k) (namedFrom g log ray (suc i) k)
 
 -- the outer or the inner pairs of the entries at the places, as a flat list
 unfoldable pub pairsAt : List Float → List ℕ → HitKind → List Float

@@ -22,7 +22,8 @@ module _ (b : Float) (e : Entry) (before after : List Float) (h r : HeldHits) wh
   unfolding withEntry
   puts-inner certain c p = record { size = p .size; roomy = p .roomy; gathers = λ u f hits g. rw c (p .gathers u f hits g) }
 
-  pub puts-both : (certain : Bool) (mid : List Float) (w : HeldHits) → certain ≡ true → PutPost b (hitLo outer e) (hitHi outer e) before h mid w
+  pub puts-both : (certain : Bool) (mid : List Float) (w : HeldHits) → certain ≡ true
+      → PutPost b (hitLo outer e) (hitHi outer e) before h mid w
       → PutPost b (hitLo inner e) (hitHi inner e) mid w after r → PutEntryPost b e certain before h after r
   unfolding withEntry
   puts-both certain mid w c p q = record {

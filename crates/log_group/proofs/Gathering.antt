@@ -34,7 +34,8 @@ column-most outer = omega arith
 column-most inner = omega arith
 
 -- two chains from the same number have the same places
-pub chain-one : {w : List Float} {rays from to k : ℕ} {is js : List ℕ} → PlaceChain w rays from to k is → PlaceChain w rays from to k js → is ≡ js
+pub chain-one : {w : List Float} {rays from to k : ℕ} {is js : List ℕ} → PlaceChain w rays from to k is
+    → PlaceChain w rays from to k js → is ≡ js
 chain-one ends ends = refl
 chain-one (more {i = i} a b c) (more d e f) = ap (_∷_ i) (chain-one c f)
 
@@ -51,9 +52,21 @@ pub record Gathering (rays : ℕ) (log : List Float) (kind : HitKind) (ray at : 
   pub cells : sets before at (pairsAt log places kind) ≡ sets w t (pairsAt log left kind)
 
 module _ (rays : ℕ) (log : List Float) (kind : HitKind) (ray at : ℕ) (before : List Float) where
-  pub gathering-start : (places : List ℕ) → PlaceChain before rays 0 (entryCount log) (numberAt before ray) places → at + length (pairsAt log places kind) ≤ length before
+  pub gathering-start : (places : List ℕ) → PlaceChain before rays 0 (entryCount log) (numberAt before ray) places
+      → at + length (pairsAt log places kind) ≤ length before
       → rays + entryCount log ≤ at → Gathering rays log kind ray at before before at (numberAt before ray)
-  gathering-start places c room h = record { places = places; left = places; first = c; chain = c; size = refl; past = h; room = room; count = refl; cells = refl }
+  gathering-start places c room h =
+      record {
+        places = places;
+        left = places;
+        first = c;
+        chain = c;
+        size = refl;
+        past = h;
+        room = room;
+        count = refl;
+        cells = refl;
+      }
 
   -- the cells after the pair at place i came to cell t
   abbrev pub turned : List Float → ℕ → ℕ → List Float
@@ -67,7 +80,8 @@ module _ (rays : ℕ) (log : List Float) (kind : HitKind) (ray at : ℕ) (before
     pub again : Gathering rays log kind ray at before (turned w t (k - 1)) (t + 2) (numberAt (turned w t (k - 1)) (rays + (k - 1)))
 
   step-cells : (w : List Float) (t i : ℕ) (is : List ℕ) → sets w t (pairsAt log (i ∷ is) kind)
-      ≡ sets (set (set w t (getD log (6 * i + columnOf kind) nan)) (t + 1) (getD log (6 * i + columnOf kind + 1) nan)) (t + 2) (pairsAt log is kind)
+      ≡ sets (set (set w t (getD log (6 * i + columnOf kind) nan)) (t + 1) (getD log (6 * i + columnOf kind + 1) nan))
+      (t + 2) (pairsAt log is kind)
   unfolding pairsAt
   step-cells w t i is = rw (← lo-at log i kind, ← hi-at log i kind, next t, two t)
     where
@@ -84,20 +98,24 @@ module _ (rays : ℕ) (log : List Float) (kind : HitKind) (ray at : ℕ) (before
   module _ (w : List Float) (t : ℕ) where
     kept : (i q : ℕ) → rays + entryCount log ≤ t → q < entryCount log → getD (turned w t i) (rays + q) nan ≡ getD w (rays + q) nan
     kept i q past e =
-        getD-set-other (set w t (getD log (6 * i + columnOf kind) nan)) (t + 1) (rays + q) (getD log (6 * i + columnOf kind + 1) nan) nan (λ (h : rays + q ≡ t + 1). omega arith)
+        getD-set-other (set w t (getD log (6 * i + columnOf kind) nan)) (t + 1) (rays + q)
+        (getD log (6 * i + columnOf kind + 1) nan) nan (λ (h : rays + q ≡ t + 1). omega arith)
         ∙ getD-set-other w t (rays + q) (getD log (6 * i + columnOf kind) nan) nan (λ (h : rays + q ≡ t). omega arith)
 
     same-size : (i : ℕ) → length (turned w t i) ≡ length w
-    same-size i = length-set (set w t (getD log (6 * i + columnOf kind) nan)) (t + 1) (getD log (6 * i + columnOf kind + 1) nan) ∙ length-set w t (getD log (6 * i + columnOf kind) nan)
+    same-size i = length-set (set w t (getD log (6 * i + columnOf kind) nan)) (t + 1)
+        (getD log (6 * i + columnOf kind + 1) nan) ∙ length-set w t (getD log (6 * i + columnOf kind) nan)
 
     -- the rest of the chain, when the pair at place i is copied
-    rest : {k : ℕ} (s : Gathering rays log kind ray at before w t k) (i : ℕ) (is : List ℕ) → i < entryCount log → PlaceChain w rays 0 (entryCount log) (numberAt w (rays + i)) is
+    rest : {k : ℕ} (s : Gathering rays log kind ray at before w t k) (i : ℕ) (is : List ℕ) → i < entryCount log
+        → PlaceChain w rays 0 (entryCount log) (numberAt w (rays + i)) is
         → s .left ≡ i ∷ is → Gathering rays log kind ray at before (turned w t i) (t + 2) (numberAt (turned w t i) (rays + i))
     rest s i is b c e = record {
       places = s .places;
       left = is;
       first = s .first;
-      chain = subst (λ (n : ℕ). PlaceChain (turned w t i) rays 0 (entryCount log) n is) (sym (number-same (turned w t i) w (rays + i) (kept i i (s .past) b)))
+      chain = subst (λ (n : ℕ). PlaceChain (turned w t i) rays 0 (entryCount log) n is)
+          (sym (number-same (turned w t i) w (rays + i) (kept i i (s .past) b)))
           (chain-kept (omega arith) (λ q d f. number-same (turned w t i) w (rays + q) (kept i q (s .past) f)) c);
       size = same-size i ∙ s .size;
       past = omega (arith, s .past);
@@ -118,16 +136,19 @@ module _ (rays : ℕ) (log : List Float) (kind : HitKind) (ray at : ℕ) (before
           some = omega arith;
           below = omega arith;
           room = omega (arith, s .room, s .count, ap (λ (l : List ℕ). length (pairsAt log l kind)) e, step-count i is);
-          again = subst (λ (n : ℕ). Gathering rays log kind ray at before (turned w t n) (t + 2) (numberAt (turned w t n) (rays + n))) (sym (one i)) (rest s i is b c e);
+          again = subst (λ (n : ℕ). Gathering rays log kind ray at before (turned w t n) (t + 2)
+              (numberAt (turned w t n) (rays + n))) (sym (one i)) (rest s i is b c e);
         }
 
-  pub gathering-done : (w : List Float) (t k : ℕ) → k ≡ 0 → (s : Gathering rays log kind ray at before w t k) → ReadListPost (pairsAt log (s .places) kind) before at w t
+  pub gathering-done : (w : List Float) (t k : ℕ) → k ≡ 0 → (s : Gathering rays log kind ray at before w t k)
+      → ReadListPost (pairsAt log (s .places) kind) before at w t
   unfolding pairsAt
   gathering-done w t k none s =
       let empty : s .left ≡ [] = last (s .chain) none in
       record {
         past = omega (arith, s .count, ap (λ (l : List ℕ). length (pairsAt log l kind)) empty);
-        cells = sym (s .cells ∙ ap (λ (l : List ℕ). sets w t (pairsAt log l kind)) empty) ∙ sets-eq (pairsAt log (s .places) kind) before at (s .room);
+        cells = sym (s .cells ∙ ap (λ (l : List ℕ). sets w t (pairsAt log l kind)) empty)
+            ∙ sets-eq (pairsAt log (s .places) kind) before at (s .room);
       }
     where
       last : {k : ℕ} {left : List ℕ} → PlaceChain w rays 0 (entryCount log) k left → k ≡ 0 → left ≡ []
@@ -135,17 +156,22 @@ module _ (rays : ℕ) (log : List Float) (kind : HitKind) (ray at : ℕ) (before
       last (more a b c) e = absurd (omega arith)
 
 -- a turn, in the terms of the code
-pub again : (rays : ℕ) (log : List Float) (kind : HitKind) (ray at : ℕ) (before w : List Float) (t k c : ℕ) (v : List Float) (n : ℕ) → c ≡ columnOf kind
+pub again : (rays : ℕ) (log : List Float) (kind : HitKind) (ray at : ℕ) (before w : List Float) (t k c : ℕ)
+    (v : List Float) (n : ℕ) → c ≡ columnOf kind
     → v ≡ set (set w t (getD log (6 * (k - 1) + c) nan)) (t + 1) (getD log (6 * (k - 1) + c + 1) nan) → n ≡ numberAt v (rays + (k - 1))
-    → Gathering rays log kind ray at before (turned rays log kind ray at before w t (k - 1)) (t + 2) (numberAt (turned rays log kind ray at before w t (k - 1)) (rays + (k - 1)))
+    → Gathering rays log kind ray at before (turned rays log kind ray at before w t (k - 1)) (t + 2)
+    (numberAt (turned rays log kind ray at before w t (k - 1)) (rays + (k - 1)))
     → Gathering rays log kind ray at before v (t + 2) n
 again rays log kind ray at before w t k c v n col cells num s =
-    let e : v ≡ turned rays log kind ray at before w t (k - 1) = cells ∙ ap (λ (x : ℕ). set (set w t (getD log (6 * (k - 1) + x) nan)) (t + 1) (getD log (6 * (k - 1) + x + 1) nan)) col in
+    let e : v ≡ turned rays log kind ray at before w t (k - 1) =
+    cells ∙ ap (λ (x : ℕ). set (set w t (getD log (6 * (k - 1) + x) nan)) (t + 1)
+    (getD log (6 * (k - 1) + x + 1) nan)) col in
     subst (λ (m : ℕ). Gathering rays log kind ray at before v (t + 2) m) (sym num)
     (subst (λ (x : List Float). Gathering rays log kind ray at before x (t + 2) (numberAt x (rays + (k - 1)))) (sym e) s)
 
 -- ---- the chain of a ray of a grouped log
-module _ (g : DexelGrid) (log before : List Float) (grouped : Grouped g log before) (ray : ℕ) (h : ray < rayCount g) (rays : ℕ) (same : rays ≡ rayCount g) (kind : HitKind) (at : ℕ) where
+module _ (g : DexelGrid) (log before : List Float) (grouped : Grouped g log before) (ray : ℕ) (h : ray < rayCount g)
+    (rays : ℕ) (same : rays ≡ rayCount g) (kind : HitKind) (at : ℕ) where
   places : List ℕ
   places = namedFrom g log ray 0 (entryCount log)
 
@@ -157,19 +183,23 @@ module _ (g : DexelGrid) (log before : List Float) (grouped : Grouped g log befo
   unfolding places
   chain = subst (λ (n : ℕ). PlaceChain before n 0 (entryCount log) (numberAt before ray) places) (sym same) (grouped .chains ray h)
 
-  pub gathers : at + length (hitsOnRay g (entries log) ray kind) ≤ length before → rayCount g + entryCount log ≤ at → (k : ℕ) → k ≡ numberAt before ray
+  pub gathers : at + length (hitsOnRay g (entries log) ray kind) ≤ length before → rayCount g + entryCount log ≤ at
+      → (k : ℕ) → k ≡ numberAt before ray
       → Gathering rays log kind ray at before before at k
   gathers room past k e =
       subst (λ (n : ℕ). Gathering rays log kind ray at before before at n) (sym e)
-      (gathering-start rays log kind ray at before places chain (subst (λ (l : List Float). at + length l ≤ length before) (sym hits) room) (omega arith))
+      (gathering-start rays log kind ray at before places chain
+      (subst (λ (l : List Float). at + length l ≤ length before) (sym hits) room) (omega arith))
 
-  pub gathered : (w : List Float) (t k : ℕ) → k ≡ 0 → Gathering rays log kind ray at before w t k → ReadListPost (hitsOnRay g (entries log) ray kind) before at w t
+  pub gathered : (w : List Float) (t k : ℕ) → k ≡ 0 → Gathering rays log kind ray at before w t k
+      → ReadListPost (hitsOnRay g (entries log) ray kind) before at w t
   gathered w t k none s =
       subst (λ (l : List Float). ReadListPost l before at w t) (ap (λ (l : List ℕ). pairsAt log l kind) (chain-one (s .first) chain) ∙ hits)
       (gathering-done rays log kind ray at before w t k none s)
 
 -- a ray whose first cell is zero has no hits
-pub none-named : (g : DexelGrid) (log w : List Float) → Grouped g log w → (ray : ℕ) → ray < rayCount g → numberAt w ray ≡ 0 → (kind : HitKind) → hitsOnRay g (entries log) ray kind ≡ []
+pub none-named : (g : DexelGrid) (log w : List Float) → Grouped g log w → (ray : ℕ) → ray < rayCount g
+    → numberAt w ray ≡ 0 → (kind : HitKind) → hitsOnRay g (entries log) ray kind ≡ []
 unfolding pairsAt
 none-named g log w s ray h e kind =
     sym (pairs-at g log (s .named) (ray, h) kind)

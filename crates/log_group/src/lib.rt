@@ -14,7 +14,8 @@ use grid::DexelGrid;
 // Puts place i in front of the chain of the ray.
 fn link(work: &mut [f64], rays: usize, ray: usize, i: usize)
     requires { ⌜ (ray < rays) × (rays + i < length (now work)) ⌝ }
-    ensures { λ _. ⌜ now (work .exit) ≡ set (set (now (work .entry)) (rays + i) (getD (now (work .entry)) ray nan)) ray (numberCell (i + 1)) ⌝ }
+    ensures { λ _. ⌜ now (work .exit) ≡ set (set (now (work .entry)) (rays + i) (getD (now (work .entry)) ray nan))
+        ray (numberCell (i + 1)) ⌝ }
 {
     work[rays + i] = work[ray];
     log_numbers::put_number(work, ray, (i + 1) as u64);
@@ -48,13 +49,15 @@ fn column(inner: bool) -> usize
 // Copies the pair that begins at column c of the entry at place i to cell t.
 fn put_hit(log: &[f64], i: usize, c: usize, work: &mut [f64], t: usize)
     requires { ⌜ (6 * i + c + 1 < length (now log)) × (t + 1 < length (now work)) ⌝ }
-    ensures { λ _. ⌜ now (work .exit) ≡ set (set (now (work .entry)) t (getD (now (log .entry)) (6 * i + c) nan)) (t + 1) (getD (now (log .entry)) (6 * i + c + 1) nan) ⌝ }
+    ensures { λ _. ⌜ now (work .exit) ≡ set (set (now (work .entry)) t (getD (now (log .entry)) (6 * i + c) nan))
+        (t + 1) (getD (now (log .entry)) (6 * i + c + 1) nan) ⌝ }
 {
     work[t] = log[6 * i + c];
     work[t + 1] = log[6 * i + c + 1];
 }
 
-// Copies the outer or the inner pairs of the entries on a ray into the buffer from cell `at` on, past the chains, and says which cell is past them.
+// Copies the outer or the inner pairs of the entries on a ray into the buffer from cell `at` on, past the chains, and
+// says which cell is past them.
 pub fn gather_hits(
     g: DexelGrid,
     log: &[f64],
@@ -65,7 +68,8 @@ pub fn gather_hits(
 ) -> usize
     requires { ⌜ Grouped g (now log) (now work) × (ray < rayCount g) × (rayCount g + entryCount (now log) ≤ at)
         × (at + length (hitsOnRay g (entries (now log)) ray (hitKindOf inner)) ≤ length (now work)) ⌝ }
-    ensures { λ r. ⌜ ReadListPost (hitsOnRay g (entries (now (log .entry))) ray (hitKindOf inner)) (now (work .entry)) at (now (work .exit)) r ⌝ }
+    ensures { λ r. ⌜ ReadListPost (hitsOnRay g (entries (now (log .entry))) ray (hitKindOf inner)) (now (work .entry))
+        at (now (work .exit)) r ⌝ }
 {
     let rays = grid_rays::total_rays(g) as usize;
     let c = column(inner);

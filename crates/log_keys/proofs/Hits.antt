@@ -15,7 +15,21 @@ use Rattle.grid.specs.declared.DexelGrid.{DexelGrid}
 use Rattle.spans.specs.Spans.{within, holds}
 use Rattle.spans.proofs.Sets.{oddN-mod}
 use Rattle.spans.proofs.Points.{holds-append}
-use Rattle.log_model.specs.Logs.{Entry, entryAt, entriesFrom, entryCount, entries, namesSomeRay, entryRay, HitKind, outer, inner, hitLo, hitHi, hitsOnRay}
+use Rattle.log_model.specs.Logs.{
+  Entry,
+  entryAt,
+  entriesFrom,
+  entryCount,
+  entries,
+  namesSomeRay,
+  entryRay,
+  HitKind,
+  outer,
+  inner,
+  hitLo,
+  hitHi,
+  hitsOnRay,
+}
 use Rattle.log_entries.specs.Named.{EachNamed}
 use Rattle.log_entries.proofs.Places.{AllFrom, all-first, all-rest}
 use Rattle.log_entries.proofs.Sizes.{named-even}
@@ -134,12 +148,14 @@ pub record Lost (g : DexelGrid) (log : List Float) (ray : ℕ) (certain : Bool) 
 
 module _ (g : DexelGrid) (log : List Float) (ray : ℕ) where
   module _ (w : HitKind) where
-    named-pair : (i k j : ℕ) → AllFrom (λ n. namesSomeRay g (entryAt log n) ≡ true) i k → i ≤ j → j < i + k → entryRay g (entryAt log j) ≡ ray
+    named-pair : (i k j : ℕ) → AllFrom (λ n. namesSomeRay g (entryAt log n) ≡ true) i k → i ≤ j → j < i + k
+        → entryRay g (entryAt log j) ≡ ray
         → HasPair (hitLo w (entryAt log j)) (hitHi w (entryAt log j)) (hitsOnRay g (entriesFrom log i k) ray w)
     unfolding hitsOnRay entriesFrom
     named-pair i zero j f a b q = absurd (omega arith)
     named-pair i (suc k) j f a b q = elim (decLt i j) [
-      | yes h ↦ more (hitLo w (entryAt log i)) (hitHi w (entryAt log i)) (namesSomeRay g (entryAt log i) && eqb (entryRay g (entryAt log i)) ray)
+      | yes h ↦ more (hitLo w (entryAt log i)) (hitHi w (entryAt log i))
+          (namesSomeRay g (entryAt log i) && eqb (entryRay g (entryAt log i)) ray)
           (named-pair (suc i) k j (all-rest i k f) h (next i j k b) q)
       | no h ↦ let e : j ≡ i = same i j a h in
           rw (
@@ -216,7 +232,8 @@ module _ (g : DexelGrid) (log : List Float) (ray : ℕ) where
       even : length outers % 2 ≡ 0
       even = named-even g ray outer (entries log)
 
-      lost : (certain : Bool) (w : HitKind) → LosesKind certain w → holds (hitsOnRay g (entries log) ray w) x ≡ true → Lost g log ray certain x
+      lost : (certain : Bool) (w : HitKind) → LosesKind certain w → holds (hitsOnRay g (entries log) ray w) x ≡ true
+          → Lost g log ray certain x
       lost certain w l k = let (i, a, b, d) = named-hit w 0 (entryCount log) x (unfold entries in k) in
           record { place = i; below = omega (arith, a); on-ray = b; struck = record { kind = w; loses = l; holds-it = d } }
 

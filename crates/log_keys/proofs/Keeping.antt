@@ -36,7 +36,8 @@ module _ (test : ℕ → Bool) (before now : List ℕ) (i k : ℕ) (s : KeysKept
           (q, omega (arith, a), kept ∙ b, ap test kept ∙ d)
       | no l ↦
           let last : t ≡ k = omega arith in
-          let moved : getD (set now k (getD now i 0)) t 0 ≡ getD before i 0 = ap (λ (x : ℕ). getD (set now k (getD now i 0)) x 0) last ∙ same ∙ here in
+          let moved : getD (set now k (getD now i 0)) t 0 ≡ getD before i 0 =
+          ap (λ (x : ℕ). getD (set now k (getD now i 0)) x 0) last ∙ same ∙ here in
           (i, omega arith, moved, ap test moved ∙ e)
     ];
     all = λ q h p. elim (decLt q i) [
@@ -76,6 +77,7 @@ module _ (test : ℕ → Bool) (before now : List ℕ) (i k : ℕ) (s : KeysKept
       only q h l = omega arith
 
   -- THE LAW: `keep` moves it where it passes
-  pub kept-turn : (kept : Bool) (after : List ℕ) (r : ℕ) → kept ≡ test (getD now i 0) → KeepPost k i kept now after r → KeysKept test before (i + 1) after r
+  pub kept-turn : (kept : Bool) (after : List ℕ) (r : ℕ) → kept ≡ test (getD now i 0) → KeepPost k i kept now after r
+      → KeysKept test before (i + 1) after r
   kept-turn true after r e m = rw (m .keys) (rw (m .next) (passes (sym (e ∙ ap test here))))
   kept-turn false after r e m = rw (m .keys) (rw (m .next) (fails (sym (e ∙ ap test here))))

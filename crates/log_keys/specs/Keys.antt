@@ -32,7 +32,8 @@ pairsPast b [] = []
 pairsPast b (lo ∷ []) = []
 pairsPast b (lo ∷ hi ∷ l) = cond (lt b lo) (lo ∷ hi ∷ pairsPast b l) (pairsPast b l)
 
--- Between b and u the points f are those below `front` and those of the pairs. What lies from b on below `front`, or in a pair, is of f anywhere.
+-- Between b and u the points f are those below `front` and those of the pairs. What lies from b on below `front`, or
+-- in a pair, is of f anywhere.
 pub record Stretch (b u front : Float) (pairs : List Float) (f : Float → Bool) : Type 0 where
   pub only-front : (x : Float) → within b front x ≡ true → f x ≡ true
   pub only-pairs : (x : Float) → holds pairs x ≡ true → f x ≡ true

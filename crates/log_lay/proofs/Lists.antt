@@ -47,16 +47,19 @@ module _ (w : List Float) (sizes : ℕ) where
     -- a ray that does not change
     pub updates-same : eqb (firstSize w sizes ray) 0 ≡ true → updatesFrom w sizes q ray (suc k) ≡ updatesFrom w sizes q (suc ray) k
     unfolding updatesFrom
-    updates-same e = ap (λ (b : Bool). cond b (updatesFrom w sizes q (suc ray) k) (firstUpdate ∷ secondUpdate ∷ updatesFrom w sizes pastRay (suc ray) k)) e
+    updates-same e = ap (λ (b : Bool). cond b (updatesFrom w sizes q (suc ray) k)
+        (firstUpdate ∷ secondUpdate ∷ updatesFrom w sizes pastRay (suc ray) k)) e
 
     pub end-same : eqb (firstSize w sizes ray) 0 ≡ true → listsEnd w sizes q ray (suc k) ≡ listsEnd w sizes q (suc ray) k
     unfolding listsEnd
     end-same e = ap (λ (b : Bool). cond b (listsEnd w sizes q (suc ray) k) (listsEnd w sizes pastRay (suc ray) k)) e
 
     -- and one that does
-    pub updates-new : eqb (firstSize w sizes ray) 0 ≡ false → updatesFrom w sizes q ray (suc k) ≡ firstUpdate ∷ secondUpdate ∷ updatesFrom w sizes pastRay (suc ray) k
+    pub updates-new : eqb (firstSize w sizes ray) 0 ≡ false
+        → updatesFrom w sizes q ray (suc k) ≡ firstUpdate ∷ secondUpdate ∷ updatesFrom w sizes pastRay (suc ray) k
     unfolding updatesFrom
-    updates-new e = ap (λ (b : Bool). cond b (updatesFrom w sizes q (suc ray) k) (firstUpdate ∷ secondUpdate ∷ updatesFrom w sizes pastRay (suc ray) k)) e
+    updates-new e = ap (λ (b : Bool). cond b (updatesFrom w sizes q (suc ray) k)
+        (firstUpdate ∷ secondUpdate ∷ updatesFrom w sizes pastRay (suc ray) k)) e
 
     pub end-new : eqb (firstSize w sizes ray) 0 ≡ false → listsEnd w sizes q ray (suc k) ≡ listsEnd w sizes pastRay (suc ray) k
     unfolding listsEnd
@@ -72,23 +75,32 @@ module _ (w : List Float) (sizes : ℕ) where
 
   -- first a rays, then b more
   pub end-more : (a b q ray : ℕ) → listsEnd w sizes q ray (a + b) ≡ listsEnd w sizes (listsEnd w sizes q ray a) (ray + a) b
-  end-more zero b q ray = ap₂ (λ (x y : ℕ). listsEnd w sizes q x y) (no-more ray) (none-and b) ∙ ap (λ (x : ℕ). listsEnd w sizes x (ray + 0) b) (sym (end-none q ray))
+  end-more zero b q ray = ap₂ (λ (x y : ℕ). listsEnd w sizes q x y) (no-more ray) (none-and b)
+      ∙ ap (λ (x : ℕ). listsEnd w sizes x (ray + 0) b) (sym (end-none q ray))
   end-more (suc a) b q ray = ap (listsEnd w sizes q ray) (one-and a b) ∙ ⊎-elim
-      (λ (e : eqb (firstSize w sizes ray) 0 ≡ true). end-same q ray (a + b) e ∙ end-more a b q (suc ray) ∙ ap₂ (λ (x y : ℕ). listsEnd w sizes x y b) (sym (end-same q ray a e)) (one-up ray a))
-      (λ (e : eqb (firstSize w sizes ray) 0 ≡ false). end-new q ray (a + b) e ∙ end-more a b (pastRay q ray a) (suc ray) ∙ ap₂ (λ (x y : ℕ). listsEnd w sizes x y b) (sym (end-new q ray a e)) (one-up ray a))
+      (λ (e : eqb (firstSize w sizes ray) 0 ≡ true). end-same q ray (a + b) e ∙ end-more a b q (suc ray)
+      ∙ ap₂ (λ (x y : ℕ). listsEnd w sizes x y b) (sym (end-same q ray a e)) (one-up ray a))
+      (λ (e : eqb (firstSize w sizes ray) 0 ≡ false). end-new q ray (a + b) e
+      ∙ end-more a b (pastRay q ray a) (suc ray)
+      ∙ ap₂ (λ (x y : ℕ). listsEnd w sizes x y b) (sym (end-new q ray a e)) (one-up ray a))
       (by-cases (eqb (firstSize w sizes ray) 0))
 
-  pub updates-more : (a b q ray : ℕ) → updatesFrom w sizes q ray (a + b) ≡ updatesFrom w sizes q ray a ++ updatesFrom w sizes (listsEnd w sizes q ray a) (ray + a) b
+  pub updates-more : (a b q ray : ℕ) → updatesFrom w sizes q ray (a + b) ≡ updatesFrom w sizes q ray a
+      ++ updatesFrom w sizes (listsEnd w sizes q ray a) (ray + a) b
   updates-more zero b q ray =
-      ap₂ (λ (x y : ℕ). updatesFrom w sizes q x y) (no-more ray) (none-and b) ∙ ap (λ (x : ℕ). updatesFrom w sizes x (ray + 0) b) (sym (end-none q ray))
+      ap₂ (λ (x y : ℕ). updatesFrom w sizes q x y) (no-more ray) (none-and b)
+      ∙ ap (λ (x : ℕ). updatesFrom w sizes x (ray + 0) b) (sym (end-none q ray))
       ∙ ap (λ (l : List Update). l ++ updatesFrom w sizes (listsEnd w sizes q ray 0) (ray + 0) b) (sym (updates-none q ray))
   updates-more (suc a) b q ray = ap (updatesFrom w sizes q ray) (one-and a b) ∙ ⊎-elim
       (λ (e : eqb (firstSize w sizes ray) 0 ≡ true).
       updates-same q ray (a + b) e ∙ updates-more a b q (suc ray)
-      ∙ ap₂ (λ (l : List Update) (x : ℕ). l ++ updatesFrom w sizes x (suc ray + a) b) (sym (updates-same q ray a e)) (sym (end-same q ray a e))
+      ∙ ap₂ (λ (l : List Update) (x : ℕ). l ++ updatesFrom w sizes x (suc ray + a) b) (sym (updates-same q ray a e))
+      (sym (end-same q ray a e))
       ∙ ap (λ (y : ℕ). updatesFrom w sizes q ray (suc a) ++ updatesFrom w sizes (listsEnd w sizes q ray (suc a)) y b) (one-up ray a))
       (λ (e : eqb (firstSize w sizes ray) 0 ≡ false).
-      updates-new q ray (a + b) e ∙ ap (λ (l : List Update). firstUpdate q ray a ∷ secondUpdate q ray a ∷ l) (updates-more a b (pastRay q ray a) (suc ray))
-      ∙ ap₂ (λ (l : List Update) (x : ℕ). l ++ updatesFrom w sizes x (suc ray + a) b) (sym (updates-new q ray a e)) (sym (end-new q ray a e))
+      updates-new q ray (a + b) e ∙ ap (λ (l : List Update). firstUpdate q ray a ∷ secondUpdate q ray a ∷ l)
+      (updates-more a b (pastRay q ray a) (suc ray))
+      ∙ ap₂ (λ (l : List Update) (x : ℕ). l ++ updatesFrom w sizes x (suc ray + a) b) (sym (updates-new q ray a e))
+      (sym (end-new q ray a e))
       ∙ ap (λ (y : ℕ). updatesFrom w sizes q ray (suc a) ++ updatesFrom w sizes (listsEnd w sizes q ray (suc a)) y b) (one-up ray a))
       (by-cases (eqb (firstSize w sizes ray) 0))

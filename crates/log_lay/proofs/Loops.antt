@@ -39,7 +39,12 @@ module _ (n : ℕ) (c : Cells) (w : List Float) (sizes rays : ℕ) where
 -- a store with one list freed
 module _ (n m total : ℕ) (c : Cells) (s : ChainsSound n m total c) (room : Room n m c) (j : ℕ) (j<m : j < m) where
   one-freeable : FreeListPre n c j
-  one-freeable = record { in-spans = room .in-spans; in-links = room .in-links; in-heads = omega (arith, room .in-heads); chain = s .chains j j<m }
+  one-freeable = record {
+    in-spans = room .in-spans;
+    in-links = room .in-links;
+    in-heads = omega (arith, room .in-heads);
+    chain = s .chains j j<m;
+  }
 
   one-room : Room n m (freedList n c j)
   one-room = kept-room (freed-kept n m total c s room j j<m) room
@@ -49,7 +54,8 @@ module _ (n m total : ℕ) (c : Cells) (s : ChainsSound n m total c) (room : Roo
 
   one-sound : ChainsSound n m one-total (freedList n c j)
   unfolding one-total
-  one-sound = let r : Replaced n m total c (freedList n c j) j [] = freed-list n m total c s room j j<m in r .isSound (total - length (placesOf n (c .links) (c .heads) j)) (omega (arith, r .less))
+  one-sound = let r : Replaced n m total c (freedList n c j) j [] = freed-list n m total c s room j j<m in
+      r .isSound (total - length (placesOf n (c .links) (c .heads) j)) (omega (arith, r .less))
 
 module _ (n : ℕ) (c : Cells) (w : List Float) (sizes rays ray : ℕ) (a : AllFreeable n c w sizes rays) (h : ray < rays) where
   in-first : 2 * ray < 2 * rays
@@ -63,13 +69,16 @@ module _ (n : ℕ) (c : Cells) (w : List Float) (sizes rays ray : ℕ) (a : AllF
     in-sizes = omega (arith, a .in-sizes);
     lists = record {
       possible = one-freeable n (2 * rays) (a .total) c (a .store) (a .room) (2 * ray) in-first;
-      certain = one-freeable n (2 * rays) (one-total n (2 * rays) (a .total) c (a .store) (a .room) (2 * ray) in-first) (freedList n c (2 * ray))
-          (one-sound n (2 * rays) (a .total) c (a .store) (a .room) (2 * ray) in-first) (one-room n (2 * rays) (a .total) c (a .store) (a .room) (2 * ray) in-first) (2 * ray + 1) in-second;
+      certain = one-freeable n (2 * rays)
+          (one-total n (2 * rays) (a .total) c (a .store) (a .room) (2 * ray) in-first) (freedList n c (2 * ray))
+          (one-sound n (2 * rays) (a .total) c (a .store) (a .room) (2 * ray) in-first)
+          (one-room n (2 * rays) (a .total) c (a .store) (a .room) (2 * ray) in-first) (2 * ray + 1) in-second;
     };
   }
 
   -- the store after the turn
-  turn-freed : (d : Cells) → ((q : ℕ) → d ≡ freedAll n c (updatesFrom w sizes q ray 1)) → AllFreeable n d w sizes rays × CellsPastKept n (2 * rays) c d
+  turn-freed : (d : Cells) → ((q : ℕ) → d ≡ freedAll n c (updatesFrom w sizes q ray 1))
+      → AllFreeable n d w sizes rays × CellsPastKept n (2 * rays) c d
   turn-freed d f = at (ℕ-discrete (firstSize w sizes ray) 0)
     where
       r₁ : Room n (2 * rays) (freedList n c (2 * ray))
@@ -79,18 +88,23 @@ module _ (n : ℕ) (c : Cells) (w : List Float) (sizes rays ray : ℕ) (a : AllF
       s₁ = one-sound n (2 * rays) (a .total) c (a .store) (a .room) (2 * ray) in-first
 
       at : Dec (firstSize w sizes ray ≡ 0) → AllFreeable n d w sizes rays × CellsPastKept n (2 * rays) c d
-      at (yes z) = subst (λ (d : Cells). AllFreeable n d w sizes rays × CellsPastKept n (2 * rays) c d) (sym (f 0 ∙ ap (freedAll n c) (no-update w sizes ray z 0) ∙ freed-none n c)) (a, kept-none n (2 * rays) c)
-      at (no nz) = subst (λ (d : Cells). AllFreeable n d w sizes rays × CellsPastKept n (2 * rays) c d) (sym (f 0 ∙ freed-ray-new n c w sizes ray nz 0)) (
-        record {
-          in-sizes = a .in-sizes;
-          room = one-room n (2 * rays) _ (freedList n c (2 * ray)) s₁ r₁ (2 * ray + 1) in-second;
-          total = one-total n (2 * rays) _ (freedList n c (2 * ray)) s₁ r₁ (2 * ray + 1) in-second;
-          store = one-sound n (2 * rays) _ (freedList n c (2 * ray)) s₁ r₁ (2 * ray + 1) in-second;
-        },
-        kept-then (freed-kept n (2 * rays) (a .total) c (a .store) (a .room) (2 * ray) in-first) (freed-kept n (2 * rays) _ (freedList n c (2 * ray)) s₁ r₁ (2 * ray + 1) in-second),
-      )
+      at (yes z) = subst (λ (d : Cells). AllFreeable n d w sizes rays × CellsPastKept n (2 * rays) c d)
+          (sym (f 0 ∙ ap (freedAll n c) (no-update w sizes ray z 0) ∙ freed-none n c)) (a, kept-none n (2 * rays) c)
+      at (no nz) = subst (λ (d : Cells). AllFreeable n d w sizes rays × CellsPastKept n (2 * rays) c d)
+          (sym (f 0 ∙ freed-ray-new n c w sizes ray nz 0)) (
+            record {
+              in-sizes = a .in-sizes;
+              room = one-room n (2 * rays) _ (freedList n c (2 * ray)) s₁ r₁ (2 * ray + 1) in-second;
+              total = one-total n (2 * rays) _ (freedList n c (2 * ray)) s₁ r₁ (2 * ray + 1) in-second;
+              store = one-sound n (2 * rays) _ (freedList n c (2 * ray)) s₁ r₁ (2 * ray + 1) in-second;
+            },
+            kept-then (freed-kept n (2 * rays) (a .total) c (a .store) (a .room) (2 * ray) in-first)
+                (freed-kept n (2 * rays) _ (freedList n c (2 * ray)) s₁ r₁ (2 * ray + 1) in-second),
+          )
 
-pub freed-next : (n : ℕ) (c : Cells) (w : List Float) (sizes rays ray : ℕ) (d : Cells) → FreedTo n c w sizes rays ray d → ray < rays → (e : Cells) → ((q : ℕ) → e ≡ freedAll n d (updatesFrom w sizes q ray 1)) → FreedTo n c w sizes rays (ray + 1) e
+pub freed-next : (n : ℕ) (c : Cells) (w : List Float) (sizes rays ray : ℕ) (d : Cells)
+    → FreedTo n c w sizes rays ray d → ray < rays → (e : Cells)
+    → ((q : ℕ) → e ≡ freedAll n d (updatesFrom w sizes q ray 1)) → FreedTo n c w sizes rays (ray + 1) e
 freed-next n c w sizes rays ray d t h e f =
     let r = turn-freed n d w sizes rays ray (t .still) h e f in
     record {
@@ -98,12 +112,17 @@ freed-next n c w sizes rays ray d t h e f =
       still = r .0;
       done = λ q.
           f (listsEnd w sizes q 0 ray) ∙ ap (λ (x : Cells). freedAll n x (updatesFrom w sizes (listsEnd w sizes q 0 ray) ray 1)) (t .done q)
-          ∙ sym (ap (freedAll n c) (updates-more w sizes ray 1 q 0 ∙ ap (λ (x : ℕ). updatesFrom w sizes q 0 ray ++ updatesFrom w sizes (listsEnd w sizes q 0 ray) x 1) (zero-add ray)) ∙ freed-append n (updatesFrom w sizes q 0 ray) (updatesFrom w sizes (listsEnd w sizes q 0 ray) ray 1) c);
+          ∙ sym (ap (freedAll n c) (updates-more w sizes ray 1 q 0
+          ∙ ap (λ (x : ℕ). updatesFrom w sizes q 0 ray ++ updatesFrom w sizes (listsEnd w sizes q 0 ray) x 1)
+          (zero-add ray)) ∙ freed-append n (updatesFrom w sizes q 0 ray)
+          (updatesFrom w sizes (listsEnd w sizes q 0 ray) ray 1) c);
       kept = kept-then (t .kept) (r .1);
     }
 
-pub freed-end : (n : ℕ) (c : Cells) (w : List Float) (sizes rays ray : ℕ) (d : Cells) → FreedTo n c w sizes rays ray d → rays ≤ ray → (q : ℕ) → d ≡ freedAll n c (updatesFrom w sizes q 0 rays)
-freed-end n c w sizes rays ray d t h q = let e : ray ≡ rays = omega (arith, t .most) in t .done q ∙ ap (λ (k : ℕ). freedAll n c (updatesFrom w sizes q 0 k)) e
+pub freed-end : (n : ℕ) (c : Cells) (w : List Float) (sizes rays ray : ℕ) (d : Cells) → FreedTo n c w sizes rays ray d
+    → rays ≤ ray → (q : ℕ) → d ≡ freedAll n c (updatesFrom w sizes q 0 rays)
+freed-end n c w sizes rays ray d t h q = let e : ray ≡ rays = omega (arith, t .most) in
+    t .done q ∙ ap (λ (k : ℕ). freedAll n c (updatesFrom w sizes q 0 k)) e
 
 -- ---- laying
 each-left : (n : ℕ) (us vs : List Update) (c : Cells) → EachLayable n c (us ++ vs) → EachLayable n c us
@@ -124,7 +143,12 @@ module _ (n : ℕ) (c : Cells) (w : List Float) (sizes ray a b : ℕ) (p : LayPl
   pub layable-first : RaysLayable n c w sizes ray a p
   layable-first = record {
     in-sizes = omega (arith, ready .in-sizes);
-    in-lists = omega (arith, ready .in-lists, end-more w sizes a b (p .at) ray, end-past w sizes b (listsEnd w sizes (p .at) ray a) (ray + a));
+    in-lists = omega (
+      arith,
+      ready .in-lists,
+      end-more w sizes a b (p .at) ray,
+      end-past w sizes b (listsEnd w sizes (p .at) ray a) (ray + a),
+    );
     each = each-left n (updatesFrom w sizes (p .at) ray a) (updatesFrom w sizes (listsEnd w sizes (p .at) ray a) (ray + a) b) c each-more;
     cursor = ready .cursor;
   }
@@ -139,11 +163,15 @@ module _ (n : ℕ) (c : Cells) (w : List Float) (sizes ray a b : ℕ) (p : LayPl
     cursor = l .cursor;
   }
 
-pub laid-more : (n : ℕ) (c : Cells) (w : List Float) (sizes ray a b : ℕ) (p : LayPlace) (d : Cells) (q : LayPlace) (e : Cells) (r : LayPlace) → RaysLaid n c w sizes ray a p d q → RaysLaid n d w sizes (ray + a) b q e r → RaysLaid n c w sizes ray (a + b) p e r
+pub laid-more : (n : ℕ) (c : Cells) (w : List Float) (sizes ray a b : ℕ) (p : LayPlace) (d : Cells) (q : LayPlace)
+    (e : Cells) (r : LayPlace) → RaysLaid n c w sizes ray a p d q → RaysLaid n d w sizes (ray + a) b q e r
+    → RaysLaid n c w sizes ray (a + b) p e r
 laid-more n c w sizes ray a b p d q e r l m = record {
   left =
       m .left ∙ ap₂ (λ (x : Cells) (y : ℕ). laidAll n x (updatesFrom w sizes y (ray + a) b)) (l .left) (l .at)
-      ∙ sym (ap (laidAll n c) (updates-more w sizes a b (p .at) ray) ∙ laid-append n (updatesFrom w sizes (p .at) ray a) (updatesFrom w sizes (listsEnd w sizes (p .at) ray a) (ray + a) b) c);
+      ∙ sym (ap (laidAll n c) (updates-more w sizes a b (p .at) ray)
+      ∙ laid-append n (updatesFrom w sizes (p .at) ray a)
+      (updatesFrom w sizes (listsEnd w sizes (p .at) ray a) (ray + a) b) c);
   at = m .at ∙ ap (λ (x : ℕ). listsEnd w sizes x (ray + a) b) (l .at) ∙ sym (end-more w sizes a b (p .at) ray);
   cursor = m .cursor;
 }
@@ -156,11 +184,16 @@ pub record LaidTo (n : ℕ) (c : Cells) (w : List Float) (sizes at rays ray : �
   pub links-size : length (d .links) ≡ length (c .links)
   pub heads-size : length (d .heads) ≡ length (c .heads)
 
-module _ (n : ℕ) (c : Cells) (w : List Float) (sizes at rays : ℕ) (ready : RaysLayable n c w sizes 0 rays (record { from = 0; at = at })) where
+module _ (n : ℕ) (c : Cells) (w : List Float) (sizes at rays : ℕ)
+    (ready : RaysLayable n c w sizes 0 rays (record { from = 0; at = at })) where
   pub laid-start : LaidTo n c w sizes at rays 0 c (record { from = 0; at = at })
   laid-start = record {
     most = omega arith;
-    done = record { left = sym (ap (laidAll n c) (updates-none w sizes at 0) ∙ laid-none n c); at = sym (end-none w sizes at 0); cursor = ready .cursor };
+    done = record {
+      left = sym (ap (laidAll n c) (updates-none w sizes at 0) ∙ laid-none n c);
+      at = sym (end-none w sizes at 0);
+      cursor = ready .cursor;
+    };
     spans-size = refl;
     links-size = refl;
     heads-size = refl;
@@ -171,13 +204,20 @@ module _ (n : ℕ) (c : Cells) (w : List Float) (sizes at rays : ℕ) (ready : R
     turn-layable h =
         let all : ray + (rays - ray) ≡ rays = omega arith in
         let one : 1 + (rays - ray - 1) ≡ rays - ray = omega arith in
-        let left : RaysLayable n d w sizes (0 + ray) (rays - ray) p = layable-rest n c w sizes 0 ray (rays - ray) (record { from = 0; at = at }) (subst (λ (k : ℕ). RaysLayable n c w sizes 0 k (record { from = 0; at = at })) (sym all) ready) d p (t .done) in
-        layable-first n d w sizes ray 1 (rays - ray - 1) p (subst (λ (k : ℕ). RaysLayable n d w sizes ray k p) (sym one) (subst (λ (k : ℕ). RaysLayable n d w sizes k (rays - ray) p) (zero-add ray) left))
+        let left : RaysLayable n d w sizes (0 + ray) (rays - ray) p =
+        layable-rest n c w sizes 0 ray (rays - ray) (record { from = 0; at = at })
+        (subst (λ (k : ℕ). RaysLayable n c w sizes 0 k (record { from = 0; at = at })) (sym all) ready) d p (t .done) in
+        layable-first n d w sizes ray 1 (rays - ray - 1) p
+        (subst (λ (k : ℕ). RaysLayable n d w sizes ray k p) (sym one)
+        (subst (λ (k : ℕ). RaysLayable n d w sizes k (rays - ray) p) (zero-add ray) left))
 
-    pub laid-next : ray < rays → (e : Cells) (q : LayPlace) → RaysLaid n d w sizes ray 1 p e q → length (e .spans) ≡ length (d .spans) → length (e .links) ≡ length (d .links) → length (e .heads) ≡ length (d .heads) → LaidTo n c w sizes at rays (ray + 1) e q
+    pub laid-next : ray < rays → (e : Cells) (q : LayPlace) → RaysLaid n d w sizes ray 1 p e q
+        → length (e .spans) ≡ length (d .spans) → length (e .links) ≡ length (d .links)
+        → length (e .heads) ≡ length (d .heads) → LaidTo n c w sizes at rays (ray + 1) e q
     laid-next h e q l ss ls hs = record {
       most = omega arith;
-      done = laid-more n c w sizes 0 ray 1 (record { from = 0; at = at }) d p e q (t .done) (subst (λ (k : ℕ). RaysLaid n d w sizes k 1 p e q) (sym (zero-add ray)) l);
+      done = laid-more n c w sizes 0 ray 1 (record { from = 0; at = at }) d p e q (t .done)
+          (subst (λ (k : ℕ). RaysLaid n d w sizes k 1 p e q) (sym (zero-add ray)) l);
       spans-size = ss ∙ t .spans-size;
       links-size = ls ∙ t .links-size;
       heads-size = hs ∙ t .heads-size;

@@ -12,7 +12,17 @@ use Rattle.store_write.specs.LayRays.{LayRayPre, LayRayPost}
 use Rattle.log_lay.specs.Updates.{firstSize, updatesFrom, listsEnd}
 use Rattle.log_lay.specs.Steps.{EachLayable, RaysLayable, RaysLaid}
 use Rattle.log_lay.specs.declared.LayPlace.{LayPlace}
-use Rattle.log_lay.proofs.Lists.{updates-none, end-none, pastRay, firstUpdate, secondUpdate, updates-same, updates-new, end-same, end-new}
+use Rattle.log_lay.proofs.Lists.{
+  updates-none,
+  end-none,
+  pastRay,
+  firstUpdate,
+  secondUpdate,
+  updates-same,
+  updates-new,
+  end-same,
+  end-new,
+}
 use Rattle.store.specs.Steps.{LayListPre}
 use Rattle.store.specs.Store.{Cells}
 
@@ -45,27 +55,33 @@ module _ (w : List Float) (sizes ray : ℕ) where
   no-list : firstSize w sizes ray ≡ 0 → (q : ℕ) → listsEnd w sizes q ray 1 ≡ q
   no-list z q = end-same w sizes q ray 0 (eq-eqb (firstSize w sizes ray) 0 z) ∙ end-none w sizes q (suc ray)
 
-  two-updates : (firstSize w sizes ray ≡ 0 → ⊥) → (q : ℕ) → updatesFrom w sizes q ray 1 ≡ firstUpdate w sizes q ray 0 ∷ secondUpdate w sizes q ray 0 ∷ []
+  two-updates : (firstSize w sizes ray ≡ 0 → ⊥) → (q : ℕ)
+      → updatesFrom w sizes q ray 1 ≡ firstUpdate w sizes q ray 0 ∷ secondUpdate w sizes q ray 0 ∷ []
   two-updates nz q =
       updates-new w sizes q ray 0 (ne-eqb (firstSize w sizes ray) 0 nz)
-      ∙ ap (λ (l : List Update). firstUpdate w sizes q ray 0 ∷ secondUpdate w sizes q ray 0 ∷ l) (updates-none w sizes (pastRay w sizes q ray 0) (suc ray))
+      ∙ ap (λ (l : List Update). firstUpdate w sizes q ray 0 ∷ secondUpdate w sizes q ray 0 ∷ l)
+      (updates-none w sizes (pastRay w sizes q ray 0) (suc ray))
 
   two-lists : (firstSize w sizes ray ≡ 0 → ⊥) → (q : ℕ) → listsEnd w sizes q ray 1 ≡ pastRay w sizes q ray 0
   two-lists nz q = end-new w sizes q ray 0 (ne-eqb (firstSize w sizes ray) 0 nz) ∙ end-none w sizes (pastRay w sizes q ray 0) (suc ray)
 
 -- ---- freeing
-pub freed-ray-new : (n : ℕ) (c : Cells) (w : List Float) (sizes ray : ℕ) → (firstSize w sizes ray ≡ 0 → ⊥) → (q : ℕ) → freedAll n c (updatesFrom w sizes q ray 1) ≡ freedList n (freedList n c (2 * ray)) (2 * ray + 1)
-freed-ray-new n c w sizes ray nz q = ap (freedAll n c) (two-updates w sizes ray nz q) ∙ freed-two n c (firstUpdate w sizes q ray 0) (secondUpdate w sizes q ray 0)
+pub freed-ray-new : (n : ℕ) (c : Cells) (w : List Float) (sizes ray : ℕ) → (firstSize w sizes ray ≡ 0 → ⊥) → (q : ℕ)
+    → freedAll n c (updatesFrom w sizes q ray 1) ≡ freedList n (freedList n c (2 * ray)) (2 * ray + 1)
+freed-ray-new n c w sizes ray nz q = ap (freedAll n c) (two-updates w sizes ray nz q)
+    ∙ freed-two n c (firstUpdate w sizes q ray 0) (secondUpdate w sizes q ray 0)
 
 module _ (n : ℕ) (c : Cells) (w : List Float) (sizes ray first : ℕ) (e : first ≡ firstSize w sizes ray) where
   pub freed-same : first ≡ 0 → (q : ℕ) → c ≡ freedAll n c (updatesFrom w sizes q ray 1)
   freed-same z q = sym (ap (freedAll n c) (no-update w sizes ray (sym e ∙ z) q) ∙ freed-none n c)
 
-  pub freed-new : (first ≡ 0 → ⊥) → (b : Cells) → b ≡ freedList n (freedList n c (2 * ray)) (2 * ray + 1) → (q : ℕ) → b ≡ freedAll n c (updatesFrom w sizes q ray 1)
+  pub freed-new : (first ≡ 0 → ⊥) → (b : Cells) → b ≡ freedList n (freedList n c (2 * ray)) (2 * ray + 1) → (q : ℕ)
+      → b ≡ freedAll n c (updatesFrom w sizes q ray 1)
   freed-new nz b f q = f ∙ sym (freed-ray-new n c w sizes ray (λ z. nz (e ∙ z)) q)
 
 -- ---- laying
-module _ (n : ℕ) (c : Cells) (w : List Float) (sizes ray : ℕ) (p : LayPlace) (ready : RaysLayable n c w sizes ray 1 p) (first : ℕ) (e : first ≡ firstSize w sizes ray) where
+module _ (n : ℕ) (c : Cells) (w : List Float) (sizes ray : ℕ) (p : LayPlace) (ready : RaysLayable n c w sizes ray 1 p)
+    (first : ℕ) (e : first ≡ firstSize w sizes ray) where
   pub laid-same : first ≡ 0 → RaysLaid n c w sizes ray 1 p c p
   laid-same z = record {
     left = sym (ap (laidAll n c) (no-update w sizes ray (sym e ∙ z) (p .at)) ∙ laid-none n c);
@@ -94,22 +110,28 @@ module _ (n : ℕ) (c : Cells) (w : List Float) (sizes ray : ℕ) (p : LayPlace)
     second-is : update (2 * ray + 1) (pairsFrom w (p .at + 2 * (first - 1)) second) ≡ secondUpdate w sizes (p .at) ray 0
     second-is = ap₂ (λ (x y : ℕ). update (2 * ray + 1) (pairsFrom w (p .at + 2 * (x - 1)) y)) e f
 
-    both : LayListPre n c (firstUpdate w sizes (p .at) ray 0) × LayListPre n (laidList n c (firstUpdate w sizes (p .at) ray 0)) (secondUpdate w sizes (p .at) ray 0)
-    both = both-layable n c (firstUpdate w sizes (p .at) ray 0) (secondUpdate w sizes (p .at) ray 0) (subst (EachLayable n c) (two-updates w sizes ray (λ z. nz (e ∙ z)) (p .at)) (ready .each))
+    both : LayListPre n c (firstUpdate w sizes (p .at) ray 0)
+        × LayListPre n (laidList n c (firstUpdate w sizes (p .at) ray 0)) (secondUpdate w sizes (p .at) ray 0)
+    both = both-layable n c (firstUpdate w sizes (p .at) ray 0) (secondUpdate w sizes (p .at) ray 0)
+        (subst (EachLayable n c) (two-updates w sizes ray (λ z. nz (e ∙ z)) (p .at)) (ready .each))
 
     pub ray-layable : LayRayPre n c ray (pairsFrom w (p .at) (first - 1)) (pairsFrom w (p .at + 2 * (first - 1)) second)
     ray-layable = record {
       possible = subst (LayListPre n c) (sym first-is) (both .0);
-      certain = subst (λ (u : Update). LayListPre n (laidList n c u) (update (2 * ray + 1) (pairsFrom w (p .at + 2 * (first - 1)) second))) (sym first-is)
+      certain = subst (λ (u : Update). LayListPre n (laidList n c u)
+          (update (2 * ray + 1) (pairsFrom w (p .at + 2 * (first - 1)) second))) (sym first-is)
           (subst (LayListPre n (laidList n c (firstUpdate w sizes (p .at) ray 0))) (sym second-is) (both .1));
     }
 
-    pub laid-new : (b : Cells) (q : LayPlace) → LayRayPost n c ray (pairsFrom w (p .at) (first - 1)) (pairsFrom w (p .at + 2 * (first - 1)) second) (q .from) b → q .at ≡ p .at + 2 * (first - 1) + 2 * second → RaysLaid n c w sizes ray 1 p b q
+    pub laid-new : (b : Cells) (q : LayPlace)
+        → LayRayPost n c ray (pairsFrom w (p .at) (first - 1)) (pairsFrom w (p .at + 2 * (first - 1)) second)
+        (q .from) b → q .at ≡ p .at + 2 * (first - 1) + 2 * second → RaysLaid n c w sizes ray 1 p b q
     unfolding end middle
     laid-new b q laid at = record {
       left =
           laid .left ∙ ap₂ (λ (u v : Update). laidList n (laidList n c u) v) first-is second-is
-          ∙ sym (ap (laidAll n c) (two-updates w sizes ray (λ z. nz (e ∙ z)) (p .at)) ∙ laid-two n c (firstUpdate w sizes (p .at) ray 0) (secondUpdate w sizes (p .at) ray 0));
+          ∙ sym (ap (laidAll n c) (two-updates w sizes ray (λ z. nz (e ∙ z)) (p .at))
+          ∙ laid-two n c (firstUpdate w sizes (p .at) ray 0) (secondUpdate w sizes (p .at) ray 0));
       at = at ∙ sym end-is;
       cursor = laid .onward;
     }

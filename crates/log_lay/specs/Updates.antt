@@ -1,5 +1,5 @@
--- The new lists of the changed rays of a log commit, as they stand in the work buffer between merging and laying: two sizes for each ray, and the
--- lists themselves one after the other.
+-- The new lists of the changed rays of a log commit, as they stand in the work buffer between merging and laying: two
+-- sizes for each ray, and the lists themselves one after the other.
 use mathlib.Core.Bool.{cond}
 use mathlib.Core.List.{List, [], _∷_}
 use Prim.Native.Nat.{ℕ, zero, suc, _+_, _-_, _*_}
@@ -20,7 +20,8 @@ possibleCells w sizes ray = 2 * (firstSize w sizes ray - 1)
 abbrev pub certainCells : List Float → ℕ → ℕ → ℕ
 certainCells w sizes ray = 2 * numberAt w (sizes + 2 * ray + 1)
 
--- the updates of k rays from `ray` on. The sizes of all rays stand from cell `sizes` on, the new lists of these from cell q on, possible first
+-- the updates of k rays from `ray` on. The sizes of all rays stand from cell `sizes` on, the new lists of these from
+-- cell q on, possible first
 unfoldable pub updatesFrom : List Float → (sizes q ray k : ℕ) → List Update
 updatesFrom w sizes q ray zero = []
 updatesFrom w sizes q ray (suc k) =

@@ -18,7 +18,8 @@ fn free_ray(
 )
     requires { ⌜ RayFreeable n (cells (now spans) (now links) (now heads)) (now work) sizes ray ⌝ }
     ensures { λ _. ⌜ ((q : ℕ) → cells (now (spans .exit)) (now (links .exit)) (now (heads .exit))
-        ≡ freedAll n (cells (now (spans .entry)) (now (links .entry)) (now (heads .entry))) (updatesFrom (now (work .entry)) sizes q ray 1)) ⌝ }
+        ≡ freedAll n (cells (now (spans .entry)) (now (links .entry)) (now (heads .entry)))
+        (updatesFrom (now (work .entry)) sizes q ray 1)) ⌝ }
 {
     if log_numbers::number_at(work, sizes + 2 * ray) == 0 {
         return;
@@ -38,7 +39,8 @@ pub fn free_all(
 )
     requires { ⌜ AllFreeable n (cells (now spans) (now links) (now heads)) (now work) sizes rays ⌝ }
     ensures { λ _. ⌜ ((q : ℕ) → cells (now (spans .exit)) (now (links .exit)) (now (heads .exit))
-        ≡ freedAll n (cells (now (spans .entry)) (now (links .entry)) (now (heads .entry))) (updatesFrom (now (work .entry)) sizes q 0 rays)) ⌝ }
+        ≡ freedAll n (cells (now (spans .entry)) (now (links .entry)) (now (heads .entry)))
+        (updatesFrom (now (work .entry)) sizes q 0 rays)) ⌝ }
 {
     let mut ray: usize = 0;
     while ray < rays {
@@ -93,8 +95,8 @@ fn lay_ray(
     LayPlace { from, at: end }
 }
 
-// Lays the new lists of all rays that change, which stand from cell `at` of the work buffer on. One place before which no record is free goes
-// from list to list, so each record is looked at once.
+// Lays the new lists of all rays that change, which stand from cell `at` of the work buffer on. One place before
+// which no record is free goes from list to list, so each record is looked at once.
 pub fn lay_all(
     spans: &mut [f64],
     links: &mut [u64],
@@ -107,7 +109,8 @@ pub fn lay_all(
 )
     requires { ⌜ RaysLayable n (cells (now spans) (now links) (now heads)) (now work) sizes 0 rays (record { from = 0; at = at }) ⌝ }
     ensures { λ _. ⌜ cells (now (spans .exit)) (now (links .exit)) (now (heads .exit))
-        ≡ laidAll n (cells (now (spans .entry)) (now (links .entry)) (now (heads .entry))) (updatesFrom (now (work .entry)) sizes at 0 rays) ⌝ }
+        ≡ laidAll n (cells (now (spans .entry)) (now (links .entry)) (now (heads .entry)))
+        (updatesFrom (now (work .entry)) sizes at 0 rays) ⌝ }
 {
     let mut place = LayPlace { from: 0, at };
     let mut ray: usize = 0;

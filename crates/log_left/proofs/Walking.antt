@@ -126,7 +126,8 @@ module _ {n : ℕ} {spans : List Float} {links : List ℕ} where
 
   -- ---- one pair is closed
   pub closes : {l : List Float} {s : Float → Bool} (lo : Float) (r t : Rest) → Readable n spans links (r .at) → (r .at ≡ 0 → ⊥)
-      → le (endOf spans r) lo ≡ true → ClosePairPost n spans links r t → ListWalked n spans links l s lo r → ListWalked n spans links l s lo t
+      → le (endOf spans r) lo ≡ true → ClosePairPost n spans links r t → ListWalked n spans links l s lo r
+      → ListWalked n spans links l s lo t
   closes {l} {s} lo r t k ne below b w = record {
     done = w .done ++ pair;
     list = subst (ListOf s) (sym same) (w .list);
@@ -314,7 +315,8 @@ module _ {n : ℕ} {spans : List Float} {links : List ℕ} where
       ]
 
   -- ---- the end of the walk
-  pub tells : (l hits : List Float) (last : Float) (r : Rest) (t : ListLeft) → sound l ≡ true → ListWalked n spans links l (less l hits) last r
+  pub tells : (l hits : List Float) (last : Float) (r : Rest) (t : ListLeft) → sound l ≡ true
+      → ListWalked n spans links l (less l hits) last r
       → t .moved ≡ r .moved → t .pairs ≡ (r .left + length (places links n (r .at))) % 2 ^ 64 → ListLeftPost l hits t
   unfolding restOf
   tells l hits last r t s w m c = record {

@@ -37,7 +37,8 @@ module _ (g : DexelGrid) (log : List Float) (ray : ℕ) (top b : Float) where
     }
 
     -- it is
-    pub gathers-added : (t : LongPart) (after : List ℕ) (r : LongPart) → entryRay g (entryAt log i) ≡ ray → AddFrontsPost b (entryAt log i) w t
+    pub gathers-added : (t : LongPart) (after : List ℕ) (r : LongPart) → entryRay g (entryAt log i) ≡ ray
+        → AddFrontsPost b (entryAt log i) w t
         → AddKeyPost top b i log keys t after r → GathersTo g log ray top b (i + 1) keys after r
     gathers-added t after r on f a = record {
       size = a .size;

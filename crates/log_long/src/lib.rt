@@ -87,7 +87,8 @@ fn middle(x: f64, y: f64, z: f64) -> f64
 // Keeps those of the first m keys whose entries have a hit that begins between b and u.
 fn keep_below(top: f64, b: f64, log: &[f64], keys: &mut [u64], m: usize, u: f64) -> usize
     requires { ⌜ InLog (now log) (now keys) m ⌝ }
-    ensures { λ r. ⌜ KeysKept (λ key. lt (leastPast top b (entryAt (now (log .entry)) key)) u) (now (keys .entry)) m (now (keys .exit)) r ⌝ }
+    ensures { λ r. ⌜ KeysKept (λ key. lt (leastPast top b (entryAt (now (log .entry)) key)) u) (now (keys .entry)) m
+        (now (keys .exit)) r ⌝ }
 {
     let mut k: usize = 0;
     let mut i: usize = 0;

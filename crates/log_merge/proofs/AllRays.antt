@@ -41,16 +41,19 @@ abbrev pub stockOf : Cells → Stock
 stockOf c = record { cells = c; generation = 0; intervals = 0 }
 
 -- the lists of a stock are those of its cells
-lists-by-cells : (spec : DexelStockSpec) (g : DexelGrid) (s : Stock) (c : Cells) → s .cells ≡ c → rayLists spec g (s .cells) ≡ rayLists spec g ((stockOf c) .cells)
+lists-by-cells : (spec : DexelStockSpec) (g : DexelGrid) (s : Stock) (c : Cells) → s .cells ≡ c
+    → rayLists spec g (s .cells) ≡ rayLists spec g ((stockOf c) .cells)
 lists-by-cells spec g s c f = ap (λ (d : Cells). rayLists spec g ((stockOf d) .cells)) f
 
 -- ---- sums over rays
 -- the pairs that a ray will have
 abbrev pub leftPairs : (g : DexelGrid) → (Ray g → Kind → List Float) → List Entry → Ray g → ℕ
-leftPairs g lists es r = startsLeft (lists r Possible) (hitsOnList g es r Possible) + startsLeft (lists r Certain) (hitsOnList g es r Certain)
+leftPairs g lists es r = startsLeft (lists r Possible) (hitsOnList g es r Possible)
+    + startsLeft (lists r Certain) (hitsOnList g es r Certain)
 
 -- some rays have no more than all
-sum-most : (g : DexelGrid) (f : Ray g → ℕ) (k i : ℕ) (h : i ≤ rayCount g) (n : ℕ) (e : n ≡ i + k) (l : n ≤ rayCount g) → sumTo g f i h ≤ sumTo g f n l
+sum-most : (g : DexelGrid) (f : Ray g → ℕ) (k i : ℕ) (h : i ≤ rayCount g) (n : ℕ) (e : n ≡ i + k) (l : n ≤ rayCount g)
+    → sumTo g f i h ≤ sumTo g f n l
 sum-most g f zero i h n e l = omega (arith, sum-at g f i n h (sym (e ∙ none-more i)) l)
   where
     none-more : (i : ℕ) → i + 0 ≡ i
@@ -70,12 +73,16 @@ pub record Merging (spec : DexelStockSpec) (g : DexelGrid) (c : Cells) (log befo
   pub most : ray ≤ rayCount g
   pub grouped : Grouped g log w
   pub low : listsFrom g log ≤ q
-  pub room : (h : ray ≤ rayCount g) → q ≤ listsFrom g log + 2 * sumTo g (leftPairs g (rayLists spec g ((stockOf c) .cells)) (entries log)) ray h
+  pub room : (h : ray ≤ rayCount g)
+      → q ≤ listsFrom g log + 2 * sumTo g (leftPairs g (rayLists spec g ((stockOf c) .cells)) (entries log)) ray h
   pub few : changed ≤ ray
   pub ends : (v : List Float) → Keeps g log w v ray q
       → listsEnd v (sizesAt g log) (listsFrom g log) 0 (rayCount g) ≡ listsEnd v (sizesAt g log) q ray (rayCount g - ray)
-  pub rest : (v : List Float) → Keeps g log w v ray q → (m : ℕ) → MergeUpdates g (rayLists spec g ((stockOf c) .cells)) (entries log) ray (updatesFrom v (sizesAt g log) q ray (rayCount g - ray)) m
-      → MergeUpdates g (rayLists spec g ((stockOf c) .cells)) (entries log) 0 (updatesFrom v (sizesAt g log) (listsFrom g log) 0 (rayCount g)) (changed + m)
+  pub rest : (v : List Float) → Keeps g log w v ray q → (m : ℕ)
+      → MergeUpdates g (rayLists spec g ((stockOf c) .cells)) (entries log) ray
+      (updatesFrom v (sizesAt g log) q ray (rayCount g - ray)) m
+      → MergeUpdates g (rayLists spec g ((stockOf c) .cells)) (entries log) 0
+      (updatesFrom v (sizesAt g log) (listsFrom g log) 0 (rayCount g)) (changed + m)
 
 module _ (spec : DexelStockSpec) (g : DexelGrid) (c : Cells) (log before : List Float) where
   pub merging-start : Grouped g log before → Merging spec g c log before before 0 (listsFrom g log) 0
@@ -88,8 +95,10 @@ module _ (spec : DexelStockSpec) (g : DexelGrid) (c : Cells) (log before : List 
     few = omega arith;
     ends = λ v k. ap (listsEnd v (sizesAt g log) (listsFrom g log) 0) (all (rayCount g));
     rest = λ v k m x.
-        subst (λ (n : ℕ). MergeUpdates g (rayLists spec g ((stockOf c) .cells)) (entries log) 0 (updatesFrom v (sizesAt g log) (listsFrom g log) 0 n) (0 + m)) (sym (all (rayCount g)))
-        (subst (MergeUpdates g (rayLists spec g ((stockOf c) .cells)) (entries log) 0 (updatesFrom v (sizesAt g log) (listsFrom g log) 0 (rayCount g - 0))) (none-and m) x);
+        subst (λ (n : ℕ). MergeUpdates g (rayLists spec g ((stockOf c) .cells)) (entries log) 0
+        (updatesFrom v (sizesAt g log) (listsFrom g log) 0 n) (0 + m)) (sym (all (rayCount g)))
+        (subst (MergeUpdates g (rayLists spec g ((stockOf c) .cells)) (entries log) 0
+        (updatesFrom v (sizesAt g log) (listsFrom g log) 0 (rayCount g - 0))) (none-and m) x);
   }
     where
       all : (n : ℕ) → n ≡ n - 0
@@ -99,9 +108,11 @@ module _ (spec : DexelStockSpec) (g : DexelGrid) (c : Cells) (log before : List 
       none-and m = omega arith
 
   -- ---- one more ray
-  module _ (total : ℕ) (snd : SoundCells spec g c total) (w w₁ w₂ : List Float) (ray q changed : ℕ) (x : Merging spec g c log before w ray q changed) (h : ray < rayCount g)
+  module _ (total : ℕ) (snd : SoundCells spec g c total) (w w₁ w₂ : List Float) (ray q changed : ℕ)
+      (x : Merging spec g c log before w ray q changed) (h : ray < rayCount g)
       (r : RayUpdate) (m : MergeRayPost spec g c log ray q w w₁ r)
-      (put : w₂ ≡ set (set w₁ (sizesAt g log + 2 * ray) (numberCell (firstSizeOf r))) (sizesAt g log + 2 * ray + 1) (numberCell (r .certain)))
+      (put : w₂ ≡ set (set w₁ (sizesAt g log + 2 * ray) (numberCell (firstSizeOf r))) (sizesAt g log + 2 * ray + 1)
+      (numberCell (r .certain)))
       (fit : q + limitOf spec log ≤ length w) (small : limitOf spec log ≤ largestNumber)
       (d : Doubles g (rayLists spec g ((stockOf c) .cells)) (entries log)) where
     abbrev at : ℕ
@@ -130,7 +141,8 @@ module _ (spec : DexelStockSpec) (g : DexelGrid) (c : Cells) (log before : List 
 
     first-is : numberAt w₂ at ≡ firstSizeOf r
     first-is =
-        number-same w₂ mid at (ap (λ (l : List Float). getD l at nan) put ∙ getD-set-other mid (at + 1) at (numberCell (r .certain)) nan (λ (e : at ≡ at + 1). omega arith))
+        number-same w₂ mid at (ap (λ (l : List Float). getD l at nan) put
+        ∙ getD-set-other mid (at + 1) at (numberCell (r .certain)) nan (λ (e : at ≡ at + 1). omega arith))
         ∙ number-put w₁ at (firstSizeOf r) (omega (arith, m .cut .size, x .low)) first-most
 
     second-is : numberAt w₂ (at + 1) ≡ r .certain
@@ -146,7 +158,8 @@ module _ (spec : DexelStockSpec) (g : DexelGrid) (c : Cells) (log before : List 
       before-it : Keeps g log w v ray q
       before-it = record {
         size = k .size ∙ size₂;
-        sizes = λ i a b. k .sizes i a (omega arith) ∙ kept-front i (omega (arith, x .low)) (λ (e : i ≡ at). omega arith) (λ (e : i ≡ at + 1). omega arith);
+        sizes = λ i a b. k .sizes i a (omega arith)
+            ∙ kept-front i (omega (arith, x .low)) (λ (e : i ≡ at). omega arith) (λ (e : i ≡ at + 1). omega arith);
         lists = λ i a b. k .lists i a (omega arith) ∙ kept-front i b (λ (e : i ≡ at). omega arith) (λ (e : i ≡ at + 1). omega arith);
       }
 
@@ -160,7 +173,8 @@ module _ (spec : DexelStockSpec) (g : DexelGrid) (c : Cells) (log before : List 
       list-in : (i n : ℕ) → q ≤ i → i + n ≤ next → cellsFrom i n v ≡ cellsFrom i n w₁
       list-in i n a b =
           part-same i n w₁ v (omega (arith, m .cut .most, m .cut .size)) (k .size ∙ size₂ ∙ sym (m .cut .size))
-          (λ j d e. k .lists j (omega (arith, x .low)) (omega arith) ∙ other j (λ (f : j ≡ at). omega (arith, x .low)) (λ (f : j ≡ at + 1). omega (arith, x .low)))
+          (λ j d e. k .lists j (omega (arith, x .low)) (omega arith)
+          ∙ other j (λ (f : j ≡ at). omega (arith, x .low)) (λ (f : j ≡ at + 1). omega (arith, x .low)))
 
       one-less : rayCount g - ray ≡ suc (rayCount g - (ray + 1))
       one-less = omega arith
@@ -184,11 +198,13 @@ module _ (spec : DexelStockSpec) (g : DexelGrid) (c : Cells) (log before : List 
 
         same-updates : updatesFrom v (sizesAt g log) q ray (rayCount g - ray) ≡ updatesFrom v (sizesAt g log) next (ray + 1) left
         same-updates =
-            ap (updatesFrom v (sizesAt g log) q ray) one-less ∙ updates-same v (sizesAt g log) q ray left no-size ∙ ap₂ (λ (o i : ℕ). updatesFrom v (sizesAt g log) o i left) same-place up-one
+            ap (updatesFrom v (sizesAt g log) q ray) one-less ∙ updates-same v (sizesAt g log) q ray left no-size
+            ∙ ap₂ (λ (o i : ℕ). updatesFrom v (sizesAt g log) o i left) same-place up-one
 
         same-ends : listsEnd v (sizesAt g log) q ray (rayCount g - ray) ≡ listsEnd v (sizesAt g log) next (ray + 1) left
         same-ends =
-            ap (listsEnd v (sizesAt g log) q ray) one-less ∙ end-same v (sizesAt g log) q ray left no-size ∙ ap₂ (λ (o i : ℕ). listsEnd v (sizesAt g log) o i left) same-place up-one
+            ap (listsEnd v (sizesAt g log) q ray) one-less ∙ end-same v (sizesAt g log) q ray left no-size
+            ∙ ap₂ (λ (o i : ℕ). listsEnd v (sizesAt g log) o i left) same-place up-one
 
         stays : (n : ℕ) → MergeUpdates g lists (entries log) (ray + 1) (updatesFrom v (sizesAt g log) next (ray + 1) left) n
             → MergeUpdates g lists (entries log) ray (updatesFrom v (sizesAt g log) q ray (rayCount g - ray)) n
@@ -217,18 +233,28 @@ module _ (spec : DexelStockSpec) (g : DexelGrid) (c : Cells) (log before : List 
         possible-in : take (possibleCells v (sizesAt g log) ray) (drop q v) ≡ cellsFrom q (2 * r .possible) w₁
         possible-in = ap (λ (n : ℕ). take n (drop q v)) possible-cells ∙ list-in q (2 * r .possible) (omega arith) (omega arith)
 
-        certain-in : take (certainCells v (sizesAt g log) ray) (drop (q + possibleCells v (sizesAt g log) ray) v) ≡ cellsFrom (q + 2 * r .possible) (2 * r .certain) w₁
-        certain-in = ap₂ (λ (n o : ℕ). take n (drop (q + o) v)) certain-cells possible-cells ∙ list-in (q + 2 * r .possible) (2 * r .certain) (omega arith) (omega arith)
+        certain-in : take (certainCells v (sizesAt g log) ray) (drop (q + possibleCells v (sizesAt g log) ray) v)
+            ≡ cellsFrom (q + 2 * r .possible) (2 * r .certain) w₁
+        certain-in = ap₂ (λ (n o : ℕ). take n (drop (q + o) v)) certain-cells possible-cells
+            ∙ list-in (q + 2 * r .possible) (2 * r .certain) (omega arith) (omega arith)
 
         new-updates : updatesFrom v (sizesAt g log) q ray (rayCount g - ray)
-            ≡ update (2 * ray) (cellsFrom q (2 * r .possible) w₁) ∷ update (2 * ray + 1) (cellsFrom (q + 2 * r .possible) (2 * r .certain) w₁) ∷ updatesFrom v (sizesAt g log) next (ray + 1) left
+            ≡ update (2 * ray) (cellsFrom q (2 * r .possible) w₁)
+            ∷ update (2 * ray + 1) (cellsFrom (q + 2 * r .possible) (2 * r .certain) w₁)
+            ∷ updatesFrom v (sizesAt g log) next (ray + 1) left
         new-updates =
             ap (updatesFrom v (sizesAt g log) q ray) one-less ∙ updates-new v (sizesAt g log) q ray left a-size
-            ∙ ap₂ (λ (a b : List Float). update (2 * ray) a ∷ update (2 * ray + 1) b ∷ updatesFrom v (sizesAt g log) (q + possibleCells v (sizesAt g log) ray + certainCells v (sizesAt g log) ray) (suc ray) left) possible-in certain-in
-            ∙ ap₂ (λ (o i : ℕ). update (2 * ray) (cellsFrom q (2 * r .possible) w₁) ∷ update (2 * ray + 1) (cellsFrom (q + 2 * r .possible) (2 * r .certain) w₁) ∷ updatesFrom v (sizesAt g log) o i left) past-it up-one
+            ∙ ap₂ (λ (a b : List Float). update (2 * ray) a ∷ update (2 * ray + 1) b
+            ∷ updatesFrom v (sizesAt g log)
+            (q + possibleCells v (sizesAt g log) ray + certainCells v (sizesAt g log) ray) (suc ray) left)
+            possible-in certain-in
+            ∙ ap₂ (λ (o i : ℕ). update (2 * ray) (cellsFrom q (2 * r .possible) w₁)
+            ∷ update (2 * ray + 1) (cellsFrom (q + 2 * r .possible) (2 * r .certain) w₁)
+            ∷ updatesFrom v (sizesAt g log) o i left) past-it up-one
 
         new-ends : listsEnd v (sizesAt g log) q ray (rayCount g - ray) ≡ listsEnd v (sizesAt g log) next (ray + 1) left
-        new-ends = ap (listsEnd v (sizesAt g log) q ray) one-less ∙ end-new v (sizesAt g log) q ray left a-size ∙ ap₂ (λ (o i : ℕ). listsEnd v (sizesAt g log) o i left) past-it up-one
+        new-ends = ap (listsEnd v (sizesAt g log) q ray) one-less ∙ end-new v (sizesAt g log) q ray left a-size
+            ∙ ap₂ (λ (o i : ℕ). listsEnd v (sizesAt g log) o i left) past-it up-one
 
         moves : (n : ℕ) → MergeUpdates g lists (entries log) (ray + 1) (updatesFrom v (sizesAt g log) next (ray + 1) left) n
             → MergeUpdates g lists (entries log) ray (updatesFrom v (sizesAt g log) q ray (rayCount g - ray)) (suc n)
@@ -241,7 +267,8 @@ module _ (spec : DexelStockSpec) (g : DexelGrid) (c : Cells) (log before : List 
       next-ends : listsEnd v (sizesAt g log) q ray (rayCount g - ray) ≡ listsEnd v (sizesAt g log) next (ray + 1) left
       next-ends = go (r .changed) refl
         where
-          go : (b : Bool) → r .changed ≡ b → listsEnd v (sizesAt g log) q ray (rayCount g - ray) ≡ listsEnd v (sizesAt g log) next (ray + 1) left
+          go : (b : Bool) → r .changed ≡ b → listsEnd v (sizesAt g log) q ray (rayCount g - ray)
+              ≡ listsEnd v (sizesAt g log) next (ray + 1) left
           go true e = new-ends e
           go false e = same-ends e
 
@@ -255,17 +282,25 @@ module _ (spec : DexelStockSpec) (g : DexelGrid) (c : Cells) (log before : List 
           none-more : (a n : ℕ) → a + n ≡ a + 0 + n
           none-more a n = omega arith
 
-          go : (b : Bool) → r .changed ≡ b → MergeUpdates g lists (entries log) 0 (updatesFrom v (sizesAt g log) (listsFrom g log) 0 (rayCount g)) (changed + cond b 1 0 + n)
+          go : (b : Bool) → r .changed ≡ b
+              → MergeUpdates g lists (entries log) 0 (updatesFrom v (sizesAt g log) (listsFrom g log) 0 (rayCount g))
+              (changed + cond b 1 0 + n)
           go true e =
-              subst (MergeUpdates g lists (entries log) 0 (updatesFrom v (sizesAt g log) (listsFrom g log) 0 (rayCount g))) (one-more changed n) (x .rest v before-it (suc n) (moves e n y))
+              subst (MergeUpdates g lists (entries log) 0
+              (updatesFrom v (sizesAt g log) (listsFrom g log) 0 (rayCount g))) (one-more changed n)
+              (x .rest v before-it (suc n) (moves e n y))
           go false e =
-              subst (MergeUpdates g lists (entries log) 0 (updatesFrom v (sizesAt g log) (listsFrom g log) 0 (rayCount g))) (none-more changed n) (x .rest v before-it n (stays e n y))
+              subst (MergeUpdates g lists (entries log) 0
+              (updatesFrom v (sizesAt g log) (listsFrom g log) 0 (rayCount g))) (none-more changed n)
+              (x .rest v before-it n (stays e n y))
 
     pub merging-step : Merging spec g c log before w₂ (ray + 1) next (changed + countOf r)
     merging-step = record {
       size = size₂ ∙ x .size;
       most = omega arith;
-      grouped = grouped-kept g log w w₂ size₂ (λ k l. kept-front k (omega (arith, x .low)) (λ (e : k ≡ at). omega arith) (λ (e : k ≡ at + 1). omega arith)) (x .grouped);
+      grouped = grouped-kept g log w w₂ size₂
+          (λ k l. kept-front k (omega (arith, x .low)) (λ (e : k ≡ at). omega arith)
+          (λ (e : k ≡ at + 1). omega arith)) (x .grouped);
       low = omega (arith, x .low);
       room = λ l.
           let f = leftPairs g (rayLists spec g ((stockOf c) .cells)) (entries log) in
@@ -287,17 +322,25 @@ module _ (spec : DexelStockSpec) (g : DexelGrid) (c : Cells) (log before : List 
         count-most false = omega (arith, x .few)
 
   -- ---- the end
-  module _ (total : ℕ) (snd : SoundCells spec g c total) (w : List Float) (ray q changed : ℕ) (x : Merging spec g c log before w ray q changed) where
+  module _ (total : ℕ) (snd : SoundCells spec g c total) (w : List Float) (ray q changed : ℕ)
+      (x : Merging spec g c log before w ray q changed) where
     -- the new lists have no more pairs than are left
     pub lists-most : q ≤ listsFrom g log + 2 * pairsAfter g (rayLists spec g ((stockOf c) .cells)) (entries log)
     unfolding pairsAfter
     lists-most =
-        omega (arith, x .room (x .most), sum-most g (leftPairs g (rayLists spec g ((stockOf c) .cells)) (entries log)) (rayCount g - ray) ray (x .most) (rayCount g) (omega (arith, x .most)) (le-refl (rayCount g)))
+        omega (
+          arith,
+          x .room (x .most),
+          sum-most g (leftPairs g (rayLists spec g ((stockOf c) .cells)) (entries log)) (rayCount g - ray) ray
+              (x .most) (rayCount g) (omega (arith, x .most)) (le-refl (rayCount g)),
+        )
 
     pub merging-done : ray ≡ rayCount g → q ≤ length before → MergeAllPost spec g c log before w changed
     merging-done e fit = record {
       size = x .size;
-      merges = λ s same-cells. subst (λ (l : Ray g → Kind → List Float). MergeUpdates g l (entries log) 0 (updatesFrom w (sizesAt g log) (listsFrom g log) 0 (rayCount g)) changed)
+      merges = λ s same-cells. subst
+          (λ (l : Ray g → Kind → List Float). MergeUpdates g l (entries log) 0
+          (updatesFrom w (sizesAt g log) (listsFrom g log) 0 (rayCount g)) changed)
           (sym (lists-same s same-cells)) all-merged;
       ends = omega (arith, all-ends, x .size);
     }
@@ -314,17 +357,22 @@ module _ (spec : DexelStockSpec) (g : DexelGrid) (c : Cells) (log before : List 
         no-more : (n : ℕ) → n + 0 ≡ n
         no-more n = omega arith
 
-        all-merged : MergeUpdates g (rayLists spec g ((stockOf c) .cells)) (entries log) 0 (updatesFrom w (sizesAt g log) (listsFrom g log) 0 (rayCount g)) changed
+        all-merged : MergeUpdates g (rayLists spec g ((stockOf c) .cells)) (entries log) 0
+            (updatesFrom w (sizesAt g log) (listsFrom g log) 0 (rayCount g)) changed
         all-merged =
-            subst (MergeUpdates g (rayLists spec g ((stockOf c) .cells)) (entries log) 0 (updatesFrom w (sizesAt g log) (listsFrom g log) 0 (rayCount g))) (no-more changed)
+            subst (MergeUpdates g (rayLists spec g ((stockOf c) .cells)) (entries log) 0
+            (updatesFrom w (sizesAt g log) (listsFrom g log) 0 (rayCount g))) (no-more changed)
             (x .rest w itself 0
-            (subst (λ (us : List Update). MergeUpdates g (rayLists spec g ((stockOf c) .cells)) (entries log) ray us 0) (sym (ap (updatesFrom w (sizesAt g log) q ray) nothing ∙ updates-none w (sizesAt g log) q ray)) (none e)))
+            (subst (λ (us : List Update). MergeUpdates g (rayLists spec g ((stockOf c) .cells)) (entries log)
+            ray us 0) (sym (ap (updatesFrom w (sizesAt g log) q ray) nothing
+            ∙ updates-none w (sizesAt g log) q ray)) (none e)))
 
         lists-same : (s : Stock) → s .cells ≡ c → rayLists spec g (s .cells) ≡ rayLists spec g ((stockOf c) .cells)
         lists-same s f = lists-by-cells spec g s c f
 
 -- ---- in the terms of the code
-module _ (spec : DexelStockSpec) (g : DexelGrid) (c : Cells) (log before : List Float) (pre : MergeAllPre spec g c log before) (rays : ℕ) (is : rays ≡ rayCount g) where
+module _ (spec : DexelStockSpec) (g : DexelGrid) (c : Cells) (log before : List Float)
+    (pre : MergeAllPre spec g c log before) (rays : ℕ) (is : rays ≡ rayCount g) where
   total : ℕ
   total = pre .stock .intervals
 
@@ -333,7 +381,8 @@ module _ (spec : DexelStockSpec) (g : DexelGrid) (c : Cells) (log before : List 
   store = subst (λ (d : Cells). SoundCells spec g d (pre .stock .intervals)) (pre .of-cells) (pre .sound)
 
   budget : pairsAfter g (rayLists spec g ((stockOf c) .cells)) (entries log) ≤ spec .«max_intervals»
-  budget = subst (λ (l : Ray g → Kind → List Float). pairsAfter g l (entries log) ≤ spec .«max_intervals») (lists-by-cells spec g (pre .stock) c (pre .of-cells)) (pre .budget)
+  budget = subst (λ (l : Ray g → Kind → List Float). pairsAfter g l (entries log) ≤ spec .«max_intervals»)
+      (lists-by-cells spec g (pre .stock) c (pre .of-cells)) (pre .budget)
 
   pub starts : Merging spec g c log before before 0 (rays + entryCount log + 2 * rays) 0
   starts = rw is (merging-start spec g c log before (pre .grouped))
@@ -343,7 +392,8 @@ module _ (spec : DexelStockSpec) (g : DexelGrid) (c : Cells) (log before : List 
     pub record Fits : Type 0 where
       pub low : rays + entryCount log + 2 * rays ≤ q
       pub high : q + limitOf spec log ≤ rays + entryCount log + 2 * rays + 6 * spec .«max_intervals» + 6 * entryCount log
-      pub all : rays + entryCount log + 2 * rays + 6 * spec .«max_intervals» + 6 * entryCount log + 4 * spec .«max_intervals» + 4 * entryCount log ≤ length before
+      pub all : rays + entryCount log + 2 * rays + 6 * spec .«max_intervals» + 6 * entryCount log + 4
+          * spec .«max_intervals» + 4 * entryCount log ≤ length before
       pub long : length w ≡ length before
       pub few : changed ≤ ray
 
@@ -371,15 +421,19 @@ module _ (spec : DexelStockSpec) (g : DexelGrid) (c : Cells) (log before : List 
       fits .high,
     )
 
-    pub steps : DoubleCells (c .spans) → DoubleCells log → ray < rays → length before < 2 ^ 64 → (w₁ w₂ : List Float) (r : RayUpdate) (k : ℕ)
+    pub steps : DoubleCells (c .spans) → DoubleCells log → ray < rays → length before < 2 ^ 64
+        → (w₁ w₂ : List Float) (r : RayUpdate) (k : ℕ)
         → MergeRayPost spec g c log ray q w w₁ r
-        → w₂ ≡ set (set w₁ (rays + entryCount log + 2 * ray) (numberCell (firstSizeOf r))) (rays + entryCount log + 2 * ray + 1) (numberCell (r .certain)) → k ≡ countOf r
+        → w₂ ≡ set (set w₁ (rays + entryCount log + 2 * ray) (numberCell (firstSizeOf r)))
+        (rays + entryCount log + 2 * ray + 1) (numberCell (r .certain)) → k ≡ countOf r
         → Merging spec g c log before w₂ (ray + 1) (q + (2 * r .possible + 2 * r .certain)) (changed + k)
     steps ds dl below addressed w₁ w₂ r k m put count =
         subst (λ (n : ℕ). Merging spec g c log before w₂ (ray + 1) (q + (2 * r .possible + 2 * r .certain)) (changed + n)) (sym count)
         (merging-step spec g c log before total store w w₁ w₂ ray q changed x (omega arith) r m
-        (put ∙ ap (λ (n : ℕ). set (set w₁ (n + entryCount log + 2 * ray) (numberCell (firstSizeOf r))) (n + entryCount log + 2 * ray + 1) (numberCell (r .certain))) is)
+        (put ∙ ap (λ (n : ℕ). set (set w₁ (n + entryCount log + 2 * ray) (numberCell (firstSizeOf r)))
+        (n + entryCount log + 2 * ray + 1) (numberCell (r .certain))) is)
         (omega (arith, fits .high, fits .all, fits .long)) (omega (arith, pre .pairs)) (all-doubles spec g (stockOf c) log ds dl))
 
     pub done : rays ≤ ray → MergeAllPost spec g c log before w changed
-    done last = merging-done spec g c log before total store w ray q changed x (omega (arith, x .most)) (omega (arith, fits .high, fits .all))
+    done last = merging-done spec g c log before total store w ray q changed x (omega (arith, x .most))
+        (omega (arith, fits .high, fits .all))

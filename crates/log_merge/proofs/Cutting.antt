@@ -24,7 +24,8 @@ pub moves-second : (x y r : Bool) → r ≡ not x → r ≡ false → (s : Bool)
 moves-second true y r e h s f = f
 moves-second false y r e h s f = absurd (false≢true (sym h ∙ e))
 
-pub untouched : (possible certain outer inner : List Float) (from limit : ℕ) (w : List Float) → rayMoves possible certain outer inner ≡ false
+pub untouched : (possible certain outer inner : List Float) (from limit : ℕ) (w : List Float)
+    → rayMoves possible certain outer inner ≡ false
     → RayCutPost possible certain outer inner from limit w w (record { changed = false; possible = 0; certain = 0 })
 untouched possible certain outer inner from limit w h = record {
   size = refl;
@@ -48,7 +49,8 @@ module _ (at np nc no ni : ℕ) (w w₁ w₂ : List Float) (p r : ℕ) (ready : 
   still : (k n : ℕ) → at ≤ k → k + n ≤ length w → cellsFrom k n w₁ ≡ cellsFrom k n w
   still k n h fit = part-past 0 (np + ni) w w₁ (first .between) k n fit (omega (arith, ready .room))
 
-  pub second-ready : SoundListAt (at + np) nc w₁ × SoundListAt (at + np + nc) no w₁ × SoundListAt (at + np + nc + no) ni w₁ × (p + ni ≤ np + 2 * ni) × (np + 2 * ni + nc + no ≤ at + np)
+  pub second-ready : SoundListAt (at + np) nc w₁ × SoundListAt (at + np + nc) no w₁
+      × SoundListAt (at + np + nc + no) ni w₁ × (p + ni ≤ np + 2 * ni) × (np + 2 * ni + nc + no ≤ at + np)
   second-ready = (
     lies-past 0 (np + ni) w w₁ (first .between) (at + np) nc (omega (arith, ready .room)) (ready .certain),
     lies-past 0 (np + ni) w w₁ (first .between) (at + np + nc) no (omega (arith, ready .room)) (ready .outer),
@@ -65,7 +67,8 @@ module _ (at np nc no ni : ℕ) (w w₁ w₂ : List Float) (p r : ℕ) (ready : 
     still (at + np + nc + no) ni (omega arith) (ready .inner .room),
   )
 
-  pub both-cut : true ≡ rayMoves (cellsFrom at np w) (cellsFrom (at + np) nc w) (cellsFrom (at + np + nc) no w) (cellsFrom (at + np + nc + no) ni w)
+  pub both-cut : true ≡ rayMoves (cellsFrom at np w) (cellsFrom (at + np) nc w) (cellsFrom (at + np + nc) no w)
+      (cellsFrom (at + np + nc + no) ni w)
       → WrittenAt (lessHits (at + np) nc no ni w₁) p (np + 2 * ni + nc + no) (nc + no + ni) w₁ w₂ r
       → RayCutPost (cellsFrom at np w) (cellsFrom (at + np) nc w) (cellsFrom (at + np + nc) no w) (cellsFrom (at + np + nc + no) ni w) 0
       (np + nc + no + 2 * ni) w w₂

@@ -56,14 +56,17 @@ module _ (q : ℕ) (w : List Float) where
   seen : (p n at : ℕ) → q ≤ p → at ≡ p - q → cellsFrom at n (take (length w - q) (drop q w)) ≡ cellsFrom p n w
   seen p n at h e = ap (cellsFrom at n) there ∙ ap (λ (x : ℕ). cellsFrom x n (drop q w)) e ∙ part-drop q p n w h
 
-  lies-at : (p n at : ℕ) → q ≤ p → at ≡ p - q → p + n ≤ length w → sound (cellsFrom p n w) ≡ true → SoundListAt at n (take (length w - q) (drop q w))
+  lies-at : (p n at : ℕ) → q ≤ p → at ≡ p - q → p + n ≤ length w → sound (cellsFrom p n w) ≡ true
+      → SoundListAt at n (take (length w - q) (drop q w))
   lies-at p n at h e room ok = record { room = omega (arith, ap length there, length-drop q w); isSound = ap sound (seen p n at h e) ∙ ok }
 
 -- ---- the ray cut there, seen from the whole buffer
 module _ (q : ℕ) (w ys : List Float) (fit : q ≤ length w) (size : length ys ≡ length (take (length w - q) (drop q w))) where
   back-part : (k n : ℕ) → cellsFrom (0 + k) n ys ≡ cellsFrom (q + k) n (putMid q (length w - q) w ys)
   back-part k n =
-      ap (λ (x : ℕ). cellsFrom x n ys) (none k) ∙ ap (λ (l : List Float). take n (drop k l)) (sym (tail-drop q w ys fit size)) ∙ ap (take n) (drop-drop k q (putMid q (length w - q) w ys))
+      ap (λ (x : ℕ). cellsFrom x n ys) (none k)
+      ∙ ap (λ (l : List Float). take n (drop k l)) (sym (tail-drop q w ys fit size))
+      ∙ ap (take n) (drop-drop k q (putMid q (length w - q) w ys))
     where
       none : (k : ℕ) → 0 + k ≡ k
       none k = omega arith
@@ -92,7 +95,8 @@ module _ (q : ℕ) (w ys : List Float) (fit : q ≤ length w) (size : length ys 
       zero-right k = omega arith
 
 -- ---- from what `merge_ray` is given
-module _ (spec : DexelStockSpec) (g : DexelGrid) (c : Cells) (log w : List Float) (ray q s : ℕ) (b : LoadPre spec g c log w ray s) (front : q + limitOf spec log ≤ s) where
+module _ (spec : DexelStockSpec) (g : DexelGrid) (c : Cells) (log w : List Float) (ray q s : ℕ)
+    (b : LoadPre spec g c log w ray s) (front : q + limitOf spec log ≤ s) where
   abbrev hits : HitKind → List Float
   hits k = hitsOnRay g (entries log) ray k
 
@@ -110,7 +114,8 @@ module _ (spec : DexelStockSpec) (g : DexelGrid) (c : Cells) (log w : List Float
         (ap not (both (equal (rayList spec c ray Possible) (lessOf (rayList spec c ray Possible) []))
         (equal (rayList spec c ray Certain) (lessOf (lessOf (rayList spec c ray Certain) []) []))
         (stays (rayList spec c ray Possible) (valid .possible-sound))
-        (ap (λ (l : List Float). equal (rayList spec c ray Certain) (lessOf l [])) (less-none (rayList spec c ray Certain) (valid .certain-sound))
+        (ap (λ (l : List Float). equal (rayList spec c ray Certain) (lessOf l []))
+        (less-none (rayList spec c ray Certain) (valid .certain-sound))
         ∙ stays (rayList spec c ray Certain) (valid .certain-sound))));
   }
     where
@@ -126,18 +131,43 @@ module _ (spec : DexelStockSpec) (g : DexelGrid) (c : Cells) (log w : List Float
       stays : (l : List Float) → sound l ≡ true → equal l (lessOf l []) ≡ true
       stays l h = ap (equal l) (less-none l h) ∙ same-set l l h h (λ p n. refl)
 
-  module _ (w₁ : List Float) (z : Sizes) (x : LoadPost (rayList spec c ray Possible) (rayList spec c ray Certain) (hits outer) (hits inner) s w w₁ z) where
+  module _ (w₁ : List Float) (z : Sizes)
+      (x : LoadPost (rayList spec c ray Possible) (rayList spec c ray Certain) (hits outer) (hits inner) s w w₁ z) where
     few : z .possible + z .certain + z .outer + 2 * z .inner ≤ limitOf spec log
-    few = omega (arith, x .possibleCells, x .certainCells, x .outerMost, x .innerMost, list-most spec g c log w ray s b (2 * ray), list-most spec g c log w ray s b (2 * ray + 1), hits-most spec g c log w ray s b outer, hits-most spec g c log w ray s b inner)
+    few = omega (
+      arith,
+      x .possibleCells,
+      x .certainCells,
+      x .outerMost,
+      x .innerMost,
+      list-most spec g c log w ray s b (2 * ray),
+      list-most spec g c log w ray s b (2 * ray + 1),
+      hits-most spec g c log w ray s b outer,
+      hits-most spec g c log w ray s b inner,
+    )
 
     fits : s + z .possible + z .certain + z .outer + z .inner ≤ length w₁
-    fits = omega (arith, x .possibleCells, x .certainCells, x .outerMost, x .innerMost, x .size, b .room, list-most spec g c log w ray s b (2 * ray), list-most spec g c log w ray s b (2 * ray + 1), hits-most spec g c log w ray s b outer, hits-most spec g c log w ray s b inner)
+    fits = omega (
+      arith,
+      x .possibleCells,
+      x .certainCells,
+      x .outerMost,
+      x .innerMost,
+      x .size,
+      b .room,
+      list-most spec g c log w ray s b (2 * ray),
+      list-most spec g c log w ray s b (2 * ray + 1),
+      hits-most spec g c log w ray s b outer,
+      hits-most spec g c log w ray s b inner,
+    )
 
     pub cut-ready : MergeWithinPre (s - q) (z .possible) (z .certain) (z .outer) (z .inner) (take (length w₁ - q) (drop q w₁))
     cut-ready = record {
       room = omega (arith, few);
-      possible = lies-at q w₁ s (z .possible) (s - q) (omega arith) refl (omega (arith, fits)) (ap sound (x .possibleIs) ∙ valid .possible-sound);
-      certain = lies-at q w₁ (s + z .possible) (z .certain) (s - q + z .possible) (omega arith) (omega arith) (omega (arith, fits)) (ap sound (x .certainIs) ∙ valid .certain-sound);
+      possible = lies-at q w₁ s (z .possible) (s - q) (omega arith) refl (omega (arith, fits))
+          (ap sound (x .possibleIs) ∙ valid .possible-sound);
+      certain = lies-at q w₁ (s + z .possible) (z .certain) (s - q + z .possible) (omega arith) (omega arith)
+          (omega (arith, fits)) (ap sound (x .certainIs) ∙ valid .certain-sound);
       outer = lies-at q w₁ (s + z .possible + z .certain) (z .outer) (s - q + z .possible + z .certain) (omega arith) (omega arith)
           (omega (arith, fits)) (x .outerHits .list .isSound);
       inner = lies-at q w₁ (s + z .possible + z .certain + z .outer) (z .inner) (s - q + z .possible + z .certain + z .outer)

@@ -62,7 +62,8 @@ module _ (spec : DexelStockSpec) (g : DexelGrid) (s : Stock) (total : ℕ) (snd 
     changed-by : r .changed ≡ isRayChanged g (rayLists spec g (s .cells)) (entries log) (ray, h)
     changed-by =
         m .cut .moved
-        ∙ exact-changes g (rayLists spec g (s .cells)) (entries log) (ray, h) (lessOf (rayList spec (s .cells) ray Possible) (m .innerNormal))
+        ∙ exact-changes g (rayLists spec g (s .cells)) (entries log) (ray, h)
+        (lessOf (rayList spec (s .cells) ray Possible) (m .innerNormal))
         (lessOf (lessOf (rayList spec (s .cells) ray Certain) (m .outerNormal)) (m .innerNormal)) (exact _ _ refl refl)
         (listed (ray, h) Possible .isSound) (listed (ray, h) Certain .isSound)
 
@@ -74,14 +75,17 @@ module _ (spec : DexelStockSpec) (g : DexelGrid) (s : Stock) (total : ℕ) (snd 
 
     -- how many pairs both new lists have
     pub pairs-most : q + limitOf spec log ≤ length after
-        → r .possible + r .certain ≤ startsLeft (rayLists spec g (s .cells) (ray, h) Possible) (hitsOnList g (entries log) (ray, h) Possible)
+        → r .possible + r .certain ≤ startsLeft (rayLists spec g (s .cells) (ray, h) Possible)
+        (hitsOnList g (entries log) (ray, h) Possible)
         + startsLeft (rayLists spec g (s .cells) (ray, h) Certain) (hitsOnList g (entries log) (ray, h) Certain)
     pairs-most fit = go (r .changed) refl
       where
         half : (k : ℕ) → 2 * k / 2 ≡ k
         half k = omega arith
 
-        go : (b : Bool) → r .changed ≡ b → r .possible + r .certain ≤ startsLeft (rayLists spec g (s .cells) (ray, h) Possible) (hitsOnList g (entries log) (ray, h) Possible)
+        go : (b : Bool) → r .changed ≡ b
+            → r .possible + r .certain ≤ startsLeft (rayLists spec g (s .cells) (ray, h) Possible)
+            (hitsOnList g (entries log) (ray, h) Possible)
             + startsLeft (rayLists spec g (s .cells) (ray, h) Certain) (hitsOnList g (entries log) (ray, h) Certain)
         go true e =
             let p = one-pairs spec g whole snd (entries log) (ray, h) Possible (cellsFrom q (2 * r .possible) after)

@@ -48,5 +48,7 @@ pub record MergeAllPre (spec : DexelStockSpec) (g : DexelGrid) (c : Cells) (log 
 -- the sizes and the new lists in the buffer are the updates that the log asks of each stock of these cells, and so many rays change
 pub record MergeAllPost (spec : DexelStockSpec) (g : DexelGrid) (c : Cells) (log before after : List Float) (changed : ℕ) : Type 0 where
   pub size : length after ≡ length before
-  pub merges : (s : Stock) → s .cells ≡ c → MergeUpdates g (rayLists spec g (s .cells)) (entries log) 0 (updatesFrom after (sizesAt g log) (listsFrom g log) 0 (rayCount g)) changed
+  pub merges : (s : Stock) → s .cells ≡ c
+      → MergeUpdates g (rayLists spec g (s .cells)) (entries log) 0
+      (updatesFrom after (sizesAt g log) (listsFrom g log) 0 (rayCount g)) changed
   pub ends : listsEnd after (sizesAt g log) (listsFrom g log) 0 (rayCount g) ≤ length after

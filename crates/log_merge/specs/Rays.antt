@@ -30,7 +30,8 @@ pub record NewLists (possible certain outers inners : List Float) (at : ℕ) (w 
   pub certainIs : cellsFrom (at + 2 * r .possible) (2 * r .certain) w ≡ lessOf (lessOf certain outers) inners
 
 -- the new lists of a ray that changes stand from cell `from` on and have at most `limit` cells; the cells in front are as before
-pub record RayCutPost (possible certain outers inners : List Float) (from limit : ℕ) (before after : List Float) (r : RayUpdate) : Type 0 where
+pub record RayCutPost (possible certain outers inners : List Float) (from limit : ℕ) (before after : List Float)
+    (r : RayUpdate) : Type 0 where
   pub size : length after ≡ length before
   pub front : (q : ℕ) → q < from → getD after q nan ≡ getD before q nan
   pub moved : r .changed ≡ rayMoves possible certain outers inners
@@ -72,4 +73,5 @@ pub record MergeRayPost (spec : DexelStockSpec) (g : DexelGrid) (c : Cells) (log
   pub innerNormal : List Float
   pub outerIs : NormalOf (hitsOnRay g (entries log) ray outer) outerNormal
   pub innerIs : NormalOf (hitsOnRay g (entries log) ray inner) innerNormal
-  pub cut : RayCutPost (rayList spec c ray Possible) (rayList spec c ray Certain) outerNormal innerNormal q (limitOf spec log) before after r
+  pub cut : RayCutPost (rayList spec c ray Possible) (rayList spec c ray Certain) outerNormal innerNormal q
+      (limitOf spec log) before after r

@@ -32,7 +32,8 @@ pub struct Sizes {
 // Whether a boundary of one of the ray's lists moves.
 fn is_changed(w: &[f64], at: usize, np: usize, nc: usize, no: usize, ni: usize) -> bool
     requires { ⌜ MergeWithinPre at np nc no ni (now w) ⌝ }
-    ensures { λ r. ⌜ r ≡ rayMoves (cellsFrom at np (now (w .entry))) (cellsFrom (at + np) nc (now (w .entry))) (cellsFrom (at + np + nc) no (now (w .entry)))
+    ensures { λ r. ⌜ r ≡ rayMoves (cellsFrom at np (now (w .entry))) (cellsFrom (at + np) nc (now (w .entry)))
+        (cellsFrom (at + np + nc) no (now (w .entry)))
         (cellsFrom (at + np + nc + no) ni (now (w .entry))) ⌝ }
 {
     let c = at + np;
@@ -42,11 +43,12 @@ fn is_changed(w: &[f64], at: usize, np: usize, nc: usize, no: usize, ni: usize) 
     ray_subtract::is_hit(w, c, nc, no, ni)
 }
 
-// Where the ray changes, writes both its lists less the hits to the start of w, possible's before certain's: the one that no hit touches as well,
-// since both are laid again.
+// Where the ray changes, writes both its lists less the hits to the start of w, possible's before certain's: the one
+// that no hit touches as well, since both are laid again.
 fn cut_ray(w: &mut [f64], at: usize, np: usize, nc: usize, no: usize, ni: usize) -> RayUpdate
     requires { ⌜ MergeWithinPre at np nc no ni (now w) ⌝ }
-    ensures { λ r. ⌜ RayCutPost (cellsFrom at np (now (w .entry))) (cellsFrom (at + np) nc (now (w .entry))) (cellsFrom (at + np + nc) no (now (w .entry)))
+    ensures { λ r. ⌜ RayCutPost (cellsFrom at np (now (w .entry))) (cellsFrom (at + np) nc (now (w .entry)))
+        (cellsFrom (at + np + nc) no (now (w .entry)))
         (cellsFrom (at + np + nc + no) ni (now (w .entry))) 0 (np + nc + no + 2 * ni) (now (w .entry)) (now (w .exit)) r ⌝ }
 {
     if !is_changed(w, at, np, nc, no, ni) {
@@ -77,7 +79,8 @@ fn bring_hits(
 ) -> usize
     requires { ⌜ Grouped g (now log) (now work) × (ray < rayCount g) × (rayCount g + entryCount (now log) ≤ at)
         × (at + length (hitsOnRay g (entries (now log)) ray (hitKindOf inner)) ≤ length (now work)) ⌝ }
-    ensures { λ r. ⌜ NormalizedAt (hitsOnRay g (entries (now (log .entry))) ray (hitKindOf inner)) at (now (work .entry)) (now (work .exit)) r ⌝ }
+    ensures { λ r. ⌜ NormalizedAt (hitsOnRay g (entries (now (log .entry))) ray (hitKindOf inner)) at
+        (now (work .entry)) (now (work .exit)) r ⌝ }
 {
     let e = log_group::gather_hits(g, log, work, ray, inner, at);
     span_normalize::normalize_front(&mut work[at..], e - at)
@@ -98,7 +101,8 @@ fn bring(
     requires { ⌜ LoadPre spec g (cells (now spans) (now links) (now heads)) (now log) (now work) ray s ⌝ }
     ensures { λ r. ⌜ LoadPost (rayList spec (cells (now (spans .entry)) (now (links .entry)) (now (heads .entry))) ray Possible)
         (rayList spec (cells (now (spans .entry)) (now (links .entry)) (now (heads .entry))) ray Certain)
-        (hitsOnRay g (entries (now (log .entry))) ray outer) (hitsOnRay g (entries (now (log .entry))) ray inner) s (now (work .entry)) (now (work .exit)) r ⌝ }
+        (hitsOnRay g (entries (now (log .entry))) ray outer) (hitsOnRay g (entries (now (log .entry))) ray inner) s
+        (now (work .entry)) (now (work .exit)) r ⌝ }
 {
     let n = spec.max_intervals as usize;
     let j = 2 * ray;
@@ -179,8 +183,8 @@ fn count(m: RayUpdate) -> u64
     0
 }
 
-// Merges the hits of a grouped log into all rays, and says how many change. The sizes of the new lists stand behind the chains, two for each ray,
-// the lists behind the sizes.
+// Merges the hits of a grouped log into all rays, and says how many change. The sizes of the new lists stand behind
+// the chains, two for each ray, the lists behind the sizes.
 pub fn merge_all(
     spec: DexelStockSpec,
     g: DexelGrid,

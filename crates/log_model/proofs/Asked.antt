@@ -32,7 +32,8 @@ use Rattle.stock.specs.Stock.{Kind, Possible, Certain, listNumber}
 
 -- a ray is its number
 pub moved : (g : DexelGrid) (P : Ray g → Type 0) (i j : ℕ) (h : i < rayCount g) → i ≡ j → (k : j < rayCount g) → P (i, h) → P (j, k)
-moved g P i j h e k x = subst (λ (n : ℕ). (k : n < rayCount g) → P (n, k)) e (λ k. subst (λ (z : i < rayCount g). P (i, z)) (le-prop h k) x) k
+moved g P i j h e k x = subst (λ (n : ℕ). (k : n < rayCount g) → P (n, k)) e
+    (λ k. subst (λ (z : i < rayCount g). P (i, z)) (le-prop h k) x) k
 
 above : (i j : ℕ) → i ≤ j → (i ≡ j → ⊥) → suc i ≤ j
 above i j h ne = omega arith
@@ -77,7 +78,8 @@ module _ (g : DexelGrid) (lists : Ray g → Kind → List Float) (es : List Entr
   pub exact-certain : sound (lists r Certain) ≡ true → ListAfterLog g lists es r Certain c
   unfolding setsAfter removed
   exact-certain s = rw (x .certainIs)
-      (left-by (setsAfter g (listSets g lists) es r Certain) (setMinus (holds (lists r Certain)) (eitherHit (x .outerNormal) (x .innerNormal)))
+      (left-by (setsAfter g (listSets g lists) es r Certain)
+      (setMinus (holds (lists r Certain)) (eitherHit (x .outerNormal) (x .innerNormal)))
       (lessOf (lessOf (lists r Certain) (x .outerNormal)) (x .innerNormal))
       (λ q. ap₂ (λ (a b : Bool). holds (lists r Certain) q && not (a || b)) (x .outerIs .list .points q) (x .innerIs .list .points q))
       (less-both-list (lists r Certain) (x .outerNormal) (x .innerNormal) s (x .outerIs .list .isSound) (x .innerIs .list .isSound)))
@@ -114,14 +116,20 @@ module _ (g : DexelGrid) (lists : Ray g → Kind → List Float) (es : List Entr
   merges-ascend (new {ray = ray} {p = p} {c = c} {us = us} h e x t) =
       let a = exact-possible g lists es (ray, h) p c x (each (ray, h) Possible .isSound) in
       let b = exact-certain g lists es (ray, h) p c x (each (ray, h) Certain .isSound) in
-      next {k = 2 * ray} {u = update (2 * ray) p} (omega arith) (omega arith) (sound-mod p (a .isSound)) (next {k = suc (2 * ray)} {u = update (2 * ray + 1) c} (omega arith) (omega arith) (sound-mod c (b .isSound)) (subst (λ (k : ℕ). Ascending (2 * rayCount g) k us) (numbers ray) (merges-ascend t)))
+      next {k = 2 * ray} {u = update (2 * ray) p} (omega arith) (omega arith) (sound-mod p (a .isSound))
+      (next {k = suc (2 * ray)} {u = update (2 * ray + 1) c} (omega arith) (omega arith)
+      (sound-mod c (b .isSound)) (subst (λ (k : ℕ). Ascending (2 * rayCount g) k us) (numbers ray) (merges-ascend t)))
     where
       numbers : (ray : ℕ) → 2 * suc ray ≡ suc (2 * ray + 1)
       numbers ray = omega arith
 
   -- the rays that change are counted
-  pub merges-count : {ray m a : ℕ} {us : List Update} → MergeUpdates g lists es ray us m → Count g (RayChanges g (λ r k. holds (lists r k)) es) ray a → Count g (RayChanges g (λ r k. holds (lists r k)) es) (rayCount g) (a + m)
-  merges-count {m = m} {a = a} (none {ray = ray} e) t = subst (λ (x : ℕ). Count g (RayChanges g (λ r k. holds (lists r k)) es) (rayCount g) x) (sum a) (subst (λ (x : ℕ). Count g (RayChanges g (λ r k. holds (lists r k)) es) x a) e t)
+  pub merges-count : {ray m a : ℕ} {us : List Update} → MergeUpdates g lists es ray us m
+      → Count g (RayChanges g (λ r k. holds (lists r k)) es) ray a
+      → Count g (RayChanges g (λ r k. holds (lists r k)) es) (rayCount g) (a + m)
+  merges-count {m = m} {a = a} (none {ray = ray} e) t =
+      subst (λ (x : ℕ). Count g (RayChanges g (λ r k. holds (lists r k)) es) (rayCount g) x) (sum a)
+      (subst (λ (x : ℕ). Count g (RayChanges g (λ r k. holds (lists r k)) es) x a) e t)
     where
       sum : (a : ℕ) → a ≡ a + 0
       sum a = omega arith
@@ -137,7 +145,10 @@ module _ (g : DexelGrid) (lists : Ray g → Kind → List Float) (es : List Entr
     -- a ray that does not change keeps the sound lists of its sets
     pub kept-left : (r : Ray g) → ¬ RayChanges g (λ r k. holds (lists r k)) es r → (k : Kind) → ListAfterLog g lists es r k (lists r k)
     unfolding isRayChanged
-    kept-left r n k = record { isSound = each r k .isSound; points = λ p. sym (stays g (λ r k. holds (lists r k)) lists each es r k .1 (unhit k) p) }
+    kept-left r n k = record {
+      isSound = each r k .isSound;
+      points = λ p. sym (stays g (λ r k. holds (lists r k)) lists each es r k .1 (unhit k) p);
+    }
       where
         e : isRayChanged g lists es r ≡ false
         e = elim (by-cases (isRayChanged g lists es r)) [
@@ -146,34 +157,50 @@ module _ (g : DexelGrid) (lists : Ray g → Kind → List Float) (es : List Entr
         ]
 
         unhit : (k : Kind) → isHitBy (lists r k) (hitsOnList g es r k) ≡ false
-        unhit Possible = not-left (isHitBy (lists r Possible) (hitsOnList g es r Possible)) (isHitBy (lists r Certain) (hitsOnList g es r Certain)) e
-        unhit Certain = not-right (isHitBy (lists r Possible) (hitsOnList g es r Possible)) (isHitBy (lists r Certain) (hitsOnList g es r Certain)) e
+        unhit Possible = not-left (isHitBy (lists r Possible) (hitsOnList g es r Possible))
+            (isHitBy (lists r Certain) (hitsOnList g es r Certain)) e
+        unhit Certain = not-right (isHitBy (lists r Possible) (hitsOnList g es r Possible))
+            (isHitBy (lists r Certain) (hitsOnList g es r Certain)) e
 
     -- each list after the updates is the sound list of what the log leaves
-    pub merges-leave : {ray m : ℕ} {us : List Update} → MergeUpdates g lists es ray us m → (r : ℕ) (l : r < rayCount g) → ray ≤ r → (k : Kind) → ListAfterLog g lists es (r, l) k (listAfter us (listNumber r k) (lists (r, l) k))
+    pub merges-leave : {ray m : ℕ} {us : List Update} → MergeUpdates g lists es ray us m
+        → (r : ℕ) (l : r < rayCount g) → ray ≤ r → (k : Kind)
+        → ListAfterLog g lists es (r, l) k (listAfter us (listNumber r k) (lists (r, l) k))
     merges-leave (none e) r l h k = absurd (omega arith)
     merges-leave (same {ray = ray} {us = us} i e t) r l h k = at (ℕ-discrete ray r) (λ (h : suc ray ≤ r). merges-leave t r l h k)
       where
-        at : Dec (ray ≡ r) → (suc ray ≤ r → ListAfterLog g lists es (r, l) k (listAfter us (listNumber r k) (lists (r, l) k))) → ListAfterLog g lists es (r, l) k (listAfter us (listNumber r k) (lists (r, l) k))
+        at : Dec (ray ≡ r) → (suc ray ≤ r
+            → ListAfterLog g lists es (r, l) k (listAfter us (listNumber r k) (lists (r, l) k)))
+            → ListAfterLog g lists es (r, l) k (listAfter us (listNumber r k) (lists (r, l) k))
         at (yes d) rec = moved g (λ x. ListAfterLog g lists es x k (listAfter us (listNumber (x .0) k) (lists x k))) ray r i d l
-            (subst (ListAfterLog g lists es (ray, i) k) (sym (after-below (merges-ascend t) (listNumber ray k) (lists (ray, i) k) (number-below ray k))) (kept-left (ray, i) e k))
+            (subst (ListAfterLog g lists es (ray, i) k)
+            (sym (after-below (merges-ascend t) (listNumber ray k) (lists (ray, i) k) (number-below ray k)))
+            (kept-left (ray, i) e k))
         at (no d) rec = rec (above ray r h d)
     merges-leave (new {ray = ray} {p = p} {c = c} {us = us} i e x t) r l h k = at (ℕ-discrete ray r)
         (λ (h : suc ray ≤ r). merges-leave t r l h k)
       where
-        here : (k : Kind) → ListAfterLog g lists es (ray, i) k (listAfter (update (2 * ray) p ∷ update (2 * ray + 1) c ∷ us) (listNumber ray k) (lists (ray, i) k))
+        here : (k : Kind) → ListAfterLog g lists es (ray, i) k
+            (listAfter (update (2 * ray) p ∷ update (2 * ray + 1) c ∷ us) (listNumber ray k) (lists (ray, i) k))
         here Possible = subst (ListAfterLog g lists es (ray, i) Possible)
             (sym (after-here (update (2 * ray) p) (update (2 * ray + 1) c ∷ us) (listNumber ray Possible) (lists (ray, i) Possible)
             (number-possible ray)))
             (exact-possible g lists es (ray, i) p c x (each (ray, i) Possible .isSound))
         here Certain = subst (ListAfterLog g lists es (ray, i) Certain)
-            (sym (after-other (update (2 * ray) p) (update (2 * ray + 1) c ∷ us) (listNumber ray Certain) (lists (ray, i) Certain) (λ z. two-numbers ray z)
+            (sym (after-other (update (2 * ray) p) (update (2 * ray + 1) c ∷ us) (listNumber ray Certain)
+            (lists (ray, i) Certain) (λ z. two-numbers ray z)
             ∙ after-here (update (2 * ray + 1) c) us (listNumber ray Certain) (lists (ray, i) Certain) (number-certain ray)))
             (exact-certain g lists es (ray, i) p c x (each (ray, i) Certain .isSound))
 
-        at : Dec (ray ≡ r) → (suc ray ≤ r → ListAfterLog g lists es (r, l) k (listAfter us (listNumber r k) (lists (r, l) k))) → ListAfterLog g lists es (r, l) k (listAfter (update (2 * ray) p ∷ update (2 * ray + 1) c ∷ us) (listNumber r k) (lists (r, l) k))
-        at (yes d) rec = moved g (λ x. ListAfterLog g lists es x k (listAfter (update (2 * ray) p ∷ update (2 * ray + 1) c ∷ us) (listNumber (x .0) k) (lists x k))) ray r i d l (here k)
+        at : Dec (ray ≡ r) → (suc ray ≤ r
+            → ListAfterLog g lists es (r, l) k (listAfter us (listNumber r k) (lists (r, l) k)))
+            → ListAfterLog g lists es (r, l) k
+            (listAfter (update (2 * ray) p ∷ update (2 * ray + 1) c ∷ us) (listNumber r k) (lists (r, l) k))
+        at (yes d) rec = moved g (λ x. ListAfterLog g lists es x k
+            (listAfter (update (2 * ray) p ∷ update (2 * ray + 1) c ∷ us) (listNumber (x .0) k) (lists x k)))
+            ray r i d l (here k)
         at (no d) rec = subst (ListAfterLog g lists es (r, l) k)
-            (sym (after-other (update (2 * ray) p) (update (2 * ray + 1) c ∷ us) (listNumber r k) (lists (r, l) k) (λ z. other-possible ray r k (above ray r h d) z)
+            (sym (after-other (update (2 * ray) p) (update (2 * ray + 1) c ∷ us) (listNumber r k) (lists (r, l) k)
+            (λ z. other-possible ray r k (above ray r h d) z)
             ∙ after-other (update (2 * ray + 1) c) us (listNumber r k) (lists (r, l) k) (λ z. other-certain ray r k (above ray r h d) z)))
             (rec (above ray r h d))

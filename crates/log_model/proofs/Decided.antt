@@ -1,5 +1,5 @@
--- The causes of a log commit as tests over the lists of a sound store: 9 by `changedRayCount`, 10 by `pairsAfter`. So each cause is decided before
--- anything is written, and the order always has an answer.
+-- The causes of a log commit as tests over the lists of a sound store: 9 by `changedRayCount`, 10 by `pairsAfter`. So
+-- each cause is decided before anything is written, and the order always has an answer.
 use mathlib.Core.Path.{_≡_, refl, sym, ap, ap₂, _∙_, subst, fun-ext}
 use mathlib.Core.Bool.{Bool, true, false, cond, not, _&&_, _||_, true≢false, false≢true}
 use mathlib.Core.List.{List, [], _∷_, _++_, List·Memᴰ·head, List·Memᴰ·tail, List·Memᴰ·not-nil, List·Memᴰ·cases-cons}
@@ -19,8 +19,45 @@ use Rattle.spans.proofs.Points.{or-assoc}
 use Rattle.grid.specs.Rays.{rayCount, Ray}
 use Rattle.grid.specs.declared.DexelStockSpec.{DexelStockSpec}
 use Rattle.grid.specs.declared.DexelGrid.{DexelGrid}
-use Rattle.log_model.specs.Logs.{Entry, entries, workNeeded, namesSomeRay, namesRay, HitKind, outer, inner, hitLo, hitHi, hitsOnRay, removed, Commit}
-use Rattle.log_model.specs.Model.{Sets, setsAfter, RayChanges, Count, none, counted, skipped, sumTo, sumOver, pairTotal, IntervalTotal, Capacity, LogBuffersShort, LogInputBad, NamesNoRay, TooManyRays, TooManyIntervals, logCommitCauses, LogAnswer, changed, refused, AnswerDue}
+use Rattle.log_model.specs.Logs.{
+  Entry,
+  entries,
+  workNeeded,
+  namesSomeRay,
+  namesRay,
+  HitKind,
+  outer,
+  inner,
+  hitLo,
+  hitHi,
+  hitsOnRay,
+  removed,
+  Commit,
+}
+use Rattle.log_model.specs.Model.{
+  Sets,
+  setsAfter,
+  RayChanges,
+  Count,
+  none,
+  counted,
+  skipped,
+  sumTo,
+  sumOver,
+  pairTotal,
+  IntervalTotal,
+  Capacity,
+  LogBuffersShort,
+  LogInputBad,
+  NamesNoRay,
+  TooManyRays,
+  TooManyIntervals,
+  logCommitCauses,
+  LogAnswer,
+  changed,
+  refused,
+  AnswerDue,
+}
 use Rattle.log_model.specs.Counts.{isHitBy, startsLeft, hitsOnList, isRayChanged, changedRayCount, pairsAfter}
 use Rattle.log_model.proofs.Unique.{count-unique, intervals-unique, intervals-points}
 use Rattle.log_model.proofs.Meets.{kept-unhit, unhit-points}
@@ -32,7 +69,8 @@ use Rattle.stock.specs.Stock.{Kind, Possible, Certain}
 -- ---- the points that a log takes, as those of one flat list
 
 module _ (g : DexelGrid) (r : Ray g) where
-  pairs-append : (es : List Entry) (w : HitKind) (m : List Float) (p : Float) → holds (hitsOnRay g es (r .0) w ++ m) p ≡ (holds (hitsOnRay g es (r .0) w) p || holds m p)
+  pairs-append : (es : List Entry) (w : HitKind) (m : List Float) (p : Float)
+      → holds (hitsOnRay g es (r .0) w ++ m) p ≡ (holds (hitsOnRay g es (r .0) w) p || holds m p)
   unfolding hitsOnRay holds
   pairs-append [] w m p = refl
   pairs-append (e ∷ es) w m p = go (namesRay g e (r .0)) (pairs-append es w m p)
@@ -40,7 +78,8 @@ module _ (g : DexelGrid) (r : Ray g) where
       go : (b : Bool) → holds (hitsOnRay g es (r .0) w ++ m) p ≡ (holds (hitsOnRay g es (r .0) w) p || holds m p)
           → holds (cond b (hitLo w e ∷ hitHi w e ∷ hitsOnRay g es (r .0) w) (hitsOnRay g es (r .0) w) ++ m) p
           ≡ (holds (cond b (hitLo w e ∷ hitHi w e ∷ hitsOnRay g es (r .0) w) (hitsOnRay g es (r .0) w)) p || holds m p)
-      go true f = ap (_||_ (within (hitLo w e) (hitHi w e) p)) f ∙ sym (or-assoc (within (hitLo w e) (hitHi w e) p) (holds (hitsOnRay g es (r .0) w) p) (holds m p))
+      go true f = ap (_||_ (within (hitLo w e) (hitHi w e) p)) f
+          ∙ sym (or-assoc (within (hitLo w e) (hitHi w e) p) (holds (hitsOnRay g es (r .0) w) p) (holds m p))
       go false f = f
 
   pub taken-hits : (es : List Entry) (k : Kind) (p : Float) → removed g es r k p ≡ holds (hitsOnList g es r k) p
@@ -48,7 +87,8 @@ module _ (g : DexelGrid) (r : Ray g) where
   taken-hits es Possible p = refl
   taken-hits es Certain p = sym (pairs-append es outer (hitsOnRay g es (r .0) inner) p)
 
-  pub without-hits : (s : Sets g) (es : List Entry) (k : Kind) (p : Float) → setsAfter g s es r k p ≡ (s r k p && not (holds (hitsOnList g es r k) p))
+  pub without-hits : (s : Sets g) (es : List Entry) (k : Kind) (p : Float)
+      → setsAfter g s es r k p ≡ (s r k p && not (holds (hitsOnList g es r k) p))
   unfolding setsAfter
   without-hits s es k p = ap (λ (b : Bool). s r k p && not b) (taken-hits es k p)
 
@@ -98,14 +138,16 @@ no-ray g (e ∷ es) = (some (no-ray g es), all (no-ray g es))
 
     all : Decides (NamesNoRay g es) (unnamed g es) → (not (namesSomeRay g e) || unnamed g es) ≡ false → NamesNoRay g (e ∷ es) → ⊥
     all d h (f, i, n) = elim (List·Memᴰ·cases-cons i) [
-      | inl q ↦ absurd (clash (not (namesSomeRay g e) || unnamed g es) (or-left (not (namesSomeRay g e)) (unnamed g es) (ap not (ap (namesSomeRay g) (sym q) ∙ n))) h)
+      | inl q ↦ absurd (clash (not (namesSomeRay g e) || unnamed g es)
+          (or-left (not (namesSomeRay g e)) (unnamed g es) (ap not (ap (namesSomeRay g) (sym q) ∙ n))) h)
       | inr j ↦ d .1 (not-right (not (namesSomeRay g e)) (unnamed g es) h) (f, j, n)
     ]
 
 -- ---- 9 and 10
 
 -- a property of rays that a test decides is counted by a sum
-pub count-by : (g : DexelGrid) (P : Ray g → Type 0) (test : Ray g → Bool) → ((r : Ray g) → Decides (P r) (test r)) → (i : ℕ) (h : i ≤ rayCount g)
+pub count-by : (g : DexelGrid) (P : Ray g → Type 0) (test : Ray g → Bool) → ((r : Ray g) → Decides (P r) (test r))
+    → (i : ℕ) (h : i ≤ rayCount g)
     → Count g P i (sumTo g (λ r. cond (test r) 1 0) i h)
 unfolding sumTo
 count-by g P test d zero h = none
@@ -115,31 +157,43 @@ count-by g P test d (suc i) h = go (test (i, h)) refl (sumTo g (λ r. cond (test
     go true t n c = subst (λ (m : ℕ). Count g P (suc i) m) (sym (add-one n)) (counted h (d (i, h) .0 t) c)
     go false t n c = subst (λ (m : ℕ). Count g P (suc i) m) (sym (add-zero n)) (skipped h (d (i, h) .1 t) c)
 
-module _ (g : DexelGrid) (s : Sets g) (lists : Ray g → Kind → List Float) (each : (r : Ray g) (k : Kind) → ListOf (s r k) (lists r k)) (es : List Entry) where
+module _ (g : DexelGrid) (s : Sets g) (lists : Ray g → Kind → List Float)
+    (each : (r : Ray g) (k : Kind) → ListOf (s r k) (lists r k)) (es : List Entry) where
   -- a set stays exactly when no hit has a point of its list
-  pub stays : (r : Ray g) (k : Kind) → ((p : Float) → setsAfter g s es r k p ≡ s r k p) ↔ (isHitBy (lists r k) (hitsOnList g es r k) ≡ false)
+  pub stays : (r : Ray g) (k : Kind)
+      → ((p : Float) → setsAfter g s es r k p ≡ s r k p) ↔ (isHitBy (lists r k) (hitsOnList g es r k) ≡ false)
   stays r k =
       let law = kept-unhit (lists r k) (hitsOnList g es r k) (each r k .isSound) in (
-        (λ f. law .0 (λ p. ap (λ (b : Bool). b && not (holds (hitsOnList g es r k) p)) (each r k .points p) ∙ sym (without-hits g r s es k p) ∙ f p ∙ sym (each r k .points p))),
-        (λ h p. without-hits g r s es k p ∙ ap (λ (b : Bool). b && not (holds (hitsOnList g es r k) p)) (sym (each r k .points p)) ∙ law .1 h p ∙ each r k .points p),
+        (λ f. law .0 (λ p. ap (λ (b : Bool). b && not (holds (hitsOnList g es r k) p)) (each r k .points p)
+            ∙ sym (without-hits g r s es k p) ∙ f p ∙ sym (each r k .points p))),
+        (λ h p. without-hits g r s es k p
+            ∙ ap (λ (b : Bool). b && not (holds (hitsOnList g es r k) p)) (sym (each r k .points p)) ∙ law .1 h p
+            ∙ each r k .points p),
       )
 
   -- the same where the ends of the lists and of the hits are doubles, by the points alone
   module _ (d : Doubles g lists es) where
-    stays-points : (r : Ray g) (k : Kind) → ((p : Float) → Point p → setsAfter g s es r k p ≡ s r k p) → isHitBy (lists r k) (hitsOnList g es r k) ≡ false
+    stays-points : (r : Ray g) (k : Kind) → ((p : Float) → Point p → setsAfter g s es r k p ≡ s r k p)
+        → isHitBy (lists r k) (hitsOnList g es r k) ≡ false
     stays-points r k f = unhit-points (lists r k) (hitsOnList g es r k) (each r k .isSound) (d .of-lists r k) (d .of-hits r k)
-        (λ p h. ap (λ (b : Bool). b && not (holds (hitsOnList g es r k) p)) (each r k .points p) ∙ sym (without-hits g r s es k p) ∙ f p h ∙ sym (each r k .points p))
+        (λ p h. ap (λ (b : Bool). b && not (holds (hitsOnList g es r k) p)) (each r k .points p)
+        ∙ sym (without-hits g r s es k p) ∙ f p h ∙ sym (each r k .points p))
 
     pub changes-by : (r : Ray g) → Decides (RayChanges g s es r) (isRayChanged g lists es r)
     unfolding RayChanges isRayChanged
     changes-by r = (
-      (λ h f. elim (or-cases (isHitBy (lists r Possible) (hitsOnList g es r Possible)) (isHitBy (lists r Certain) (hitsOnList g es r Certain)) h) [
-        | inl u ↦ clash (isHitBy (lists r Possible) (hitsOnList g es r Possible)) u (stays-points r Possible (f Possible))
-        | inr u ↦ clash (isHitBy (lists r Certain) (hitsOnList g es r Certain)) u (stays-points r Certain (f Certain))
-      ]),
+      (λ h f. elim (or-cases (isHitBy (lists r Possible) (hitsOnList g es r Possible))
+          (isHitBy (lists r Certain) (hitsOnList g es r Certain)) h) [
+            | inl u ↦ clash (isHitBy (lists r Possible) (hitsOnList g es r Possible)) u (stays-points r Possible (f Possible))
+            | inr u ↦ clash (isHitBy (lists r Certain) (hitsOnList g es r Certain)) u (stays-points r Certain (f Certain))
+          ]),
       (λ h n. n (λ k p _. elim k [
-        | Possible ↦ stays r Possible .1 (not-left (isHitBy (lists r Possible) (hitsOnList g es r Possible)) (isHitBy (lists r Certain) (hitsOnList g es r Certain)) h) p
-        | Certain ↦ stays r Certain .1 (not-right (isHitBy (lists r Possible) (hitsOnList g es r Possible)) (isHitBy (lists r Certain) (hitsOnList g es r Certain)) h) p
+        | Possible ↦ stays r Possible .1
+            (not-left (isHitBy (lists r Possible) (hitsOnList g es r Possible))
+            (isHitBy (lists r Certain) (hitsOnList g es r Certain)) h) p
+        | Certain ↦ stays r Certain .1
+            (not-right (isHitBy (lists r Possible) (hitsOnList g es r Possible))
+            (isHitBy (lists r Certain) (hitsOnList g es r Certain)) h) p
       ])),
     )
 
@@ -157,8 +211,10 @@ module _ (g : DexelGrid) (s : Sets g) (lists : Ray g → Kind → List Float) (e
   one-count : (r : Ray g) (k : Kind) → length (less (lists r k) (hitsOnList g es r k)) / 2 ≡ startsLeft (lists r k) (hitsOnList g es r k)
   one-count r k =
       pairs-left (lists r k) (hitsOnList g es r k) (less (lists r k) (hitsOnList g es r k)) (each r k .isSound)
-      (same-list (setsAfter g s es r k) (λ p. holds (lists r k) p && not (holds (hitsOnList g es r k) p)) (less (lists r k) (hitsOnList g es r k))
-      (λ p. without-hits g r s es k p ∙ ap (λ (b : Bool). b && not (holds (hitsOnList g es r k) p)) (sym (each r k .points p))) (left-list r k))
+      (same-list (setsAfter g s es r k) (λ p. holds (lists r k) p && not (holds (hitsOnList g es r k) p))
+      (less (lists r k) (hitsOnList g es r k))
+      (λ p. without-hits g r s es k p
+      ∙ ap (λ (b : Bool). b && not (holds (hitsOnList g es r k) p)) (sym (each r k .points p))) (left-list r k))
 
   pub intervals-counted : IntervalTotal g (setsAfter g s es) (pairsAfter g lists es)
   unfolding pairsAfter pairTotal
@@ -213,7 +269,8 @@ module _ (spec : DexelStockSpec) (g : DexelGrid) (b : Capacity) where
   unfoldable pub tests : (Ray g → Kind → List Float) → ℕ → Commit → List Bool
   unfolding changedRayCount pairsAfter unnamed entries
   tests lists n c =
-      (ltb (b .records) (spec .«max_intervals») || (ltb (b .heads) (2 * rayCount g) || ltb (c .work) (workNeeded (spec .«max_intervals») (c .log))))
+      (ltb (b .records) (spec .«max_intervals»)
+      || (ltb (b .heads) (2 * rayCount g) || ltb (c .work) (workNeeded (spec .«max_intervals») (c .log))))
       ∷ not (eqb (length (c .log) % 6) 0)
       ∷ eqb n (2 ^ 64 - 1)
       ∷ unnamed g (entries (c .log))
@@ -221,14 +278,19 @@ module _ (spec : DexelStockSpec) (g : DexelGrid) (b : Capacity) where
       ∷ ltb (spec .«max_intervals») (pairsAfter g lists (entries (c .log)))
       ∷ []
 
-  module _ (s : Sets g) (lists : Ray g → Kind → List Float) (each : (r : Ray g) (k : Kind) → ListOf (s r k) (lists r k)) (n : ℕ) (c : Commit)
+  module _ (s : Sets g) (lists : Ray g → Kind → List Float)
+      (each : (r : Ray g) (k : Kind) → ListOf (s r k) (lists r k)) (n : ℕ) (c : Commit)
       (d : Doubles g lists (entries (c .log))) where
-    short-by : Decides (LogBuffersShort spec g b c) (ltb (b .records) (spec .«max_intervals») || (ltb (b .heads) (2 * rayCount g) || ltb (c .work) (workNeeded (spec .«max_intervals») (c .log))))
+    short-by : Decides (LogBuffersShort spec g b c)
+        (ltb (b .records) (spec .«max_intervals»)
+        || (ltb (b .heads) (2 * rayCount g) || ltb (c .work) (workNeeded (spec .«max_intervals») (c .log))))
     unfolding LogBuffersShort
     short-by =
-        either (ltb (b .records) (spec .«max_intervals»)) (ltb (b .heads) (2 * rayCount g) || ltb (c .work) (workNeeded (spec .«max_intervals») (c .log)))
+        either (ltb (b .records) (spec .«max_intervals»))
+        (ltb (b .heads) (2 * rayCount g) || ltb (c .work) (workNeeded (spec .«max_intervals») (c .log)))
         (less-than (b .records) (spec .«max_intervals»))
-        (either (ltb (b .heads) (2 * rayCount g)) (ltb (c .work) (workNeeded (spec .«max_intervals») (c .log))) (less-than (b .heads) (2 * rayCount g))
+        (either (ltb (b .heads) (2 * rayCount g)) (ltb (c .work) (workNeeded (spec .«max_intervals») (c .log)))
+        (less-than (b .heads) (2 * rayCount g))
         (less-than (c .work) (workNeeded (spec .«max_intervals») (c .log))))
 
     bad-by : Decides (LogInputBad ⊥ c) (not (eqb (length (c .log) % 6) 0))
@@ -255,17 +317,27 @@ module _ (spec : DexelStockSpec) (g : DexelGrid) (b : Capacity) where
         let x = intervals-counted g s lists each (entries (c .log)) in
         let d = less-than (spec .«max_intervals») (pairsAfter g lists (entries (c .log))) in (
           (λ h. (pairsAfter g lists (entries (c .log)), x, d .0 h)),
-          (λ h y. d .1 h (subst (λ (m : ℕ). spec .«max_intervals» < m) (intervals-unique g (setsAfter g s (entries (c .log))) (y .1) x) (y .2))),
+          (λ h y. d .1 h (subst (λ (m : ℕ). spec .«max_intervals» < m)
+              (intervals-unique g (setsAfter g s (entries (c .log))) (y .1) x) (y .2))),
         )
 
     all-decided : AllDecided (logCommitCauses spec g b ⊥ s n c) (tests lists n c)
     unfolding logCommitCauses tests
-    all-decided = (short-by, (bad-by, ((eqb-true n (2 ^ 64 - 1), eqb-false n (2 ^ 64 - 1)), (no-ray g (entries (c .log)), (rays-by, (intervals-by, tt))))))
+    all-decided = (
+      short-by,
+      (
+        bad-by,
+        ((eqb-true n (2 ^ 64 - 1), eqb-false n (2 ^ 64 - 1)), (no-ray g (entries (c .log)), (rays-by, (intervals-by, tt)))),
+      ),
+    )
 
     -- the order's answer, worked out
-    pub judged : AnswerDue spec g b ⊥ s n c (answerBy (logCommitCauses spec g b ⊥ s n c) (tests lists n c) (changed (changedRayCount g lists (entries (c .log)))))
+    pub judged : AnswerDue spec g b ⊥ s n c
+        (answerBy (logCommitCauses spec g b ⊥ s n c) (tests lists n c) (changed (changedRayCount g lists (entries (c .log)))))
     unfolding AnswerDue
-    judged = elim (due-by (logCommitCauses spec g b ⊥ s n c) (tests lists n c) (changed (changedRayCount g lists (entries (c .log)))) all-decided) [
-      | inl (k, e, x) ↦ subst (λ (a : LogAnswer). AnswerDue spec g b ⊥ s n c a) (sym e) x
-      | inr (e, x) ↦ subst (λ (a : LogAnswer). AnswerDue spec g b ⊥ s n c a) (sym e) (x, rays-counted g s lists each (entries (c .log)) d)
-    ]
+    judged = elim (due-by (logCommitCauses spec g b ⊥ s n c) (tests lists n c)
+        (changed (changedRayCount g lists (entries (c .log)))) all-decided) [
+          | inl (k, e, x) ↦ subst (λ (a : LogAnswer). AnswerDue spec g b ⊥ s n c a) (sym e) x
+          | inr (e, x) ↦ subst (λ (a : LogAnswer). AnswerDue spec g b ⊥ s n c a) (sym e)
+              (x, rays-counted g s lists each (entries (c .log)) d)
+        ]

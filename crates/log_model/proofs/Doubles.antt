@@ -10,7 +10,20 @@ use Rattle.grid.specs.declared.DexelStockSpec.{DexelStockSpec}
 use Rattle.grid.specs.declared.DexelGrid.{DexelGrid}
 use Rattle.store.specs.Store.{placesOf, endsAt}
 use Rattle.stock.specs.Stock.{Stock, Kind, Possible, Certain, rayList, listNumber}
-use Rattle.log_model.specs.Logs.{Entry, entryAt, entriesFrom, entryCount, entries, namesRay, HitKind, outer, inner, hitLo, hitHi, hitsOnRay}
+use Rattle.log_model.specs.Logs.{
+  Entry,
+  entryAt,
+  entriesFrom,
+  entryCount,
+  entries,
+  namesRay,
+  HitKind,
+  outer,
+  inner,
+  hitLo,
+  hitHi,
+  hitsOnRay,
+}
 use Rattle.log_model.specs.Counts.{hitsOnList}
 use Rattle.log_model.proofs.Less.{piece, lower, higher, lessPair, less}
 use Rattle.grid.specs.Rays.{Ray}
@@ -27,7 +40,8 @@ module _ (spans : List Float) (d : DoubleCells spans) where
   ends-doubles [] = tt
   ends-doubles (i ∷ ps) = (d (2 * i), (d (2 * i + 1), ends-doubles ps))
 
-pub list-doubles : (spec : DexelStockSpec) (s : Stock) → DoubleCells (s .cells .spans) → (r : ℕ) (k : Kind) → All Double (rayList spec (s .cells) r k)
+pub list-doubles : (spec : DexelStockSpec) (s : Stock) → DoubleCells (s .cells .spans) → (r : ℕ) (k : Kind)
+    → All Double (rayList spec (s .cells) r k)
 list-doubles spec s d r k = ends-doubles (s .cells .spans) d
     (placesOf (spec .«max_intervals») (s .cells .links) (s .cells .heads) (listNumber r k))
 

@@ -87,6 +87,8 @@ module _ (g : DexelGrid) (r : Ray g) (w : HitKind) where
 
   pub pairs-more : (log : List Float) (n : ℕ)
       → hitsOnRay g (entriesFrom log 0 (suc n)) (r .0) w
-      ≡ hitsOnRay g (entriesFrom log 0 n) (r .0) w ++ cond (namesRay g (entryAt log n) (r .0)) (hitLo w (entryAt log n) ∷ hitHi w (entryAt log n) ∷ []) []
+      ≡ hitsOnRay g (entriesFrom log 0 n) (r .0) w
+      ++ cond (namesRay g (entryAt log n) (r .0)) (hitLo w (entryAt log n) ∷ hitHi w (entryAt log n) ∷ []) []
   unfolding hitsOnRay
-  pairs-more log n = ap (λ (es : List Entry). hitsOnRay g es (r .0) w) (from-last log 0 n n (omega arith)) ∙ pairs-of-append (entriesFrom log 0 n) (entryAt log n ∷ [])
+  pairs-more log n = ap (λ (es : List Entry). hitsOnRay g es (r .0) w) (from-last log 0 n n (omega arith))
+      ∙ pairs-of-append (entriesFrom log 0 n) (entryAt log n ∷ [])

@@ -26,7 +26,21 @@ use Rattle.log_model.specs.Logs.{entries, namesSomeRay, hitLo, hitHi, Co
 use Rattle.log_model.specs.Model.{LogAnswer, changed, refused, logCommitCauses, AnswerDue, acceptedLogs}
 use Rattle.log_model.specs.Counts.{hitsOnList, changedRayCount}
 use Rattle.log_model.specs.Runs.{pointSets, CommitEffect, CommitStep, Run, done, next, RunMeetsModel}
-use Rattle.log_model.specs.Examples.{num, exampleBox, exampleGrid, exampleStock, exampleHit, exampleCommit, notAllowed, innerWider, threeLogs, threeAnswers, exampleListAfter, AtEnd, RunRight}
+use Rattle.log_model.specs.Examples.{
+  num,
+  exampleBox,
+  exampleGrid,
+  exampleStock,
+  exampleHit,
+  exampleCommit,
+  notAllowed,
+  innerWider,
+  threeLogs,
+  threeAnswers,
+  exampleListAfter,
+  AtEnd,
+  RunRight,
+}
 use Rattle.stock.specs.Stock.{Stock, ValidAt, SoundStock, Kind, Possible, Certain, rayList}
 use Rattle.stock_fill.specs.Uncut.{uncut as uncutCells, uncutSpans, uncutLinks, uncutHeads, recordAt}
 use Rattle.log_model.specs.View.{lentStore}
@@ -40,12 +54,14 @@ use Rattle.doubles.specs.Rounding.{ratio}
 use Rattle.log_model.specs.RunCorrect.{HitsIncluded, Alike, StoresAgree}
 
 accepted-box : gridOf (exampleBox 8) (109 ∷ 109 ∷ []) ≡ Accepted exampleGrid
-unfolding gridOf isMm misdescribed allBetween isBetween anyBelow gridOver anyAbove cellCount tooFine leastStep magnitudeOf largerOf ceilOf absOf le lt neg ofBits ofInt toUnsigned isNan sub add mul div
+unfolding gridOf isMm misdescribed allBetween isBetween anyBelow gridOver anyAbove cellCount tooFine leastStep
+    magnitudeOf largerOf ceilOf absOf le lt neg ofBits ofInt toUnsigned isNan sub add mul div
 accepted-box = refl
 
 -- minus zero names axis 0; an axis of 3, a fraction, a negative number, an infinity and NaN name no ray
 naming : map (λ log. map (namesSomeRay exampleGrid) (entries log))
-    (exampleHit (neg (num 0)) (num 0) ∷ exampleHit (num 2) (neg (num 0)) ∷ exampleHit (num 3) (num 0) ∷ exampleHit (num 0) (num 1) ∷ exampleHit (num 1) (ratio 1 2) ∷ exampleHit (num 1) (neg (num 1))
+    (exampleHit (neg (num 0)) (num 0) ∷ exampleHit (num 2) (neg (num 0)) ∷ exampleHit (num 3) (num 0)
+    ∷ exampleHit (num 0) (num 1) ∷ exampleHit (num 1) (ratio 1 2) ∷ exampleHit (num 1) (neg (num 1))
     ∷ exampleHit (inf false) (num 0) ∷ exampleHit (num 0) nan ∷ [])
     ≡ (true ∷ []) ∷ (true ∷ []) ∷ (false ∷ []) ∷ (false ∷ []) ∷ (false ∷ []) ∷ (false ∷ []) ∷ (false ∷ []) ∷ (false ∷ []) ∷ []
 unfolding namesSomeRay entries ratio eq neg ofInt byDigit
@@ -90,7 +106,9 @@ unfolding answers rayCount byDigit eq lt le
 twice = refl
 
 -- one work pair short; part of an entry over; no such ray; no ray allowed; and after those refusals the log is accepted
-refusals : answers (exampleBox 8) exampleGrid (uncut 8) (exampleCommit 0 1 65 ∷ record { log = num 1 ∷ []; allowance = 1; work = 66 } ∷ exampleCommit 1 1 66 ∷ exampleCommit 0 0 66 ∷ exampleCommit 0 1 66 ∷ [])
+refusals : answers (exampleBox 8) exampleGrid (uncut 8)
+    (exampleCommit 0 1 65 ∷ record { log = num 1 ∷ []; allowance = 1; work = 66 } ∷ exampleCommit 1 1 66
+    ∷ exampleCommit 0 0 66 ∷ exampleCommit 0 1 66 ∷ [])
     ≡ refused 12 ∷ refused 11 ∷ refused 17 ∷ refused 9 ∷ changed 1 ∷ []
 unfolding answers rayCount byDigit eq lt le
 refusals = refl
@@ -121,7 +139,8 @@ cut-generation = refl
 abbrev cut : Stock
 cut = record {
   cells = record {
-    spans = num 0 ∷ num 10 ∷ num 0 ∷ num 10 ∷ num 0 ∷ num 2 ∷ num 3 ∷ num 10 ∷ num 0 ∷ num 10 ∷ num 0 ∷ num 10 ∷ num 0 ∷ num 1 ∷ num 4 ∷ num 10 ∷ [];
+    spans = num 0 ∷ num 10 ∷ num 0 ∷ num 10 ∷ num 0 ∷ num 2 ∷ num 3 ∷ num 10 ∷ num 0 ∷ num 10 ∷ num 0 ∷ num 10 ∷ num 0
+        ∷ num 1 ∷ num 4 ∷ num 10 ∷ [];
     links = 0 ∷ 1 ∷ 0 ∷ 2 ∷ 4 ∷ 3 ∷ 0 ∷ 3 ∷ 0 ∷ 5 ∷ 0 ∷ 6 ∷ 8 ∷ 4 ∷ 0 ∷ 4 ∷ [];
     heads = 1 ∷ 2 ∷ 3 ∷ 7 ∷ 5 ∷ 6 ∷ [];
   };
@@ -133,7 +152,8 @@ cut = record {
 abbrev cut-again : Stock
 cut-again = record {
   cells = record {
-    spans = num 0 ∷ num 10 ∷ num 0 ∷ num 10 ∷ num 0 ∷ num 2 ∷ num 3 ∷ num 4 ∷ num 0 ∷ num 10 ∷ num 0 ∷ num 10 ∷ num 0 ∷ num 1 ∷ num 0 ∷ num 0 ∷ [];
+    spans = num 0 ∷ num 10 ∷ num 0 ∷ num 10 ∷ num 0 ∷ num 2 ∷ num 3 ∷ num 4 ∷ num 0 ∷ num 10 ∷ num 0 ∷ num 10 ∷ num 0
+        ∷ num 1 ∷ num 0 ∷ num 0 ∷ [];
     links = 0 ∷ 1 ∷ 0 ∷ 2 ∷ 4 ∷ 3 ∷ 0 ∷ 3 ∷ 0 ∷ 5 ∷ 0 ∷ 6 ∷ 0 ∷ 4 ∷ 0 ∷ 0 ∷ [];
     heads = 1 ∷ 2 ∷ 3 ∷ 7 ∷ 5 ∷ 6 ∷ [];
   };
@@ -142,7 +162,8 @@ cut-again = record {
 }
 
 -- what holds of each of the three rays holds of every ray
-three : (P : Ray exampleGrid → Type 0) → ((h : 0 < rayCount exampleGrid) → P (0, h)) → ((h : 1 < rayCount exampleGrid) → P (1, h)) → ((h : 2 < rayCount exampleGrid) → P (2, h)) → (r : Ray exampleGrid) → P r
+three : (P : Ray exampleGrid → Type 0) → ((h : 0 < rayCount exampleGrid) → P (0, h))
+    → ((h : 1 < rayCount exampleGrid) → P (1, h)) → ((h : 2 < rayCount exampleGrid) → P (2, h)) → (r : Ray exampleGrid) → P r
 unfolding rayCount
 three P a b c (zero, h) = a h
 three P a b c (suc zero, h) = b h
@@ -173,7 +194,8 @@ elem i (j ∷ l) = eqb i j || elem i l
 elem-is : (i : ℕ) (l : List ℕ) → elem i l ≡ true → List·Memᴰ i l
 unfolding elem
 elem-is i [] h = absurd (false≢true h)
-elem-is i (j ∷ l) h = elim (or-cases (eqb i j) (elem i l) h) [ inl u ↦ List·Memᴰ·head (eqb-true i j u) | inr u ↦ List·Memᴰ·tail (elem-is i l u) ]
+elem-is i (j ∷ l) h = elim (or-cases (eqb i j) (elem i l) h)
+    [ inl u ↦ List·Memᴰ·head (eqb-true i j u) | inr u ↦ List·Memᴰ·tail (elem-is i l u) ]
 
 -- each place up to n is in the list or fails the test
 all-used : (List ℕ) → (ℕ → Bool) → ℕ → Bool
@@ -206,10 +228,13 @@ unfolding sound bounded lt le ofInt
 whole-ray = record { possible-sound = refl; certain-sound = refl; possible-bounded = refl; certain-bounded = refl; inside = λ p t. t }
 
 -- certain lies within possible, by a test at the ends
-inside-of : (P C : List Float) → agree (C ++ P) (λ (q : Float). holds C q && holds P q) (holds C) ≡ true → (p : Float) → holds C p ≡ true → holds P p ≡ true
+inside-of : (P C : List Float) → agree (C ++ P) (λ (q : Float). holds C q && holds P q) (holds C) ≡ true → (p : Float)
+    → holds C p ≡ true → holds P p ≡ true
 inside-of P C h p t =
     and-right (holds C p) (holds P p)
-    (by-ends (C ++ P) (λ (q : Float). holds C q && holds P q) (holds C) (both-of (C ++ P) (holds C) (holds P) (in-left C P (holds C) (of-list C)) (in-right C P (holds P) (of-list P))) (in-left C P (holds C) (of-list C)) h p ∙ t)
+    (by-ends (C ++ P) (λ (q : Float). holds C q && holds P q) (holds C)
+    (both-of (C ++ P) (holds C) (holds P) (in-left C P (holds C) (of-list C))
+    (in-right C P (holds P) (of-list P))) (in-left C P (holds C) (of-list C)) h p ∙ t)
 
 -- the ray that was cut: 0 to 1 and 4 to 10 lie within 0 to 2 and 3 to 10
 cut-whole : ValidRay (num 0) (num 10) (num 0 ∷ num 2 ∷ num 3 ∷ num 10 ∷ []) (num 0 ∷ num 1 ∷ num 4 ∷ num 10 ∷ [])
@@ -237,66 +262,91 @@ filled-sound : SoundStock (exampleBox 8) exampleGrid exampleStock
 unfolding rayCount boundsOf rayAxis offset raysAlong byDigit chained places endsAt usedAt all-used elem ofInt
 filled-sound = record {
   store = record {
-    chains = six (λ j. RecordChain (exampleStock .cells .links) 8 (suc j) (getD (exampleStock .cells .heads) j 0) (placesOf 8 (exampleStock .cells .links) (exampleStock .cells .heads) j))
-        (more (lit< tt) refl ends) (more (lit< tt) refl ends) (more (lit< tt) refl ends) (more (lit< tt) refl ends) (more (lit< tt) refl ends) (more (lit< tt) refl ends);
-    others = used-in (chained 8 (exampleStock .cells .links) (exampleStock .cells .heads) 0 6) (usedAt (exampleStock .cells .spans) (exampleStock .cells .links)) 8 refl;
+    chains = six (λ j. RecordChain (exampleStock .cells .links) 8 (suc j) (getD (exampleStock .cells .heads) j 0)
+        (placesOf 8 (exampleStock .cells .links) (exampleStock .cells .heads) j))
+        (more (lit< tt) refl ends) (more (lit< tt) refl ends) (more (lit< tt) refl ends) (more (lit< tt) refl ends)
+        (more (lit< tt) refl ends) (more (lit< tt) refl ends);
+    others = used-in (chained 8 (exampleStock .cells .links) (exampleStock .cells .heads) 0 6)
+        (usedAt (exampleStock .cells .spans) (exampleStock .cells .links)) 8 refl;
     counts = refl;
   };
-  valid = λ ray h. three (λ r. ValidAt (exampleBox 8) exampleGrid (exampleStock .cells) (r .0)) (λ h. whole-ray) (λ h. whole-ray) (λ h. whole-ray) (ray, h);
+  valid = λ ray h. three (λ r. ValidAt (exampleBox 8) exampleGrid (exampleStock .cells) (r .0)) (λ h. whole-ray)
+      (λ h. whole-ray) (λ h. whole-ray) (ray, h);
 }
 
 cut-sound : SoundStock (exampleBox 8) exampleGrid cut
 unfolding rayCount boundsOf rayAxis offset raysAlong byDigit chained places endsAt usedAt all-used elem ofInt
 cut-sound = record {
   store = record {
-    chains = six (λ j. RecordChain (cut .cells .links) 8 (suc j) (getD (cut .cells .heads) j 0) (placesOf 8 (cut .cells .links) (cut .cells .heads) j))
-        (more (lit< tt) refl ends) (more (lit< tt) refl ends) (more (lit< tt) refl (more (lit< tt) refl ends)) (more (lit< tt) refl (more (lit< tt) refl ends)) (more (lit< tt) refl ends) (more (lit< tt) refl ends);
+    chains = six (λ j. RecordChain (cut .cells .links) 8 (suc j) (getD (cut .cells .heads) j 0)
+        (placesOf 8 (cut .cells .links) (cut .cells .heads) j))
+        (more (lit< tt) refl ends) (more (lit< tt) refl ends) (more (lit< tt) refl (more (lit< tt) refl ends))
+        (more (lit< tt) refl (more (lit< tt) refl ends)) (more (lit< tt) refl ends) (more (lit< tt) refl ends);
     others = used-in (chained 8 (cut .cells .links) (cut .cells .heads) 0 6) (usedAt (cut .cells .spans) (cut .cells .links)) 8 refl;
     counts = refl;
   };
-  valid = λ ray h. three (λ r. ValidAt (exampleBox 8) exampleGrid (cut .cells) (r .0)) (λ h. whole-ray) (λ h. cut-whole) (λ h. whole-ray) (ray, h);
+  valid = λ ray h. three (λ r. ValidAt (exampleBox 8) exampleGrid (cut .cells) (r .0)) (λ h. whole-ray)
+      (λ h. cut-whole) (λ h. whole-ray) (ray, h);
 }
 
 again-sound : SoundStock (exampleBox 8) exampleGrid cut-again
 unfolding rayCount boundsOf rayAxis offset raysAlong byDigit chained places endsAt usedAt all-used elem ofInt
 again-sound = record {
   store = record {
-    chains = six (λ j. RecordChain (cut-again .cells .links) 8 (suc j) (getD (cut-again .cells .heads) j 0) (placesOf 8 (cut-again .cells .links) (cut-again .cells .heads) j))
-        (more (lit< tt) refl ends) (more (lit< tt) refl ends) (more (lit< tt) refl (more (lit< tt) refl ends)) (more (lit< tt) refl ends) (more (lit< tt) refl ends) (more (lit< tt) refl ends);
-    others = used-in (chained 8 (cut-again .cells .links) (cut-again .cells .heads) 0 6) (usedAt (cut-again .cells .spans) (cut-again .cells .links)) 8 refl;
+    chains = six (λ j. RecordChain (cut-again .cells .links) 8 (suc j) (getD (cut-again .cells .heads) j 0)
+        (placesOf 8 (cut-again .cells .links) (cut-again .cells .heads) j))
+        (more (lit< tt) refl ends) (more (lit< tt) refl ends) (more (lit< tt) refl (more (lit< tt) refl ends))
+        (more (lit< tt) refl ends) (more (lit< tt) refl ends) (more (lit< tt) refl ends);
+    others = used-in (chained 8 (cut-again .cells .links) (cut-again .cells .heads) 0 6)
+        (usedAt (cut-again .cells .spans) (cut-again .cells .links)) 8 refl;
     counts = refl;
   };
-  valid = λ ray h. three (λ r. ValidAt (exampleBox 8) exampleGrid (cut-again .cells) (r .0)) (λ h. whole-ray) (λ h. again-whole) (λ h. whole-ray) (ray, h);
+  valid = λ ray h. three (λ r. ValidAt (exampleBox 8) exampleGrid (cut-again .cells) (r .0)) (λ h. whole-ray)
+      (λ h. again-whole) (λ h. whole-ray) (ray, h);
 }
 
 -- the answer that the order gives to a commit on a sound stock, worked out
 abbrev answer-on : Stock → Commit → LogAnswer
 answer-on s c =
-    answerBy (logCommitCauses (exampleBox 8) exampleGrid (lentStore (exampleBox 8) exampleGrid .lent s) ⊥ (pointSets exampleGrid (lentStore (exampleBox 8) exampleGrid) s) (s .generation) c)
-    (tests (exampleBox 8) exampleGrid (lentStore (exampleBox 8) exampleGrid .lent s) (λ r k. rayList (exampleBox 8) (s .cells) (r .0) k) (s .generation) c)
+    answerBy (logCommitCauses (exampleBox 8) exampleGrid (lentStore (exampleBox 8) exampleGrid .lent s) ⊥
+    (pointSets exampleGrid (lentStore (exampleBox 8) exampleGrid) s) (s .generation) c)
+    (tests (exampleBox 8) exampleGrid (lentStore (exampleBox 8) exampleGrid .lent s)
+    (λ r k. rayList (exampleBox 8) (s .cells) (r .0) k) (s .generation) c)
     (changed (changedRayCount exampleGrid (λ r k. rayList (exampleBox 8) (s .cells) (r .0) k) (entries (c .log))))
 
-module _ (s : Stock) (S : SoundStock (exampleBox 8) exampleGrid s) (ds : DoubleCells (s .cells .spans)) (c : Commit) (dc : DoubleCells (c .log)) where
+module _ (s : Stock) (S : SoundStock (exampleBox 8) exampleGrid s) (ds : DoubleCells (s .cells .spans)) (c : Commit)
+    (dc : DoubleCells (c .log)) where
   -- the lists of the stock are those of its sets
-  lists-on : (r : Ray exampleGrid) (k : Kind) → ListOf (pointSets exampleGrid (lentStore (exampleBox 8) exampleGrid) s r k) (rayList (exampleBox 8) (s .cells) (r .0) k)
+  lists-on : (r : Ray exampleGrid) (k : Kind)
+      → ListOf (pointSets exampleGrid (lentStore (exampleBox 8) exampleGrid) s r k)
+      (rayList (exampleBox 8) (s .cells) (r .0) k)
   unfolding pointSets
   lists-on r k = record { isSound = lent-laws (exampleBox 8) exampleGrid .sound-list s S r k; points = λ p. refl }
 
   judged-on : (a : LogAnswer) → answer-on s c ≡ a
-      → AnswerDue (exampleBox 8) exampleGrid (lentStore (exampleBox 8) exampleGrid .lent s) (¬ SoundStock (exampleBox 8) exampleGrid s) (pointSets exampleGrid (lentStore (exampleBox 8) exampleGrid) s) (s .generation) c a
-  judged-on a e = judged-unsound (exampleBox 8) exampleGrid (lentStore (exampleBox 8) exampleGrid .lent s) (¬ SoundStock (exampleBox 8) exampleGrid s) (λ n. n S) (pointSets exampleGrid (lentStore (exampleBox 8) exampleGrid) s) (s .generation) c a
-      (subst (λ (b : LogAnswer). AnswerDue (exampleBox 8) exampleGrid (lentStore (exampleBox 8) exampleGrid .lent s) ⊥ (pointSets exampleGrid (lentStore (exampleBox 8) exampleGrid) s) (s .generation) c b) e
-      (judged (exampleBox 8) exampleGrid (lentStore (exampleBox 8) exampleGrid .lent s) (pointSets exampleGrid (lentStore (exampleBox 8) exampleGrid) s)
+      → AnswerDue (exampleBox 8) exampleGrid (lentStore (exampleBox 8) exampleGrid .lent s)
+      (¬ SoundStock (exampleBox 8) exampleGrid s) (pointSets exampleGrid (lentStore (exampleBox 8) exampleGrid) s)
+      (s .generation) c a
+  judged-on a e = judged-unsound (exampleBox 8) exampleGrid (lentStore (exampleBox 8) exampleGrid .lent s)
+      (¬ SoundStock (exampleBox 8) exampleGrid s) (λ n. n S)
+      (pointSets exampleGrid (lentStore (exampleBox 8) exampleGrid) s) (s .generation) c a
+      (subst (λ (b : LogAnswer). AnswerDue (exampleBox 8) exampleGrid (lentStore (exampleBox 8) exampleGrid .lent s) ⊥
+      (pointSets exampleGrid (lentStore (exampleBox 8) exampleGrid) s) (s .generation) c b) e
+      (judged (exampleBox 8) exampleGrid (lentStore (exampleBox 8) exampleGrid .lent s)
+      (pointSets exampleGrid (lentStore (exampleBox 8) exampleGrid) s)
       (λ r k. rayList (exampleBox 8) (s .cells) (r .0) k) lists-on (s .generation) c
       (all-doubles (exampleBox 8) exampleGrid s (c .log) ds dc)))
 
-  refuses : (k : ℕ) → answer-on s c ≡ refused k → CommitStep (exampleBox 8) exampleGrid (lentStore (exampleBox 8) exampleGrid) s c (refused k) s
+  refuses : (k : ℕ) → answer-on s c ≡ refused k
+      → CommitStep (exampleBox 8) exampleGrid (lentStore (exampleBox 8) exampleGrid) s c (refused k) s
   unfolding CommitEffect
   refuses k e = record { answers = judged-on (refused k) e; leaves = refl }
 
   -- the lists that are left are the old ones less the hits
   cuts-to : (n : ℕ) (t : Stock) → answer-on s c ≡ changed n → SoundStock (exampleBox 8) exampleGrid t
-      → ((r : Ray exampleGrid) (k : Kind) → rayList (exampleBox 8) (t .cells) (r .0) k ≡ less (rayList (exampleBox 8) (s .cells) (r .0) k) (hitsOnList exampleGrid (entries (c .log)) r k))
+      → ((r : Ray exampleGrid) (k : Kind)
+      → rayList (exampleBox 8) (t .cells) (r .0) k
+      ≡ less (rayList (exampleBox 8) (s .cells) (r .0) k) (hitsOnList exampleGrid (entries (c .log)) r k))
       → t .generation ≡ suc (s .generation) → lentStore (exampleBox 8) exampleGrid .lent t ≡ lentStore (exampleBox 8) exampleGrid .lent s
       → CommitStep (exampleBox 8) exampleGrid (lentStore (exampleBox 8) exampleGrid) s c (changed n) t
   unfolding CommitEffect
@@ -306,7 +356,8 @@ module _ (s : Stock) (S : SoundStock (exampleBox 8) exampleGrid s) (ds : DoubleC
       sound = T;
       exactly = λ r k p.
           unfold pointSets in ap (λ (l : List Float). holds l p) (l r k)
-          ∙ left-list exampleGrid (pointSets exampleGrid (lentStore (exampleBox 8) exampleGrid) s) (λ r k. rayList (exampleBox 8) (s .cells) (r .0) k) lists-on (entries (c .log)) r k .points p;
+          ∙ left-list exampleGrid (pointSets exampleGrid (lentStore (exampleBox 8) exampleGrid) s)
+          (λ r k. rayList (exampleBox 8) (s .cells) (r .0) k) lists-on (entries (c .log)) r k .points p;
       generation = g;
       lent = h;
     };
@@ -345,44 +396,64 @@ third-pairs (suc (suc n)) k = []
 
 filled-lists : (r : Ray exampleGrid) (k : Kind) → rayList (exampleBox 8) (exampleStock .cells) (r .0) k ≡ num 0 ∷ num 10 ∷ []
 unfolding endsAt places
-filled-lists r Possible = three (λ r. rayList (exampleBox 8) (exampleStock .cells) (r .0) Possible ≡ num 0 ∷ num 10 ∷ []) (λ h. refl) (λ h. refl) (λ h. refl) r
-filled-lists r Certain = three (λ r. rayList (exampleBox 8) (exampleStock .cells) (r .0) Certain ≡ num 0 ∷ num 10 ∷ []) (λ h. refl) (λ h. refl) (λ h. refl) r
+filled-lists r Possible = three
+    (λ r. rayList (exampleBox 8) (exampleStock .cells) (r .0) Possible ≡ num 0 ∷ num 10 ∷ []) (λ h. refl) (λ h. refl)
+    (λ h. refl) r
+filled-lists r Certain = three
+    (λ r. rayList (exampleBox 8) (exampleStock .cells) (r .0) Certain ≡ num 0 ∷ num 10 ∷ []) (λ h. refl) (λ h. refl)
+    (λ h. refl) r
 
 cut-lists : (r : Ray exampleGrid) (k : Kind) → rayList (exampleBox 8) (cut .cells) (r .0) k ≡ cut-at (r .0) k
 unfolding endsAt places
-cut-lists r Possible = three (λ r. rayList (exampleBox 8) (cut .cells) (r .0) Possible ≡ cut-at (r .0) Possible) (λ h. refl) (λ h. refl) (λ h. refl) r
-cut-lists r Certain = three (λ r. rayList (exampleBox 8) (cut .cells) (r .0) Certain ≡ cut-at (r .0) Certain) (λ h. refl) (λ h. refl) (λ h. refl) r
+cut-lists r Possible = three (λ r. rayList (exampleBox 8) (cut .cells) (r .0) Possible ≡ cut-at (r .0) Possible)
+    (λ h. refl) (λ h. refl) (λ h. refl) r
+cut-lists r Certain = three (λ r. rayList (exampleBox 8) (cut .cells) (r .0) Certain ≡ cut-at (r .0) Certain)
+    (λ h. refl) (λ h. refl) (λ h. refl) r
 
 again-lists : (r : Ray exampleGrid) (k : Kind) → rayList (exampleBox 8) (cut-again .cells) (r .0) k ≡ exampleListAfter (r .0) k
 unfolding endsAt places
-again-lists r Possible = three (λ r. rayList (exampleBox 8) (cut-again .cells) (r .0) Possible ≡ exampleListAfter (r .0) Possible) (λ h. refl) (λ h. refl) (λ h. refl) r
-again-lists r Certain = three (λ r. rayList (exampleBox 8) (cut-again .cells) (r .0) Certain ≡ exampleListAfter (r .0) Certain) (λ h. refl) (λ h. refl) (λ h. refl) r
+again-lists r Possible = three
+    (λ r. rayList (exampleBox 8) (cut-again .cells) (r .0) Possible ≡ exampleListAfter (r .0) Possible) (λ h. refl)
+    (λ h. refl) (λ h. refl) r
+again-lists r Certain = three (λ r. rayList (exampleBox 8) (cut-again .cells) (r .0) Certain
+    ≡ exampleListAfter (r .0) Certain) (λ h. refl) (λ h. refl) (λ h. refl) r
 
 first-hits : (r : Ray exampleGrid) (k : Kind) → hitsOnList exampleGrid (entries (exampleCommit 0 1 66 .log)) r k ≡ first-pairs (r .0) k
 unfolding hitsOnList entries eq byDigit
-first-hits r Possible = three (λ r. hitsOnList exampleGrid (entries (exampleCommit 0 1 66 .log)) r Possible ≡ first-pairs (r .0) Possible) (λ h. refl) (λ h. refl) (λ h. refl) r
-first-hits r Certain = three (λ r. hitsOnList exampleGrid (entries (exampleCommit 0 1 66 .log)) r Certain ≡ first-pairs (r .0) Certain) (λ h. refl) (λ h. refl) (λ h. refl) r
+first-hits r Possible = three (λ r. hitsOnList exampleGrid (entries (exampleCommit 0 1 66 .log)) r Possible
+    ≡ first-pairs (r .0) Possible) (λ h. refl) (λ h. refl) (λ h. refl) r
+first-hits r Certain = three (λ r. hitsOnList exampleGrid (entries (exampleCommit 0 1 66 .log)) r Certain
+    ≡ first-pairs (r .0) Certain) (λ h. refl) (λ h. refl) (λ h. refl) r
 
 third-hits : (r : Ray exampleGrid) (k : Kind) → hitsOnList exampleGrid (entries (innerWider .log)) r k ≡ third-pairs (r .0) k
 unfolding hitsOnList entries eq byDigit
-third-hits r Possible = three (λ r. hitsOnList exampleGrid (entries (innerWider .log)) r Possible ≡ third-pairs (r .0) Possible) (λ h. refl) (λ h. refl) (λ h. refl) r
-third-hits r Certain = three (λ r. hitsOnList exampleGrid (entries (innerWider .log)) r Certain ≡ third-pairs (r .0) Certain) (λ h. refl) (λ h. refl) (λ h. refl) r
+third-hits r Possible = three (λ r. hitsOnList exampleGrid (entries (innerWider .log)) r Possible
+    ≡ third-pairs (r .0) Possible) (λ h. refl) (λ h. refl) (λ h. refl) r
+third-hits r Certain = three (λ r. hitsOnList exampleGrid (entries (innerWider .log)) r Certain
+    ≡ third-pairs (r .0) Certain) (λ h. refl) (λ h. refl) (λ h. refl) r
 
 -- the lists that are left are the old ones less the hits
 first-less : (r : Ray exampleGrid) (k : Kind) → cut-at (r .0) k ≡ less (num 0 ∷ num 10 ∷ []) (first-pairs (r .0) k)
 unfolding less lt ofInt
-first-less r Possible = three (λ r. cut-at (r .0) Possible ≡ less (num 0 ∷ num 10 ∷ []) (first-pairs (r .0) Possible)) (λ h. refl) (λ h. refl) (λ h. refl) r
-first-less r Certain = three (λ r. cut-at (r .0) Certain ≡ less (num 0 ∷ num 10 ∷ []) (first-pairs (r .0) Certain)) (λ h. refl) (λ h. refl) (λ h. refl) r
+first-less r Possible = three (λ r. cut-at (r .0) Possible ≡ less (num 0 ∷ num 10 ∷ []) (first-pairs (r .0) Possible))
+    (λ h. refl) (λ h. refl) (λ h. refl) r
+first-less r Certain = three (λ r. cut-at (r .0) Certain ≡ less (num 0 ∷ num 10 ∷ []) (first-pairs (r .0) Certain))
+    (λ h. refl) (λ h. refl) (λ h. refl) r
 
 third-less : (r : Ray exampleGrid) (k : Kind) → exampleListAfter (r .0) k ≡ less (cut-at (r .0) k) (third-pairs (r .0) k)
 unfolding less lt ofInt
-third-less r Possible = three (λ r. exampleListAfter (r .0) Possible ≡ less (cut-at (r .0) Possible) (third-pairs (r .0) Possible)) (λ h. refl) (λ h. refl) (λ h. refl) r
-third-less r Certain = three (λ r. exampleListAfter (r .0) Certain ≡ less (cut-at (r .0) Certain) (third-pairs (r .0) Certain)) (λ h. refl) (λ h. refl) (λ h. refl) r
+third-less r Possible = three (λ r. exampleListAfter (r .0) Possible
+    ≡ less (cut-at (r .0) Possible) (third-pairs (r .0) Possible)) (λ h. refl) (λ h. refl) (λ h. refl) r
+third-less r Certain = three (λ r. exampleListAfter (r .0) Certain
+    ≡ less (cut-at (r .0) Certain) (third-pairs (r .0) Certain)) (λ h. refl) (λ h. refl) (λ h. refl) r
 
-first-lists : (r : Ray exampleGrid) (k : Kind) → rayList (exampleBox 8) (cut .cells) (r .0) k ≡ less (rayList (exampleBox 8) (exampleStock .cells) (r .0) k) (hitsOnList exampleGrid (entries (exampleCommit 0 1 66 .log)) r k)
+first-lists : (r : Ray exampleGrid) (k : Kind) → rayList (exampleBox 8) (cut .cells) (r .0) k
+    ≡ less (rayList (exampleBox 8) (exampleStock .cells) (r .0) k)
+    (hitsOnList exampleGrid (entries (exampleCommit 0 1 66 .log)) r k)
 first-lists r k = cut-lists r k ∙ first-less r k ∙ ap₂ less (sym (filled-lists r k)) (sym (first-hits r k))
 
-third-lists : (r : Ray exampleGrid) (k : Kind) → rayList (exampleBox 8) (cut-again .cells) (r .0) k ≡ less (rayList (exampleBox 8) (cut .cells) (r .0) k) (hitsOnList exampleGrid (entries (innerWider .log)) r k)
+third-lists : (r : Ray exampleGrid) (k : Kind) → rayList (exampleBox 8) (cut-again .cells) (r .0) k
+    ≡ less (rayList (exampleBox 8) (cut .cells) (r .0) k) (hitsOnList exampleGrid (entries (innerWider .log)) r k)
 third-lists r k = again-lists r k ∙ third-less r k ∙ ap₂ less (sym (cut-lists r k)) (sym (third-hits r k))
 
 -- every cell is a double
@@ -408,12 +479,14 @@ third-doubles = by-fit (innerWider .log) refl
 
 three-run : Run (exampleBox 8) exampleGrid (lentStore (exampleBox 8) exampleGrid) exampleStock threeLogs threeAnswers cut-again
 three-run =
-    next (cuts-to exampleStock filled-sound filled-doubles (exampleCommit 0 1 66) first-doubles 1 cut first-answer cut-sound first-lists refl refl)
+    next (cuts-to exampleStock filled-sound filled-doubles (exampleCommit 0 1 66) first-doubles 1 cut first-answer
+    cut-sound first-lists refl refl)
     (next (refuses cut cut-sound cut-doubles notAllowed second-doubles 9 second-answer)
     (next (cuts-to cut cut-sound cut-doubles innerWider third-doubles 1 cut-again third-answer again-sound third-lists refl refl) done))
 
 -- what demand 3 says of it
-three-settled : RunMeetsModel (exampleBox 8) exampleGrid (lentStore (exampleBox 8) exampleGrid) exampleStock threeLogs threeAnswers cut-again
+three-settled : RunMeetsModel (exampleBox 8) exampleGrid (lentStore (exampleBox 8) exampleGrid)
+    exampleStock threeLogs threeAnswers cut-again
 three-settled = demand3-lent (exampleBox 8) exampleGrid .settles exampleStock cut-again threeLogs threeAnswers filled-sound three-run
 
 -- ---- and of every other run of the three logs
@@ -427,21 +500,27 @@ alike-self ls = (self, self)
         let n = lt-number (hitLo w (h .entry)) (hitHi w (h .entry)) (h .proper) in
         (h, eq-refl (hitLo w (h .entry)) (n .0), eq-refl (hitHi w (h .entry)) (n .1))
 
-module _ (vs : List LogAnswer) (t : Stock) (x : Run (exampleBox 8) exampleGrid (lentStore (exampleBox 8) exampleGrid) exampleStock threeLogs vs t) where
+module _ (vs : List LogAnswer) (t : Stock)
+    (x : Run (exampleBox 8) exampleGrid (lentStore (exampleBox 8) exampleGrid) exampleStock threeLogs vs t) where
   same-answers : threeAnswers ≡ vs
-  same-answers = demand3-lent (exampleBox 8) exampleGrid .settles exampleStock t threeLogs vs filled-sound x .no-others threeAnswers (three-settled .answers)
+  same-answers = demand3-lent (exampleBox 8) exampleGrid .settles exampleStock t threeLogs vs filled-sound x
+      .no-others threeAnswers (three-settled .answers)
 
   same-end : StoresAgree exampleGrid (lentStore (exampleBox 8) exampleGrid) t cut-again
-  same-end = demand3-lent (exampleBox 8) exampleGrid .agrees exampleStock t cut-again threeLogs threeLogs vs threeAnswers filled-sound x three-run
-      (subst (λ (ws : List LogAnswer). Alike exampleGrid (acceptedLogs threeLogs ws) (acceptedLogs threeLogs threeAnswers)) same-answers (alike-self (acceptedLogs threeLogs threeAnswers)))
+  same-end = demand3-lent (exampleBox 8) exampleGrid .agrees exampleStock t cut-again threeLogs threeLogs vs
+      threeAnswers filled-sound x three-run
+      (subst (λ (ws : List LogAnswer). Alike exampleGrid (acceptedLogs threeLogs ws)
+      (acceptedLogs threeLogs threeAnswers)) same-answers (alike-self (acceptedLogs threeLogs threeAnswers)))
 
   two-accepted : t .generation ≡ 2
   unfolding acceptedLogs
-  two-accepted = demand3-lent (exampleBox 8) exampleGrid .settles exampleStock t threeLogs vs filled-sound x .generation ∙ ap (λ (ws : List LogAnswer). 0 + length (acceptedLogs threeLogs ws)) (sym same-answers)
+  two-accepted = demand3-lent (exampleBox 8) exampleGrid .settles exampleStock t threeLogs vs filled-sound x
+      .generation ∙ ap (λ (ws : List LogAnswer). 0 + length (acceptedLogs threeLogs ws)) (sym same-answers)
 
   at-end : AtEnd t
   at-end = record {
-    lists = λ r k. subst (λ (l : List Float). equal (rayList (exampleBox 8) (t .cells) (r .0) k) l ≡ true) (again-lists r k) (same-end .same-lists r k);
+    lists = λ r k. subst (λ (l : List Float). equal (rayList (exampleBox 8) (t .cells) (r .0) k) l ≡ true)
+        (again-lists r k) (same-end .same-lists r k);
     generation = two-accepted;
     intervals = same-end .same-total;
   }

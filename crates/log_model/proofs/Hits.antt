@@ -36,7 +36,8 @@ module _ (g : DexelGrid) (r : Ray g) (w : HitKind) (p : Float) where
       → holds (hitsOnRay g (e ∷ es) (r .0) w) p ≡ (b && within (hitLo w e) (hitHi w e) p || holds (hitsOnRay g es (r .0) w) p)
   unfolding hitsOnRay holds
   pairs-cons e es true h = ap (λ (b : Bool). holds (cond b (hitLo w e ∷ hitHi w e ∷ hitsOnRay g es (r .0) w) (hitsOnRay g es (r .0) w)) p) h
-  pairs-cons e es false h = ap (λ (b : Bool). holds (cond b (hitLo w e ∷ hitHi w e ∷ hitsOnRay g es (r .0) w) (hitsOnRay g es (r .0) w)) p) h
+  pairs-cons e es false h = ap (λ (b : Bool). holds
+      (cond b (hitLo w e ∷ hitHi w e ∷ hitsOnRay g es (r .0) w) (hitsOnRay g es (r .0) w)) p) h
 
   taker : (es : List Entry) → holds (hitsOnRay g es (r .0) w) p ≡ true → Taker g es r w p
   unfolding hitsOnRay holds
@@ -47,22 +48,28 @@ module _ (g : DexelGrid) (r : Ray g) (w : HitKind) (p : Float) where
       later f = record { entry = f .entry; in-log = List·Memᴰ·tail (f .in-log); on-ray = f .on-ray; does = f .does }
 
       go : (b : Bool) → namesRay g e (r .0) ≡ b → (holds (hitsOnRay g es (r .0) w) p ≡ true → Taker g es r w p) → Taker g (e ∷ es) r w p
-      go true h f = elim (or-cases (within (hitLo w e) (hitHi w e) p) (holds (hitsOnRay g es (r .0) w) p) (sym (pairs-cons e es true h) ∙ t)) [
-        | inl u ↦ record { entry = e; in-log = List·Memᴰ·head refl; on-ray = h; does = u }
-        | inr u ↦ later (f u)
-      ]
+      go true h f = elim (or-cases (within (hitLo w e) (hitHi w e) p) (holds (hitsOnRay g es (r .0) w) p)
+          (sym (pairs-cons e es true h) ∙ t)) [
+            | inl u ↦ record { entry = e; in-log = List·Memᴰ·head refl; on-ray = h; does = u }
+            | inr u ↦ later (f u)
+          ]
       go false h f = later (f (sym (pairs-cons e es false h) ∙ t))
 
-  of-taker : (es : List Entry) (e : Entry) → List·Memᴰ e es → namesRay g e (r .0) ≡ true → within (hitLo w e) (hitHi w e) p ≡ true → holds (hitsOnRay g es (r .0) w) p ≡ true
+  of-taker : (es : List Entry) (e : Entry) → List·Memᴰ e es → namesRay g e (r .0) ≡ true
+      → within (hitLo w e) (hitHi w e) p ≡ true → holds (hitsOnRay g es (r .0) w) p ≡ true
   of-taker [] e i a b = absurd (List·Memᴰ·not-nil i)
   of-taker (f ∷ es) e i a b = go (List·Memᴰ·cases-cons i) (λ j. of-taker es e j a b)
     where
-      go : (e ≡ f) ⊎ List·Memᴰ e es → (List·Memᴰ e es → holds (hitsOnRay g es (r .0) w) p ≡ true) → holds (hitsOnRay g (f ∷ es) (r .0) w) p ≡ true
+      go : (e ≡ f) ⊎ List·Memᴰ e es → (List·Memᴰ e es → holds (hitsOnRay g es (r .0) w) p ≡ true)
+          → holds (hitsOnRay g (f ∷ es) (r .0) w) p ≡ true
       go (inl q) _ =
           pairs-cons f es true (subst (λ (x : Entry). namesRay g x (r .0) ≡ true) q a)
-          ∙ or-left (within (hitLo w f) (hitHi w f) p) (holds (hitsOnRay g es (r .0) w) p) (subst (λ (x : Entry). within (hitLo w x) (hitHi w x) p ≡ true) q b)
+          ∙ or-left (within (hitLo w f) (hitHi w f) p) (holds (hitsOnRay g es (r .0) w) p)
+          (subst (λ (x : Entry). within (hitLo w x) (hitHi w x) p ≡ true) q b)
       go (inr j) more =
-          pairs-cons f es (namesRay g f (r .0)) refl ∙ or-right (namesRay g f (r .0) && within (hitLo w f) (hitHi w f) p) (holds (hitsOnRay g es (r .0) w) p) (more j)
+          pairs-cons f es (namesRay g f (r .0)) refl
+          ∙ or-right (namesRay g f (r .0) && within (hitLo w f) (hitHi w f) p) (holds (hitsOnRay g es (r .0) w) p)
+          (more j)
 
 -- ---- lists of logs
 
@@ -102,14 +109,16 @@ module _ (g : DexelGrid) (r : Ray g) (p : Float) where
   from-certain [] = refl
   from-certain (l ∷ ls) =
       ap (_||_ (holds (hitsOnRay g (entries l) (r .0) outer) p || holds (hitsOnRay g (entries l) (r .0) inner) p)) (from-certain ls)
-      ∙ by-kinds (holds (hitsOnRay g (entries l) (r .0) outer) p) (holds (hitsOnRay g (entries l) (r .0) inner) p) (heldBy g ls r outer p) (heldBy g ls r inner p)
+      ∙ by-kinds (holds (hitsOnRay g (entries l) (r .0) outer) p) (holds (hitsOnRay g (entries l) (r .0) inner) p)
+      (heldBy g ls r outer p) (heldBy g ls r inner p)
 
   to-lies : (ls : List (List Float)) (w : HitKind) → heldBy g ls r w p ≡ true → InHit g ls r w p
   unfolding heldBy InHit
   to-lies [] w t = absurd (false≢true t)
   to-lies (l ∷ ls) w t = go (or-cases (holds (hitsOnRay g (entries l) (r .0) w) p) (heldBy g ls r w p) t) (to-lies ls w)
     where
-      go : (holds (hitsOnRay g (entries l) (r .0) w) p ≡ true) ⊎ (heldBy g ls r w p ≡ true) → (heldBy g ls r w p ≡ true → InHit g ls r w p) → InHit g (l ∷ ls) r w p
+      go : (holds (hitsOnRay g (entries l) (r .0) w) p ≡ true) ⊎ (heldBy g ls r w p ≡ true)
+          → (heldBy g ls r w p ≡ true → InHit g ls r w p) → InHit g (l ∷ ls) r w p
       go (inl u) _ =
           let f = taker g r w p (entries l) u in (
             record {
@@ -124,17 +133,26 @@ module _ (g : DexelGrid) (r : Ray g) (p : Float) where
           )
       go (inr u) more =
           let (h, t) = more u in (
-            record { log = h .log; entry = h .entry; in-logs = List·Memᴰ·tail (h .in-logs); in-log = h .in-log; on-ray = h .on-ray; proper = h .proper },
+            record {
+              log = h .log;
+              entry = h .entry;
+              in-logs = List·Memᴰ·tail (h .in-logs);
+              in-log = h .in-log;
+              on-ray = h .on-ray;
+              proper = h .proper;
+            },
             t,
           )
 
-  held-in : (ls : List (List Float)) (w : HitKind) (l : List Float) (e : Entry) → List·Memᴰ l ls → List·Memᴰ e (entries l) → namesRay g e (r .0) ≡ true
+  held-in : (ls : List (List Float)) (w : HitKind) (l : List Float) (e : Entry) → List·Memᴰ l ls
+      → List·Memᴰ e (entries l) → namesRay g e (r .0) ≡ true
       → within (hitLo w e) (hitHi w e) p ≡ true → heldBy g ls r w p ≡ true
   unfolding heldBy
   held-in [] w l e i j a b = absurd (List·Memᴰ·not-nil i)
   held-in (m ∷ ls) w l e i j a b = go (List·Memᴰ·cases-cons i) (λ k. held-in ls w l e k j a b)
     where
-      go : (l ≡ m) ⊎ List·Memᴰ l ls → (List·Memᴰ l ls → heldBy g ls r w p ≡ true) → (holds (hitsOnRay g (entries m) (r .0) w) p || heldBy g ls r w p) ≡ true
+      go : (l ≡ m) ⊎ List·Memᴰ l ls → (List·Memᴰ l ls → heldBy g ls r w p ≡ true)
+          → (holds (hitsOnRay g (entries m) (r .0) w) p || heldBy g ls r w p) ≡ true
       go (inl q) _ =
           or-left (holds (hitsOnRay g (entries m) (r .0) w) p) (heldBy g ls r w p)
           (of-taker g r w p (entries m) e (subst (λ (x : List Float). List·Memᴰ e (entries x)) q j) a b)
@@ -171,10 +189,13 @@ module _ (g : DexelGrid) where
       let (i, a, b) = f r w h in
       (i, within-same (hitLo w (h .entry)) (hitHi w (h .entry)) (hitLo w (i .entry)) (hitHi w (i .entry)) p a b t)
 
-  among : (ls ms : List (List Float)) → HitsIncluded g ls ms → (r : Ray g) (k : Kind) (p : Float) → takenBy g ls r k p ≡ true → takenBy g ms r k p ≡ true
+  among : (ls ms : List (List Float)) → HitsIncluded g ls ms → (r : Ray g) (k : Kind) (p : Float)
+      → takenBy g ls r k p ≡ true → takenBy g ms r k p ≡ true
   among ls ms f r Possible p t = of-inner g r p ms (carry ls ms f r inner p (to-inner g r p ls t))
-  among ls ms f r Certain p t = of-either g r p ms (elim (to-either g r p ls t) [ inl x ↦ inl (carry ls ms f r outer p x) | inr x ↦ inr (carry ls ms f r inner p x) ])
+  among ls ms f r Certain p t = of-either g r p ms
+      (elim (to-either g r p ls t) [ inl x ↦ inl (carry ls ms f r outer p x) | inr x ↦ inr (carry ls ms f r inner p x) ])
 
-  pub alike-take : (ls ms : List (List Float)) → Alike g ls ms → (r : Ray g) (k : Kind) (p : Float) → takenBy g ls r k p ≡ takenBy g ms r k p
+  pub alike-take : (ls ms : List (List Float)) → Alike g ls ms → (r : Ray g) (k : Kind) (p : Float)
+      → takenBy g ls r k p ≡ takenBy g ms r k p
   unfolding Alike
   alike-take ls ms a r k p = same-if (takenBy g ls r k p) (takenBy g ms r k p) (among ls ms (a .0) r k p) (among ms ls (a .1) r k p)

@@ -24,30 +24,36 @@ use Rattle.log_model.proofs.Totals.{each, total-left}
 use Rattle.log_model.specs.Steps.{ListAfterLog}
 use Rattle.store.specs.Steps.{Room, Ascending, UpdatedStore, listAfter}
 
-module _ (spec : DexelStockSpec) (g : DexelGrid) (s : Stock) (sound : SoundStock spec g s) (room : Room (spec .«max_intervals») (2 * rayCount g) (s .cells))
-    (es : List Entry) (d : Doubles g (rayLists spec g (s .cells)) es) (us : List Update) (m : ℕ) (asked : MergeUpdates g (rayLists spec g (s .cells)) es 0 us m) where
+module _ (spec : DexelStockSpec) (g : DexelGrid) (s : Stock) (sound : SoundStock spec g s)
+    (room : Room (spec .«max_intervals») (2 * rayCount g) (s .cells))
+    (es : List Entry) (d : Doubles g (rayLists spec g (s .cells)) es) (us : List Update) (m : ℕ)
+    (asked : MergeUpdates g (rayLists spec g (s .cells)) es 0 us m) where
   pub ascend : Ascending (2 * rayCount g) 0 us
   ascend = merges-ascend g (rayLists spec g (s .cells)) es (each spec g s sound es) asked
 
   pub freed-less : pairsFreed (spec .«max_intervals») (s .cells) us ≤ s .intervals
   freed-less = freed-all (sound .store) room ascend .fewer
 
-  pub intervals-left : s .intervals - pairsFreed (spec .«max_intervals») (s .cells) us + pairsLaid us ≡ pairsAfter g (rayLists spec g (s .cells)) es
+  pub intervals-left : s .intervals - pairsFreed (spec .«max_intervals») (s .cells) us + pairsLaid us
+      ≡ pairsAfter g (rayLists spec g (s .cells)) es
   intervals-left = total-left spec g s sound es d asked freed-less
 
   -- the rays that change
   pub changed-rays : Count g (RayChanges g (λ r k. holds (rayLists spec g (s .cells) r k)) es) (rayCount g) m
-  changed-rays = subst (Count g (RayChanges g (λ r k. holds (rayLists spec g (s .cells) r k)) es) (rayCount g)) (zero-first m) (merges-count g (rayLists spec g (s .cells)) es (each spec g s sound es) asked none-counted)
+  changed-rays = subst (Count g (RayChanges g (λ r k. holds (rayLists spec g (s .cells) r k)) es) (rayCount g))
+      (zero-first m) (merges-count g (rayLists spec g (s .cells)) es (each spec g s sound es) asked none-counted)
     where
       zero-first : (m : ℕ) → 0 + m ≡ m
       zero-first m = omega arith
 
   module _ (fits : pairsAfter g (rayLists spec g (s .cells)) es ≤ spec .«max_intervals») where
-    pub all-updated : UpdatedStore (spec .«max_intervals») (2 * rayCount g) (s .intervals) (s .cells) us (applied (spec .«max_intervals») (s .cells) us)
+    pub all-updated : UpdatedStore (spec .«max_intervals») (2 * rayCount g) (s .intervals) (s .cells) us
+        (applied (spec .«max_intervals») (s .cells) us)
     all-updated = updated (sound .store) room ascend (omega (arith, intervals-left))
 
     -- each list afterwards
-    list-left : (r : Ray g) (k : Kind) → ListAfterLog g (rayLists spec g (s .cells)) es r k (rayList spec ((committedStock spec s us) .cells) (r .0) k)
+    list-left : (r : Ray g) (k : Kind)
+        → ListAfterLog g (rayLists spec g (s .cells)) es r k (rayList spec ((committedStock spec s us) .cells) (r .0) k)
     list-left r k = subst (ListAfterLog g (rayLists spec g (s .cells)) es r k) (sym (now (r .0) (r .1) k))
         (merges-leave g (rayLists spec g (s .cells)) es (each spec g s sound es) d asked (r .0) (r .1) (omega arith) k)
       where
@@ -55,13 +61,16 @@ module _ (spec : DexelStockSpec) (g : DexelGrid) (s : Stock) (sound : SoundStock
         below i Possible h = omega (arith, number-possible i)
         below i Certain h = omega (arith, number-certain i)
 
-        now : (i : ℕ) → i < rayCount g → (k : Kind) → rayList spec ((committedStock spec s us) .cells) i k ≡ listAfter us (listNumber i k) (rayList spec (s .cells) i k)
+        now : (i : ℕ) → i < rayCount g → (k : Kind) → rayList spec ((committedStock spec s us) .cells) i k
+            ≡ listAfter us (listNumber i k) (rayList spec (s .cells) i k)
         now i h k = all-updated .lists (listNumber i k) (below i k h)
 
     valid-left : (ray : ℕ) → ray < rayCount g → ValidAt spec g (committedStock spec s us .cells) ray
     valid-left ray h =
         still-valid g (rayLists spec g (s .cells)) es (ray, h) (boundsOf spec g ray .lo) (boundsOf spec g ray .hi) (sound .valid ray h)
-        (rayList spec ((committedStock spec s us) .cells) ray Possible) (rayList spec ((committedStock spec s us) .cells) ray Certain) (list-left (ray, h) Possible) (list-left (ray, h) Certain)
+        (rayList spec ((committedStock spec s us) .cells) ray Possible)
+        (rayList spec ((committedStock spec s us) .cells) ray Certain) (list-left (ray, h) Possible)
+        (list-left (ray, h) Certain)
 
     pub cut-sound : SoundStock spec g (committedStock spec s us)
     cut-sound = record { store = all-updated .isSound; valid = valid-left }
@@ -80,7 +89,8 @@ module _ (spec : DexelStockSpec) (g : DexelGrid) (s : Stock) (sound : SoundStock
     unfolding pointSets
     cut c e = record {
       sound = cut-sound;
-      exactly = λ r k p. list-left r k .points p ∙ ap (λ (x : List Entry). setsAfter g (λ r k. holds (rayLists spec g (s .cells) r k)) x r k p) (sym e);
+      exactly = λ r k p. list-left r k .points p
+          ∙ ap (λ (x : List Entry). setsAfter g (λ r k. holds (rayLists spec g (s .cells) r k)) x r k p) (sym e);
       generation = refl;
       lent = same-lent;
     }

@@ -136,7 +136,8 @@ module _ (lo hi : Float) (proper : lt lo hi ≡ true) where
   pair-above z (a ∷ c ∷ l) r b =
       let n = lt-number a c (rising-above a (c ∷ l) r .0) in
       piece-above a (lower c lo) (piece (higher a hi) c (lessPair lo hi l)) z (b .0)
-      (piece-above (higher a hi) c (lessPair lo hi l) z (lt-le-trans z a (higher a hi) (b .0) (higher-left a hi (n .0) (lt-number lo hi proper .1)))
+      (piece-above (higher a hi) c (lessPair lo hi l) z
+      (lt-le-trans z a (higher a hi) (b .0) (higher-left a hi (n .0) (lt-number lo hi proper .1)))
       (pair-above z l (rising-tail c l (rising-tail a (c ∷ l) r)) (b .1 .1)))
 
   pair-rising : (l : List Float) → rising l ≡ true → rising (lessPair lo hi l) ≡ true
@@ -150,7 +151,8 @@ module _ (lo hi : Float) (proper : lt lo hi ≡ true) where
       let above : Above c (lessPair lo hi l) = pair-above c l (rising-tail c l up) (rising-above c l up) in
       piece-rising a (lower c lo) (piece (higher a hi) c (lessPair lo hi l))
       (piece-above (higher a hi) c (lessPair lo hi l) (lower c lo)
-      (lt-le-trans (lower c lo) hi (higher a hi) (le-lt-trans (lower c lo) lo hi (lower-right c lo (n .1) (h .0)) proper) (higher-right a hi (n .0) (h .1)))
+      (lt-le-trans (lower c lo) hi (higher a hi)
+      (le-lt-trans (lower c lo) lo hi (lower-right c lo (n .1) (h .0)) proper) (higher-right a hi (n .0) (h .1)))
       (above-less (lower c lo) c (lower-left c lo (n .1) (h .0)) (lessPair lo hi l) above))
       (piece-rising (higher a hi) c (lessPair lo hi l) above (pair-rising l (rising-tail c l up)))
 
@@ -170,7 +172,8 @@ module _ (lo hi : Float) (proper : lt lo hi ≡ true) where
       low u =
           let top = and-right (le a p) (lt p (lower c lo)) u in
           both (within a c p) (not (within lo hi p))
-          (both (le a p) (lt p c) (and-left (le a p) (lt p (lower c lo)) u) (lt-le-trans p (lower c lo) c top (lower-left c lo (lt-number a c ac .1) (lt-number lo hi proper .0))))
+          (both (le a p) (lt p c) (and-left (le a p) (lt p (lower c lo)) u)
+          (lt-le-trans p (lower c lo) c top (lower-left c lo (lt-number a c ac .1) (lt-number lo hi proper .0))))
           (ap not (out (lt-le-trans p (lower c lo) lo top (lower-right c lo (lt-number a c ac .1) (lt-number lo hi proper .0)))))
         where
           out : lt p lo ≡ true → within lo hi p ≡ false
@@ -180,11 +183,14 @@ module _ (lo hi : Float) (proper : lt lo hi ≡ true) where
       high u =
           let bottom = and-left (le (higher a hi) p) (lt p c) u in
           both (within a c p) (not (within lo hi p))
-          (both (le a p) (lt p c) (le-trans a (higher a hi) p (higher-left a hi (lt-number a c ac .0) (lt-number lo hi proper .1)) bottom) (and-right (le (higher a hi) p) (lt p c) u))
+          (both (le a p) (lt p c) (le-trans a (higher a hi) p
+          (higher-left a hi (lt-number a c ac .0) (lt-number lo hi proper .1)) bottom)
+          (and-right (le (higher a hi) p) (lt p c) u))
           (ap not (out (le-trans hi (higher a hi) p (higher-right a hi (lt-number a c ac .0) (lt-number lo hi proper .1)) bottom)))
         where
           out : le hi p ≡ true → within lo hi p ≡ false
-          out h = elim (by-cases (within lo hi p)) [ inl v ↦ absurd (clash (lt p hi) (and-right (le lo p) (lt p hi) v) (le→not-lt hi p h)) | inr v ↦ v ]
+          out h = elim (by-cases (within lo hi p))
+              [ inl v ↦ absurd (clash (lt p hi) (and-right (le lo p) (lt p hi) v) (le→not-lt hi p h)) | inr v ↦ v ]
 
       to : (within a (lower c lo) p || within (higher a hi) c p) ≡ true → (within a c p && not (within lo hi p)) ≡ true
       to t = elim (or-cases (within a (lower c lo) p) (within (higher a hi) c p) t) [ inl u ↦ low u | inr u ↦ high u ]
@@ -196,12 +202,15 @@ module _ (lo hi : Float) (proper : lt lo hi ≡ true) where
           let pc = and-right (le a p) (lt p c) u in
           let np = le-number a p ap₁ .1 in
           elim (by-cases (lt p lo)) [
-            | inl v ↦ or-left (within a (lower c lo) p) (within (higher a hi) c p) (both (le a p) (lt p (lower c lo)) ap₁ (below-lower c lo p pc v))
+            | inl v ↦ or-left (within a (lower c lo) p) (within (higher a hi) c p)
+                (both (le a p) (lt p (lower c lo)) ap₁ (below-lower c lo p pc v))
             | inr v ↦
                 or-right (within a (lower c lo) p) (within (higher a hi) c p)
                 (both (le (higher a hi) p) (lt p c)
                 (above-higher a hi p ap₁
-                (not-lt→le p hi np (lt-number lo hi proper .1) (out (not-lt→le p lo np (lt-number lo hi proper .0) v) (and-right (within a c p) (not (within lo hi p)) t))))
+                (not-lt→le p hi np (lt-number lo hi proper .1)
+                (out (not-lt→le p lo np (lt-number lo hi proper .0) v)
+                (and-right (within a c p) (not (within lo hi p)) t))))
                 pc)
           ]
         where
@@ -224,14 +233,18 @@ module _ (lo hi : Float) (proper : lt lo hi ≡ true) where
   pair-holds (a ∷ []) p r = refl
   pair-holds (a ∷ c ∷ l) p r =
       piece-holds a (lower c lo) (piece (higher a hi) c (lessPair lo hi l)) p
-      ∙ ap (_||_ (within a (lower c lo) p)) (piece-holds (higher a hi) c (lessPair lo hi l) p ∙ ap (_||_ (within (higher a hi) c p)) (pair-holds l p (rising-tail c l (rising-tail a (c ∷ l) r))))
-      ∙ regroup (within a (lower c lo) p) (within (higher a hi) c p) (within a c p) (within lo hi p) (split a c p (rising-above a (c ∷ l) r .0)) (holds l p)
+      ∙ ap (_||_ (within a (lower c lo) p))
+      (piece-holds (higher a hi) c (lessPair lo hi l) p
+      ∙ ap (_||_ (within (higher a hi) c p)) (pair-holds l p (rising-tail c l (rising-tail a (c ∷ l) r))))
+      ∙ regroup (within a (lower c lo) p) (within (higher a hi) c p) (within a c p) (within lo hi p)
+      (split a c p (rising-above a (c ∷ l) r .0)) (holds l p)
 
   pub pair-list : (s : Float → Bool) (l : List Float) → ListOf s l → ListOf (λ p. s p && not (within lo hi p)) (lessPair lo hi l)
   pair-list s l x =
       let r = sound-rising l (x .isSound) in
       record {
-        isSound = make-sound (lessPair lo hi l) (mod-oddN (length (lessPair lo hi l)) (pair-even l (sound-even l (x .isSound)))) (pair-rising l r);
+        isSound = make-sound (lessPair lo hi l)
+            (mod-oddN (length (lessPair lo hi l)) (pair-even l (sound-even l (x .isSound)))) (pair-rising l r);
         points = λ p. pair-holds l p r ∙ ap (λ (b : Bool). b && not (within lo hi p)) (x .points p);
       }
 
@@ -261,10 +274,13 @@ less-list s l (lo ∷ hi ∷ hits) x = go (lt lo hi) refl (λ t m. less-list t m
     no-pair : lt lo hi ≡ false → (p : Float) → within lo hi p ≡ false
     no-pair h p = elim (by-cases (within lo hi p)) [ inl u ↦ absurd (clash (lt lo hi) (within-proper lo hi p u) h) | inr u ↦ u ]
 
-    go : (b : Bool) → lt lo hi ≡ b → More → ListOf (λ p. s p && not (within lo hi p || holds hits p)) (less (cond b (lessPair lo hi l) l) hits)
+    go : (b : Bool) → lt lo hi ≡ b → More
+        → ListOf (λ p. s p && not (within lo hi p || holds hits p)) (less (cond b (lessPair lo hi l) l) hits)
     go true h more =
-        same-list (λ p. (s p && not (within lo hi p)) && not (holds hits p)) (λ p. s p && not (within lo hi p || holds hits p)) (less (lessPair lo hi l) hits)
-        (λ p. and-not-or (s p) (within lo hi p) (holds hits p)) (more (λ p. s p && not (within lo hi p)) (lessPair lo hi l) (pair-list lo hi h s l x))
+        same-list (λ p. (s p && not (within lo hi p)) && not (holds hits p))
+        (λ p. s p && not (within lo hi p || holds hits p)) (less (lessPair lo hi l) hits)
+        (λ p. and-not-or (s p) (within lo hi p) (holds hits p))
+        (more (λ p. s p && not (within lo hi p)) (lessPair lo hi l) (pair-list lo hi h s l x))
     go false h more =
         same-list (λ p. s p && not (holds hits p)) (λ p. s p && not (within lo hi p || holds hits p)) (less l hits)
         (λ p. ap (λ (b : Bool). s p && not (b || holds hits p)) (sym (no-pair h p))) (more s l x)

@@ -38,20 +38,23 @@ module _ (P : Float → Type 0) where
   meets-point lo hi (a ∷ []) q ps r h t = absurd (false≢true t)
   meets-point lo hi (a ∷ b ∷ l) q ps r h t = elim (or-cases (lt lo b && lt a hi) (meets lo hi l) t) [
     | inl u ↦
-        let (p, d, x, y) = shared-point a b lo hi (ps .0) q (rising-above a (b ∷ l) r .0) h (and-left (lt lo b) (lt a hi) u) (and-right (lt lo b) (lt a hi) u) in
+        let (p, d, x, y) = shared-point a b lo hi (ps .0) q (rising-above a (b ∷ l) r .0) h
+        (and-left (lt lo b) (lt a hi) u) (and-right (lt lo b) (lt a hi) u) in
         (p, d, or-left (within a b p) (holds l p) x, y)
     | inr u ↦
         let (p, d, x, y) = meets-point lo hi l q (ps .1 .1) (rising-tail b l (rising-tail a (b ∷ l) r)) h u in
         (p, d, or-right (within a b p) (holds l p) x, y)
   ]
 
-  pub hit-point : (l hits : List Float) → All P l → All P hits → rising l ≡ true → isHitBy l hits ≡ true → (p : Float) × P p × (holds l p ≡ true) × (holds hits p ≡ true)
+  pub hit-point : (l hits : List Float) → All P l → All P hits → rising l ≡ true → isHitBy l hits ≡ true
+      → (p : Float) × P p × (holds l p ≡ true) × (holds hits p ≡ true)
   unfolding isHitBy holds
   hit-point l [] pl ph r t = absurd (false≢true t)
   hit-point l (lo ∷ []) pl ph r t = absurd (false≢true t)
   hit-point l (lo ∷ hi ∷ hits) pl ph r t = elim (or-cases (lt lo hi && meets lo hi l) (isHitBy l hits) t) [
     | inl u ↦
-        let (p, d, x, y) = meets-point lo hi l (ph .0) pl r (and-left (lt lo hi) (meets lo hi l) u) (and-right (lt lo hi) (meets lo hi l) u) in
+        let (p, d, x, y) = meets-point lo hi l (ph .0) pl r (and-left (lt lo hi) (meets lo hi l) u)
+        (and-right (lt lo hi) (meets lo hi l) u) in
         (p, d, x, or-left (within lo hi p) (holds hits p) y)
     | inr u ↦ let (p, d, x, y) = hit-point l hits pl (ph .1 .1) r u in (p, d, x, or-right (within lo hi p) (holds hits p) y)
   ]
@@ -78,7 +81,8 @@ hit-at l (lo ∷ []) p s t = absurd (false≢true t)
 hit-at l (lo ∷ hi ∷ hits) p s t = elim (or-cases (within lo hi p) (holds hits p) t) [
   | inl u ↦
       or-left (lt lo hi && meets lo hi l) (isHitBy l hits)
-      (both (lt lo hi) (meets lo hi l) (le-lt-trans lo p hi (and-left (le lo p) (lt p hi) u) (and-right (le lo p) (lt p hi) u)) (meets-at lo hi l p s u))
+      (both (lt lo hi) (meets lo hi l)
+      (le-lt-trans lo p hi (and-left (le lo p) (lt p hi) u) (and-right (le lo p) (lt p hi) u)) (meets-at lo hi l p s u))
   | inr u ↦ or-right (lt lo hi && meets lo hi l) (isHitBy l hits) (hit-at l hits p s u)
 ]
 
@@ -89,17 +93,21 @@ held-number : (l : List Float) (p : Float) → holds l p ≡ true → Number p
 unfolding holds
 held-number [] p h = absurd (false≢true h)
 held-number (x ∷ []) p h = absurd (false≢true h)
-held-number (x ∷ y ∷ l) p h = elim (or-cases (within x y p) (holds l p) h) [ inl w ↦ le-number x p (and-left (le x p) (lt p y) w) .1 | inr w ↦ held-number l p w ]
+held-number (x ∷ y ∷ l) p h = elim (or-cases (within x y p) (holds l p) h)
+    [ inl w ↦ le-number x p (and-left (le x p) (lt p y) w) .1 | inr w ↦ held-number l p w ]
 
--- THE LAW: the set of a sound list stays exactly when no hit has a point of it. Where the ends of both are doubles, it is enough that each point stays.
+-- THE LAW: the set of a sound list stays exactly when no hit has a point of it. Where the ends of both are doubles,
+-- it is enough that each point stays.
 not-not : (b : Bool) → not (not b) ≡ b
 not-not true = refl
 not-not false = refl
 
 taken-away : (l hits : List Float) (p : Float) → holds l p ≡ true → holds hits p ≡ true → (holds l p && not (holds hits p)) ≡ holds l p → ⊥
-taken-away l hits p x y e = clash (holds hits p) y (sym (not-not (holds hits p)) ∙ ap not (and-right (holds l p) (not (holds hits p)) (e ∙ x)))
+taken-away l hits p x y e = clash (holds hits p) y
+    (sym (not-not (holds hits p)) ∙ ap not (and-right (holds l p) (not (holds hits p)) (e ∙ x)))
 
-pub unhit-points : (l hits : List Float) → sound l ≡ true → All Double l → All Double hits → ((p : Float) → Point p → (holds l p && not (holds hits p)) ≡ holds l p) → isHitBy l hits ≡ false
+pub unhit-points : (l hits : List Float) → sound l ≡ true → All Double l → All Double hits
+    → ((p : Float) → Point p → (holds l p && not (holds hits p)) ≡ holds l p) → isHitBy l hits ≡ false
 unhit-points l hits s dl dh f = elim (by-cases (isHitBy l hits)) [
   | inl t ↦
       let (p, d, x, y) = hit-point Double l hits dl dh (sound-rising l s) t in
@@ -111,12 +119,14 @@ all-unit : (l : List Float) → All (λ e. Unit {0}) l
 all-unit [] = tt
 all-unit (x ∷ l) = (tt, all-unit l)
 
-pub kept-unhit : (l hits : List Float) → sound l ≡ true → ((p : Float) → (holds l p && not (holds hits p)) ≡ holds l p) ↔ (isHitBy l hits ≡ false)
+pub kept-unhit : (l hits : List Float) → sound l ≡ true
+    → ((p : Float) → (holds l p && not (holds hits p)) ≡ holds l p) ↔ (isHitBy l hits ≡ false)
 kept-unhit l hits s = (to, from)
   where
     to : ((p : Float) → (holds l p && not (holds hits p)) ≡ holds l p) → isHitBy l hits ≡ false
     to f = elim (by-cases (isHitBy l hits)) [
-      | inl t ↦ let (p, d, x, y) = hit-point (λ e. Unit {0}) l hits (all-unit l) (all-unit hits) (sound-rising l s) t in absurd (taken-away l hits p x y (f p))
+      | inl t ↦ let (p, d, x, y) = hit-point (λ e. Unit {0}) l hits (all-unit l) (all-unit hits) (sound-rising l s) t
+          in absurd (taken-away l hits p x y (f p))
       | inr t ↦ t
     ]
 
@@ -127,7 +137,8 @@ kept-unhit l hits s = (to, from)
     ]
 
 -- a boundary of a sound list moves exactly when a hit has a point of it
-pub moves-hit : (l hits m : List Float) → sound l ≡ true → ListOf (λ p. holds l p && not (holds hits p)) m → not (equal l m) ≡ isHitBy l hits
+pub moves-hit : (l hits m : List Float) → sound l ≡ true → ListOf (λ p. holds l p && not (holds hits p)) m
+    → not (equal l m) ≡ isHitBy l hits
 moves-hit l hits m s k = elim (by-cases (equal l m)) [
   | inl e ↦ ap not e ∙ sym (kept-unhit l hits s .0 (λ p. sym (k .points p) ∙ sym (equal-holds l m e p)))
   | inr e ↦ elim (by-cases (isHitBy l hits)) [

@@ -31,7 +31,8 @@ none a d p h = elim (eq-zero-or-pos a) [ inl z ↦ z | inr q ↦ absurd (no (a *
     no n p h = omega arith
 
 no-part : (w a d : ℕ) → a ≡ 0 → min (a / d) (2 ^ w - 1) ≡ 0
-no-part w a d h = subst (λ (n : ℕ). min (n / d) (2 ^ w - 1) ≡ 0) (sym h) (ap (λ (n : ℕ). min n (2 ^ w - 1)) (zero-div d) ∙ least (2 ^ w - 1))
+no-part w a d h = subst (λ (n : ℕ). min (n / d) (2 ^ w - 1) ≡ 0) (sym h)
+    (ap (λ (n : ℕ). min n (2 ^ w - 1)) (zero-div d) ∙ least (2 ^ w - 1))
   where
     least : (n : ℕ) → min 0 n ≡ 0
     least n = omega arith
@@ -49,13 +50,17 @@ unsigned-eq w (fin s m e) nan h = absurd (false≢true h)
 unsigned-eq w (fin s m e) (inf t) h = absurd (false≢true h)
 unsigned-eq w (fin false m e) (fin false n d) h =
     ap (λ (k : ℕ). min k (2 ^ w - 1))
-    (same-quotient (m * up e) (down e) (n * up d) (down d) (down-pos e) (down-pos d) (eqb-true (m * up e * down d) (n * up d * down e) (and-left (eqb (m * up e * down d) (n * up d * down e)) true h)))
+    (same-quotient (m * up e) (down e) (n * up d) (down d) (down-pos e) (down-pos d)
+    (eqb-true (m * up e * down d) (n * up d * down e) (and-left (eqb (m * up e * down d) (n * up d * down e)) true h)))
 unsigned-eq w (fin false m e) (fin true n d) h =
     no-part w (m * up e) (down e)
-    (none (m * up e) (down d) (down-pos d) (eqb-true (m * up e * down d) 0 (and-right (eqb (m * up e * down d) (n * up d * down e)) (eqb (m * up e * down d) 0) h)))
+    (none (m * up e) (down d) (down-pos d)
+    (eqb-true (m * up e * down d) 0
+    (and-right (eqb (m * up e * down d) (n * up d * down e)) (eqb (m * up e * down d) 0) h)))
 unsigned-eq w (fin true m e) (fin false n d) h =
     let z = eqb-true (m * up e * down d) 0 (and-right (eqb (m * up e * down d) (n * up d * down e)) (eqb (m * up e * down d) 0) h) in
-    let s = eqb-true (m * up e * down d) (n * up d * down e) (and-left (eqb (m * up e * down d) (n * up d * down e)) (eqb (m * up e * down d) 0) h) in
+    let s = eqb-true (m * up e * down d) (n * up d * down e)
+    (and-left (eqb (m * up e * down d) (n * up d * down e)) (eqb (m * up e * down d) 0) h) in
     sym (no-part w (n * up d) (down d) (none (n * up d) (down e) (down-pos e) (sym s ∙ z)))
 unsigned-eq w (fin true m e) (fin true n d) h = refl
 
@@ -122,12 +127,16 @@ module _ (g : DexelGrid) (e : Entry) where
   -- and there is no other
   pub names-only : (r : Ray g) → namesRay g e (r .0) ≡ true → (namesSomeRay g e ≡ true) × (entryRay g e ≡ r .0)
   unfolding namesRay
-  names-only r h = (and-left (namesSomeRay g e) (eqb (entryRay g e) (r .0)) h, eqb-true (entryRay g e) (r .0) (and-right (namesSomeRay g e) (eqb (entryRay g e) (r .0)) h))
+  names-only r h = (
+    and-left (namesSomeRay g e) (eqb (entryRay g e) (r .0)) h,
+    eqb-true (entryRay g e) (r .0) (and-right (namesSomeRay g e) (eqb (entryRay g e) (r .0)) h),
+  )
 
   -- THE LAW: an entry names the ray r exactly when its axis and index, as numbers, are those of r
   pub names-is : rayCount g ≤ 2 ^ 53 → (r : Ray g)
       → (namesRay g e (r .0) ≡ true)
-      ↔ ((a i : ℕ) × (a < 3) × (i < raysAlong g (worldAxis a)) × (eq (e .axis) (ofInt binary64 (pos a)) ≡ true) × (eq (e .index) (ofInt binary64 (pos i)) ≡ true) × (rayNumber g (worldAxis a) i ≡ r .0))
+      ↔ ((a i : ℕ) × (a < 3) × (i < raysAlong g (worldAxis a)) × (eq (e .axis) (ofInt binary64 (pos a)) ≡ true)
+      × (eq (e .index) (ofInt binary64 (pos i)) ≡ true) × (rayNumber g (worldAxis a) i ≡ r .0))
   unfolding namesRay entryRay
   names-is few r = (to, from)
     where
@@ -138,7 +147,8 @@ module _ (g : DexelGrid) (e : Entry) where
       small a i h = omega (arith, offset-le g (worldAxis a))
 
       to : namesRay g e (r .0) ≡ true
-          → (a i : ℕ) × (a < 3) × (i < raysAlong g (worldAxis a)) × (eq (e .axis) (ofInt binary64 (pos a)) ≡ true) × (eq (e .index) (ofInt binary64 (pos i)) ≡ true) × (rayNumber g (worldAxis a) i ≡ r .0)
+          → (a i : ℕ) × (a < 3) × (i < raysAlong g (worldAxis a)) × (eq (e .axis) (ofInt binary64 (pos a)) ≡ true)
+          × (eq (e .index) (ofInt binary64 (pos i)) ≡ true) × (rayNumber g (worldAxis a) i ≡ r .0)
       to h =
           let (o, q) = names-only r h in
           let n = named o in
@@ -153,7 +163,8 @@ module _ (g : DexelGrid) (e : Entry) where
             q,
           )
 
-      from : (a i : ℕ) × (a < 3) × (i < raysAlong g (worldAxis a)) × (eq (e .axis) (ofInt binary64 (pos a)) ≡ true) × (eq (e .index) (ofInt binary64 (pos i)) ≡ true) × (rayNumber g (worldAxis a) i ≡ r .0)
+      from : (a i : ℕ) × (a < 3) × (i < raysAlong g (worldAxis a)) × (eq (e .axis) (ofInt binary64 (pos a)) ≡ true)
+          × (eq (e .index) (ofInt binary64 (pos i)) ≡ true) × (rayNumber g (worldAxis a) i ≡ r .0)
           → namesRay g e (r .0) ≡ true
       from (a, i, h, k, x, y, q) =
           let (u, v) = whole-is (e .axis) a (below a h) .0 x in

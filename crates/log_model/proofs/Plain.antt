@@ -56,13 +56,18 @@ module _ (spec : DexelStockSpec) (g : DexelGrid) where
   unfoldable pub answer : Plain g → Commit → LogAnswer
   unfolding answerBy logCommitCauses tests pointSets changedRayCount
   answer s c =
-      answerBy (logCommitCauses spec g (s .lent) ⊥ (pointSets g (plain g) s) (s .generation) c) (tests spec g (s .lent) (s .lists) (s .generation) c)
+      answerBy (logCommitCauses spec g (s .lent) ⊥ (pointSets g (plain g) s) (s .generation) c)
+      (tests spec g (s .lent) (s .lists) (s .generation) c)
       (changed (changedRayCount g (s .lists) (entries (c .log))))
 
   unfoldable pub after : Plain g → Commit → LogAnswer → Plain g
   unfolding less hitsOnList entries
   after s c (refused k) = s
-  after s c (changed n) = record { lists = λ r k. less (s .lists r k) (hitsOnList g (entries (c .log)) r k); generation = suc (s .generation); lent = s .lent }
+  after s c (changed n) = record {
+    lists = λ r k. less (s .lists r k) (hitsOnList g (entries (c .log)) r k);
+    generation = suc (s .generation);
+    lent = s .lent;
+  }
 
   unfoldable pub answers : Plain g → List Commit → List LogAnswer
   unfolding answer after
@@ -81,13 +86,15 @@ module _ (spec : DexelStockSpec) (g : DexelGrid) where
     unfolding pointSets
     listed r k = record { isSound = v .isSound r k; points = λ p. refl }
 
-    new : (r : Ray g) (k : Kind) → ListOf (setsAfter g (pointSets g (plain g) s) (entries (c .log)) r k) (less (s .lists r k) (hitsOnList g (entries (c .log)) r k))
+    new : (r : Ray g) (k : Kind) → ListOf (setsAfter g (pointSets g (plain g) s) (entries (c .log)) r k)
+        (less (s .lists r k) (hitsOnList g (entries (c .log)) r k))
     new r k = left-list g (pointSets g (plain g) s) (s .lists) listed (entries (c .log)) r k
 
     -- certain loses what possible loses
     lost-too : (r : Ray g) (p : Float) → removed g (entries (c .log)) r Possible p ≡ true → removed g (entries (c .log)) r Certain p ≡ true
     unfolding removed
-    lost-too r p t = or-right (holds (hitsOnRay g (entries (c .log)) (r .0) outer) p) (holds (hitsOnRay g (entries (c .log)) (r .0) inner) p) t
+    lost-too r p t = or-right (holds (hitsOnRay g (entries (c .log)) (r .0) outer) p)
+        (holds (hitsOnRay g (entries (c .log)) (r .0) inner) p) t
 
     inside-still : (r : Ray g) (p : Float) → holds (less (s .lists r Certain) (hitsOnList g (entries (c .log)) r Certain)) p ≡ true
         → holds (less (s .lists r Possible) (hitsOnList g (entries (c .log)) r Possible)) p ≡ true
@@ -96,11 +103,14 @@ module _ (spec : DexelStockSpec) (g : DexelGrid) where
         let es = entries (c .log) in
         let u = sym (new r Certain .points p) ∙ t in
         let kept : removed g es r Possible p ≡ false = elim (by-cases (removed g es r Possible p)) [
-          | inl w ↦ absurd (clash (removed g es r Certain p) (lost-too r p w) (not-true (removed g es r Certain p) (and-right (holds (s .lists r Certain) p) (not (removed g es r Certain p)) u)))
+          | inl w ↦ absurd (clash (removed g es r Certain p) (lost-too r p w)
+              (not-true (removed g es r Certain p)
+              (and-right (holds (s .lists r Certain) p) (not (removed g es r Certain p)) u)))
           | inr w ↦ w
         ] in
         new r Possible .points p
-        ∙ both (holds (s .lists r Possible) p) (not (removed g es r Possible p)) (v .within r p (and-left (holds (s .lists r Certain) p) (not (removed g es r Certain p)) u))
+        ∙ both (holds (s .lists r Possible) p) (not (removed g es r Possible p))
+        (v .within r p (and-left (holds (s .lists r Certain) p) (not (removed g es r Certain p)) u))
         (ap not kept)
 
     cuts : (n : ℕ) → AcceptedEffect g (plain g) s c (after s c (changed n))

@@ -14,8 +14,30 @@ use Rattle.spans.proofs.Sets.{same-points}
 use Rattle.grid.specs.declared.DexelStockSpec.{DexelStockSpec}
 use Rattle.grid.specs.declared.DexelGrid.{DexelGrid}
 use Rattle.log_model.specs.Logs.{inner, outer, InHit, entries, removed, Commit}
-use Rattle.log_model.specs.Model.{Sets, Capacity, LogAnswer, changed, refused, Model, modelStep, ModelAnswers, modelAfter, acceptedLogs}
-use Rattle.log_model.specs.Runs.{StoreView, pointSets, AcceptedEffect, CommitEffect, CommitStep, Run, done, next, modelStart, RunMeetsModel}
+use Rattle.log_model.specs.Model.{
+  Sets,
+  Capacity,
+  LogAnswer,
+  changed,
+  refused,
+  Model,
+  modelStep,
+  ModelAnswers,
+  modelAfter,
+  acceptedLogs,
+}
+use Rattle.log_model.specs.Runs.{
+  StoreView,
+  pointSets,
+  AcceptedEffect,
+  CommitEffect,
+  CommitStep,
+  Run,
+  done,
+  next,
+  modelStart,
+  RunMeetsModel,
+}
 use Rattle.log_model.proofs.Hits.{takenBy, takenBy-none, takenBy-more, to-inner, of-inner, to-either, of-either, alike-take}
 use Rattle.log_model.proofs.Unique.{one-list, pairs-same, judged-sound, modelled-unique}
 use Rattle.log_model.specs.RunCorrect.{Alike, SoundView, StoresAgree, RunCorrect}
@@ -51,13 +73,15 @@ module _ (g : DexelGrid) where
       ∙ less-more (m .sets r k p) (removed g (entries (c .log)) r k p) (takenBy g (acceptedLogs cs vs) r k p)
       (takenBy g (c .log ∷ acceptedLogs cs vs) r k p) (takenBy-more g (c .log) (acceptedLogs cs vs) r k p)
 
-  grown : (m : Model g) (cs : List Commit) (vs : List LogAnswer) → modelAfter g m cs vs .generation ≡ m .generation + length (acceptedLogs cs vs)
+  grown : (m : Model g) (cs : List Commit) (vs : List LogAnswer) → modelAfter g m cs vs .generation ≡ m .generation
+      + length (acceptedLogs cs vs)
   unfolding modelAfter acceptedLogs
   grown m [] vs = sym (add-zero (m .generation))
   grown m (c ∷ cs) [] = sym (add-zero (m .generation))
   grown m (c ∷ cs) (refused n ∷ vs) = grown m cs vs
   grown m (c ∷ cs) (changed n ∷ vs) =
-      grown (modelStep g m c (changed n)) cs vs ∙ suc-add (m .generation) (length (acceptedLogs cs vs)) ∙ sym (add-suc (m .generation) (length (acceptedLogs cs vs)))
+      grown (modelStep g m c (changed n)) cs vs ∙ suc-add (m .generation) (length (acceptedLogs cs vs))
+      ∙ sym (add-suc (m .generation) (length (acceptedLogs cs vs)))
 
 -- ---- a run follows the model
 
@@ -69,7 +93,8 @@ module _ (spec : DexelStockSpec) (g : DexelGrid) (R : StoreView g) where
     sound : R .Sound t
 
   -- the store after an accepted log stands for the model's next state
-  restart : (s t : R .Store) (c : Commit) (n : ℕ) → AcceptedEffect g R s c t → modelStart g R t ≡ modelStep g (modelStart g R s) c (changed n)
+  restart : (s t : R .Store) (c : Commit) (n : ℕ) → AcceptedEffect g R s c t
+      → modelStart g R t ≡ modelStep g (modelStart g R s) c (changed n)
   unfolding modelStart modelStep
   restart s t c n x =
       λ i. record { sets = fun-ext (λ r. fun-ext (λ k. fun-ext (x .exactly r k))) i; generation = x .generation i }
@@ -81,7 +106,11 @@ module _ (spec : DexelStockSpec) (g : DexelGrid) (R : StoreView g) where
       let e : t ≡ s = x .leaves in
       let h = subst (λ (z : R .Store). Follows (R .lent z) (modelStart g R z) cs vs u) e (f (subst (R .Sound) (sym e) S)) in
       record {
-        modelled = (judged-sound spec g (R .lent s) (¬ R .Sound s) (λ n. n S) (pointSets g R s) (R .generation s) c (refused k) (x .answers), h .modelled);
+        modelled = (
+          judged-sound spec g (R .lent s) (¬ R .Sound s) (λ n. n S) (pointSets g R s) (R .generation s) c
+              (refused k) (x .answers),
+          h .modelled,
+        );
         sets = h .sets;
         generation = h .generation;
         sound = h .sound;
@@ -90,21 +119,33 @@ module _ (spec : DexelStockSpec) (g : DexelGrid) (R : StoreView g) where
       let y : AcceptedEffect g R s c t = x .leaves in
       let h = subst₂ (λ (b : Capacity) (m : Model g). Follows b m cs vs u) (y .lent) (restart s t c n y) (f (y .sound)) in
       record {
-        modelled = (judged-sound spec g (R .lent s) (¬ R .Sound s) (λ n. n S) (pointSets g R s) (R .generation s) c (changed n) (x .answers), h .modelled);
+        modelled = (
+          judged-sound spec g (R .lent s) (¬ R .Sound s) (λ n. n S) (pointSets g R s) (R .generation s) c
+              (changed n) (x .answers),
+          h .modelled,
+        );
         sets = h .sets;
         generation = h .generation;
         sound = h .sound;
       }
 
-  follows : {s t : R .Store} {cs : List Commit} {vs : List LogAnswer} → Run spec g R s cs vs t → R .Sound s → Follows (R .lent s) (modelStart g R s) cs vs t
-  follows {s} done S = record { modelled = unfold ModelAnswers in tt; sets = unfold modelAfter modelStart in refl; generation = unfold modelAfter modelStart in refl; sound = S }
+  follows : {s t : R .Store} {cs : List Commit} {vs : List LogAnswer} → Run spec g R s cs vs t → R .Sound s
+      → Follows (R .lent s) (modelStart g R s) cs vs t
+  follows {s} done S = record {
+    modelled = unfold ModelAnswers in tt;
+    sets = unfold modelAfter modelStart in refl;
+    generation = unfold modelAfter modelStart in refl;
+    sound = S;
+  }
   follows (next {s} {t} {u} {c} {a} {cs} {vs} x r) S = more s t u c a cs vs S x (λ T. follows r T)
 
 -- ---- what follows from that
 
 module _ (spec : DexelStockSpec) (g : DexelGrid) (R : StoreView g) (L : SoundView g R) where
-  module _ (s : R .Store) (cs : List Commit) (vs : List LogAnswer) (t : R .Store) (F : Follows spec g R (R .lent s) (modelStart g R s) cs vs t) where
-    holding : (r : Ray g) (k : Kind) (p : Float) → holds (R .lists t r k) p ≡ (holds (R .lists s r k) p && not (takenBy g (acceptedLogs cs vs) r k p))
+  module _ (s : R .Store) (cs : List Commit) (vs : List LogAnswer) (t : R .Store)
+      (F : Follows spec g R (R .lent s) (modelStart g R s) cs vs t) where
+    holding : (r : Ray g) (k : Kind) (p : Float)
+        → holds (R .lists t r k) p ≡ (holds (R .lists s r k) p && not (takenBy g (acceptedLogs cs vs) r k p))
     unfolding pointSets modelStart
     holding r k p = ap (λ (z : Sets g). z r k p) (F .sets) ∙ closed g (modelStart g R s) cs vs r k p
 
@@ -114,15 +155,18 @@ module _ (spec : DexelStockSpec) (g : DexelGrid) (R : StoreView g) (L : SoundVie
     not-taken : (r : Ray g) (k : Kind) (p : Float) → holds (R .lists t r k) p ≡ true → takenBy g (acceptedLogs cs vs) r k p ≡ true → ⊥
     not-taken r k p x y =
         clash (takenBy g (acceptedLogs cs vs) r k p) y
-        (not-true (takenBy g (acceptedLogs cs vs) r k p) (and-right (holds (R .lists s r k) p) (not (takenBy g (acceptedLogs cs vs) r k p)) (sym (holding r k p) ∙ x)))
+        (not-true (takenBy g (acceptedLogs cs vs) r k p)
+        (and-right (holds (R .lists s r k) p) (not (takenBy g (acceptedLogs cs vs) r k p)) (sym (holding r k p) ∙ x)))
 
-    still : (r : Ray g) (k : Kind) (p : Float) → holds (R .lists s r k) p ≡ true → (takenBy g (acceptedLogs cs vs) r k p ≡ true → ⊥) → holds (R .lists t r k) p ≡ true
+    still : (r : Ray g) (k : Kind) (p : Float) → holds (R .lists s r k) p ≡ true
+        → (takenBy g (acceptedLogs cs vs) r k p ≡ true → ⊥) → holds (R .lists t r k) p ≡ true
     still r k p x n = holding r k p ∙ elim (by-cases (takenBy g (acceptedLogs cs vs) r k p)) [
       | inl y ↦ absurd (n y)
       | inr y ↦ both (holds (R .lists s r k) p) (not (takenBy g (acceptedLogs cs vs) r k p)) x (ap not y)
     ]
 
-    neither : (r : Ray g) (p : Float) → ¬ InHit g (acceptedLogs cs vs) r outer p → ¬ InHit g (acceptedLogs cs vs) r inner p → takenBy g (acceptedLogs cs vs) r Certain p ≡ true → ⊥
+    neither : (r : Ray g) (p : Float) → ¬ InHit g (acceptedLogs cs vs) r outer p
+        → ¬ InHit g (acceptedLogs cs vs) r inner p → takenBy g (acceptedLogs cs vs) r Certain p ≡ true → ⊥
     neither r p a b x = elim (to-either g r p (acceptedLogs cs vs) x) [ inl y ↦ a y | inr y ↦ b y ]
 
     list-of : (r : Ray g) (k : Kind) → ListOf (modelAfter g (modelStart g R s) cs vs .sets r k) (R .lists t r k)
@@ -134,7 +178,8 @@ module _ (spec : DexelStockSpec) (g : DexelGrid) (R : StoreView g) (L : SoundVie
       answers = F .modelled;
       no-others = λ bs x. modelled-unique spec g (R .lent s) (modelStart g R s) cs bs vs x (F .modelled);
       listed = list-of;
-      only-list = λ r k l dl dt sl x. same-points l (R .lists t r k) dl dt sl (list-of r k .isSound) (λ p h. x p h ∙ sym (list-of r k .points p));
+      only-list = λ r k l dl dt sl x. same-points l (R .lists t r k) dl dt sl (list-of r k .isSound)
+          (λ p h. x p h ∙ sym (list-of r k .points p));
       all-pairs = L .all-pairs t (F .sound);
       model-generation = F .generation;
       generation = F .generation ∙ unfold modelStart in grown g (modelStart g R s) cs vs;
@@ -155,7 +200,9 @@ module _ (spec : DexelStockSpec) (g : DexelGrid) (R : StoreView g) (L : SoundVie
       sound = F .sound;
     }
 
-  module _ (s t u : R .Store) (cs ds : List Commit) (vs ws : List LogAnswer) (F : Follows spec g R (R .lent s) (modelStart g R s) cs vs t) (G : Follows spec g R (R .lent s) (modelStart g R s) ds ws u)
+  module _ (s t u : R .Store) (cs ds : List Commit) (vs ws : List LogAnswer)
+      (F : Follows spec g R (R .lent s) (modelStart g R s) cs vs t)
+      (G : Follows spec g R (R .lent s) (modelStart g R s) ds ws u)
       (a : Alike g (acceptedLogs cs vs) (acceptedLogs ds ws)) where
     same-sets : (r : Ray g) (k : Kind) (p : Float) → holds (R .lists u r k) p ≡ holds (R .lists t r k) p
     same-sets r k p =
@@ -165,7 +212,8 @@ module _ (spec : DexelStockSpec) (g : DexelGrid) (R : StoreView g) (L : SoundVie
 
     same : (r : Ray g) (k : Kind) → equal (R .lists t r k) (R .lists u r k) ≡ true
     same r k =
-        one-list (holds (R .lists t r k)) (R .lists t r k) (R .lists u r k) (record { isSound = L .sound-list t (F .sound) r k; points = λ p. refl })
+        one-list (holds (R .lists t r k)) (R .lists t r k) (R .lists u r k)
+        (record { isSound = L .sound-list t (F .sound) r k; points = λ p. refl })
         (record { isSound = L .sound-list u (G .sound) r k; points = same-sets r k })
 
     agree : StoresAgree g R t u
@@ -182,7 +230,8 @@ demand3 spec g R L = record {
 }
 
 -- a run with one commit more at its end
-pub extend : (spec : DexelStockSpec) (g : DexelGrid) (R : StoreView g) {s t u : R .Store} {cs : List Commit} {vs : List LogAnswer} {c : Commit} {v : LogAnswer}
+pub extend : (spec : DexelStockSpec) (g : DexelGrid) (R : StoreView g) {s t u : R .Store} {cs : List Commit}
+    {vs : List LogAnswer} {c : Commit} {v : LogAnswer}
     → Run spec g R s cs vs t → CommitStep spec g R t c v u → Run spec g R s (cs ++ c ∷ []) (vs ++ v ∷ []) u
 extend spec g R done y = next y done
 extend spec g R (next x r) y = next x (extend spec g R r y)

@@ -1,4 +1,5 @@
--- The sound list of (l less hits) has one pair for each distinct number among the los of l and the his of the hits that is in l and in no hit.
+-- The sound list of (l less hits) has one pair for each distinct number among the los of l and the his of the hits
+-- that is in l and in no hit.
 use mathlib.Core.Path.{_≡_, refl, sym, ap, ap₂, _∙_}
 use mathlib.Core.Bool.{Bool, true, false, cond, not, _&&_, _||_, false≢true}
 use mathlib.Core.List.{List, [], _∷_, _++_}
@@ -9,7 +10,29 @@ use lib.ListN.{length}
 use lib.Ieee.{Float, lt, le, eq}
 use Rattle.doubles.specs.Doubles.{Number}
 use Rattle.logic.proofs.Bools.{or-cases, or-left, or-right, and-left, and-right, both, by-cases, clash, not-true}
-use Rattle.doubles.proofs.Order.{lt-number, le-number, le-refl, le-trans, le-total, lt→le, not-lt→le, not-le→lt, le-lt-trans, lt-le-trans, lt→not-le, le→not-lt, lt-trans, eq→le, eq→ge, eq-refl, eq-sym, eq-trans, lt-eq-left, le-eq-right, le-cases}
+use Rattle.doubles.proofs.Order.{
+  lt-number,
+  le-number,
+  le-refl,
+  le-trans,
+  le-total,
+  lt→le,
+  not-lt→le,
+  not-le→lt,
+  le-lt-trans,
+  lt-le-trans,
+  lt→not-le,
+  le→not-lt,
+  lt-trans,
+  eq→le,
+  eq→ge,
+  eq-refl,
+  eq-sym,
+  eq-trans,
+  lt-eq-left,
+  le-eq-right,
+  le-cases,
+}
 use Rattle.spans.specs.Spans.{within, holds, rising, sound, ListOf}
 use Rattle.spans.proofs.Ends.{All, Above, all-map, rising-tail, rising-above, rising-cons}
 use Rattle.spans.proofs.Sets.{sound-rising}
@@ -57,12 +80,15 @@ remove-other x z (y ∷ l) n = go (eq x y) refl (remove-other x z l n)
     apart : eq x y ≡ true → eq z y ≡ false
     apart e = elim (by-cases (eq z y)) [ inl u ↦ absurd (clash (eq z x) (eq-trans z y x u (eq-sym x y e)) n) | inr u ↦ u ]
 
-    go : (b : Bool) → eq x y ≡ b → memberEq z (remove x l) ≡ memberEq z l → memberEq z (cond b (remove x l) (y ∷ remove x l)) ≡ (eq z y || memberEq z l)
+    go : (b : Bool) → eq x y ≡ b → memberEq z (remove x l) ≡ memberEq z l
+        → memberEq z (cond b (remove x l) (y ∷ remove x l)) ≡ (eq z y || memberEq z l)
     go true e f = f ∙ ap (λ (b : Bool). b || memberEq z l) (sym (apart e))
     go false e f = ap (_||_ (eq z y)) f
 
-module _ (test : Float → Bool) (number : (x : Float) → test x ≡ true → Number x) (same : (x y : Float) → eq x y ≡ true → test x ≡ test y) where
-  pub distinct-remove : (x : Float) (l : List Float) → test x ≡ true → memberEq x l ≡ true → countDistinct test l ≡ suc (countDistinct test (remove x l))
+module _ (test : Float → Bool) (number : (x : Float) → test x ≡ true → Number x) (same : (x y : Float) → eq x y ≡ true
+    → test x ≡ test y) where
+  pub distinct-remove : (x : Float) (l : List Float) → test x ≡ true → memberEq x l ≡ true
+      → countDistinct test l ≡ suc (countDistinct test (remove x l))
   unfolding remove memberEq countDistinct
   distinct-remove x [] t h = absurd (false≢true h)
   distinct-remove x (y ∷ l) t h = go (eq x y) refl (distinct-remove x l t)
@@ -70,9 +96,11 @@ module _ (test : Float → Bool) (number : (x : Float) → test x ≡ true → N
       none : memberEq y l ≡ false → eq x y ≡ true → memberEq x l ≡ false
       none a e = elim (by-cases (memberEq x l)) [ inl u ↦ absurd (clash (memberEq y l) (among-eq x y l e u) a) | inr u ↦ u ]
 
-      here : (b : Bool) → memberEq y l ≡ b → eq x y ≡ true → (memberEq x l ≡ true → countDistinct test l ≡ suc (countDistinct test (remove x l)))
+      here : (b : Bool) → memberEq y l ≡ b → eq x y ≡ true
+          → (memberEq x l ≡ true → countDistinct test l ≡ suc (countDistinct test (remove x l)))
           → cond (test y && not b) (suc (countDistinct test l)) (countDistinct test l) ≡ suc (countDistinct test (remove x l))
-      here true a e f = ap (λ (c : Bool). cond (c && false) (suc (countDistinct test l)) (countDistinct test l)) (sym (same x y e) ∙ t) ∙ f (among-eq y x l (eq-sym x y e) a)
+      here true a e f = ap (λ (c : Bool). cond (c && false) (suc (countDistinct test l)) (countDistinct test l))
+          (sym (same x y e) ∙ t) ∙ f (among-eq y x l (eq-sym x y e) a)
       here false a e f =
           ap (λ (c : Bool). cond (c && true) (suc (countDistinct test l)) (countDistinct test l)) (sym (same x y e) ∙ t)
           ∙ ap (λ (m : List Float). suc (countDistinct test m)) (sym (remove-none x l (none a e)))
@@ -85,11 +113,14 @@ module _ (test : Float → Bool) (number : (x : Float) → test x ≡ true → N
       swapped e = elim (by-cases (eq y x)) [ inl u ↦ absurd (clash (eq x y) (eq-sym y x u) e) | inr u ↦ u ]
 
       go : (b : Bool) → eq x y ≡ b → (memberEq x l ≡ true → countDistinct test l ≡ suc (countDistinct test (remove x l)))
-          → cond (test y && not (memberEq y l)) (suc (countDistinct test l)) (countDistinct test l) ≡ suc (countDistinct test (cond b (remove x l) (y ∷ remove x l)))
+          → cond (test y && not (memberEq y l)) (suc (countDistinct test l)) (countDistinct test l)
+          ≡ suc (countDistinct test (cond b (remove x l) (y ∷ remove x l)))
       go true e f = here (memberEq y l) refl e f
       go false e f =
-          one-more (test y && not (memberEq y l)) (countDistinct test l) (countDistinct test (remove x l)) (f (sym (ap (λ (b : Bool). b || memberEq x l) e) ∙ h))
-          ∙ ap (λ (b : Bool). suc (cond (test y && not b) (suc (countDistinct test (remove x l))) (countDistinct test (remove x l)))) (sym (remove-other x y l (swapped e)))
+          one-more (test y && not (memberEq y l)) (countDistinct test l) (countDistinct test (remove x l))
+          (f (sym (ap (λ (b : Bool). b || memberEq x l) e) ∙ h))
+          ∙ ap (λ (b : Bool). suc (cond (test y && not b) (suc (countDistinct test (remove x l)))
+          (countDistinct test (remove x l)))) (sym (remove-other x y l (swapped e)))
 
   pub none-left : (l : List Float) → ((z : Float) → memberEq z l ≡ true → test z ≡ true → ⊥) → countDistinct test l ≡ 0
   unfolding memberEq countDistinct
@@ -150,10 +181,12 @@ none-up-to x l p a h = elim (by-cases (holds l p)) [
 ]
 
 outside : (lo hi p : Float) → le hi p ≡ true → within lo hi p ≡ false
-outside lo hi p h = elim (by-cases (within lo hi p)) [ inl u ↦ absurd (clash (lt p hi) (and-right (le lo p) (lt p hi) u) (le→not-lt hi p h)) | inr u ↦ u ]
+outside lo hi p h = elim (by-cases (within lo hi p))
+    [ inl u ↦ absurd (clash (lt p hi) (and-right (le lo p) (lt p hi) u) (le→not-lt hi p h)) | inr u ↦ u ]
 
 under : (lo hi p : Float) → lt p lo ≡ true → within lo hi p ≡ false
-under lo hi p h = elim (by-cases (within lo hi p)) [ inl u ↦ absurd (clash (le lo p) (and-left (le lo p) (lt p hi) u) (lt→not-le p lo h)) | inr u ↦ u ]
+under lo hi p h = elim (by-cases (within lo hi p))
+    [ inl u ↦ absurd (clash (le lo p) (and-left (le lo p) (lt p hi) u) (lt→not-le p lo h)) | inr u ↦ u ]
 
 rest-of : (lo hi : Float) (l : List Float) (p : Float) → within lo hi p ≡ false → holds (lo ∷ hi ∷ l) p ≡ true → holds l p ≡ true
 unfolding holds
@@ -218,7 +251,12 @@ lo-or-inside [] x h = absurd (false≢true h)
 lo-or-inside (lo ∷ []) x h = absurd (false≢true h)
 lo-or-inside (lo ∷ hi ∷ l) x h = elim (or-cases (within lo hi x) (holds l x) h) [
   | inl u ↦ elim (le-cases lo x (and-left (le lo x) (lt x hi) u)) [
-    | inl k ↦ inr (lo, k, λ p a b. or-left (within lo hi p) (holds l p) (both (le lo p) (lt p hi) a (lt-trans p x hi b (and-right (le lo x) (lt x hi) u))))
+    | inl k ↦ inr (
+      lo,
+      k,
+      λ p a b. or-left (within lo hi p) (holds l p)
+          (both (le lo p) (lt p hi) a (lt-trans p x hi b (and-right (le lo x) (lt x hi) u))),
+    )
     | inr k ↦ inl (or-left (eq x lo) (memberEq x (losOf l)) (eq-sym lo x k))
   ]
   | inr u ↦ elim (lo-or-inside l x u) [
@@ -282,7 +320,9 @@ end-gap (lo ∷ hi ∷ hits) x a h k f = go (lt lo hi) refl (λ i. end-gap hits 
     here : lt lo hi ≡ true → eq x hi ≡ true → ⊥
     here h e =
         let (q, b, c, d) = highest a lo x k (lt-le-trans lo hi x h (eq→ge x hi e)) in
-        clash (within lo hi q || holds hits q) (or-left (within lo hi q) (holds hits q) (both (le lo q) (lt q hi) c (lt-le-trans q x hi d (eq→le x hi e)))) (f q b d)
+        clash (within lo hi q || holds hits q)
+        (or-left (within lo hi q) (holds hits q)
+        (both (le lo q) (lt q hi) c (lt-le-trans q x hi d (eq→le x hi e)))) (f q b d)
 
     go : (b : Bool) → lt lo hi ≡ b → (memberEq x (hisOf hits) ≡ true → ⊥) → ⊥
     go true t more = elim (or-cases (eq x hi) (memberEq x (hisOf hits)) (rw t at h)) [ inl e ↦ here t e | inr i ↦ more i ]
@@ -297,13 +337,16 @@ covered-end (lo ∷ []) q a k f n = absurd (false≢true (f q (le-refl q (lt-num
 covered-end (lo ∷ hi ∷ hits) q a k f n = go (lt lo hi) refl (λ z j g. covered-end hits z a j g not-later)
   where
     Later : Type 0
-    Later = (z : Float) → lt z a ≡ true → ((p : Float) → le z p ≡ true → lt p a ≡ true → holds hits p ≡ true) → memberEq a (hisOf hits) ≡ true
+    Later = (z : Float) → lt z a ≡ true → ((p : Float) → le z p ≡ true → lt p a ≡ true → holds hits p ≡ true)
+        → memberEq a (hisOf hits) ≡ true
 
     not-here : within lo hi a ≡ false
-    not-here = elim (by-cases (within lo hi a)) [ inl u ↦ absurd (clash (within lo hi a || holds hits a) (or-left (within lo hi a) (holds hits a) u) n) | inr u ↦ u ]
+    not-here = elim (by-cases (within lo hi a))
+        [ inl u ↦ absurd (clash (within lo hi a || holds hits a) (or-left (within lo hi a) (holds hits a) u) n) | inr u ↦ u ]
 
     not-later : holds hits a ≡ false
-    not-later = elim (by-cases (holds hits a)) [ inl u ↦ absurd (clash (within lo hi a || holds hits a) (or-right (within lo hi a) (holds hits a) u) n) | inr u ↦ u ]
+    not-later = elim (by-cases (holds hits a))
+        [ inl u ↦ absurd (clash (within lo hi a || holds hits a) (or-right (within lo hi a) (holds hits a) u) n) | inr u ↦ u ]
 
     -- the later hits hold what is just below a, from some q on
     later : Later → (q : Float) → lt q a ≡ true → ((p : Float) → le q p ≡ true → lt p a ≡ true → holds (lo ∷ hi ∷ hits) p ≡ true)
@@ -342,7 +385,8 @@ covered-end (lo ∷ hi ∷ hits) q a k f n = go (lt lo hi) refl (λ z j g. cover
 
 -- just below a nothing of m is held
 Fresh : List Float → Float → Type 0
-Fresh m a = (c : Float) → lt c a ≡ true → (q : Float) × (le c q ≡ true) × (lt q a ≡ true) × ((p : Float) → le q p ≡ true → lt p a ≡ true → holds m p ≡ false)
+Fresh m a = (c : Float) → lt c a ≡ true → (q : Float) × (le c q ≡ true) × (lt q a ≡ true)
+    × ((p : Float) → le q p ≡ true → lt p a ≡ true → holds m p ≡ false)
 
 fresh-los : (m : List Float) → rising m ≡ true → All (Fresh m) (losOf m)
 unfolding losOf Fresh holds
@@ -353,14 +397,23 @@ fresh-los (lo ∷ hi ∷ m) r = (first, rest (losOf m) (above-los hi m hi-up) (f
     hi-up : Above hi m
     hi-up = rising-above hi m (rising-tail lo (hi ∷ m) r)
 
-    first : (c : Float) → lt c lo ≡ true → (q : Float) × (le c q ≡ true) × (lt q lo ≡ true) × ((p : Float) → le q p ≡ true → lt p lo ≡ true → (within lo hi p || holds m p) ≡ false)
-    first c k = (c, le-refl c (lt-number c lo k .0), k, λ p a b. rw (under lo hi p b) (none-up-to lo m p (rising-above lo (hi ∷ m) r .1) (lt→le p lo b)))
+    first : (c : Float) → lt c lo ≡ true → (q : Float) × (le c q ≡ true) × (lt q lo ≡ true)
+        × ((p : Float) → le q p ≡ true → lt p lo ≡ true → (within lo hi p || holds m p) ≡ false)
+    first c k = (
+      c,
+      le-refl c (lt-number c lo k .0),
+      k,
+      λ p a b. rw (under lo hi p b) (none-up-to lo m p (rising-above lo (hi ∷ m) r .1) (lt→le p lo b)),
+    )
 
-    rest : (l : List Float) → Above hi l → All (Fresh m) l → All (λ a. (c : Float) → lt c a ≡ true → (q : Float) × (le c q ≡ true) × (lt q a ≡ true) × ((p : Float) → le q p ≡ true → lt p a ≡ true → (within lo hi p || holds m p) ≡ false)) l
+    rest : (l : List Float) → Above hi l → All (Fresh m) l
+        → All (λ a. (c : Float) → lt c a ≡ true → (q : Float) × (le c q ≡ true) × (lt q a ≡ true)
+        × ((p : Float) → le q p ≡ true → lt p a ≡ true → (within lo hi p || holds m p) ≡ false)) l
     rest [] u v = tt
     rest (a ∷ l) u v = (one, rest l (u .1) (v .1))
       where
-        one : (c : Float) → lt c a ≡ true → (q : Float) × (le c q ≡ true) × (lt q a ≡ true) × ((p : Float) → le q p ≡ true → lt p a ≡ true → (within lo hi p || holds m p) ≡ false)
+        one : (c : Float) → lt c a ≡ true → (q : Float) × (le c q ≡ true) × (lt q a ≡ true)
+            × ((p : Float) → le q p ≡ true → lt p a ≡ true → (within lo hi p || holds m p) ≡ false)
         one c k =
             let (q, b, d, f) = v .0 c k in
             let (z, e, g, h) = highest q hi a d (u .0) in
@@ -371,7 +424,11 @@ fresh-los (lo ∷ hi ∷ m) r = (first, rest (losOf m) (above-los hi m hi-up) (f
 among-left : (x : Float) (a b : List Float) → memberEq x a ≡ true → memberEq x (a ++ b) ≡ true
 unfolding memberEq
 among-left x [] b h = absurd (false≢true h)
-among-left x (y ∷ a) b h = elim (or-cases (eq x y) (memberEq x a) h) [ inl u ↦ or-left (eq x y) (memberEq x (a ++ b)) u | inr u ↦ or-right (eq x y) (memberEq x (a ++ b)) (among-left x a b u) ]
+among-left x (y ∷ a) b h = elim (or-cases (eq x y) (memberEq x a) h) [
+  | inl u ↦ or-left (eq x y) (memberEq x (a ++ b)) u
+  | inr u ↦ or-right (eq x y) (memberEq x (a ++ b))
+      (among-left x a b u)
+]
 
 among-right : (x : Float) (a b : List Float) → memberEq x b ≡ true → memberEq x (a ++ b) ≡ true
 unfolding memberEq
@@ -433,6 +490,7 @@ module _ (l hits m : List Float) (sound-l : sound l ≡ true) (list : ListOf (λ
       (λ x t. number-of l x (and-left (holds l x) (not (holds hits x)) t))
       (λ x y e. ap₂ (λ (b c : Bool). b && not c) (holds-eq l x y e) (holds-eq hits x y e))
       (losOf m) (losOf l ++ hisOf hits) (los-rising m r)
-      (all-map (λ x. holds m x ≡ true) (λ x. (holds l x && not (holds hits x)) ≡ true) (λ x t. sym (list .points x) ∙ t) (losOf m) (los-held m r))
+      (all-map (λ x. holds m x ≡ true) (λ x. (holds l x && not (holds hits x)) ≡ true)
+      (λ x t. sym (list .points x) ∙ t) (losOf m) (los-held m r))
       (starts (losOf m) (los-held m r) (fresh-los m r))
       (λ z u v. left-start z u (list .points z ∙ v)))

@@ -14,7 +14,25 @@ use Rattle.grid.specs.Rays.{rayCount, Ray}
 use Rattle.grid.specs.declared.DexelStockSpec.{DexelStockSpec}
 use Rattle.grid.specs.declared.DexelGrid.{DexelGrid}
 use Rattle.log_model.specs.Logs.{Commit}
-use Rattle.log_model.specs.Model.{Sets, Count, none, counted, skipped, sumOver, pairTotal, IntervalTotal, Capacity, LogAnswer, changed, refused, logCommitCauses, AnswerDue, Model, modelStep, ModelAnswers}
+use Rattle.log_model.specs.Model.{
+  Sets,
+  Count,
+  none,
+  counted,
+  skipped,
+  sumOver,
+  pairTotal,
+  IntervalTotal,
+  Capacity,
+  LogAnswer,
+  changed,
+  refused,
+  logCommitCauses,
+  AnswerDue,
+  Model,
+  modelStep,
+  ModelAnswers,
+}
 use Rattle.stock.specs.Stock.{Kind, Possible, Certain}
 
 -- the one sound list of a set, as numbers
@@ -33,11 +51,13 @@ count-unique {g} {P} (skipped {i = i} h x t) (counted h′ x′ t′) = absurd (
 count-unique (skipped h x t) (skipped h′ x′ t′) = count-unique t t′
 
 -- equal lists have as many pairs in all
-pub pairs-same : (g : DexelGrid) (f h : Ray g → Kind → List Float) → ((r : Ray g) (k : Kind) → equal (f r k) (h r k) ≡ true) → pairTotal g f ≡ pairTotal g h
+pub pairs-same : (g : DexelGrid) (f h : Ray g → Kind → List Float)
+    → ((r : Ray g) (k : Kind) → equal (f r k) (h r k) ≡ true) → pairTotal g f ≡ pairTotal g h
 unfolding pairTotal
 pairs-same g f h s =
     ap (sumOver g)
-    (fun-ext λ r. ap₂ (λ (a b : ℕ). a / 2 + b / 2) (equal-length (f r Possible) (h r Possible) (s r Possible)) (equal-length (f r Certain) (h r Certain) (s r Certain)))
+    (fun-ext λ r. ap₂ (λ (a b : ℕ). a / 2 + b / 2) (equal-length (f r Possible) (h r Possible) (s r Possible))
+    (equal-length (f r Certain) (h r Certain) (s r Certain)))
 
 pub intervals-unique : (g : DexelGrid) (s : Sets g) {n m : ℕ} → IntervalTotal g s n → IntervalTotal g s m → n ≡ m
 intervals-unique g s a b =
@@ -72,7 +92,8 @@ not-either n u (inl a) = n (inl a)
 not-either n u (inr b) = u b
 
 module _ (spec : DexelStockSpec) (g : DexelGrid) (b : Capacity) where
-  pub judged-unique : (U : Type 0) (s : Sets g) (n : ℕ) (c : Commit) (v w : LogAnswer) → AnswerDue spec g b U s n c v → AnswerDue spec g b U s n c w → v ≡ w
+  pub judged-unique : (U : Type 0) (s : Sets g) (n : ℕ) (c : Commit) (v w : LogAnswer) → AnswerDue spec g b U s n c v
+      → AnswerDue spec g b U s n c w → v ≡ w
   unfolding AnswerDue
   judged-unique U s n c (refused k) (refused j) x y = ap refused (due-unique (logCommitCauses spec g b U s n c) k j x y)
   judged-unique U s n c (refused k) (changed j) x y = absurd (none-due (logCommitCauses spec g b U s n c) k (y .0) x)
@@ -80,7 +101,8 @@ module _ (spec : DexelStockSpec) (g : DexelGrid) (b : Capacity) where
   judged-unique U s n c (changed k) (changed j) x y = ap changed (count-unique (x .1) (y .1))
 
   -- the model gives one list of answers
-  pub modelled-unique : (m : Model g) (cs : List Commit) (vs ws : List LogAnswer) → ModelAnswers spec g b m cs vs → ModelAnswers spec g b m cs ws → vs ≡ ws
+  pub modelled-unique : (m : Model g) (cs : List Commit) (vs ws : List LogAnswer) → ModelAnswers spec g b m cs vs
+      → ModelAnswers spec g b m cs ws → vs ≡ ws
   unfolding ModelAnswers
   modelled-unique m [] [] [] x y = refl
   modelled-unique m [] [] (w ∷ ws) x y = absurd y
@@ -90,10 +112,12 @@ module _ (spec : DexelStockSpec) (g : DexelGrid) (b : Capacity) where
   modelled-unique m (c ∷ cs) (v ∷ vs) (w ∷ ws) x y =
       let e : v ≡ w = judged-unique ⊥ (m .sets) (m .generation) c v w (x .0) (y .0) in
       ap₂ (λ (a : LogAnswer) (l : List LogAnswer). a ∷ l) e
-      (modelled-unique (modelStep g m c v) cs vs ws (x .1) (subst (λ (a : LogAnswer). ModelAnswers spec g b (modelStep g m c a) cs ws) (sym e) (y .1)))
+      (modelled-unique (modelStep g m c v) cs vs ws (x .1)
+      (subst (λ (a : LogAnswer). ModelAnswers spec g b (modelStep g m c a) cs ws) (sym e) (y .1)))
 
   -- on a sound store the order is the model's
-  pub judged-sound : (U : Type 0) → ¬ U → (s : Sets g) (n : ℕ) (c : Commit) (v : LogAnswer) → AnswerDue spec g b U s n c v → AnswerDue spec g b ⊥ s n c v
+  pub judged-sound : (U : Type 0) → ¬ U → (s : Sets g) (n : ℕ) (c : Commit) (v : LogAnswer)
+      → AnswerDue spec g b U s n c v → AnswerDue spec g b ⊥ s n c v
   unfolding AnswerDue
   judged-sound U u s n c (refused k) (inl x) = inl x
   judged-sound U u s n c (refused k) (inr (x, inl (inl y, e))) = inr (x, inl (inl y, e))
@@ -102,7 +126,8 @@ module _ (spec : DexelStockSpec) (g : DexelGrid) (b : Capacity) where
   judged-sound U u s n c (changed k) ((x, (y, d)), e) = ((x, ((λ z. y (only-part z)), d)), e)
 
   -- and the model's order is that of a sound store
-  pub judged-unsound : (U : Type 0) → ¬ U → (s : Sets g) (n : ℕ) (c : Commit) (v : LogAnswer) → AnswerDue spec g b ⊥ s n c v → AnswerDue spec g b U s n c v
+  pub judged-unsound : (U : Type 0) → ¬ U → (s : Sets g) (n : ℕ) (c : Commit) (v : LogAnswer)
+      → AnswerDue spec g b ⊥ s n c v → AnswerDue spec g b U s n c v
   unfolding AnswerDue
   judged-unsound U u s n c (refused k) (inl x) = inl x
   judged-unsound U u s n c (refused k) (inr (x, inl (inl y, e))) = inr (x, inl (inl y, e))

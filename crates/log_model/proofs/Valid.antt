@@ -34,12 +34,14 @@ module _ (g : DexelGrid) (lists : Ray g → Kind → List Float) (es : List Entr
       second true b h = absurd (clash true refl h)
       second false b h = h
 
-  pub still-valid : (lo hi : Float) → ValidRay lo hi (lists r Possible) (lists r Certain) → (p c : List Float) → ListAfterLog g lists es r Possible p → ListAfterLog g lists es r Certain c → ValidRay lo hi p c
+  pub still-valid : (lo hi : Float) → ValidRay lo hi (lists r Possible) (lists r Certain) → (p c : List Float)
+      → ListAfterLog g lists es r Possible p → ListAfterLog g lists es r Certain c → ValidRay lo hi p c
   unfolding setsAfter
   still-valid lo hi v p c a b = record {
     possible-sound = a .isSound;
     certain-sound = b .isSound;
     possible-bounded = bounded-within lo hi (lists r Possible) p (v .possible-bounded) (a .isSound) (left-within Possible p a);
     certain-bounded = bounded-within lo hi (lists r Certain) c (v .certain-bounded) (b .isSound) (left-within Certain c b);
-    inside = λ x h. a .points x ∙ both (holds (lists r Possible) x) (not (removed g es r Possible x)) (v .inside x (left-within Certain c b x h)) (ap not (spared x (left-out Certain c b x h)));
+    inside = λ x h. a .points x ∙ both (holds (lists r Possible) x) (not (removed g es r Possible x))
+        (v .inside x (left-within Certain c b x h)) (ap not (spared x (left-out Certain c b x h)));
   }

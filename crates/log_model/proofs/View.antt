@@ -26,13 +26,16 @@ ends-pairs spans (i ∷ ps) = half (length (endsAt spans ps)) ∙ ap suc (ends-p
     half n = omega arith
 
 module _ (n : ℕ) (links heads : List ℕ) where
-  chained-first : (j r : ℕ) → length (chained n links heads j (suc r)) ≡ length (placesOf n links heads j) + length (chained n links heads (suc j) r)
+  chained-first : (j r : ℕ) → length (chained n links heads j (suc r)) ≡ length (placesOf n links heads j)
+      + length (chained n links heads (suc j) r)
   unfolding chained
   chained-first j r = length-append (placesOf n links heads j) (chained n links heads (suc j) r)
 
-  chained-last : (j r k : ℕ) → j + r ≡ k → length (chained n links heads j (suc r)) ≡ length (chained n links heads j r) + length (placesOf n links heads k)
+  chained-last : (j r k : ℕ) → j + r ≡ k
+      → length (chained n links heads j (suc r)) ≡ length (chained n links heads j r) + length (placesOf n links heads k)
   unfolding chained
-  chained-last j zero k h = chained-first j 0 ∙ ap (λ (i : ℕ). length (placesOf n links heads i) + 0) (same j k h) ∙ swap (length (placesOf n links heads k))
+  chained-last j zero k h = chained-first j 0 ∙ ap (λ (i : ℕ). length (placesOf n links heads i) + 0) (same j k h)
+      ∙ swap (length (placesOf n links heads k))
     where
       same : (j k : ℕ) → j + 0 ≡ k → j ≡ k
       same j k h = omega arith
@@ -41,7 +44,8 @@ module _ (n : ℕ) (links heads : List ℕ) where
       swap a = omega arith
   chained-last j (suc r) k h =
       chained-first j (suc r) ∙ ap (_+_ (length (placesOf n links heads j))) (chained-last (suc j) r k (same j r k h))
-      ∙ sum (length (placesOf n links heads j)) (length (chained n links heads (suc j) r)) (length (placesOf n links heads k)) (length (chained n links heads j (suc r))) (chained-first j r)
+      ∙ sum (length (placesOf n links heads j)) (length (chained n links heads (suc j) r))
+      (length (placesOf n links heads k)) (length (chained n links heads j (suc r))) (chained-first j r)
     where
       same : (j r k : ℕ) → j + suc r ≡ k → suc j + r ≡ k
       same j r k h = omega arith
@@ -61,7 +65,9 @@ module _ (spec : DexelStockSpec) (g : DexelGrid) (s : Stock) where
   list-pairs r k = ends-pairs (s .cells .spans) (placesOf (spec .«max_intervals») (s .cells .links) (s .cells .heads) (listNumber r k))
 
   -- a list has one pair for each place of its chain
-  pub list-places : (r : ℕ) (k : Kind) → length (rayList spec (s .cells) r k) / 2 ≡ length (placesOf (spec .«max_intervals») (s .cells .links) (s .cells .heads) (listNumber r k))
+  pub list-places : (r : ℕ) (k : Kind)
+      → length (rayList spec (s .cells) r k) / 2
+      ≡ length (placesOf (spec .«max_intervals») (s .cells .links) (s .cells .heads) (listNumber r k))
   unfolding places
   list-places r k = list-pairs r k
 
@@ -71,7 +77,8 @@ module _ (spec : DexelStockSpec) (g : DexelGrid) (s : Stock) where
   two-more i =
       ap (λ (m : ℕ). total m) (next i)
       ∙ chained-last (spec .«max_intervals») (s .cells .links) (s .cells .heads) 0 (suc (2 * i)) (2 * i + 1) (after i)
-      ∙ ap (λ (m : ℕ). m + places (2 * i + 1)) (chained-last (spec .«max_intervals») (s .cells .links) (s .cells .heads) 0 (2 * i) (2 * i) (at i))
+      ∙ ap (λ (m : ℕ). m + places (2 * i + 1))
+      (chained-last (spec .«max_intervals») (s .cells .links) (s .cells .heads) 0 (2 * i) (2 * i) (at i))
       ∙ group (total (2 * i)) (places (2 * i)) (places (2 * i + 1))
     where
       next : (i : ℕ) → 2 * suc i ≡ suc (suc (2 * i))
@@ -88,7 +95,8 @@ module _ (spec : DexelStockSpec) (g : DexelGrid) (s : Stock) where
 
   -- the chained records are the pairs of all lists
   counted : (i : ℕ) (h : i ≤ rayCount g)
-      → total (2 * i) ≡ sumTo g (λ r. length (rayList spec (s .cells) (r .0) Possible) / 2 + length (rayList spec (s .cells) (r .0) Certain) / 2) i h
+      → total (2 * i) ≡ sumTo g (λ r. length (rayList spec (s .cells) (r .0) Possible) / 2
+      + length (rayList spec (s .cells) (r .0) Certain) / 2) i h
   unfolding sumTo
   counted zero h = unfold total chained in refl
   counted (suc i) h = two-more i ∙ ap₂ _+_ (counted i (le-of-lt h)) (ap₂ _+_ (sym (list-pairs i Possible)) (sym (list-pairs i Certain)))

@@ -73,4 +73,6 @@ changedRayCount g lists es = sumOver g (λ r. cond (isRayChanged g lists es r) 1
 -- how many pairs all lists would then have
 unfoldable pub pairsAfter : (g : DexelGrid) → (Ray g → Kind → List Float) → List Entry → ℕ
 unfolding startsLeft hitsOnList sumTo
-pairsAfter g lists es = sumOver g (λ r. startsLeft (lists r Possible) (hitsOnList g es r Possible) + startsLeft (lists r Certain) (hitsOnList g es r Certain))
+pairsAfter g lists es = sumOver g
+    (λ r. startsLeft (lists r Possible) (hitsOnList g es r Possible)
+    + startsLeft (lists r Certain) (hitsOnList g es r Certain))

@@ -1,6 +1,7 @@
--- A worked run of logs on the lent store, every number of it given; `run-right` in proofs/Examples.antt claims all that `RunRight` says.
--- The blank is the box from 0 to 10 in one cell, so with one ray along each axis, and has room for eight records. On its uncut store come three logs:
--- one that cuts the ray along axis 1, one with no ray allowed where it would change one, and one whose inner hit sticks out of its outer hit.
+-- A worked run of logs on the lent store, every number of it given; `run-right` in proofs/Examples.antt claims all
+-- that `RunRight` says. The blank is the box from 0 to 10 in one cell, so with one ray along each axis, and has room
+-- for eight records. On its uncut store come three logs: one that cuts the ray along axis 1, one with no ray allowed
+-- where it would change one, and one whose inner hit sticks out of its outer hit.
 use mathlib.Core.Path.{_≡_}
 use mathlib.Core.Bool.{true}
 use mathlib.Core.List.{List, [], _∷_}
@@ -44,7 +45,8 @@ exampleGrid = record { c0 = 1; c1 = 1; c2 = 1; s0 = num 10; s1 = num 10; s2 = nu
 abbrev pub exampleStock : Stock
 exampleStock = record {
   cells = record {
-    spans = num 0 ∷ num 10 ∷ num 0 ∷ num 10 ∷ num 0 ∷ num 10 ∷ num 0 ∷ num 10 ∷ num 0 ∷ num 10 ∷ num 0 ∷ num 10 ∷ num 0 ∷ num 0 ∷ num 0 ∷ num 0 ∷ [];
+    spans = num 0 ∷ num 10 ∷ num 0 ∷ num 10 ∷ num 0 ∷ num 10 ∷ num 0 ∷ num 10 ∷ num 0 ∷ num 10 ∷ num 0 ∷ num 10
+        ∷ num 0 ∷ num 0 ∷ num 0 ∷ num 0 ∷ [];
     links = 0 ∷ 1 ∷ 0 ∷ 2 ∷ 0 ∷ 3 ∷ 0 ∷ 4 ∷ 0 ∷ 5 ∷ 0 ∷ 6 ∷ 0 ∷ 0 ∷ 0 ∷ 0 ∷ [];
     heads = 1 ∷ 2 ∷ 3 ∷ 4 ∷ 5 ∷ 6 ∷ [];
   };
@@ -97,5 +99,7 @@ pub record RunRight : Type 0 where
   pub end : Stock
   pub ran : Run (exampleBox 8) exampleGrid (lentStore (exampleBox 8) exampleGrid) exampleStock threeLogs threeAnswers end
   -- and every run gives these answers and ends so
-  pub answers : (vs : List LogAnswer) (t : Stock) → Run (exampleBox 8) exampleGrid (lentStore (exampleBox 8) exampleGrid) exampleStock threeLogs vs t → vs ≡ threeAnswers
-  pub ends : (vs : List LogAnswer) (t : Stock) → Run (exampleBox 8) exampleGrid (lentStore (exampleBox 8) exampleGrid) exampleStock threeLogs vs t → AtEnd t
+  pub answers : (vs : List LogAnswer) (t : Stock)
+      → Run (exampleBox 8) exampleGrid (lentStore (exampleBox 8) exampleGrid) exampleStock threeLogs vs t → vs ≡ threeAnswers
+  pub ends : (vs : List LogAnswer) (t : Stock)
+      → Run (exampleBox 8) exampleGrid (lentStore (exampleBox 8) exampleGrid) exampleStock threeLogs vs t → AtEnd t

@@ -66,7 +66,9 @@ wholeOf x = toUnsigned 64 x
 -- the entry names a ray: its axis is 0, 1 or 2, and its index a whole number below the number of rays along that axis
 unfoldable pub namesSomeRay : DexelGrid → Entry → Bool
 unfolding isWhole raysAlong
-namesSomeRay g e = isWhole (e .axis) && (ltb (wholeOf (e .axis)) 3 && (isWhole (e .index) && ltb (wholeOf (e .index)) (raysAlong g (worldAxis (wholeOf (e .axis))))))
+namesSomeRay g e = isWhole (e .axis)
+    && (ltb (wholeOf (e .axis)) 3 &&
+    (isWhole (e .index) && ltb (wholeOf (e .index)) (raysAlong g (worldAxis (wholeOf (e .axis))))))
 
 -- the number of that ray
 unfoldable pub entryRay : DexelGrid → Entry → ℕ
@@ -123,7 +125,8 @@ InHit g logs r w p = (h : Hit g logs r w) × (within (hitLo w (h .entry)) (hitHi
 
 -- ---- commits
 
--- what a log commit brings: its log as it stands when the commit comes, how many rays it may change, and how many pairs its work buffer has room for
+-- what a log commit brings: its log as it stands when the commit comes, how many rays it may change, and how many
+-- pairs its work buffer has room for
 pub record Commit : Type 0 where
   pub log : List Float
   pub allowance : ℕ

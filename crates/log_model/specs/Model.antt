@@ -1,5 +1,5 @@
--- The causes of a log commit in document 01's order, and document 01's model of a list of log commits: it keeps two point sets per ray and the
--- generation, and is fed the first stock and the commits alone.
+-- The causes of a log commit in document 01's order, and document 01's model of a list of log commits: it keeps two
+-- point sets per ray and the generation, and is fed the first stock and the commits alone.
 use mathlib.Core.Path.{_≡_}
 use mathlib.Core.Bool.{Bool, false, not, _&&_}
 use mathlib.Core.List.{List, [], _∷_, List·Memᴰ}
@@ -133,7 +133,8 @@ unfolding AnswerDue modelStep
 ModelAnswers spec g b m [] [] = Unit {0}
 ModelAnswers spec g b m [] (a ∷ vs) = ⊥
 ModelAnswers spec g b m (c ∷ cs) [] = ⊥
-ModelAnswers spec g b m (c ∷ cs) (a ∷ vs) = AnswerDue spec g b ⊥ (m .sets) (m .generation) c a × ModelAnswers spec g b (modelStep g m c a) cs vs
+ModelAnswers spec g b m (c ∷ cs) (a ∷ vs) = AnswerDue spec g b ⊥ (m .sets) (m .generation) c a
+    × ModelAnswers spec g b (modelStep g m c a) cs vs
 
 -- the model after the list
 unfoldable pub modelAfter : (g : DexelGrid) → Model g → List Commit → List LogAnswer → Model g

@@ -26,7 +26,8 @@ Alike g ls ms = HitsIncluded g ls ms × HitsIncluded g ms ls
 -- what a run needs of the stores that are read as sound
 pub record SoundView (g : DexelGrid) (R : StoreView g) : Type 0 where
   pub sound-list : (s : R .Store) → R .Sound s → (r : Ray g) (k : Kind) → sound (R .lists s r k) ≡ true
-  pub within : (s : R .Store) → R .Sound s → (r : Ray g) (p : Float) → holds (R .lists s r Certain) p ≡ true → holds (R .lists s r Possible) p ≡ true
+  pub within : (s : R .Store) → R .Sound s → (r : Ray g) (p : Float) → holds (R .lists s r Certain) p ≡ true
+      → holds (R .lists s r Possible) p ≡ true
   pub all-pairs : (s : R .Store) → R .Sound s → R .intervals s ≡ pairTotal g (R .lists s)
 
 -- two stores with equal lists and interval totals
@@ -36,6 +37,8 @@ pub record StoresAgree (g : DexelGrid) (R : StoreView g) (t u : R .Store) : Type
 
 -- DEMAND 3, whole: of every run from a sound store, and of every two that are alike in the hits of their accepted logs
 pub record RunCorrect (spec : DexelStockSpec) (g : DexelGrid) (R : StoreView g) : Type 0 where
-  pub settles : (s t : R .Store) (cs : List Commit) (vs : List LogAnswer) → R .Sound s → Run spec g R s cs vs t → RunMeetsModel spec g R s cs vs t
-  pub agrees : (s t u : R .Store) (cs ds : List Commit) (vs ws : List LogAnswer) → R .Sound s → Run spec g R s cs vs t → Run spec g R s ds ws u
+  pub settles : (s t : R .Store) (cs : List Commit) (vs : List LogAnswer) → R .Sound s → Run spec g R s cs vs t
+      → RunMeetsModel spec g R s cs vs t
+  pub agrees : (s t u : R .Store) (cs ds : List Commit) (vs ws : List LogAnswer) → R .Sound s → Run spec g R s cs vs t
+      → Run spec g R s ds ws u
       → Alike g (acceptedLogs cs vs) (acceptedLogs ds ws) → StoresAgree g R t u

@@ -10,7 +10,20 @@ use Rattle.spans.specs.Spans.{All, Double, Point, holds, sound, equal, ListOf}
 use Rattle.grid.specs.declared.DexelStockSpec.{DexelStockSpec}
 use Rattle.grid.specs.declared.DexelGrid.{DexelGrid}
 use Rattle.log_model.specs.Logs.{outer, inner, InHit, entries, Commit}
-use Rattle.log_model.specs.Model.{Sets, setsAfter, pairTotal, Capacity, LogAnswer, changed, refused, AnswerDue, Model, ModelAnswers, modelAfter, acceptedLogs}
+use Rattle.log_model.specs.Model.{
+  Sets,
+  setsAfter,
+  pairTotal,
+  Capacity,
+  LogAnswer,
+  changed,
+  refused,
+  AnswerDue,
+  Model,
+  ModelAnswers,
+  modelAfter,
+  acceptedLogs,
+}
 use Rattle.grid.specs.Rays.{Ray}
 use Rattle.stock.specs.Stock.{Kind, Possible, Certain}
 
@@ -41,7 +54,8 @@ CommitEffect g R s c (refused k) t = t ≡ s
 CommitEffect g R s c (changed n) t = AcceptedEffect g R s c t
 
 -- ONE LOG COMMIT, from the store s to the store t with the answer a: what the entry's contract promises, whatever s is
-pub record CommitStep (spec : DexelStockSpec) (g : DexelGrid) (R : StoreView g) (s : R .Store) (c : Commit) (a : LogAnswer) (t : R .Store) : Type 0 where
+pub record CommitStep (spec : DexelStockSpec) (g : DexelGrid) (R : StoreView g) (s : R .Store) (c : Commit)
+    (a : LogAnswer) (t : R .Store) : Type 0 where
   pub answers : AnswerDue spec g (R .lent s) (¬ R .Sound s) (pointSets g R s) (R .generation s) c a
   pub leaves : CommitEffect g R s c a t
 
@@ -57,7 +71,8 @@ unfolding pointSets
 modelStart g R s = record { sets = pointSets g R s; generation = R .generation s }
 
 -- DEMAND 3, of a run from the sound store s with the commits cs and the answers vs to the store t
-pub record RunMeetsModel (spec : DexelStockSpec) (g : DexelGrid) (R : StoreView g) (s : R .Store) (cs : List Commit) (vs : List LogAnswer) (t : R .Store) : Type 0 where
+pub record RunMeetsModel (spec : DexelStockSpec) (g : DexelGrid) (R : StoreView g) (s : R .Store) (cs : List Commit)
+    (vs : List LogAnswer) (t : R .Store) : Type 0 where
   -- the answers, accepted and refused, are the model's, and the model has no others
   pub answers : ModelAnswers spec g (R .lent s) (modelStart g R s) cs vs
   pub no-others : (bs : List LogAnswer) → ModelAnswers spec g (R .lent s) (modelStart g R s) cs bs → bs ≡ vs

@@ -15,7 +15,9 @@ use Rattle.log_numbers.specs.Numbers.{numberCell, numberAt, largestNumbe
 
 -- a number comes back as it was put
 pub number-back : (k : ℕ) → k ≤ largestNumber → toBits binary64 (numberCell k) ≡ k
-number-back k h = toBits-ofBits binary64 k (in-range k h) (of-false (sym (nanBits-is binary64 k) ∙ nanBits-above binary64 k ∙ ap (ltb largestNumber) (mod-eq-of-lt (no-sign k h)) ∙ le-ltb largestNumber k h))
+number-back k h = toBits-ofBits binary64 k (in-range k h)
+    (of-false (sym (nanBits-is binary64 k) ∙ nanBits-above binary64 k
+    ∙ ap (ltb largestNumber) (mod-eq-of-lt (no-sign k h)) ∙ le-ltb largestNumber k h))
   where
     no-sign : (k : ℕ) → k ≤ 0x7ff0_0000_0000_0000 → k < 0x8000_0000_0000_0000
     no-sign k h = omega arith

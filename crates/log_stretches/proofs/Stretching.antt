@@ -100,14 +100,16 @@ module _ {low u front : Float} {hits cells : List Float} {h : HeldHits} (g : Gat
       only-front = λ x w. s .only-front x (both (le low x) (lt x front) (from x (and-left (le (h .end) x) (lt x front) w))
           (and-right (le (h .end) x) (lt x front) w));
       only-pairs = s .only-pairs;
-      all = λ x w. s .all x (both (le low x) (lt x u) (from x (and-left (le (h .end) x) (lt x u) w)) (and-right (le (h .end) x) (lt x u) w));
+      all = λ x w. s .all x (both (le low x) (lt x u) (from x (and-left (le (h .end) x) (lt x u) w))
+          (and-right (le (h .end) x) (lt x u) w));
     }
       where
         from : (x : Float) → le (h .end) x ≡ true → le low x ≡ true
         from x a = le-trans low (h .end) x (ends-above up) a
 
 -- the sound list that is made of it
-pub roomy-front : (cells after : List Float) (k m : ℕ) → WholePairs cells k → FilledFront (NormalOf (take k cells)) cells k after m → WholePairs after m
+pub roomy-front : (cells after : List Float) (k m : ℕ) → WholePairs cells k
+    → FilledFront (NormalOf (take k cells)) cells k after m → WholePairs after m
 roomy-front cells after k m r w = record {
   room = fit;
   whole = omega (arith, length-take-le m after fit, sound-mod (take m after) (w .list .list .isSound));

@@ -51,7 +51,9 @@ swapped l i j h k = record {
       ∙ put-length l i (getD l (2 * j) nan) (getD l (2 * j + 1) nan);
   pairs = elim (decLt i j) [
     | yes g ↦ rw (add-one (2 * i), add-one (2 * j)) (exchanged l (2 * i) (2 * j) (omega arith) (omega arith) (omega arith) (omega arith))
-    | no g ↦ subst (λ (m : ℕ). Rearranged l (put (put l m (getD l (2 * j) nan) (getD l (2 * j + 1) nan)) j (getD l (2 * m) nan) (getD l (2 * m + 1) nan))) (equal i j h g)
+    | no g ↦ subst (λ (m : ℕ). Rearranged l
+        (put (put l m (getD l (2 * j) nan) (getD l (2 * j + 1) nan)) j (getD l (2 * m) nan) (getD l (2 * m + 1) nan)))
+        (equal i j h g)
         (rw (add-one (2 * j), put-same l (2 * j) (omega arith), put-same l (2 * j) (omega arith)) same)
   ];
 }
@@ -85,7 +87,9 @@ pub aside-step : (l₀ : List Float) (k j : ℕ) (x y : Float) (l : List Float) 
 aside-step l₀ k j x y l pos h s = record {
   size = put-length l j (getD l (2 * j - 2) nan) (getD l (2 * j - 1) nan) ∙ s .size;
   most = omega (arith, s .most);
-  pairs = then {n = put (put l j (getD l (2 * j - 2) nan) (getD l (2 * j - 1) nan)) (j - 1) x y} (s .pairs) (rw (low j pos, high j pos, back j pos, last j pos, at j) (step-down l (2 * (j - 1)) x y (omega arith) (omega (arith, s .size, s .most))));
+  pairs = then {n = put (put l j (getD l (2 * j - 2) nan) (getD l (2 * j - 1) nan)) (j - 1) x y} (s .pairs)
+      (rw (low j pos, high j pos, back j pos, last j pos, at j)
+      (step-down l (2 * (j - 1)) x y (omega arith) (omega (arith, s .size, s .most))));
 }
   where
     low : (j : ℕ) → 0 < j → 2 * j - 2 ≡ 2 * (j - 1)

@@ -1,5 +1,6 @@
-// Pairs of doubles sorted in place by their first number. The contracts say that the pairs stay the same; the order is for speed only, since
-// what reads the pairs afterwards is right for every order. With a NaN among the first numbers any order comes out.
+// Pairs of doubles sorted in place by their first number. The contracts say that the pairs stay the same; the order
+// is for speed only, since what reads the pairs afterwards is right for every order. With a NaN among the first
+// numbers any order comes out.
 ghost use Prim.Native.Nat.{_+_, _*_, _/_, _≤_, _<_};
 ghost use lib.ListN.{length};
 ghost use Rattle.pair_moves.specs.Pairs.{SamePairs};

@@ -13,13 +13,15 @@ pub passes : (b r : Bool) → r ≡ b → not r ≡ false → b ≡ true
 passes b r e n = sym e ∙ not-false r n
 
 -- a comparison tells whether the inner list lies within the outer one
-pub covers-tells : (outer inner : List Float) (r : Bool) → Covers outer inner r → (r ≡ true → Within outer inner) × (Within outer inner → r ≡ true)
+pub covers-tells : (outer inner : List Float) (r : Bool) → Covers outer inner r
+    → (r ≡ true → Within outer inner) × (Within outer inner → r ≡ true)
 covers-tells outer inner true f = ((λ e. f), (λ w. refl))
 covers-tells outer inner false f = ((λ e. absurd (clash false e refl)), (λ w. absurd (clash (holds outer (f .0)) (w (f .0) (f .2)) (f .3))))
 
 module _ (lo hi : Float) (p q : List Float) where
   -- a test fails whose b a valid ray brings with it
-  fails : (b r : Bool) → r ≡ b → not r ≡ true → (ValidRay lo hi p q → b ≡ true) → (false ≡ true → ValidRay lo hi p q) × (ValidRay lo hi p q → false ≡ true)
+  fails : (b r : Bool) → r ≡ b → not r ≡ true → (ValidRay lo hi p q → b ≡ true) → (false ≡ true → ValidRay lo hi p q)
+      × (ValidRay lo hi p q → false ≡ true)
   fails b r e n f = ((λ t. absurd (clash false t refl)), (λ v. absurd (clash b (f v) (sym e ∙ not-true r n))))
 
   pub possible-unsound : (r : Bool) → r ≡ sound p → not r ≡ true → (false ≡ true → ValidRay lo hi p q) × (ValidRay lo hi p q → false ≡ true)
@@ -28,13 +30,16 @@ module _ (lo hi : Float) (p q : List Float) where
   pub certain-unsound : (r : Bool) → r ≡ sound q → not r ≡ true → (false ≡ true → ValidRay lo hi p q) × (ValidRay lo hi p q → false ≡ true)
   certain-unsound r e n = fails (sound q) r e n (λ v. v .certain-sound)
 
-  pub possible-out : (r : Bool) → r ≡ bounded lo hi p → not r ≡ true → (false ≡ true → ValidRay lo hi p q) × (ValidRay lo hi p q → false ≡ true)
+  pub possible-out : (r : Bool) → r ≡ bounded lo hi p → not r ≡ true → (false ≡ true → ValidRay lo hi p q)
+      × (ValidRay lo hi p q → false ≡ true)
   possible-out r e n = fails (bounded lo hi p) r e n (λ v. v .possible-bounded)
 
-  pub certain-out : (r : Bool) → r ≡ bounded lo hi q → not r ≡ true → (false ≡ true → ValidRay lo hi p q) × (ValidRay lo hi p q → false ≡ true)
+  pub certain-out : (r : Bool) → r ≡ bounded lo hi q → not r ≡ true → (false ≡ true → ValidRay lo hi p q)
+      × (ValidRay lo hi p q → false ≡ true)
   certain-out r e n = fails (bounded lo hi q) r e n (λ v. v .certain-bounded)
 
-  pub rest-tells : (r : Bool) → sound p ≡ true → sound q ≡ true → bounded lo hi p ≡ true → bounded lo hi q ≡ true → Covers p q r → (r ≡ true → ValidRay lo hi p q) × (ValidRay lo hi p q → r ≡ true)
+  pub rest-tells : (r : Bool) → sound p ≡ true → sound q ≡ true → bounded lo hi p ≡ true → bounded lo hi q ≡ true
+      → Covers p q r → (r ≡ true → ValidRay lo hi p q) × (ValidRay lo hi p q → r ≡ true)
   rest-tells r sp sq bp bq f = let t = covers-tells p q r f in (
     (λ e. record { possible-sound = sp; certain-sound = sq; possible-bounded = bp; certain-bounded = bq; inside = t .0 e }),
     (λ v. t .1 (v .inside)),

@@ -11,7 +11,28 @@ use lib.Dec.{leb, eqb}
 use lib.ListN.{length, getD, length-append}
 use lib.Ieee.{Float, binary64, ofBits}
 use Rattle.logic.proofs.Bools.{and-false, both}
-use Rattle.ray_input.specs.Format.{space, newline, letterB, letterP, letterC, letterO, letterI, isLetter, eachBelow, isNumber, bitsAt, isLine, lines, letterOf, count, pairAt, textPairs, few, total, readable}
+use Rattle.ray_input.specs.Format.{
+  space,
+  newline,
+  letterB,
+  letterP,
+  letterC,
+  letterO,
+  letterI,
+  isLetter,
+  eachBelow,
+  isNumber,
+  bitsAt,
+  isLine,
+  lines,
+  letterOf,
+  count,
+  pairAt,
+  textPairs,
+  few,
+  total,
+  readable,
+}
 
 module _ (test : ℕ → Bool) where
   pub each-none : eachBelow test 0 ≡ true
@@ -78,7 +99,12 @@ pub pairs-length : (c : ℕ) (s : List ℕ) (k : ℕ) → length (textPairs c s 
 unfolding textPairs count
 pairs-length c s zero = refl
 pairs-length c s (suc k) =
-    length-append (textPairs c s k) (pairAt c s (36 * k)) ∙ omega (arith, pairs-length c s k, two (eqb (letterOf s k) c) (ofBits binary64 (bitsAt s (36 * k + 2))) (ofBits binary64 (bitsAt s (36 * k + 19))))
+    length-append (textPairs c s k) (pairAt c s (36 * k))
+    ∙ omega (
+      arith,
+      pairs-length c s k,
+      two (eqb (letterOf s k) c) (ofBits binary64 (bitsAt s (36 * k + 2))) (ofBits binary64 (bitsAt s (36 * k + 19))),
+    )
   where
     two : (b : Bool) (x y : Float) → length (cond b (x ∷ y ∷ []) []) ≡ 2 * cond b 1 0
     two true x y = refl
@@ -117,7 +143,8 @@ module _ (s : List ℕ) (at : ℕ) where
   pub pair-miss : (c : ℕ) → (getD s at 0 ≡ c → ⊥) → [] ≡ pairAt c s at
   pair-miss c h = rw (ne-eqb _ _ h)
 
-  pub pair-hit : (c : ℕ) (lo hi : Float) → getD s at 0 ≡ c → lo ≡ ofBits binary64 (bitsAt s (at + 2)) → hi ≡ ofBits binary64 (bitsAt s (at + 19))
+  pub pair-hit : (c : ℕ) (lo hi : Float) → getD s at 0 ≡ c → lo ≡ ofBits binary64 (bitsAt s (at + 2))
+      → hi ≡ ofBits binary64 (bitsAt s (at + 19))
       → lo ∷ hi ∷ [] ≡ pairAt c s at
   pair-hit c lo hi h e f = rw (eq-eqb _ _ h, e, f)
 

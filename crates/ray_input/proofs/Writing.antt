@@ -20,7 +20,8 @@ module _ {A : Type 0} where
     split = p .whole ∙ sym (append-assoc (take at before) cells (drop r before))
 
     size : length (take at before ++ cells) ≡ r
-    size = length-append (take at before) cells ∙ ap (λ (n : ℕ). n + length cells) (length-take-le at before (omega (arith, p .next, p .room))) ∙ sym (p .next)
+    size = length-append (take at before) cells
+        ∙ ap (λ (n : ℕ). n + length cells) (length-take-le at before (omega (arith, p .next, p .room))) ∙ sym (p .next)
 
     -- what stands on either side of the place past the cells
     pub front : take r after ≡ take at before ++ cells
@@ -39,15 +40,18 @@ module _ {A : Type 0} where
       whole = g .whole
           ∙ ap (λ (l : List A). l ++ (more ++ drop q after)) front
           ∙ append-assoc (take at before) cells (more ++ drop q after)
-          ∙ ap (λ (l : List A). take at before ++ l) (sym (append-assoc cells more (drop q after)) ∙ ap (λ (l : List A). (cells ++ more) ++ l) past);
+          ∙ ap (λ (l : List A). take at before ++ l)
+          (sym (append-assoc cells more (drop q after)) ∙ ap (λ (l : List A). (cells ++ more) ++ l) past);
     }
       where
         past : drop q after ≡ drop q before
         past = rw (g .next, ← drop-drop (length more) r after, ← drop-drop (length more) r before, rest)
 
-  pub put-two : (before : List A) (at : ℕ) (x y : A) → at + 2 ≤ length before → Appended before at (x ∷ y ∷ []) (set (set before at x) (at + 1) y) (at + 2)
+  pub put-two : (before : List A) (at : ℕ) (x y : A) → at + 2 ≤ length before
+      → Appended before at (x ∷ y ∷ []) (set (set before at x) (at + 1) y) (at + 2)
   put-two before at x y h =
-      rw (two at) (put-then before at (x ∷ []) (set before at x) (at + 1) (put-one before at x (omega arith)) (y ∷ []) (set (set before at x) (at + 1) y) (at + 1 + 1)
+      rw (two at) (put-then before at (x ∷ []) (set before at x) (at + 1) (put-one before at x (omega arith)) (y ∷ [])
+      (set (set before at x) (at + 1) y) (at + 1 + 1)
       (put-one (set before at x) (at + 1) y (simp length-set (omega arith))))
     where
       two : (n : ℕ) → n + 2 ≡ n + 1 + 1

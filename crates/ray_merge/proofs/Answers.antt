@@ -15,7 +15,16 @@ use Rattle.spans.specs.Spans.{holds, Within}
 use Rattle.spans.specs.Rays.{ValidRay, MergedExactly}
 use Rattle.ray_subtract.specs.Subtract.{eitherHit, newCells, handedBack, ListAfterHits}
 use Rattle.ray_merge.specs.Merge.{MergePre, workPairs, MergePost}
-use Rattle.ray_subtract.specs.Steps.{cellsFrom, newList, MergeWithinPre, MergeWithinPost, PlacedAt, NormalizedAt, MergeInputs, MergeListsPost}
+use Rattle.ray_subtract.specs.Steps.{
+  cellsFrom,
+  newList,
+  MergeWithinPre,
+  MergeWithinPost,
+  PlacedAt,
+  NormalizedAt,
+  MergeInputs,
+  MergeListsPost,
+}
 use Rattle.spans.specs.Overlay.{lessOf}
 use Rattle.span_overlay.proofs.Less.{less-list}
 use Rattle.ray_subtract.specs.declared.MergedList.{MergedList}
@@ -29,7 +38,8 @@ use Rattle.ray_subtract.proofs.Sparing.{becomes-spared, less-both-list}
 module _ (possible certain outer inner w w₁ w₂ w₃ w₄ : List Float) (at no ni : ℕ) (given : MergeInputs possible certain outer inner w)
     (place : at ≡ length possible + length certain + length outer + 2 * length inner)
     (p : PlacedAt possible at w w₁) (c : PlacedAt certain (at + length possible) w₁ w₂)
-    (o : NormalizedAt outer (at + length possible + length certain) w₂ w₃ no) (i : NormalizedAt inner (at + length possible + length certain + no) w₃ w₄ ni) where
+    (o : NormalizedAt outer (at + length possible + length certain) w₂ w₃ no)
+    (i : NormalizedAt inner (at + length possible + length certain + no) w₃ w₄ ni) where
   room : at + length possible + length certain + length outer + length inner ≤ length w
   room = omega (arith, given .room)
 
@@ -44,13 +54,16 @@ module _ (possible certain outer inner w w₁ w₂ w₃ w₄ : List Float) (at n
   past-outer k n h = part-kept (at + length possible + length certain) k n w₂ w₃ h (omega (arith, sizes .1, room)) (o .size) (o .front)
 
   past-inner : (k n : ℕ) → k + n ≤ at + length possible + length certain + no → cellsFrom k n w₄ ≡ cellsFrom k n w₃
-  past-inner k n h = part-kept (at + length possible + length certain + no) k n w₃ w₄ h (omega (arith, sizes .2, room, o .most)) (i .size) (i .front)
+  past-inner k n h = part-kept (at + length possible + length certain + no) k n w₃ w₄ h
+      (omega (arith, sizes .2, room, o .most)) (i .size) (i .front)
 
   possible-at : cellsFrom at (length possible) w₄ ≡ possible
-  possible-at = past-inner at (length possible) (omega arith) ∙ past-outer at (length possible) (omega arith) ∙ past-certain at (length possible) (omega arith) ∙ p .cells
+  possible-at = past-inner at (length possible) (omega arith) ∙ past-outer at (length possible) (omega arith)
+      ∙ past-certain at (length possible) (omega arith) ∙ p .cells
 
   certain-at : cellsFrom (at + length possible) (length certain) w₄ ≡ certain
-  certain-at = past-inner (at + length possible) (length certain) (omega arith) ∙ past-outer (at + length possible) (length certain) (omega arith) ∙ c .cells
+  certain-at = past-inner (at + length possible) (length certain) (omega arith)
+      ∙ past-outer (at + length possible) (length certain) (omega arith) ∙ c .cells
 
   outer-at : cellsFrom (at + length possible + length certain) no w₄ ≡ cellsFrom (at + length possible + length certain) no w₃
   outer-at = past-inner (at + length possible + length certain) no (omega arith)
@@ -100,11 +113,18 @@ module _ (possible certain outer inner w w₁ w₂ w₃ w₄ : List Float) (at n
 module _ (w after : List Float) (n : ℕ) (fit : n ≤ length w) (cleared : after ≡ take n w ++ replicate (length w - n) plusZero) where
   same-size : length after ≡ length w
   same-size =
-      ap length cleared ∙ omega (arith, length-append (take n w) (replicate (length w - n) plusZero), length-take-le n w fit, length-replicate (length w - n) plusZero)
+      ap length cleared ∙ omega (
+        arith,
+        length-append (take n w) (replicate (length w - n) plusZero),
+        length-take-le n w fit,
+        length-replicate (length w - n) plusZero,
+      )
 
   same-front : (q : ℕ) → q < n → getD after q nan ≡ getD w q nan
   same-front q h =
-      ap (λ (l : List Float). getD l q nan) cleared ∙ List·getD-append (take n w) (replicate (length w - n) plusZero) nan q (omega (arith, length-take-le n w fit)) ∙ getD-take n w q nan h
+      ap (λ (l : List Float). getD l q nan) cleared
+      ∙ List·getD-append (take n w) (replicate (length w - n) plusZero) nan q
+      (omega (arith, length-take-le n w fit)) ∙ getD-take n w q nan h
 
   rest-zero : drop n after ≡ replicate (length after - n) plusZero
   rest-zero =
@@ -118,7 +138,8 @@ module _ (w after : List Float) (n : ℕ) (fit : n ≤ length w) (cleared : afte
       go true e =
           let cells : newCells r ≡ 2 * r .pairs = rw e in
           let inside : k + 2 * r .pairs ≤ n = omega arith in
-          ap (λ (b : Bool). cond b (cellsFrom k (2 * r .pairs) w) a) e ∙ sym (part-kept n k (2 * r .pairs) w after inside fit same-size same-front)
+          ap (λ (b : Bool). cond b (cellsFrom k (2 * r .pairs) w) a) e
+          ∙ sym (part-kept n k (2 * r .pairs) w after inside fit same-size same-front)
           ∙ handed-new r a after k e (omega (arith, same-size))
       go false e = ap (λ (b : Bool). cond b (cellsFrom k (2 * r .pairs) w) a) e ∙ handed-still r a after k e
 
@@ -132,7 +153,9 @@ module _ (lo hi : Float) (possible certain outer inner p′ c′ : List Float) (
   within-certain x h = and-left (holds certain x) (not (holds outer x || holds inner x)) (sym (t .list .points x) ∙ h)
 
   missed : (x : Float) → holds c′ x ≡ true → holds inner x ≡ false
-  missed x h = or-neither (holds outer x) (holds inner x) (not-true (holds outer x || holds inner x) (and-right (holds certain x) (not (holds outer x || holds inner x)) (sym (t .list .points x) ∙ h))) .1
+  missed x h = or-neither (holds outer x) (holds inner x)
+      (not-true (holds outer x || holds inner x)
+      (and-right (holds certain x) (not (holds outer x || holds inner x)) (sym (t .list .points x) ∙ h))) .1
 
   pub still-valid : ValidRay lo hi p′ c′
   still-valid = record {
@@ -140,12 +163,14 @@ module _ (lo hi : Float) (possible certain outer inner p′ c′ : List Float) (
     certain-sound = t .list .isSound;
     possible-bounded = bounded-within lo hi possible p′ (v .possible-bounded) (s .list .isSound) within-possible;
     certain-bounded = bounded-within lo hi certain c′ (v .certain-bounded) (t .list .isSound) within-certain;
-    inside = λ x h. s .list .points x ∙ both (holds possible x) (not (holds inner x)) (v .inside x (within-certain x h)) (ap not (missed x h));
+    inside = λ x h. s .list .points x
+        ∙ both (holds possible x) (not (holds inner x)) (v .inside x (within-certain x h)) (ap not (missed x h));
   }
 
 -- ---- the answers
 module _ (lo hi : Float) (possible certain outer inner before : List Float) where
-  pub refuse-short : length before / 2 < workPairs possible certain outer inner → MergePost lo hi possible certain outer inner before before (Refused 12)
+  pub refuse-short : length before / 2 < workPairs possible certain outer inner
+      → MergePost lo hi possible certain outer inner before before (Refused 12)
   unfolding Due
   refuse-short h = (inl (h, refl), refl)
 
@@ -154,8 +179,10 @@ module _ (lo hi : Float) (possible certain outer inner before : List Float) wher
   unfolding Due
   refuse-bad h k = (inr (h, inl (k, refl)), refl)
 
-  pub accept : (w after : List Float) (r : MergedLists) (n : ℕ) → ¬ (length before / 2 < workPairs possible certain outer inner) → MergePre lo hi possible certain outer inner
-      → MergeListsPost possible certain outer inner before w r → n ≡ newCells (r .possible) + newCells (r .certain) → after ≡ take n w ++ replicate (length w - n) plusZero
+  pub accept : (w after : List Float) (r : MergedLists) (n : ℕ)
+      → ¬ (length before / 2 < workPairs possible certain outer inner) → MergePre lo hi possible certain outer inner
+      → MergeListsPost possible certain outer inner before w r → n ≡ newCells (r .possible) + newCells (r .certain)
+      → after ≡ take n w ++ replicate (length w - n) plusZero
       → MergePost lo hi possible certain outer inner before after (Answered (r .possible) (r .certain))
   unfolding NoneDue
   accept w after r n h m l e cleared =

@@ -10,5 +10,6 @@ use Rattle.logic.proofs.Bools.{and-false}
 use Rattle.ray_subtract.specs.Subtract.{handedBack}
 use Rattle.ray_subtract.specs.declared.MergedList.{MergedList}
 
-pub handed-short : (p : MergedList) (before work : List Float) (at : ℕ) → length work < at + 2 * p .pairs → before ≡ handedBack p before work at
+pub handed-short : (p : MergedList) (before work : List Float) (at : ℕ) → length work < at + 2 * p .pairs
+    → before ≡ handedBack p before work at
 handed-short p before work at h = rw (lt-leb (at + 2 * p .pairs) (length work) h, and-false (p .moved) false refl)

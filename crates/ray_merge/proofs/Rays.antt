@@ -58,7 +58,8 @@ module _ (lo hi : Float) where
       let tail = bounded-within m l b (tail-sound x y l s) (λ p h. w p (or-right (within x y p) (holds l p) h)) in
       both (le lo x) (le x hi && (le lo y && (le y hi && bounded lo hi l))) (at-lo .0)
       (both (le x hi) (le lo y && (le y hi && bounded lo hi l)) (lt→le x hi (at-lo .1))
-      (both (le lo y) (le y hi && bounded lo hi l) (le-trans lo x y (at-lo .0) (lt→le x y up)) (both (le y hi) (bounded lo hi l) (below up (at-lo .1)) tail)))
+      (both (le lo y) (le y hi && bounded lo hi l) (le-trans lo x y (at-lo .0) (lt→le x y up))
+      (both (le y hi) (bounded lo hi l) (below up (at-lo .1)) tail)))
     where
       -- the upper bound is no point of the list
       below : lt x y ≡ true → lt x hi ≡ true → le y hi ≡ true

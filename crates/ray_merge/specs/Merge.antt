@@ -13,7 +13,8 @@ use Rattle.ray_subtract.specs.declared.MergedList.{MergedList}
 use Rattle.ray_merge.specs.declared.MergeAnswer.{MergeAnswer}
 use Rattle.ray_merge.specs.declared.MergeAnswer.the-variants.{Lists, Refused}
 
--- Both lists after the merge. New lists stand at the start of the work buffer, possible's before certain's, and the rest of it is plus zero.
+-- Both lists after the merge. New lists stand at the start of the work buffer, possible's before certain's, and the
+-- rest of it is plus zero.
 pub record MergeEffect (lo hi : Float) (possible certain outer inner : List Float) (p c : MergedList) (work : List Float) : Type 0 where
   pub room : newCells p + newCells c ≤ length work
   pub possibleLeft : ListAfterHits possible (holds inner) p (handedBack p possible work 0)

@@ -42,7 +42,8 @@ fn merge_lists(
     work: &mut [f64],
 ) -> MergedLists
     requires { ⌜ MergeInputs (now possible) (now certain) (now outer) (now inner) (now work) ⌝ }
-    ensures { λ r. ⌜ MergeListsPost (now (possible .entry)) (now (certain .entry)) (now (outer .entry)) (now (inner .entry)) (now (work .entry)) (now (work .exit)) r ⌝ }
+    ensures { λ r. ⌜ MergeListsPost (now (possible .entry)) (now (certain .entry)) (now (outer .entry))
+        (now (inner .entry)) (now (work .entry)) (now (work .exit)) r ⌝ }
 {
     let np = possible.len();
     let nc = certain.len();
@@ -57,10 +58,10 @@ fn merge_lists(
     ray_subtract::merge_within(work, at, np, nc, no, ni)
 }
 
-// Merges the hits into a ray: possible loses the points of the inner hits, certain those of the outer and the inner ones. Where no boundary
-// of a list moves, the caller's own list stays the ray's, otherwise the new one stands in the work buffer.
-// 12: the work buffer has fewer than 4 pairs per pair of the ray and 8 per hit pair. 11: a list has part of a pair over, or the ray is not valid
-// within its bounds.
+// Merges the hits into a ray: possible loses the points of the inner hits, certain those of the outer and the inner
+// ones. Where no boundary of a list moves, the caller's own list stays the ray's, otherwise the new one stands in the
+// work buffer. 12: the work buffer has fewer than 4 pairs per pair of the ray and 8 per hit pair. 11: a list has part
+// of a pair over, or the ray is not valid within its bounds.
 pub fn merge(
     possible: &[f64],
     certain: &[f64],

@@ -37,18 +37,21 @@ module _ (out₀ : List ℕ) (at v : ℕ) (fit : at + 16 ≤ length out₀) wher
   pub hex-start : Hexing out₀ at v 16 v out₀
   hex-start = record { most = omega arith; tail = []; spells = append-nil (hex 16 v); whole = sym (take-append-drop (at + 16) out₀) }
 
-  pub hex-step : (j rest : ℕ) (out : List ℕ) → Hexing out₀ at v (j + 1) rest out → Hexing out₀ at v j (rest / 16) (set out (at + j) (glyph (rest % 16)))
+  pub hex-step : (j rest : ℕ) (out : List ℕ) → Hexing out₀ at v (j + 1) rest out
+      → Hexing out₀ at v j (rest / 16) (set out (at + j) (glyph (rest % 16)))
   hex-step j rest out h =
       let g = glyph (rest % 16) in
       let past = h .tail ++ drop (at + 16) out₀ in
       let small : at + j < length out₀ = omega (arith, h .most) in
-      let front : take (at + (j + 1)) out₀ ≡ take (at + j) out₀ ++ (getD out₀ (at + j) 0 ∷ []) = rw (one at j) (take-suc out₀ (at + j) 0 small) in
+      let front : take (at + (j + 1)) out₀ ≡ take (at + j) out₀ ++ (getD out₀ (at + j) 0 ∷ []) =
+      rw (one at j) (take-suc out₀ (at + j) 0 small) in
       let split : out ≡ take (at + j) out₀ ++ (getD out₀ (at + j) 0 ∷ past) =
       h .whole ∙ ap (λ (l : List ℕ). l ++ past) front ∙ append-assoc (take (at + j) out₀) (getD out₀ (at + j) 0 ∷ []) past in
       record {
         most = omega (arith, h .most);
         tail = g ∷ h .tail;
-        spells = sym (append-assoc (hex j (rest / 16)) (g ∷ []) (h .tail)) ∙ ap (λ (l : List ℕ). l ++ h .tail) (sym (hex-more j rest)) ∙ h .spells;
+        spells = sym (append-assoc (hex j (rest / 16)) (g ∷ []) (h .tail))
+            ∙ ap (λ (l : List ℕ). l ++ h .tail) (sym (hex-more j rest)) ∙ h .spells;
         whole = ap (λ (l : List ℕ). set l (at + j) g) split
             ∙ set-at (take (at + j) out₀) (getD out₀ (at + j) 0) past g (at + j) (length-take-le (at + j) out₀ (omega arith));
       }
@@ -78,7 +81,8 @@ module _ (out₀ : List ℕ) (at v : ℕ) (fit : at + 16 ≤ length out₀) wher
     room = fit;
     whole = h .whole
         ∙ ap (λ (n : ℕ). take n out₀ ++ (h .tail ++ drop (at + 16) out₀)) (none at)
-        ∙ ap (λ (l : List ℕ). take at out₀ ++ (l ++ drop (at + 16) out₀)) (ap (λ (l : List ℕ). l ++ h .tail) (sym (hex-none rest)) ∙ h .spells);
+        ∙ ap (λ (l : List ℕ). take at out₀ ++ (l ++ drop (at + 16) out₀))
+        (ap (λ (l : List ℕ). l ++ h .tail) (sym (hex-none rest)) ∙ h .spells);
   }
     where
       none : (n : ℕ) → n + 0 ≡ n
@@ -91,7 +95,13 @@ field-length x = omega (arith, hex-length 16 (toBits binary64 x))
 pub line-length : (c : ℕ) (lo hi : Float) → length (lineText c lo hi) ≡ 36
 unfolding lineText
 line-length c lo hi =
-    omega (arith, length-append (fieldText lo) (fieldText hi ++ (newline ∷ [])), length-append (fieldText hi) (newline ∷ []), field-length lo, field-length hi)
+    omega (
+      arith,
+      length-append (fieldText lo) (fieldText hi ++ (newline ∷ [])),
+      length-append (fieldText hi) (newline ∷ []),
+      field-length lo,
+      field-length hi,
+    )
 
 pub lines-two : (c : ℕ) (l : List Float) (k : ℕ) → k % 2 ≡ 0 → suc k < length l
     → linesText c (take (suc (suc k)) l) ≡ linesText c (take k l) ++ lineText c (getD l k nan) (getD l (suc k) nan)
@@ -108,7 +118,8 @@ pub lines-length : (c : ℕ) (l : List Float) → length l % 2 ≡ 0 → length 
 unfolding linesText
 lines-length c [] e = refl
 lines-length c (x ∷ []) e = absurd (omega arith)
-lines-length c (x ∷ y ∷ l) e = length-append (lineText c x y) (linesText c l) ∙ omega (arith, line-length c x y, lines-length c l (omega arith))
+lines-length c (x ∷ y ∷ l) e = length-append (lineText c x y) (linesText c l)
+    ∙ omega (arith, line-length c x y, lines-length c l (omega arith))
 
 -- the lines of the first k ends stand
 pub record Lining (out₀ : List ℕ) (at c : ℕ) (list : List Float) (k : ℕ) (out : List ℕ) (n : ℕ) : Type 0 where
@@ -120,20 +131,26 @@ pub lining-start : (out : List ℕ) (at c : ℕ) (list : List Float) → at ≤ 
 unfolding linesText
 lining-start out at c list h = record { even = omega arith; most = omega arith; put = put-none out at h }
 
-pub lining-next : {out₀ : List ℕ} {at c : ℕ} {list : List Float} {k : ℕ} {out : List ℕ} {n : ℕ} → Lining out₀ at c list k out n → n ≡ at + 18 * k
+pub lining-next : {out₀ : List ℕ} {at c : ℕ} {list : List Float} {k : ℕ} {out : List ℕ} {n : ℕ}
+    → Lining out₀ at c list k out n → n ≡ at + 18 * k
 lining-next {out₀} {at} {c} {list} {k} {out} {n} l =
     let size : length (take k list) ≡ k = length-take-le k list (l .most) in
     l .put .next ∙ omega (arith, lines-length c (take k list) (rw size (l .even)), size)
 
-pub lining-size : {out₀ : List ℕ} {at c : ℕ} {list : List Float} {k : ℕ} {out : List ℕ} {n : ℕ} → Lining out₀ at c list k out n → length out ≡ length out₀
+pub lining-size : {out₀ : List ℕ} {at c : ℕ} {list : List Float} {k : ℕ} {out : List ℕ} {n : ℕ}
+    → Lining out₀ at c list k out n → length out ≡ length out₀
 lining-size {out₀} {at} {c} {list} {k} {out} {n} l = same-size out₀ at (linesText c (take k list)) out n (l .put)
 
-pub lining-step : (out₀ : List ℕ) (at c : ℕ) (list : List Float) (k : ℕ) (out : List ℕ) (n : ℕ) (out′ : List ℕ) (r : ℕ) → length list % 2 ≡ 0 → k < length list
-    → Lining out₀ at c list k out n → Appended out n (lineText c (getD list k nan) (getD list (k + 1) nan)) out′ r → Lining out₀ at c list (k + 2) out′ r
+pub lining-step : (out₀ : List ℕ) (at c : ℕ) (list : List Float) (k : ℕ) (out : List ℕ) (n : ℕ) (out′ : List ℕ)
+    (r : ℕ) → length list % 2 ≡ 0 → k < length list
+    → Lining out₀ at c list k out n → Appended out n (lineText c (getD list k nan) (getD list (k + 1) nan)) out′ r
+    → Lining out₀ at c list (k + 2) out′ r
 lining-step out₀ at c list k out n out′ r e h l p = record {
   even = omega (arith, l .even);
   most = omega (arith, l .even);
-  put = subst (λ (x : List ℕ). Appended out₀ at x out′ r) (sym two) (put-then out₀ at (linesText c (take k list)) out n (l .put) (lineText c (getD list k nan) (getD list (k + 1) nan)) out′ r p);
+  put = subst (λ (x : List ℕ). Appended out₀ at x out′ r) (sym two)
+      (put-then out₀ at (linesText c (take k list)) out n (l .put)
+      (lineText c (getD list k nan) (getD list (k + 1) nan)) out′ r p);
 }
   where
     more : (k : ℕ) → k + 2 ≡ suc (suc k)

@@ -1,4 +1,5 @@
--- The program's output, as document 01 defines it: the possible pairs, the certain pairs, then `changed` or `same`; a refusal prints its number only.
+-- The program's output, as document 01 defines it: the possible pairs, the certain pairs, then `changed` or `same`; a
+-- refusal prints its number only.
 use mathlib.Core.Bool.{Bool, true, false, cond}
 use mathlib.Core.List.{List, [], _∷_, _++_}
 use Prim.Native.Nat.{ℕ, zero, suc, _+_, _/_, _%_}

@@ -40,7 +40,8 @@ module _ (from to : ℕ) (before after : List Float) (b : ChangedBetween from to
   pub part-past : to ≤ at → cellsFrom at n after ≡ cellsFrom at n before
   part-past h = part-same at n before after fit (b .size) (λ q g k. b .past q (omega arith))
 
-pub lies-past : (from to : ℕ) (before after : List Float) → ChangedBetween from to before after → (at n : ℕ) → to ≤ at → SoundListAt at n before → SoundListAt at n after
+pub lies-past : (from to : ℕ) (before after : List Float) → ChangedBetween from to before after → (at n : ℕ) → to ≤ at
+    → SoundListAt at n before → SoundListAt at n after
 lies-past from to before after b at n h l = record {
   room = omega (arith, l .room, b .size);
   isSound = rw (part-past from to before after b at n (l .room) h) (l .isSound);
@@ -59,7 +60,8 @@ pub part-kept : (k at n : ℕ) (before after : List Float) → at + n ≤ k → 
 part-kept k at n before after h fit size same = part-same at n before after (omega arith) size (λ q g f. same q (omega arith))
 
 -- two changes, one after the other
-pub between-both : (t e u f from to : ℕ) (a b c : List Float) → ChangedBetween t e a b → ChangedBetween u f b c → from ≤ t → from ≤ u → e ≤ to → f ≤ to → ChangedBetween from to a c
+pub between-both : (t e u f from to : ℕ) (a b c : List Float) → ChangedBetween t e a b → ChangedBetween u f b c
+    → from ≤ t → from ≤ u → e ≤ to → f ≤ to → ChangedBetween from to a c
 between-both t e u f from to a b c x y ht hu he hf = record {
   size = y .size ∙ x .size;
   front = λ q h. y .front q (omega arith) ∙ x .front q (omega arith);
@@ -81,20 +83,24 @@ module _ (at : ℕ) (w ys : List Float) (fit : at ≤ length w) (size : length y
   back = putMid at (length w - at) w ys
 
   back-is : back ≡ take at w ++ ys
-  back-is = ap (λ (l : List Float). take at w ++ l) (ap (λ (l : List Float). ys ++ l) (drop-of-length-le (drop at w) {i = length w - at} (omega (arith, length-drop at w))) ∙ append-nil ys)
+  back-is = ap (λ (l : List Float). take at w ++ l)
+      (ap (λ (l : List Float). ys ++ l)
+      (drop-of-length-le (drop at w) {i = length w - at} (omega (arith, length-drop at w))) ∙ append-nil ys)
 
   pub tail-size : length back ≡ length w
   tail-size = ap length back-is ∙ omega (arith, length-append (take at w) ys, length-take-le at w fit, long)
 
   pub tail-front : (q : ℕ) → q < at → getD back q nan ≡ getD w q nan
   tail-front q h =
-      ap (λ (l : List Float). getD l q nan) back-is ∙ List·getD-append (take at w) ys nan q (omega (arith, length-take-le at w fit)) ∙ getD-take at w q nan h
+      ap (λ (l : List Float). getD l q nan) back-is
+      ∙ List·getD-append (take at w) ys nan q (omega (arith, length-take-le at w fit)) ∙ getD-take at w q nan h
 
   pub tail-drop : drop at back ≡ ys
   tail-drop = ap (drop at) back-is ∙ drop-at (take at w) ys at (length-take-le at w fit)
 
   tail-cell : (q : ℕ) → at ≤ q → getD back q nan ≡ getD ys (q - at) nan
-  tail-cell q h = ap (λ (k : ℕ). getD back k nan) (whole at q h) ∙ sym (getD-drop at back (q - at) nan) ∙ ap (λ (l : List Float). getD l (q - at) nan) tail-drop
+  tail-cell q h = ap (λ (k : ℕ). getD back k nan) (whole at q h) ∙ sym (getD-drop at back (q - at) nan)
+      ∙ ap (λ (l : List Float). getD l (q - at) nan) tail-drop
     where
       whole : (a q : ℕ) → a ≤ q → q ≡ a + (q - a)
       whole a q h = omega arith
@@ -106,7 +112,8 @@ module _ (at : ℕ) (w ys : List Float) (fit : at ≤ length w) (size : length y
       whole a q h = omega arith
 
   -- cells of the part that are as before, seen from the whole buffer
-  pub tail-past : (k : ℕ) → ((q : ℕ) → k ≤ q → getD ys q nan ≡ getD (drop at w) q nan) → (q : ℕ) → at + k ≤ q → getD back q nan ≡ getD w q nan
+  pub tail-past : (k : ℕ) → ((q : ℕ) → k ≤ q → getD ys q nan ≡ getD (drop at w) q nan) → (q : ℕ) → at + k ≤ q
+      → getD back q nan ≡ getD w q nan
   tail-past k same q h = tail-cell q (omega arith) ∙ same (q - at) (omega arith) ∙ sym (before-cell q (omega arith))
 
   pub placed : (s : List Float) → at + length s ≤ length w → CopyPost s (take (length w - at) (drop at w)) 0 ys → PlacedAt s at w back
@@ -123,7 +130,8 @@ module _ (at : ℕ) (w ys : List Float) (fit : at ≤ length w) (size : length y
       none : (q : ℕ) → q ≡ 0 + q
       none q = omega arith
 
-  pub normal : (s : List Float) (r : ℕ) → FilledFront (NormalOf s) (take (length w - at) (drop at w)) (length s) ys r → NormalizedAt s at w back r
+  pub normal : (s : List Float) (r : ℕ) → FilledFront (NormalOf s) (take (length w - at) (drop at w)) (length s) ys r
+      → NormalizedAt s at w back r
   normal s r f = record {
     size = tail-size;
     front = tail-front;
@@ -132,14 +140,16 @@ module _ (at : ℕ) (w ys : List Float) (fit : at ≤ length w) (size : length y
   }
 
   pub written-back : (a n b m r : ℕ) → at ≤ a → at ≤ b
-      → WrittenAt (lessOf (cellsFrom (a - at) n (take (length w - at) (drop at w))) (cellsFrom (b - at) m (take (length w - at) (drop at w)))) 0 (n + m) (n + m)
+      → WrittenAt (lessOf (cellsFrom (a - at) n (take (length w - at) (drop at w)))
+      (cellsFrom (b - at) m (take (length w - at) (drop at w)))) 0 (n + m) (n + m)
       (take (length w - at) (drop at w)) ys r
       → WrittenAt (lessOf (cellsFrom a n w) (cellsFrom b m w)) at (at + n + m) (n + m) w back r
   written-back a n b m r ha hb s = record {
     between = record {
       size = tail-size;
       front = tail-front;
-      past = λ q h. tail-past (n + m) (λ k g. s .between .past k (omega arith) ∙ ap (λ (l : List Float). getD l k nan) lent) q (omega arith);
+      past = λ q h. tail-past (n + m)
+          (λ k g. s .between .past k (omega arith) ∙ ap (λ (l : List Float). getD l k nan) lent) q (omega arith);
     };
     most = s .most;
     ends = rw (tail-drop, ← part-drop at a n w ha, ← part-drop at b m w hb, ← lent) (s .ends);

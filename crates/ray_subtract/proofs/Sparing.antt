@@ -14,7 +14,17 @@ use Rattle.spans.specs.Overlay.{lessOf}
 use Rattle.span_overlay.proofs.Less.{less-list, less-apart, less-moves}
 use Rattle.span_cover.specs.Cover.{Meets}
 use Rattle.ray_subtract.specs.Subtract.{eitherHit, newCells, ListAfterHits}
-use Rattle.ray_subtract.specs.Steps.{cellsFrom, SoundListAt, WrittenAt, lessHits, Becomes, newList, ReducePost, MergeWithinPre, MergeWithinPost}
+use Rattle.ray_subtract.specs.Steps.{
+  cellsFrom,
+  SoundListAt,
+  WrittenAt,
+  lessHits,
+  Becomes,
+  newList,
+  ReducePost,
+  MergeWithinPre,
+  MergeWithinPost,
+}
 use Rattle.ray_subtract.specs.declared.MergedList.{MergedList}
 use Rattle.ray_subtract.proofs.Places.{part-length, part-past, part-front, between-both, between-same, lies-past}
 
@@ -118,7 +128,8 @@ becomes-spared {a} left same b e = rw e (record {
 })
 
 -- less the outer hits, then less the inner ones
-module _ {w w₁ : List Float} {t c nc no ni m : ℕ} (to : ℕ) (in-c : SoundListAt c nc w) (in-o : SoundListAt (c + nc) no w) (in-i : SoundListAt (c + nc + no) ni w)
+module _ {w w₁ : List Float} {t c nc no ni m : ℕ} (to : ℕ) (in-c : SoundListAt c nc w)
+    (in-o : SoundListAt (c + nc) no w) (in-i : SoundListAt (c + nc + no) ni w)
     (apart : to + ni ≤ t) (room : t + nc + no ≤ c)
     (first : WrittenAt (lessOf (cellsFrom c nc w) (cellsFrom (c + nc) no w)) t (t + nc + no) (nc + no) w w₁ m) where
   inner-kept : cellsFrom (c + nc + no) ni w₁ ≡ cellsFrom (c + nc + no) ni w
@@ -156,7 +167,8 @@ list-kept r a to w w′ f = go (r .moved) refl
     go false e = rw e
 
 module _ {at np nc no ni : ℕ} {w w₁ : List Float} {p : MergedList} (ready : MergeWithinPre at np nc no ni w)
-    (first : ReducePost (cellsFrom at np w) (lessOf (cellsFrom at np w) (cellsFrom (at + np + nc + no) ni w)) 0 (np + ni) (np + ni) w w₁ p) where
+    (first : ReducePost (cellsFrom at np w) (lessOf (cellsFrom at np w) (cellsFrom (at + np + nc + no) ni w)) 0
+    (np + ni) (np + ni) w w₁ p) where
   still : (k n : ℕ) → at ≤ k → k + n ≤ length w → cellsFrom k n w₁ ≡ cellsFrom k n w
   still k n h fit = part-past 0 (np + ni) w w₁ (first .between) k n fit (omega (arith, ready .room))
 
@@ -175,7 +187,8 @@ module _ {at np nc no ni : ℕ} {w w₁ : List Float} {p : MergedList} (ready : 
       → ReducePost (cellsFrom (at + np) nc w₁) (lessHits (at + np) nc no ni w₁) used (np + 2 * ni + nc + no) (nc + no + ni) w₁ w₂ q
       → MergeWithinPost at np nc no ni w w₂ (record { possible = p; certain = q })
   merging {used} {w₂} {q} e last =
-      let second : ReducePost (cellsFrom (at + np) nc w) (lessHits (at + np) nc no ni w) used (np + 2 * ni + nc + no) (nc + no + ni) w₁ w₂ q =
+      let second : ReducePost (cellsFrom (at + np) nc w) (lessHits (at + np) nc no ni w) used (np + 2 * ni + nc + no)
+      (nc + no + ni) w₁ w₂ q =
       rw (
         still (at + np) nc (omega arith) (ready .certain .room),
         still (at + np + nc) no (omega arith) (ready .outer .room),

@@ -12,7 +12,18 @@ use Rattle.spans.specs.declared.Place.{Place}
 use Rattle.spans.proofs.Sets.{sound-mod}
 use Rattle.spans.specs.Overlay.{higherOf, lessOf}
 use Rattle.span_overlay.specs.Steps.{OverlayCutPre as CutReady}
-use Rattle.span_overlay.proofs.Cutting.{Cutting, cut-start, cut-last, cut-end, cut-step, Lessening, less-start, less-ready, less-step, less-done}
+use Rattle.span_overlay.proofs.Cutting.{
+  Cutting,
+  cut-start,
+  cut-last,
+  cut-end,
+  cut-step,
+  Lessening,
+  less-start,
+  less-ready,
+  less-step,
+  less-done,
+}
 use Rattle.ray_subtract.specs.Steps.{cellsFrom, SoundListAt, CutAt, WrittenAt}
 use Rattle.ray_subtract.proofs.Places.{part-length, part-cell}
 
@@ -149,11 +160,13 @@ module _ {w₀ : List Float} {a n b m : ℕ} (la : SoundListAt a n w₀) (lb : S
       rest-is =
           let fits : b + j + (m - j) ≤ length w = omega (arith, subtracting-size, subtracting-most, lb .room) in
           let long : length (cellsFrom (b + j) (m - j) w) ≡ m - j = part-length (b + j) (m - j) w fits in
-          ext-getD nan (cellsFrom (b + j) (m - j) w) (drop j (cellsFrom b m w₀)) (omega (arith, long, length-drop j (cellsFrom b m w₀), second-size))
+          ext-getD nan (cellsFrom (b + j) (m - j) w) (drop j (cellsFrom b m w₀))
+          (omega (arith, long, length-drop j (cellsFrom b m w₀), second-size))
           (λ q h.
           let small : q < m - j = omega (arith, long) in
           part-cell (b + j) (m - j) w q small ∙ s .past (b + j + q) (omega (arith, s .less .iMost, first-size))
-          ∙ ap (λ (k : ℕ). getD w₀ k nan) (assoc b j q) ∙ sym (part-cell b m w₀ (j + q) (omega arith)) ∙ sym (getD-drop j (cellsFrom b m w₀) q nan))
+          ∙ ap (λ (k : ℕ). getD w₀ k nan) (assoc b j q) ∙ sym (part-cell b m w₀ (j + q) (omega arith))
+          ∙ sym (getD-drop j (cellsFrom b m w₀) q nan))
         where
           assoc : (b j q : ℕ) → b + j + q ≡ b + (j + q)
           assoc b j q = omega arith

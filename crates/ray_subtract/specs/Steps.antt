@@ -73,9 +73,11 @@ pub record MergeWithinPre (at np nc no ni : ℕ) (w : List Float) : Type 0 where
 pub record MergeWithinPost (at np nc no ni : ℕ) (before after : List Float) (r : MergedLists) : Type 0 where
   pub between : ChangedBetween 0 at before after
   pub room : newCells (r .possible) + newCells (r .certain) ≤ at
-  pub possibleIs : newList (r .possible) (cellsFrom at np before) 0 after ≡ lessOf (cellsFrom at np before) (cellsFrom (at + np + nc + no) ni before)
+  pub possibleIs : newList (r .possible) (cellsFrom at np before) 0 after
+      ≡ lessOf (cellsFrom at np before) (cellsFrom (at + np + nc + no) ni before)
   pub certainIs : newList (r .certain) (cellsFrom (at + np) nc before) (newCells (r .possible)) after ≡ lessHits (at + np) nc no ni before
-  pub possibleBecomes : Becomes (cellsFrom at np before) (lessOf (cellsFrom at np before) (cellsFrom (at + np + nc + no) ni before)) (r .possible)
+  pub possibleBecomes : Becomes (cellsFrom at np before)
+      (lessOf (cellsFrom at np before) (cellsFrom (at + np + nc + no) ni before)) (r .possible)
   pub certainBecomes : Becomes (cellsFrom (at + np) nc before) (lessHits (at + np) nc no ni before) (r .certain)
 
 -- the list stands at `at`, and the cells in front of it are as before

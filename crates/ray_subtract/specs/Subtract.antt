@@ -19,7 +19,8 @@ newCells part = cond (part .moved) (2 * part .pairs) 0
 
 -- the list that is handed back: the new one, from cell `at` of the work buffer on, or the caller's own
 abbrev pub handedBack : MergedList → List Float → List Float → ℕ → List Float
-handedBack part before work at = cond (part .moved && leb (at + 2 * part .pairs) (length work)) (take (2 * part .pairs) (drop at work)) before
+handedBack part before work at =
+    cond (part .moved && leb (at + 2 * part .pairs) (length work)) (take (2 * part .pairs) (drop at work)) before
 
 -- a list and what becomes of it: whether a boundary of it moved, which points are left, and how many pairs
 pub record ListAfterHits (before : List Float) (hit : Float → Bool) (part : MergedList) (after : List Float) : Type 0 where

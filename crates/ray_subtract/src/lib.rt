@@ -24,7 +24,8 @@ pub struct MergedLists {
 // Whether the list of n cells at a shares a point with that of m cells at b, and so loses it where the second is taken away.
 pub fn share_point(w: &[f64], a: usize, n: usize, b: usize, m: usize) -> bool
     requires { ⌜ SoundListAt a n (now w) × SoundListAt b m (now w) ⌝ }
-    ensures { λ r. ⌜ r ≡ not (equal (cellsFrom a n (now (w .entry))) (lessOf (cellsFrom a n (now (w .entry))) (cellsFrom b m (now (w .entry))))) ⌝ }
+    ensures { λ r. ⌜ r ≡ not (equal (cellsFrom a n (now (w .entry)))
+        (lessOf (cellsFrom a n (now (w .entry))) (cellsFrom b m (now (w .entry))))) ⌝ }
 {
     let e = a + n;
     let f = b + m;
@@ -99,7 +100,8 @@ pub fn cells(p: MergedList) -> usize
 // Possible less the inner hits.
 fn take_inner(w: &mut [f64], a: usize, n: usize, b: usize, m: usize) -> MergedList
     requires { ⌜ SoundListAt a n (now w) × SoundListAt b m (now w) × (m ≤ a) × (n ≤ b) ⌝ }
-    ensures { λ r. ⌜ ReducePost (cellsFrom a n (now (w .entry))) (lessOf (cellsFrom a n (now (w .entry))) (cellsFrom b m (now (w .entry)))) 0 (n + m) (n + m)
+    ensures { λ r. ⌜ ReducePost (cellsFrom a n (now (w .entry)))
+        (lessOf (cellsFrom a n (now (w .entry))) (cellsFrom b m (now (w .entry)))) 0 (n + m) (n + m)
         (now (w .entry)) (now (w .exit)) r ⌝ }
 {
     if !share_point(w, a, n, b, m) {
@@ -127,7 +129,8 @@ pub fn is_hit(w: &[f64], c: usize, nc: usize, no: usize, ni: usize) -> bool
     share_point(w, c, nc, o + no, ni)
 }
 
-// Writes certain, nc cells at c, less the outer and the inner hits behind it to cell `to`; certain less the outer ones stands at cell t on the way.
+// Writes certain, nc cells at c, less the outer and the inner hits behind it to cell `to`; certain less the outer
+// ones stands at cell t on the way.
 pub fn subtract_both(
     w: &mut [f64],
     to: usize,
@@ -137,7 +140,8 @@ pub fn subtract_both(
     no: usize,
     ni: usize,
 ) -> usize
-    requires { ⌜ SoundListAt c nc (now w) × SoundListAt (c + nc) no (now w) × SoundListAt (c + nc + no) ni (now w) × (to + ni ≤ t) × (t + nc + no ≤ c) ⌝ }
+    requires { ⌜ SoundListAt c nc (now w) × SoundListAt (c + nc) no (now w) × SoundListAt (c + nc + no) ni (now w)
+        × (to + ni ≤ t) × (t + nc + no ≤ c) ⌝ }
     ensures { λ r. ⌜ WrittenAt (lessHits c nc no ni (now (w .entry))) to (t + nc + no) (nc + no + ni) (now (w .entry)) (now (w .exit)) r ⌝ }
 {
     let o = c + nc;
@@ -156,7 +160,8 @@ fn take_both(
     no: usize,
     ni: usize,
 ) -> MergedList
-    requires { ⌜ SoundListAt c nc (now w) × SoundListAt (c + nc) no (now w) × SoundListAt (c + nc + no) ni (now w) × (to + ni ≤ t) × (t + nc + no ≤ c) ⌝ }
+    requires { ⌜ SoundListAt c nc (now w) × SoundListAt (c + nc) no (now w) × SoundListAt (c + nc + no) ni (now w)
+        × (to + ni ≤ t) × (t + nc + no ≤ c) ⌝ }
     ensures { λ r. ⌜ ReducePost (cellsFrom c nc (now (w .entry))) (lessHits c nc no ni (now (w .entry))) to (t + nc + no) (nc + no + ni)
         (now (w .entry)) (now (w .exit)) r ⌝ }
 {

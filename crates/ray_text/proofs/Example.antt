@@ -19,7 +19,19 @@ use Rattle.spans.specs.Rays.{bounded, ValidRay}
 use Rattle.ray_input.specs.Format.{eachBelow, isLine, count, few, textPairs, readable}
 use Rattle.ray_input.specs.Steps.{Appended}
 use Rattle.ray_output.specs.Output.{hex, lineText, linesText, endText, answerText}
-use Rattle.ray_text.specs.Run.{boundLo, boundHi, textPossible, textCertain, textOuter, textInner, runCauses, Written, Result, refused, written}
+use Rattle.ray_text.specs.Run.{
+  boundLo,
+  boundHi,
+  textPossible,
+  textCertain,
+  textOuter,
+  textInner,
+  runCauses,
+  Written,
+  Result,
+  refused,
+  written,
+}
 use Rattle.ray_text.specs.Example.{exampleInput, exampleOutput, ExamplePrinted}
 
 -- ---- a sound list is normalised to itself
@@ -155,7 +167,8 @@ module _ (text : List ℕ) where
       let m : w .p ≡ true = w .possibleLeft .moves ∙ ap₂ (λ (a b : List Float). not (equal a b)) possible-input p ∙ possible-moves in
       w .printed ∙ rw (p, c, m) printed-text
 
-  result-text : Result (runCauses exampleInput) (boundLo exampleInput) (boundHi exampleInput) (textPossible exampleInput) (textCertain exampleInput)
+  result-text : Result (runCauses exampleInput) (boundLo exampleInput) (boundHi exampleInput)
+      (textPossible exampleInput) (textCertain exampleInput)
       (textOuter exampleInput) (textInner exampleInput) text → text ≡ exampleOutput
   result-text (refused k d e) = absurd (not-refused k d)
   result-text (written n w) = written-text w

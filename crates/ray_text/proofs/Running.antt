@@ -16,7 +16,22 @@ use Rattle.ray_merge.specs.Merge.{MergeEffect, mergeCauses}
 use Rattle.ray_subtract.specs.declared.MergedList.{MergedList}
 use Rattle.ray_input.specs.Format.{letterB, letterP, letterC, letterO, letterI, lines, letterOf, count, textPairs, few, total, readable}
 use Rattle.ray_output.specs.Output.{linesText, endText, refusedText}
-use Rattle.ray_text.specs.Run.{boundLo, boundHi, textPossible, textCertain, textOuter, textInner, rayCauses, runCauses, Result, refused, written, Printed, ProgramRan, Small}
+use Rattle.ray_text.specs.Run.{
+  boundLo,
+  boundHi,
+  textPossible,
+  textCertain,
+  textOuter,
+  textInner,
+  rayCauses,
+  runCauses,
+  Result,
+  refused,
+  written,
+  Printed,
+  ProgramRan,
+  Small,
+}
 use Rattle.ray_input.specs.Steps.{Appended}
 use Rattle.logic.proofs.Bools.{and-left, and-right}
 use Rattle.ray_input.proofs.Reading.{pairs-length}
@@ -65,10 +80,12 @@ module _ (before cells after : List Float) (r : ℕ) (p : Appended before 0 cell
   pub collected-size : r ≡ length (take r after)
   collected-size = p .next ∙ omega (arith, ap length collected)
 
-small-list : (c : ℕ) (s : List ℕ) → count c s (total s) ≤ 64 → (length (textPairs c s (total s)) % 2 ≡ 0) × (length (textPairs c s (total s)) ≤ 128)
+small-list : (c : ℕ) (s : List ℕ) → count c s (total s) ≤ 64 → (length (textPairs c s (total s)) % 2 ≡ 0)
+    × (length (textPairs c s (total s)) ≤ 128)
 small-list c s h = (omega (arith, pairs-length c s (total s)), omega (arith, pairs-length c s (total s)))
 
-pub small : (s : List ℕ) → Reads s → (p c o i : List Float) → p ≡ textPossible s → c ≡ textCertain s → o ≡ textOuter s → i ≡ textInner s → Small p c o i
+pub small : (s : List ℕ) → Reads s → (p c o i : List Float) → p ≡ textPossible s → c ≡ textCertain s → o ≡ textOuter s
+    → i ≡ textInner s → Small p c o i
 small s r p c o i ep ec eo ei = rw (ep, ec, eo, ei) record {
   outerWhole = small-list letterO s (r .outerFew) .0;
   innerWhole = small-list letterI s (r .innerFew) .0;
@@ -92,23 +109,27 @@ module _ (lo hi : Float) (possible certain outer inner : List Float) (few· : Sm
   none-due-ray n = ((λ v. n .1 .0 (λ m. v (m .ray))), tt)
 
   -- how long the lists are
-  list-most : (p : MergedList) (a : List Float) (w : List Float) (k : ℕ) (hit : Float → Bool) → length a ≤ 128 → ListAfterHits a hit p (handedBack p a w k) → length (handedBack p a w k) ≤ newCells p + 128
+  list-most : (p : MergedList) (a : List Float) (w : List Float) (k : ℕ) (hit : Float → Bool) → length a ≤ 128
+      → ListAfterHits a hit p (handedBack p a w k) → length (handedBack p a w k) ≤ newCells p + 128
   list-most p a w k hit h s = go (p .moved) refl
     where
       go : (b : Bool) → p .moved ≡ b → length (handedBack p a w k) ≤ newCells p + 128
       go true e = let cells : newCells p ≡ 2 * p .pairs = rw e in omega (arith, s .pairs)
       go false e =
-          let same : handedBack p a w k ≡ a = ap (λ (b : Bool). cond (b && leb (k + 2 * p .pairs) (length w)) (take (2 * p .pairs) (drop k w)) a) e in
+          let same : handedBack p a w k ≡ a =
+          ap (λ (b : Bool). cond (b && leb (k + 2 * p .pairs) (length w)) (take (2 * p .pairs) (drop k w)) a) e in
           omega (arith, ap length same)
 
-  module _ (p c : MergedList) (work : List Float) (size : length work ≡ 3072) (left : MergeEffect lo hi possible certain outer inner p c work) where
+  module _ (p c : MergedList) (work : List Float) (size : length work ≡ 3072)
+      (left : MergeEffect lo hi possible certain outer inner p c work) where
     abbrev possibleNew : List Float
     possibleNew = handedBack p possible work 0
 
     abbrev certainNew : List Float
     certainNew = handedBack c certain work (newCells p)
 
-    pub even-lists : (length possibleNew % 2 ≡ 0) × (length certainNew % 2 ≡ 0) × (18 * length possibleNew + 18 * length certainNew + 8 ≤ 65536)
+    pub even-lists : (length possibleNew % 2 ≡ 0) × (length certainNew % 2 ≡ 0)
+        × (18 * length possibleNew + 18 * length certainNew + 8 ≤ 65536)
     even-lists = (
       omega (arith, left .possibleLeft .pairs),
       omega (arith, left .certainLeft .pairs),
@@ -120,14 +141,16 @@ module _ (lo hi : Float) (possible certain outer inner : List Float) (few· : Sm
       ),
     )
 
-    pub lines-long : (length (linesText letterP possibleNew) ≡ 18 * length possibleNew) × (length (linesText letterC certainNew) ≡ 18 * length certainNew)
+    pub lines-long : (length (linesText letterP possibleNew) ≡ 18 * length possibleNew)
+        × (length (linesText letterC certainNew) ≡ 18 * length certainNew)
     lines-long = (lines-length letterP possibleNew (even-lists .0), lines-length letterC certainNew (even-lists .1))
 
     kept : (q : MergedList) (a : List Float) (w : List Float) (k : ℕ) → q .moved ≡ false → handedBack q a w k ≡ a
     kept q a w k e = ap (λ (b : Bool). cond (b && leb (k + 2 * q .pairs) (length w)) (take (2 * q .pairs) (drop k w)) a) e
 
     pub writes : (out out₁ out₂ out₃ : List ℕ) (n m r : ℕ) → NoneDue (mergeCauses lo hi possible certain outer inner 3072)
-        → Appended out 0 (linesText letterP possibleNew) out₁ n → Appended out₁ n (linesText letterC certainNew) out₂ m → Appended out₂ m (endText (p .moved || c .moved)) out₃ r
+        → Appended out 0 (linesText letterP possibleNew) out₁ n
+        → Appended out₁ n (linesText letterC certainNew) out₂ m → Appended out₂ m (endText (p .moved || c .moved)) out₃ r
         → Printed (rayCauses lo hi possible certain) lo hi possible certain outer inner out out₃ r
     writes out out₁ out₂ out₃ n m r none a b e = record {
       text = linesText letterP possibleNew ++ (linesText letterC certainNew ++ endText (p .moved || c .moved));
@@ -146,7 +169,8 @@ module _ (lo hi : Float) (possible certain outer inner : List Float) (few· : Sm
           (put-then out₁ n (linesText letterC certainNew) out₂ m b (endText (p .moved || c .moved)) out₃ r e);
     }
 
-  pub refuses : (out after : List ℕ) (r k : ℕ) → Due (mergeCauses lo hi possible certain outer inner 3072) k → Appended out 0 (refusedText k) after r
+  pub refuses : (out after : List ℕ) (r k : ℕ) → Due (mergeCauses lo hi possible certain outer inner 3072) k
+      → Appended out 0 (refusedText k) after r
       → Printed (rayCauses lo hi possible certain) lo hi possible certain outer inner out after r
   refuses out after r k d a = record { text = refusedText k; result = refused k (due-ray k d .1) refl; put = a }
 
@@ -157,14 +181,16 @@ module _ (s out after : List ℕ) (r : ℕ) where
   run-refused h a = record { text = refusedText 18; result = refused 18 (inl (h, refl)) refl; put = a }
 
   pub run-merged : readable s ≡ true
-      → Printed (rayCauses (boundLo s) (boundHi s) (textPossible s) (textCertain s)) (boundLo s) (boundHi s) (textPossible s) (textCertain s) (textOuter s) (textInner s) out after r → ProgramRan s out after r
+      → Printed (rayCauses (boundLo s) (boundHi s) (textPossible s) (textCertain s)) (boundLo s) (boundHi s)
+      (textPossible s) (textCertain s) (textOuter s) (textInner s) out after r → ProgramRan s out after r
   unfolding Due NoneDue
   run-merged h p = record { text = p .text; result = later (p .result); put = p .put }
     where
       readable· : ¬ (readable s ≡ false)
       readable· k = true≢false (sym h ∙ k)
 
-      later : Result (rayCauses (boundLo s) (boundHi s) (textPossible s) (textCertain s)) (boundLo s) (boundHi s) (textPossible s) (textCertain s) (textOuter s) (textInner s) (p .text)
+      later : Result (rayCauses (boundLo s) (boundHi s) (textPossible s) (textCertain s)) (boundLo s) (boundHi s)
+          (textPossible s) (textCertain s) (textOuter s) (textInner s) (p .text)
           → Result (runCauses s) (boundLo s) (boundHi s) (textPossible s) (textCertain s) (textOuter s) (textInner s) (p .text)
       later (refused k d e) = refused k (inr (readable·, d)) e
       later (written n w) = written (readable·, n) w

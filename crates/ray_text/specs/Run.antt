@@ -63,13 +63,15 @@ pub data Result (causes : List Cause) (lo hi : Float) (possible certain outer in
   written : NoneDue causes → Written lo hi possible certain outer inner text → Result causes lo hi possible certain outer inner text
 
 -- the text stands at the front of the buffer, r bytes long, and the other bytes are as before
-pub record Printed (causes : List Cause) (lo hi : Float) (possible certain outer inner : List Float) (before after : List ℕ) (r : ℕ) : Type 0 where
+pub record Printed (causes : List Cause) (lo hi : Float) (possible certain outer inner : List Float)
+    (before after : List ℕ) (r : ℕ) : Type 0 where
   pub text : List ℕ
   pub result : Result causes lo hi possible certain outer inner text
   pub put : Appended before 0 text after r
 
 abbrev pub ProgramRan : List ℕ → List ℕ → List ℕ → ℕ → Type 0
-ProgramRan s before after r = Printed (runCauses s) (boundLo s) (boundHi s) (textPossible s) (textCertain s) (textOuter s) (textInner s) before after r
+ProgramRan s before after r = Printed (runCauses s) (boundLo s) (boundHi s) (textPossible s) (textCertain s)
+    (textOuter s) (textInner s) before after r
 
 -- what is asked of the lists that are merged and printed: whole pairs of hits, and as many as the buffers hold
 pub record Small (possible certain outer inner : List Float) : Type 0 where

@@ -18,7 +18,8 @@ fn print_merged(
     out: &mut [u8],
 ) -> usize
     requires { ⌜ Small (now possible) (now certain) (now outer) (now inner) × (65536 ≤ length (now out)) ⌝ }
-    ensures { λ r. ⌜ Printed (rayCauses lo hi (now (possible .entry)) (now (certain .entry))) lo hi (now (possible .entry)) (now (certain .entry))
+    ensures { λ r. ⌜ Printed (rayCauses lo hi (now (possible .entry)) (now (certain .entry))) lo hi
+        (now (possible .entry)) (now (certain .entry))
         (now (outer .entry)) (now (inner .entry)) (now (out .entry)) (now (out .exit)) r ⌝ }
 {
     let mut work = [0.0; 3072];

@@ -1,8 +1,8 @@
 // Holds the program on slices to stored answers, read from standard input.
 //
-// A case is a head of ten bytes, the input and the output that it must give. The head has the two lengths in four hexadecimal digits each, with a
-// space between them and a newline behind. It writes how many cases agree and differ, how many can't be read, and the
-// number of the first that differs.
+// A case is a head of ten bytes, the input and the output that it must give. The head has the two lengths in four
+// hexadecimal digits each, with a space between them and a newline behind. It writes how many cases agree and differ,
+// how many can't be read, and the number of the first that differs.
 use vector_rows::RowCounts;
 use vector_rows::RowOutcome;
 

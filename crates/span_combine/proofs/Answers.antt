@@ -20,7 +20,8 @@ use Rattle.spans.proofs.Sets.{sound-mod}
 use Rattle.span_combine.specs.Steps.{CombineCheckPost}
 
 -- no cause: both lists are sound, and there is room for both
-pub good-lists : (a b : List Float) (room : ℕ) → NoneDue (combineCauses a b room) → (sound a ≡ true) × (sound b ≡ true) × (length a + length b ≤ room)
+pub good-lists : (a b : List Float) (room : ℕ) → NoneDue (combineCauses a b room)
+    → (sound a ≡ true) × (sound b ≡ true) × (length a + length b ≤ room)
 unfolding NoneDue
 good-lists a b room h =
     let sa : sound a ≡ true = elim (by-cases (sound a)) [ inl k ↦ k | inr k ↦ absurd (h .1 .0 (rw k)) ] in

@@ -56,7 +56,8 @@ module _ (a b : List Float) (da : (i : ℕ) → Double (getD a i nan)) (db : (i 
   unfolding holds
   held-number [] p h = absurd (false≢true h)
   held-number (x ∷ []) p h = absurd (false≢true h)
-  held-number (x ∷ y ∷ l) p h = elim (or-cases (within x y p) (holds l p) h) [ inl w ↦ le-number x p (and-left (le x p) (lt p y) w) .1 | inr w ↦ held-number l p w ]
+  held-number (x ∷ y ∷ l) p h = elim (or-cases (within x y p) (holds l p) h)
+      [ inl w ↦ le-number x p (and-left (le x p) (lt p y) w) .1 | inr w ↦ held-number l p w ]
 
   pub contains-by : (r : Bool) → Covers a b r → Contains a b r
   contains-by true f = f

@@ -11,7 +11,8 @@ pub enum BoolAnswer {
 
 // Whether each point of inner is in outer. 11: a list is not sound.
 pub fn contains(outer: &[f64], inner: &[f64]) -> BoolAnswer
-    ensures { λ r. ⌜ ComparePost (compareCauses (now (outer .entry)) (now (inner .entry))) (Contains (now (outer .entry)) (now (inner .entry))) r ⌝ }
+    ensures { λ r. ⌜ ComparePost (compareCauses (now (outer .entry)) (now (inner .entry)))
+        (Contains (now (outer .entry)) (now (inner .entry))) r ⌝ }
 {
     if !is_sound(outer) {
         return BoolAnswer::Refused(11);

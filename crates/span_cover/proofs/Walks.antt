@@ -56,7 +56,8 @@ cover-start outer inner = record {
 pub cover-done : (outer inner : List Float) (k j : ℕ) → Covering outer inner k j → length inner ≤ k → Within outer inner
 cover-done outer inner k j s h p g = s .within-outer p (ap (λ (l : List Float). holds l p) (take-all k inner h) ∙ g)
 
-module _ (outer inner : List Float) (k j : ℕ) (so : sound outer ≡ true) (si : sound inner ≡ true) (s : Covering outer inner k j) (h : k < length inner) where
+module _ (outer inner : List Float) (k j : ℕ) (so : sound outer ≡ true) (si : sound inner ≡ true)
+    (s : Covering outer inner k j) (h : k < length inner) where
   abbrev lo : Float
   lo = getD inner k nan
 
@@ -73,13 +74,18 @@ module _ (outer inner : List Float) (k j : ℕ) (so : sound outer ≡ true) (si 
         let e = getD outer (j - 1) nan in
         let e-hi : lt e hi ≡ true = s .passed h g in
         let nlo = number-at inner k si h in
-        point (top lo e) (top-both (EndOfEither outer inner) lo e (inr (end-at inner k h)) (inl (end-at outer (j - 1) (omega (arith, s .jMost))))) (top-first lo e nlo) (top-both (λ x. lt x hi ≡ true) lo e (pair-rises inner k si k-fits) e-hi)
+        point (top lo e) (top-both (EndOfEither outer inner) lo e (inr (end-at inner k h))
+        (inl (end-at outer (j - 1) (omega (arith, s .jMost))))) (top-first lo e nlo)
+        (top-both (λ x. lt x hi ≡ true) lo e (pair-rises inner k si k-fits) e-hi)
         (λ _. top-second lo e nlo (lt-number e hi e-hi .0))
-        (λ f. top-both (λ x. lt x (getD outer j nan) ≡ true) lo e (next f) (rising-at outer (j - 1) j (sound-rising outer so) (omega arith) f))
+        (λ f. top-both (λ x. lt x (getD outer j nan) ≡ true) lo e (next f)
+        (rising-at outer (j - 1) j (sound-rising outer so) (omega arith) f))
     | no g ↦ point lo (inr (end-at inner k h)) (le-refl lo (number-at inner k si h)) (pair-rises inner k si k-fits) (λ f. absurd (g f)) next
   ]
     where
-      point : (p : Float) → EndOfEither outer inner p → le lo p ≡ true → lt p hi ≡ true → (0 < j → le (getD outer (j - 1) nan) p ≡ true) → (j < length outer → lt p (getD outer j nan) ≡ true) → Covers outer inner false
+      point : (p : Float) → EndOfEither outer inner p → le lo p ≡ true → lt p hi ≡ true
+          → (0 < j → le (getD outer (j - 1) nan) p ≡ true) → (j < length outer → lt p (getD outer j nan) ≡ true)
+          → Covers outer inner false
       point p m l u last f = (
         p,
         m,
@@ -102,11 +108,14 @@ module _ (outer inner : List Float) (k j : ℕ) (so : sound outer ≡ true) (si 
       last j = omega arith
 
   -- it covers the pair
-  pub cover-pair : j < length outer → lt (getD outer (j + 1) nan) hi ≡ false → lt lo (getD outer j nan) ≡ false → Covering outer inner (k + 2) j
+  pub cover-pair : j < length outer → lt (getD outer (j + 1) nan) hi ≡ false → lt lo (getD outer j nan) ≡ false
+      → Covering outer inner (k + 2) j
   cover-pair g t u =
       let j-fits : j + 2 ≤ length outer = omega (arith, sound-mod outer so, s .jWhole) in
       let n : (q : ℕ) → q < length inner → Number (getD inner q nan) = λ q f. number-at inner q si f in
-      let high : le hi (getD outer (j + 1) nan) ≡ true = not-lt→le (getD outer (j + 1) nan) hi (number-at outer (j + 1) so (omega arith)) (n (k + 1) (omega (arith, k-fits))) t in
+      let high : le hi (getD outer (j + 1) nan) ≡ true =
+      not-lt→le (getD outer (j + 1) nan) hi (number-at outer (j + 1) so (omega arith))
+      (n (k + 1) (omega (arith, k-fits))) t in
       let low : le (getD outer j nan) lo ≡ true = not-lt→le lo (getD outer j nan) (n k h) (number-at outer j so g) u in
       record {
         kWhole = omega (arith, s .kWhole);
@@ -115,9 +124,13 @@ module _ (outer inner : List Float) (k j : ℕ) (so : sound outer ≡ true) (si 
         jMost = s .jMost;
         within-outer = λ p f. elim (one-more inner k p (s .kWhole) k-fits f) [
           | inl e ↦ s .within-outer p e
-          | inr e ↦ in-pair outer j p so (s .jWhole) j-fits (le-trans (getD outer j nan) lo p low (and-left (le lo p) (lt p hi) e)) (lt-le-trans p hi (getD outer (j + 1) nan) (and-right (le lo p) (lt p hi) e) high)
+          | inr e ↦ in-pair outer j p so (s .jWhole) j-fits
+              (le-trans (getD outer j nan) lo p low (and-left (le lo p) (lt p hi) e))
+              (lt-le-trans p hi (getD outer (j + 1) nan) (and-right (le lo p) (lt p hi) e) high)
         ];
-        passed = λ f e. lt-trans (getD outer (j - 1) nan) hi (getD inner (k + 2 + 1) nan) (s .passed h e) (rising-at inner (k + 1) (k + 2 + 1) (sound-rising inner si) (omega arith) (omega (arith, sound-mod inner si, s .kWhole)));
+        passed = λ f e. lt-trans (getD outer (j - 1) nan) hi (getD inner (k + 2 + 1) nan) (s .passed h e)
+            (rising-at inner (k + 1) (k + 2 + 1) (sound-rising inner si) (omega arith)
+            (omega (arith, sound-mod inner si, s .kWhole)));
       }
 
 -- ---- the loop of `meets`
@@ -149,7 +162,8 @@ avoid-done a b i j s (inr h) p g = elim (by-cases (holds b p)) [
 ]
 
 -- a pair of l that ends in front of the next pair of m has no point of m
-beside : (l m : List Float) (i j : ℕ) (p : Float) → sound l ≡ true → sound m ≡ true → i % 2 ≡ 0 → i + 2 ≤ length l → j % 2 ≡ 0 → j < length m
+beside : (l m : List Float) (i j : ℕ) (p : Float) → sound l ≡ true → sound m ≡ true → i % 2 ≡ 0 → i + 2 ≤ length l
+    → j % 2 ≡ 0 → j < length m
     → le (getD l (i + 1) nan) (getD m j nan) ≡ true → ((q : Float) → holds (take j m) q ≡ true → holds l q ≡ false)
     → within (getD l i nan) (getD l (i + 1) nan) p ≡ true → holds m p ≡ false
 beside l m i j p sl sm ei fi ej fj t none w =
@@ -161,7 +175,8 @@ beside l m i j p sl sm ei fi ej fj t none w =
       | inr k ↦ k
     ]
 
-module _ (a b : List Float) (i j : ℕ) (sa : sound a ≡ true) (sb : sound b ≡ true) (s : Avoiding a b i j) (h : i < length a) (g : j < length b) where
+module _ (a b : List Float) (i j : ℕ) (sa : sound a ≡ true) (sb : sound b ≡ true) (s : Avoiding a b i j)
+    (h : i < length a) (g : j < length b) where
   a-fits : i + 2 ≤ length a
   a-fits = omega (arith, sound-mod a sa, s .iWhole)
 
@@ -191,7 +206,8 @@ module _ (a b : List Float) (i j : ℕ) (sa : sound a ≡ true) (sb : sound b �
     second = λ p f. elim (one-more b j p (s .jWhole) b-fits f) [
       | inl e ↦ s .second p e
       | inr e ↦ beside b a j i p sb sa (s .jWhole) b-fits (s .iWhole) h
-          (not-lt→le (getD a i nan) (getD b (j + 1) nan) (number-at a i sa h) (number-at b (j + 1) sb (omega (arith, b-fits))) t) (s .first) e
+          (not-lt→le (getD a i nan) (getD b (j + 1) nan) (number-at a i sa h)
+          (number-at b (j + 1) sb (omega (arith, b-fits))) t) (s .first) e
     ];
   }
 
@@ -205,6 +221,8 @@ module _ (a b : List Float) (i j : ℕ) (sa : sound a ≡ true) (sb : sound b �
         top x y,
         top-both (EndOfEither a b) x y (inl (end-at a i h)) (inr (end-at b j g)),
         in-pair a i (top x y) sa (s .iWhole) a-fits (top-first x y nx)
-            (top-both (λ e. lt e (getD a (i + 1) nan) ≡ true) x y (pair-rises a i sa a-fits) (not-le→lt (getD a (i + 1) nan) y (number-at a (i + 1) sa (omega (arith, a-fits))) ny t)),
-        in-pair b j (top x y) sb (s .jWhole) b-fits (top-second x y nx ny) (top-both (λ e. lt e (getD b (j + 1) nan) ≡ true) x y u (pair-rises b j sb b-fits)),
+            (top-both (λ e. lt e (getD a (i + 1) nan) ≡ true) x y (pair-rises a i sa a-fits)
+            (not-le→lt (getD a (i + 1) nan) y (number-at a (i + 1) sa (omega (arith, a-fits))) ny t)),
+        in-pair b j (top x y) sb (s .jWhole) b-fits (top-second x y nx ny)
+            (top-both (λ e. lt e (getD b (j + 1) nan) ≡ true) x y u (pair-rises b j sb b-fits)),
       )

@@ -12,7 +12,8 @@ use Rattle.span_hits.specs.Hits.{nextHit, foundAs}
 
 -- two cells are left at place n
 pub hit-step : (s : List Float) (n : ℕ) → 1 < length s - n
-    → nextHit n (drop n s) ≡ cond (lt (getD s n nan) (getD s (n + 1) nan)) (foundAs (Pair (getD s n nan) (getD s (n + 1) nan)) (n + 2)) (nextHit (n + 2) (drop (n + 2) s))
+    → nextHit n (drop n s) ≡ cond (lt (getD s n nan) (getD s (n + 1) nan))
+    (foundAs (Pair (getD s n nan) (getD s (n + 1) nan)) (n + 2)) (nextHit (n + 2) (drop (n + 2) s))
 unfolding nextHit
 hit-step s n h = ap (nextHit n) (drop-pair s n (omega arith))
 

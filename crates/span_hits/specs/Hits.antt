@@ -21,4 +21,5 @@ nextHit n (lo ∷ hi ∷ rest) = cond (lt lo hi) (foundAs (Pair lo hi) (n + 2)) 
 -- the pairs that a reader at place n of l hands out, one call after the other, until none is left
 pub data HitsHanded (l : List Float) : ℕ → List Float → Type 0 where
   none : {n m : ℕ} → nextHit n (drop n l) ≡ foundAs End m → HitsHanded l n []
-  more : {n m : ℕ} {lo hi : Float} {rest : List Float} → nextHit n (drop n l) ≡ foundAs (Pair lo hi) m → HitsHanded l m rest → HitsHanded l n (lo ∷ hi ∷ rest)
+  more : {n m : ℕ} {lo hi : Float} {rest : List Float} → nextHit n (drop n l) ≡ foundAs (Pair lo hi) m
+      → HitsHanded l m rest → HitsHanded l n (lo ∷ hi ∷ rest)

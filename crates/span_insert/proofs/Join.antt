@@ -16,8 +16,55 @@ use Rattle.spans.specs.Steps.{PutPairPost}
 use Rattle.span_insert.specs.Steps.{EndsCounted, SplicePost, InsertPost, endIf, joinAt}
 use Rattle.doubles.specs.Doubles.{Number}
 use Rattle.logic.proofs.Bools.{and-left, and-right, and-true, and-false, both, by-cases, clash}
-use Rattle.doubles.proofs.Order.{lt-number, le-number, lt-not-le, lt→le, not-lt→le, not-le→lt, le-lt-trans, lt-trans, lt-le-trans, le-refl, le-trans}
-use Rattle.spans.proofs.Ends.{flip, flip-false, not-not, oddN, odd, odd-append, All, all-append, all-left, all-right, all-map, all-by-place, all-at, Over, Under, AtMost, Past, From, Above, Below, UpTo, odd-all, odd-none, odd-past, above-less, upTo-more, below-upTo, oddN-add, rising-cons, rising-append, rising-left, rising-right, rising-at, rising-before}
+use Rattle.doubles.proofs.Order.{
+  lt-number,
+  le-number,
+  lt-not-le,
+  lt→le,
+  not-lt→le,
+  not-le→lt,
+  le-lt-trans,
+  lt-trans,
+  lt-le-trans,
+  le-refl,
+  le-trans,
+}
+use Rattle.spans.proofs.Ends.{
+  flip,
+  flip-false,
+  not-not,
+  oddN,
+  odd,
+  odd-append,
+  All,
+  all-append,
+  all-left,
+  all-right,
+  all-map,
+  all-by-place,
+  all-at,
+  Over,
+  Under,
+  AtMost,
+  Past,
+  From,
+  Above,
+  Below,
+  UpTo,
+  odd-all,
+  odd-none,
+  odd-past,
+  above-less,
+  upTo-more,
+  below-upTo,
+  oddN-add,
+  rising-cons,
+  rising-append,
+  rising-left,
+  rising-right,
+  rising-at,
+  rising-before,
+}
 use Rattle.spans.proofs.Points.{or-false, or-true, or-assoc, holds-more, put-list, below-by-last}
 use Rattle.spans.proofs.Normal.{all-in, normal-pair}
 use Rattle.spans.proofs.Sets.{oddN-mod, mod-oddN, sound-rising, sound-even, sound-mod, sound-numbers, sound-holds, make-sound}
@@ -57,7 +104,8 @@ put-one false = refl
 
 module _ (l : List Float) (lo hi : Float) (i j : ℕ) (up : rising l ≡ true) (up-pair : lt lo hi ≡ true)
     (i-fits : i ≤ length l) (j-fits : j ≤ length l)
-    (below : Below lo (take i l)) (from-lo : All (From lo) (drop i l)) (up-to-hi : UpTo hi (take j l)) (above-hi : Above hi (drop j l)) where
+    (below : Below lo (take i l)) (from-lo : All (From lo) (drop i l)) (up-to-hi : UpTo hi (take j l))
+    (above-hi : Above hi (drop j l)) where
   joined-rising : rising (joinAt l i j lo hi) ≡ true
   joined-rising =
       let tail-up : rising (drop j l) ≡ true = rising-right (take j l) (drop j l) (rw take-append-drop up) in
@@ -72,7 +120,8 @@ module _ (l : List Float) (lo hi : Float) (i j : ℕ) (up : rising l ≡ true) (
       (all-endIf (From lo) (eqb (i % 2) 0) lo (le-refl lo (lt-number lo hi up-pair .0)))
       (all-map (Over lo) (From lo) (λ e h. lt→le lo e h) (endIf (eqb (j % 2) 0) hi ++ drop j l) above-lo) in
       rising-append (take i l) rest (rising-left (take i l) (drop i l) (rw take-append-drop up)) rest-up
-      (all-map (Under lo) (λ x. Above x rest) (λ x h. all-map (From lo) (Over x) (λ e k. lt-le-trans x lo e h k) rest rest-from) (take i l) below)
+      (all-map (Under lo) (λ x. Above x rest)
+      (λ x h. all-map (From lo) (Over x) (λ e k. lt-le-trans x lo e h k) rest rest-from) (take i l) below)
 
   joined-even : oddN (length (joinAt l i j lo hi)) ≡ oddN (length l)
   joined-even =
@@ -116,7 +165,18 @@ module _ (l : List Float) (lo hi : Float) (i j : ℕ) (up : rising l ≡ true) (
           odd-all (take i l) p (upTo-more lo p a (take i l) (below-upTo lo (take i l) below)) ∙ ap oddN (length-take-le i l i-fits) in
           let right : odd (take j l) p ≡ oddN j =
           odd-all (take j l) p (upTo-more hi p b (take j l) up-to-hi) ∙ ap oddN (length-take-le j l j-fits) in
-          rw (left, a, b, and-true (not (oddN i)), and-true (not (oddN j)), split j p, right, lt-not-le p hi (le-number lo p a .1) (lt-number lo hi up-pair .1), b, or-false (flip (oddN j) (odd (drop j l) p)))
+          rw (
+            left,
+            a,
+            b,
+            and-true (not (oddN i)),
+            and-true (not (oddN j)),
+            split j p,
+            right,
+            lt-not-le p hi (le-number lo p a .1) (lt-number lo hi up-pair .1),
+            b,
+            or-false (flip (oddN j) (odd (drop j l) p)),
+          )
           (put-both (oddN i) (oddN j) (odd (drop j l) p))
       | inr b ↦
           let left : odd (take i l) p ≡ oddN i =
@@ -130,9 +190,19 @@ module _ (l : List Float) (lo hi : Float) (i j : ℕ) (up : rising l ≡ true) (
         λ e h. elim (by-cases (le e p)) [ inl k ↦ absurd (clash (le lo p) (le-trans lo e p h k) a) | inr k ↦ k ] in
         let mid : odd (drop i l) p ≡ false = odd-past (drop i l) p (all-map (From lo) (Past p) not-past (drop i l) from-lo) in
         let top : odd (drop j l) p ≡ false =
-        odd-past (drop j l) p (all-map (Over hi) (Past p) (λ e h. not-past e (lt→le lo e (lt-trans lo hi e up-pair h))) (drop j l) above-hi) in
+        odd-past (drop j l) p (all-map (Over hi) (Past p)
+        (λ e h. not-past e (lt→le lo e (lt-trans lo hi e up-pair h))) (drop j l) above-hi) in
         let no-hi : le hi p ≡ false = not-past hi (lt→le lo hi up-pair) in
-        rw (a, no-hi, and-false (not (oddN i)) false refl, and-false (not (oddN j)) false refl, top, split i p, mid, or-false (flip (odd (take i l) p) false))
+        rw (
+          a,
+          no-hi,
+          and-false (not (oddN i)) false refl,
+          and-false (not (oddN j)) false refl,
+          top,
+          split i p,
+          mid,
+          or-false (flip (odd (take i l) p) false),
+        )
   ]
 
 -- ---- the places that the searches find
@@ -173,7 +243,9 @@ module _ (b : List Float) (n : ℕ) (lo hi : Float) (i j : ℕ) (n-fits : n ≤ 
 
   found-up-to : UpTo hi (take j (take n b))
   found-up-to = all-of-take (AtMost hi) j (to-hi .most) (λ q h. elim (decLt q (j - 1)) [
-    | yes a ↦ lt→le (getD b q nan) hi (lt-le-trans (getD b q nan) (getD b (j - 1) nan) hi (rises-at q (j - 1) a (omega (arith, to-hi .most))) (to-hi .last (omega arith)))
+    | yes a ↦ lt→le (getD b q nan) hi
+        (lt-le-trans (getD b q nan) (getD b (j - 1) nan) hi (rises-at q (j - 1) a (omega (arith, to-hi .most)))
+        (to-hi .last (omega arith)))
     | no a ↦ subst (λ (m : ℕ). le (getD b m nan) hi ≡ true) (same j q a h) (to-hi .last (omega arith))
   ])
     where
@@ -182,7 +254,8 @@ module _ (b : List Float) (n : ℕ) (lo hi : Float) (i j : ℕ) (n-fits : n ≤ 
 
   found-below : Below lo (take i (take n b))
   found-below = all-of-take (Under lo) i (omega (arith, to-hi .most, to-lo .most)) (λ q h. elim (decLt q (i - 1)) [
-    | yes a ↦ lt-trans (getD b q nan) (getD b (i - 1) nan) lo (rises-at q (i - 1) a (omega (arith, to-hi .most, to-lo .most))) (to-lo .last (omega arith))
+    | yes a ↦ lt-trans (getD b q nan) (getD b (i - 1) nan) lo
+        (rises-at q (i - 1) a (omega (arith, to-hi .most, to-lo .most))) (to-lo .last (omega arith))
     | no a ↦ subst (λ (m : ℕ). lt (getD b m nan) lo ≡ true) (same i q a h) (to-lo .last (omega arith))
   ])
     where
@@ -190,12 +263,14 @@ module _ (b : List Float) (n : ℕ) (lo hi : Float) (i j : ℕ) (n-fits : n ≤ 
       same j q a h = omega arith
 
   found-from : All (From lo) (drop i (take n b))
-  found-from = all-of-drop (From lo) i (to-lo .most) (λ q h g. not-lt→le (getD b q nan) lo (number-at q g) (lt-number lo hi up-pair .0) (to-lo .past q h g))
+  found-from = all-of-drop (From lo) i (to-lo .most)
+      (λ q h g. not-lt→le (getD b q nan) lo (number-at q g) (lt-number lo hi up-pair .0) (to-lo .past q h g))
 
   -- what is below lo is at most hi
   pub places-rise : i ≤ j
   places-rise = elim (decLt j i) [
-    | yes a ↦ absurd (clash (le (getD b (i - 1) nan) hi) (lt→le (getD b (i - 1) nan) hi (lt-trans (getD b (i - 1) nan) lo hi (to-lo .last (omega arith)) up-pair))
+    | yes a ↦ absurd (clash (le (getD b (i - 1) nan) hi)
+        (lt→le (getD b (i - 1) nan) hi (lt-trans (getD b (i - 1) nan) lo hi (to-lo .last (omega arith)) up-pair))
         (to-hi .past (i - 1) (omega arith) (omega (arith, to-lo .most))))
     | no a ↦ omega arith
   ]
@@ -205,15 +280,18 @@ module _ (b : List Float) (n : ℕ) (lo hi : Float) (i j : ℕ) (n-fits : n ≤ 
       let l = take n b in
       make-sound (joinAt l i j lo hi)
       (mod-oddN (length (joinAt l i j lo hi))
-      (joined-even l lo hi i j (sound-rising l is-sound) up-pair (omega (arith, size, to-hi .most, to-lo .most)) (omega (arith, size, to-hi .most)) found-below found-from found-up-to found-above
+      (joined-even l lo hi i j (sound-rising l is-sound) up-pair (omega (arith, size, to-hi .most, to-lo .most))
+      (omega (arith, size, to-hi .most)) found-below found-from found-up-to found-above
       ∙ sound-even l is-sound))
-      (joined-rising l lo hi i j (sound-rising l is-sound) up-pair (omega (arith, size, to-hi .most, to-lo .most)) (omega (arith, size, to-hi .most)) found-below found-from found-up-to found-above)
+      (joined-rising l lo hi i j (sound-rising l is-sound) up-pair (omega (arith, size, to-hi .most, to-lo .most))
+      (omega (arith, size, to-hi .most)) found-below found-from found-up-to found-above)
 
   pub join-holds : (p : Float) → holds (joinAt (take n b) i j lo hi) p ≡ (holds (take n b) p || within lo hi p)
   join-holds p =
       let l = take n b in
       sound-holds (joinAt l i j lo hi) p join-sound
-      ∙ joined-odd l lo hi i j (sound-rising l is-sound) up-pair (omega (arith, size, to-hi .most, to-lo .most)) (omega (arith, size, to-hi .most)) found-below found-from found-up-to found-above p
+      ∙ joined-odd l lo hi i j (sound-rising l is-sound) up-pair (omega (arith, size, to-hi .most, to-lo .most))
+      (omega (arith, size, to-hi .most)) found-below found-from found-up-to found-above p
       ∙ ap (λ (x : Bool). x || within lo hi p) (sym (sound-holds l p is-sound))
 
 -- ---- each end was given
@@ -226,7 +304,8 @@ from-pair l lo hi up = rw up (all-right (λ e. List·Memᴰ e (l ++ (lo ∷ hi �
 
 join-all : (P : Float → Type 0) (l : List Float) (i j : ℕ) (lo hi : Float) → All P l → P lo → P hi → All P (joinAt l i j lo hi)
 join-all P l i j lo hi h a b =
-    all-append P (take i l) (endIf (eqb (i % 2) 0) lo ++ (endIf (eqb (j % 2) 0) hi ++ drop j l)) (all-left P (take i l) (drop i l) (rw take-append-drop h))
+    all-append P (take i l) (endIf (eqb (i % 2) 0) lo ++ (endIf (eqb (j % 2) 0) hi ++ drop j l))
+    (all-left P (take i l) (drop i l) (rw take-append-drop h))
     (all-append P (endIf (eqb (i % 2) 0) lo) (endIf (eqb (j % 2) 0) hi ++ drop j l) (all-endIf P (eqb (i % 2) 0) lo a)
     (all-append P (endIf (eqb (j % 2) 0) hi) (drop j l) (all-endIf P (eqb (j % 2) 0) hi b)
     (all-right P (take j l) (drop j l) (rw take-append-drop h))))
@@ -256,7 +335,8 @@ insert-last b b′ n lo hi r fit s last m = record {
   rest = m .rest;
 }
 
-pub insert-none : (b : List Float) (n : ℕ) (lo hi : Float) → sound (take n b) ≡ true → ((p : Float) → within lo hi p ≡ true → holds (take n b) p ≡ true) → InsertPost b n lo hi b n
+pub insert-none : (b : List Float) (n : ℕ) (lo hi : Float) → sound (take n b) ≡ true
+    → ((p : Float) → within lo hi p ≡ true → holds (take n b) p ≡ true) → InsertPost b n lo hi b n
 insert-none b n lo hi s inside = record {
   size = refl;
   most = omega arith;
@@ -309,7 +389,8 @@ module _ (b : List Float) (n : ℕ) (lo hi : Float) (fit : n ≤ length b) (s : 
     where
       inside : (p : Float) → within lo hi p ≡ true → within x y p ≡ true
       inside p w = both (le x p) (lt p y) (le-trans x lo p low (and-left (le lo p) (lt p hi) w))
-          (lt-le-trans p hi y (and-right (le lo p) (lt p hi) w) (not-lt→le y hi (lt-number x y rises .1) (lt-number p hi (and-right (le lo p) (lt p hi) w) .1) h))
+          (lt-le-trans p hi y (and-right (le lo p) (lt p hi) w)
+          (not-lt→le y hi (lt-number x y rises .1) (lt-number p hi (and-right (le lo p) (lt p hi) w) .1) h))
 
   pub insert-extends : n + 2 ≤ length b → lt y hi ≡ true → InsertPost b n lo hi (set b (n - 1) hi) n
   insert-extends room h = record {
@@ -317,7 +398,8 @@ module _ (b : List Float) (n : ℕ) (lo hi : Float) (fit : n ≤ length b) (s : 
     most = omega arith;
     list = normal-pair (take n b) (take n (set b (n - 1) hi)) lo hi s (record {
       isSound = sound-now;
-      points = λ p. now-apart p ∙ ap (_||_ (holds (take (n - 2) b) p)) (spread p) ∙ sym (or-assoc (holds (take (n - 2) b) p) (within x y p) (within lo hi p))
+      points = λ p. now-apart p ∙ ap (_||_ (holds (take (n - 2) b) p)) (spread p)
+          ∙ sym (or-assoc (holds (take (n - 2) b) p) (within x y p) (within lo hi p))
           ∙ ap (λ (c : Bool). c || within lo hi p) (sym (last-apart p));
     }) drawn;
     rest = λ q g. getD-set-other b (n - 1) q hi nan (λ e. omega arith);
@@ -345,14 +427,29 @@ module _ (b : List Float) (n : ℕ) (lo hi : Float) (fit : n ≤ length b) (s : 
 
       sound-now : sound (take n (set b (n - 1) hi)) ≡ true
       sound-now = rw ends (make-sound (take (n - 1) b ++ (hi ∷ []))
-          (omega (arith, length-append (take (n - 1) b) (hi ∷ []), length-take-le (n - 1) b (omega arith), sound-mod (take n b) s, length-take-le n b fit))
-          (rising-append (take (n - 1) b) (hi ∷ []) (rising-left (take (n - 1) b) (y ∷ []) (rw all-before at (sound-rising (take n b) s))) (rising-cons hi [] tt (unfold rising in refl))
-          (all-map (λ e. Above e (y ∷ [])) (λ e. Above e (hi ∷ [])) (λ e k. (lt-trans e y hi (k .0) h, tt)) (take (n - 1) b) (rising-before (take (n - 1) b) (y ∷ []) (rw all-before at (sound-rising (take n b) s))))))
+          (omega (
+            arith,
+            length-append (take (n - 1) b) (hi ∷ []),
+            length-take-le (n - 1) b (omega arith),
+            sound-mod (take n b) s,
+            length-take-le n b fit,
+          ))
+          (rising-append (take (n - 1) b) (hi ∷ [])
+          (rising-left (take (n - 1) b) (y ∷ []) (rw all-before at (sound-rising (take n b) s)))
+          (rising-cons hi [] tt (unfold rising in refl))
+          (all-map (λ e. Above e (y ∷ [])) (λ e. Above e (hi ∷ [])) (λ e k. (lt-trans e y hi (k .0) h, tt))
+          (take (n - 1) b) (rising-before (take (n - 1) b) (y ∷ []) (rw all-before at (sound-rising (take n b) s))))))
 
       now-apart : (p : Float) → holds (take n (set b (n - 1) hi)) p ≡ (holds (take (n - 2) b) p || within x hi p)
       now-apart p =
-          ap (λ (k : ℕ). holds (take k (set b (n - 1) hi)) p) two ∙ holds-more (set b (n - 1) hi) (n - 2) p whole (omega (arith, two, length-set b (n - 1) hi))
-          ∙ rw (one, take-set-le (n - 2) b (n - 1) hi (omega arith), getD-set-other b (n - 1) (n - 2) hi nan (λ e. omega (arith, two)), getD-set-same b (n - 1) hi nan (omega arith))
+          ap (λ (k : ℕ). holds (take k (set b (n - 1) hi)) p) two
+          ∙ holds-more (set b (n - 1) hi) (n - 2) p whole (omega (arith, two, length-set b (n - 1) hi))
+          ∙ rw (
+            one,
+            take-set-le (n - 2) b (n - 1) hi (omega arith),
+            getD-set-other b (n - 1) (n - 2) hi nan (λ e. omega (arith, two)),
+            getD-set-same b (n - 1) hi nan (omega arith),
+          )
 
       spread : (p : Float) → within x hi p ≡ (within x y p || within lo hi p)
       spread p = elim (by-cases (le x p)) [

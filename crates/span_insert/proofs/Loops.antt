@@ -7,7 +7,21 @@ use native.Mathlib.Omega.{arith}
 use native.Mathlib.Decide.{decLt}
 use lib.Dec.{eqb}
 use lib.ListN.{length, getD, take, drop, set, length-set, length-append, length-drop}
-use lib.Seq.{getD-set-same, getD-set-other, getD-take, getD-drop, ext-getD, length-take-le, take-take, take-add, take-at, drop-at, sets, sets-eq, length-sets}
+use lib.Seq.{
+  getD-set-same,
+  getD-set-other,
+  getD-take,
+  getD-drop,
+  ext-getD,
+  length-take-le,
+  take-take,
+  take-add,
+  take-at,
+  drop-at,
+  sets,
+  sets-eq,
+  length-sets,
+}
 use lib.Ieee.{Float, nan}
 use Rattle.spans.specs.Steps.{SameFrom}
 use Rattle.span_insert.specs.Steps.{CellsMoved, SplicePost, endIf}
@@ -20,7 +34,8 @@ Past test l i n = (k : ℕ) → i ≤ k → k < n → test (getD l k nan) ≡ fa
 pub past-none : (test : Float → Bool) (l : List Float) (n : ℕ) → Past test l n n
 past-none test l n k h g = absurd (omega arith)
 
-pub past-down : (test : Float → Bool) (l : List Float) (i n : ℕ) → Past test l i n → test (getD l (i - 1) nan) ≡ false → Past test l (i - 1) n
+pub past-down : (test : Float → Bool) (l : List Float) (i n : ℕ) → Past test l i n → test (getD l (i - 1) nan) ≡ false
+    → Past test l (i - 1) n
 past-down test l i n h t k g f = elim (decLt k i) [
   | yes a ↦ subst (λ (m : ℕ). test (getD l m nan) ≡ false) (same k i a g) t
   | no a ↦ h k (omega arith) f
@@ -70,7 +85,8 @@ down-step b₀ from to count k b d r h s =
     same : (k q : ℕ) → (q < k → ⊥) → q < k + 1 → k ≡ q
     same k q a g = omega arith
 
-pub down-done : (b₀ : List Float) (from to count k : ℕ) (b : List Float) → count ≤ k → Down b₀ from to count k b → CellsMoved b₀ from to count b
+pub down-done : (b₀ : List Float) (from to count k : ℕ) (b : List Float) → count ≤ k → Down b₀ from to count k b
+    → CellsMoved b₀ from to count b
 down-done b₀ from to count k b h s = record {
   size = s .size;
   front = λ q g f. s .front q f;
@@ -116,7 +132,8 @@ up-step b₀ from to count k b d r h s =
     same : (k q : ℕ) → (k < q → ⊥) → k ≤ q → k ≡ q
     same k q a g = omega arith
 
-pub up-done : (b₀ : List Float) (from to count k : ℕ) (b : List Float) → k ≤ 0 → from ≤ to → Up b₀ from to count k b → CellsMoved b₀ from to count b
+pub up-done : (b₀ : List Float) (from to count k : ℕ) (b : List Float) → k ≤ 0 → from ≤ to → Up b₀ from to count k b
+    → CellsMoved b₀ from to count b
 up-done b₀ from to count k b h d s = record {
   size = s .size;
   front = λ q g f. s .unread q (omega arith);
@@ -150,7 +167,8 @@ spliced b b₁ n i j w mid ij jn nb e fit m =
     ∙ sym (getD-drop j (take n b) q nan ∙ getD-take n b (j + q) nan (omega arith))) in
     ap (take (w + t)) laid
     ∙ take-add w t ((take i b₁ ++ mid) ++ drop w b₁)
-    ∙ rw (take-at (take i b₁ ++ mid) (drop w b₁) w head, drop-at (take i b₁ ++ mid) (drop w b₁) w head, front, back) (append-assoc (take i (take n b)) mid (drop j (take n b)))
+    ∙ rw (take-at (take i b₁ ++ mid) (drop w b₁) w head, drop-at (take i b₁ ++ mid) (drop w b₁) w head, front, back)
+    (append-assoc (take i (take n b)) mid (drop j (take n b)))
 
 -- a run of cells that are set lies in front of place q
 sets-past : (b l : List Float) (i q : ℕ) → i + length l ≤ q → getD (sets b i l) q nan ≡ getD b q nan

@@ -108,7 +108,8 @@ filled-step pairs b₀ b b′ limit limit′ n r lo hi even s m fit = record {
 pub begun-start : (spans b : List Float) → JoinedFromFront spans b b (record { passed = 0; end = 0 })
 begun-start spans b = record { passedMost = omega arith; passedEven = omega arith; filled = filled-none b }
 
-pub begun-step : (spans b₀ b b′ : List Float) (n k r : ℕ) → k + 2 ≤ length spans → JoinedFromFront spans b₀ b (record { passed = k; end = n })
+pub begun-step : (spans b₀ b b′ : List Float) (n k r : ℕ) → k + 2 ≤ length spans
+    → JoinedFromFront spans b₀ b (record { passed = k; end = n })
     → InsertPost b n (getD spans k nan) (getD spans (k + 1) nan) b′ r → JoinedFromFront spans b₀ b′ (record { passed = k + 2; end = r })
 begun-step spans b₀ b b′ n k r fit s m = record {
   passedMost = fit;

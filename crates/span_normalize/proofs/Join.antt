@@ -45,7 +45,8 @@ end-rearranged (swap {a} {b} {c} {d} {l}) e h = elim (List·Memᴰ·append-cases
 end-rearranged (then r s) e h = end-rearranged r e (end-rearranged s e h)
 
 -- the pairs sorted in a part of the buffer and joined there
-pub sorted-front : (before sorted back after : List Float) (m r : ℕ) → SamePairs (take m before) sorted → take m back ≡ sorted → length back ≡ length before
+pub sorted-front : (before sorted back after : List Float) (m r : ℕ) → SamePairs (take m before) sorted
+    → take m back ≡ sorted → length back ≡ length before
     → FilledFront (NormalOf (take m back)) back m after r → FilledFront (NormalOf (take m before)) before m after r
 sorted-front before sorted back after m r s e n f = record {
   size = f .size ∙ n;
@@ -60,12 +61,16 @@ part-back w ys at k r h g =
     ap (take r) (drop-at (take at w) (ys ++ postOf at k w) at (length-take-le at w h)) ∙ take-append-le r ys (postOf at k w) g
 
 -- the number of ends when the pairs stand past the first n
-pub gathered-count : (spans before front : List Float) (n m : ℕ) → n ≤ length before → ListInFront (take n before ++ retained spans) before front m → m ≡ n + length (retained spans)
-gathered-count spans before front n m fit g = omega (arith, g .count, length-append (take n before) (retained spans), length-take-le n before fit)
+pub gathered-count : (spans before front : List Float) (n m : ℕ) → n ≤ length before
+    → ListInFront (take n before ++ retained spans) before front m → m ≡ n + length (retained spans)
+gathered-count spans before front n m fit g =
+    omega (arith, g .count, length-append (take n before) (retained spans), length-take-le n before fit)
 
 -- the pairs gathered past the first n ends, then made their sound list
-pub joined-more : (spans before front after : List Float) (n m r : ℕ) → n % 2 ≡ 0 → n ≤ length before → ListInFront (take n before ++ retained spans) before front m
-    → FilledFront (NormalOf (take m front)) front m after r → FilledFront (NormalOf (take n before ++ spans)) before (n + length spans) after r
+pub joined-more : (spans before front after : List Float) (n m r : ℕ) → n % 2 ≡ 0 → n ≤ length before
+    → ListInFront (take n before ++ retained spans) before front m
+    → FilledFront (NormalOf (take m front)) front m after r
+    → FilledFront (NormalOf (take n before ++ spans)) before (n + length spans) after r
 joined-more spans before front after n m r even fit g f = record {
   size = f .size ∙ g .size;
   most = omega (arith, f .most, gathered-count spans before front n m fit g, retained-most spans);
@@ -82,7 +87,8 @@ begun-all spans b₀ b n k h s = record {
   list = subst (λ (l : List Float). NormalOf l (take n b)) (take-all k spans h) (s .filled .list);
 }
 
-pub begun-more : (spans rest b₀ b b′ : List Float) (n k r : ℕ) → rest ≡ drop k spans → JoinedFromFront spans b₀ b (record { passed = k; end = n })
+pub begun-more : (spans rest b₀ b b′ : List Float) (n k r : ℕ) → rest ≡ drop k spans
+    → JoinedFromFront spans b₀ b (record { passed = k; end = n })
     → FilledFront (NormalOf (take n b ++ rest)) b (n + length rest) b′ r → FilledFront (NormalOf spans) b₀ (length spans) b′ r
 begun-more spans rest b₀ b b′ n k r e s f = record {
   size = f .size ∙ s .filled .size;

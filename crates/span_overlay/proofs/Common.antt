@@ -115,7 +115,8 @@ module _ (a b before : List Float) (i j n : ℕ) (out out′ : List Float) (r : 
     most = omega (arith, m .most, s .most);
     ends = next (commonOf restA (drop j b)) (split ∙ ap (λ (l : List Float). l ++ commonOf restA (drop j b))
         (ap (λ (l : List Float). pairIf (largerOf lo x) (smallerOf hi y) ++ l) (by-none lo hi (number-at a i sa h) nhi restB numbers-b
-        (above-by-place b (j + 2) hi b-fits (sound-rising b sb) (λ k. lt-trans hi y (getD b (j + 2) nan) t (rising-at b (j + 1) (j + 2) (sound-rising b sb) (omega arith) k))))
+        (above-by-place b (j + 2) hi b-fits (sound-rising b sb)
+        (λ k. lt-trans hi y (getD b (j + 2) nan) t (rising-at b (j + 1) (j + 2) (sound-rising b sb) (omega arith) k))))
         ∙ append-nil (pairIf (largerOf lo x) (smallerOf hi y))));
   }
 
@@ -134,6 +135,8 @@ module _ (a b before : List Float) (i j n : ℕ) (out out′ : List Float) (r : 
         ∙ ap (λ (l : List Float). pairIf (largerOf lo x) (smallerOf hi y) ++ (sharedBy lo hi restB ++ l))
         (ap (commonOf restA) (drop-pair b j b-fits)
         ∙ past-front x y restA restB numbers-a (number-at b j sb g) ny
-        (above-by-place a (i + 2) y a-fits (sound-rising a sa) (λ k. le-lt-trans y hi (getD a (i + 2) nan) (not-lt→le hi y nhi ny t) (rising-at a (i + 1) (i + 2) (sound-rising a sa) (omega arith) k))))
+        (above-by-place a (i + 2) y a-fits (sound-rising a sa)
+        (λ k. le-lt-trans y hi (getD a (i + 2) nan) (not-lt→le hi y nhi ny t)
+        (rising-at a (i + 1) (i + 2) (sound-rising a sa) (omega arith) k))))
         ∙ ap (λ (l : List Float). pairIf (largerOf lo x) (smallerOf hi y) ++ commonOf l restB) (sym (drop-pair a i a-fits)));
   }

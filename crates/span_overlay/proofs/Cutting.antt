@@ -21,7 +21,8 @@ use Rattle.spans.proofs.Points.{numbers-of, drop-pair, pair-rises, number-at, u
 use Rattle.span_overlay.proofs.Less.{higher-second, higher-both, cut-none, cut-skip}
 
 -- ---- the loop of `cut_pair`
-pub record Cutting (rest : List Float) (from hi : Float) (before : List Float) (n : ℕ) (lo : Float) (j end : ℕ) (out : List Float) : Type 0 where
+pub record Cutting (rest : List Float) (from hi : Float) (before : List Float) (n : ℕ) (lo : Float) (j end : ℕ)
+    (out : List Float) : Type 0 where
   pub size : length out ≡ length before
   pub whole : j % 2 ≡ 0
   pub jMost : j ≤ length rest
@@ -30,7 +31,8 @@ pub record Cutting (rest : List Float) (from hi : Float) (before : List Float) (
   pub passed : UpTo hi (take j rest)
   pub ends : take end out ++ cutBy lo hi (drop j rest) ≡ take n before ++ cutBy from hi rest
 
-pub cut-start : (rest : List Float) (from hi : Float) (before : List Float) (n : ℕ) → OverlayCutPre rest from hi before n → Cutting rest from hi before n from 0 n before
+pub cut-start : (rest : List Float) (from hi : Float) (before : List Float) (n : ℕ)
+    → OverlayCutPre rest from hi before n → Cutting rest from hi before n from 0 n before
 cut-start rest from hi before n s = record {
   size = refl;
   whole = omega arith;
@@ -50,10 +52,13 @@ module _ (rest : List Float) (from hi : Float) (before : List Float) (n : ℕ) (
   nhi = lt-number lo hi (s .under) .1
 
   -- the pair [lo, x) is put, and the rest is m
-  put-ends : (x : Float) (m : List Float) → PutPairPost out end lo x out′ r → cutBy lo hi (drop j rest) ≡ pairIf lo x ++ m → take r out′ ++ m ≡ take n before ++ cutBy from hi rest
-  put-ends x m p e = ap (λ (l : List Float). l ++ m) (p .ends) ∙ append-assoc (take end out) (pairIf lo x) m ∙ ap (λ (l : List Float). take end out ++ l) (sym e) ∙ s .ends
+  put-ends : (x : Float) (m : List Float) → PutPairPost out end lo x out′ r → cutBy lo hi (drop j rest) ≡ pairIf lo x
+      ++ m → take r out′ ++ m ≡ take n before ++ cutBy from hi rest
+  put-ends x m p e = ap (λ (l : List Float). l ++ m) (p .ends) ∙ append-assoc (take end out) (pairIf lo x) m
+      ∙ ap (λ (l : List Float). take end out ++ l) (sym e) ∙ s .ends
 
-  put-all-ends : (x : Float) → PutPairPost out end lo x out′ r → cutBy lo hi (drop j rest) ≡ pairIf lo x ++ [] → take r out′ ≡ take n before ++ cutBy from hi rest
+  put-all-ends : (x : Float) → PutPairPost out end lo x out′ r → cutBy lo hi (drop j rest) ≡ pairIf lo x ++ []
+      → take r out′ ≡ take n before ++ cutBy from hi rest
   put-all-ends x p e = sym (append-nil (take r out′)) ∙ put-ends x [] p e
 
   -- the pair at place j, where there is one
@@ -82,10 +87,12 @@ module _ (rest : List Float) (from hi : Float) (before : List Float) (n : ℕ) (
 
     -- nothing is left past a pair that reaches hi
     none-left : le hi y ≡ true → cutBy (higherOf lo y) hi (drop (j + 2) rest) ≡ []
-    none-left h = cut-none hi nhi (higherOf lo y) (drop (j + 2) rest) (higher-both Number lo y nlo ny) tail-numbers (le-trans hi y (higherOf lo y) h (higher-second lo y nlo ny))
+    none-left h = cut-none hi nhi (higherOf lo y) (drop (j + 2) rest) (higher-both Number lo y nlo ny) tail-numbers
+        (le-trans hi y (higherOf lo y) h (higher-second lo y nlo ny))
 
   -- the end of the list or an end from hi on comes next: the rest of the pair stays
-  pub cut-last : PutPairPost out end lo hi out′ r → (j < length rest → le hi (getD rest j nan) ≡ true) → OverlayCutPost rest from hi before n out′ (record { passed = j; end = r })
+  pub cut-last : PutPairPost out end lo hi out′ r → (j < length rest → le hi (getD rest j nan) ≡ true)
+      → OverlayCutPost rest from hi before n out′ (record { passed = j; end = r })
   unfolding cutBy
   cut-last m next = record {
     size = m .size ∙ s .size;
@@ -106,7 +113,8 @@ module _ (rest : List Float) (from hi : Float) (before : List Float) (n : ℕ) (
   -- the pair at place j starts below hi
   module _ (fit : j < length rest) (below-hi : le hi (getD rest j nan) ≡ false) (m : PutPairPost out end lo (getD rest j nan) out′ r) where
     starts : cutBy lo hi (drop j rest) ≡ pairIf lo (x fit) ++ cutBy (higherOf lo (y fit)) hi (drop (j + 2) rest)
-    starts = first fit ∙ ap (λ (z : Float). pairIf lo z ++ cutBy (higherOf lo (y fit)) hi (drop (j + 2) rest)) (rw (not-le→lt hi (x fit) nhi (nx fit) below-hi) refl)
+    starts = first fit ∙ ap (λ (z : Float). pairIf lo z ++ cutBy (higherOf lo (y fit)) hi (drop (j + 2) rest))
+        (rw (not-le→lt hi (x fit) nhi (nx fit) below-hi) refl)
 
     -- it reaches hi
     pub cut-end : le hi (getD rest (j + 1) nan) ≡ true → OverlayCutPost rest from hi before n out′ (record { passed = j; end = r })
@@ -120,7 +128,8 @@ module _ (rest : List Float) (from hi : Float) (before : List Float) (n : ℕ) (
     }
 
     -- it ends below hi
-    pub cut-step : le hi (getD rest (j + 1) nan) ≡ false → Cutting rest from hi before n (higherOf lo (getD rest (j + 1) nan)) (j + 2) r out′
+    pub cut-step : le hi (getD rest (j + 1) nan) ≡ false
+        → Cutting rest from hi before n (higherOf lo (getD rest (j + 1) nan)) (j + 2) r out′
     cut-step h =
         let up : lt (y fit) hi ≡ true = not-le→lt hi (y fit) nhi (ny fit) h in
         record {
@@ -129,7 +138,8 @@ module _ (rest : List Float) (from hi : Float) (before : List Float) (n : ℕ) (
           jMost = pair-fits fit;
           most = omega (arith, m .most, s .most);
           under = higher-both (λ e. lt e hi ≡ true) lo (y fit) (s .under) up;
-          passed = upTo-last rest (j + 2) hi (pair-fits fit) (sound-rising rest (ready .restSound)) (λ _. subst (λ (k : ℕ). le (getD rest k nan) hi ≡ true) (last j) (lt→le (y fit) hi up));
+          passed = upTo-last rest (j + 2) hi (pair-fits fit) (sound-rising rest (ready .restSound))
+              (λ _. subst (λ (k : ℕ). le (getD rest k nan) hi ≡ true) (last j) (lt→le (y fit) hi up));
           ends = put-ends (x fit) (cutBy (higherOf lo (y fit)) hi (drop (j + 2) rest)) m starts;
         }
       where
@@ -169,12 +179,14 @@ less-done a b before i j n out h s = record {
 }
 
 -- pairs that end at or below the start take nothing
-skip-front : (lo hi : Float) → Number hi → (b : List Float) (j : ℕ) → j % 2 ≡ 0 → j ≤ length b → UpTo lo (take j b) → cutBy lo hi b ≡ cutBy lo hi (drop j b)
+skip-front : (lo hi : Float) → Number hi → (b : List Float) (j : ℕ) → j % 2 ≡ 0 → j ≤ length b → UpTo lo (take j b)
+    → cutBy lo hi b ≡ cutBy lo hi (drop j b)
 skip-front lo hi nh b zero e h u = refl
 skip-front lo hi nh b (suc zero) e h u = absurd (omega arith)
 skip-front lo hi nh [] (suc (suc j)) e h u = absurd (omega arith)
 skip-front lo hi nh (x ∷ []) (suc (suc j)) e h u = absurd (omega arith)
-skip-front lo hi nh (x ∷ y ∷ b) (suc (suc j)) e h u = cut-skip hi nh lo x y b (u .0) (u .1 .0) ∙ skip-front lo hi nh b j (omega arith) (omega arith) (u .1 .1)
+skip-front lo hi nh (x ∷ y ∷ b) (suc (suc j)) e h u = cut-skip hi nh lo x y b (u .0) (u .1 .0)
+    ∙ skip-front lo hi nh b j (omega arith) (omega arith) (u .1 .1)
 
 module _ (a b before : List Float) (i j n : ℕ) (out : List Float) (sa : sound a ≡ true) (sb : sound b ≡ true)
     (room : length a + length b ≤ length before) (s : Lessening a b before i j n out) (h : i < length a) where
@@ -211,7 +223,8 @@ module _ (a b before : List Float) (i j n : ℕ) (out : List Float) (sa : sound 
         ends =
             ap (λ (l : List Float). l ++ lessOf (drop (i + 2) a) b) (c .ends)
             ∙ append-assoc (take n out) (cutBy lo hi (drop j b)) (lessOf (drop (i + 2) a) b)
-            ∙ ap (λ (l : List Float). take n out ++ (l ++ lessOf (drop (i + 2) a) b)) (sym (skip-front lo hi nh b j (s .jWhole) (s .jMost) (s .passed h)))
+            ∙ ap (λ (l : List Float). take n out ++ (l ++ lessOf (drop (i + 2) a) b))
+            (sym (skip-front lo hi nh b j (s .jWhole) (s .jMost) (s .passed h)))
             ∙ ap (λ (l : List Float). take n out ++ lessOf l b) (sym (drop-pair a i pair-in))
             ∙ s .ends;
       }

@@ -11,8 +11,33 @@ use Rattle.spans.specs.Spans.{within, holds, rising, sound, equal, less, ListOf
 use Rattle.spans.specs.Overlay.{higherOf, lowerOf, cutBy, lessOf}
 use Rattle.doubles.specs.Doubles.{Number}
 use Rattle.logic.proofs.Bools.{or-left, or-right, or-neither, and-left, and-right, and-true, both, by-cases, clash}
-use Rattle.doubles.proofs.Order.{lt-number, le-number, lt→le, lt→not-le, le→not-lt, not-lt→le, le-refl, le-trans, le-lt-trans, lt-trans, lt-le-trans}
-use Rattle.spans.proofs.Ends.{not-not, oddN, All, all-append, all-map, Over, AtMost, Above, above-less, rising-tail, rising-above, rising-append}
+use Rattle.doubles.proofs.Order.{
+  lt-number,
+  le-number,
+  lt→le,
+  lt→not-le,
+  le→not-lt,
+  not-lt→le,
+  le-refl,
+  le-trans,
+  le-lt-trans,
+  lt-trans,
+  lt-le-trans,
+}
+use Rattle.spans.proofs.Ends.{
+  not-not,
+  oddN,
+  All,
+  all-append,
+  all-map,
+  Over,
+  AtMost,
+  Above,
+  above-less,
+  rising-tail,
+  rising-above,
+  rising-append,
+}
 use Rattle.spans.proofs.Sets.{oddN-mod, equal-holds, sound-rising, sound-even, make-sound}
 use Rattle.spans.proofs.Points.{or-false, holds-append, holds-above, empty-pair, numbers-of}
 
@@ -69,7 +94,8 @@ module _ (hi : Float) (nh : Number hi) where
   cut-none lo (x ∷ []) nl nb h = pair-none lo hi (le→not-lt hi lo h)
   cut-none lo (x ∷ y ∷ b) nl nb h =
       ap₂ _++_ (pair-none lo (lowerOf hi x) (le→not-lt (lowerOf hi x) lo (le-trans (lowerOf hi x) hi lo (lower-first hi x nh) h)))
-      (cut-none (higherOf lo y) b (higher-both Number lo y nl (nb .1 .0)) (nb .1 .1) (le-trans hi lo (higherOf lo y) h (higher-first lo y nl)))
+      (cut-none (higherOf lo y) b (higher-both Number lo y nl (nb .1 .0)) (nb .1 .1)
+      (le-trans hi lo (higherOf lo y) h (higher-first lo y nl)))
 
   -- a pair of the list that ends at or below the start takes nothing
   pub cut-skip : (lo x y : Float) (b : List Float) → le x lo ≡ true → le y lo ≡ true → cutBy lo hi (x ∷ y ∷ b) ≡ cutBy lo hi b
@@ -88,7 +114,12 @@ module _ (hi : Float) (nh : Number hi) where
   cut-even lo [] = pair-even lo hi
   cut-even lo (x ∷ []) = pair-even lo hi
   cut-even lo (x ∷ y ∷ b) =
-      omega (arith, length-append (pairIf lo (lowerOf hi x)) (cutBy (higherOf lo y) hi b), pair-even lo (lowerOf hi x), cut-even (higherOf lo y) b)
+      omega (
+        arith,
+        length-append (pairIf lo (lowerOf hi x)) (cutBy (higherOf lo y) hi b),
+        pair-even lo (lowerOf hi x),
+        cut-even (higherOf lo y) b,
+      )
 
   -- its ends lie above whatever lies below the start, and up to hi
   pub cut-over : (z lo : Float) (b : List Float) → Number lo → All Number b → lt z lo ≡ true → Above z (cutBy lo hi b)
@@ -96,8 +127,10 @@ module _ (hi : Float) (nh : Number hi) where
   cut-over z lo [] nl nb h = pair-all (Over z) lo hi (λ t. (h, lt-trans z lo hi h t))
   cut-over z lo (x ∷ []) nl nb h = pair-all (Over z) lo hi (λ t. (h, lt-trans z lo hi h t))
   cut-over z lo (x ∷ y ∷ b) nl nb h =
-      all-append (Over z) (pairIf lo (lowerOf hi x)) (cutBy (higherOf lo y) hi b) (pair-all (Over z) lo (lowerOf hi x) (λ t. (h, lt-trans z lo (lowerOf hi x) h t)))
-      (cut-over z (higherOf lo y) b (higher-both Number lo y nl (nb .1 .0)) (nb .1 .1) (lt-le-trans z lo (higherOf lo y) h (higher-first lo y nl)))
+      all-append (Over z) (pairIf lo (lowerOf hi x)) (cutBy (higherOf lo y) hi b)
+      (pair-all (Over z) lo (lowerOf hi x) (λ t. (h, lt-trans z lo (lowerOf hi x) h t)))
+      (cut-over z (higherOf lo y) b (higher-both Number lo y nl (nb .1 .0)) (nb .1 .1)
+      (lt-le-trans z lo (higherOf lo y) h (higher-first lo y nl)))
 
   pub cut-upTo : (lo : Float) (b : List Float) → All (AtMost hi) (cutBy lo hi b)
   unfolding cutBy
@@ -105,7 +138,8 @@ module _ (hi : Float) (nh : Number hi) where
   cut-upTo lo (x ∷ []) = pair-all (AtMost hi) lo hi (λ t. (lt→le lo hi t, le-refl hi nh))
   cut-upTo lo (x ∷ y ∷ b) =
       all-append (AtMost hi) (pairIf lo (lowerOf hi x)) (cutBy (higherOf lo y) hi b)
-      (pair-all (AtMost hi) lo (lowerOf hi x) (λ t. (lt→le lo hi (lt-le-trans lo (lowerOf hi x) hi t (lower-first hi x nh)), lower-first hi x nh)))
+      (pair-all (AtMost hi) lo (lowerOf hi x)
+      (λ t. (lt→le lo hi (lt-le-trans lo (lowerOf hi x) hi t (lower-first hi x nh)), lower-first hi x nh)))
       (cut-upTo (higherOf lo y) b)
 
   pub cut-rising : (lo : Float) (b : List Float) → Number lo → All Number b → rising b ≡ true → rising (cutBy lo hi b) ≡ true
@@ -116,10 +150,15 @@ module _ (hi : Float) (nh : Number hi) where
       let next = higherOf lo y in
       let nn : Number next = higher-both Number lo y nl (nb .1 .0) in
       let up : lt (lowerOf hi x) next ≡ true =
-      le-lt-trans (lowerOf hi x) x next (lower-second hi x nh (nb .0)) (lt-le-trans x y next (rising-above x (y ∷ b) r .0) (higher-second lo y nl (nb .1 .0))) in
+      le-lt-trans (lowerOf hi x) x next (lower-second hi x nh (nb .0))
+      (lt-le-trans x y next (rising-above x (y ∷ b) r .0) (higher-second lo y nl (nb .1 .0))) in
       rising-append (pairIf lo (lowerOf hi x)) (cutBy next hi b) (pair-rising lo (lowerOf hi x))
       (cut-rising next b nn (nb .1 .1) (rising-tail y b (rising-tail x (y ∷ b) r)))
-      (pair-all (λ e. Above e (cutBy next hi b)) lo (lowerOf hi x) (λ t. (cut-over lo next b nn (nb .1 .1) (lt-trans lo (lowerOf hi x) next t up), cut-over (lowerOf hi x) next b nn (nb .1 .1) up)))
+      (pair-all (λ e. Above e (cutBy next hi b)) lo (lowerOf hi x)
+      (λ t. (
+        cut-over lo next b nn (nb .1 .1) (lt-trans lo (lowerOf hi x) next t up),
+        cut-over (lowerOf hi x) next b nn (nb .1 .1) up,
+      )))
 
   -- one pair more of the list, at a point p that the pairs past it hold or not (c)
   cut-point : (lo x y p : Float) (c : Bool) → Number lo → Number x → Number y → lt x y ≡ true → (lt p x ≡ true → c ≡ false)
@@ -134,7 +173,8 @@ module _ (hi : Float) (nh : Number hi) where
           | inl t ↦ rw (l, h, lower-both (λ z. lt p z ≡ true) hi x h t, lt→not-le p x t, before t)
           | inr t ↦
               let a : le x p ≡ true = not-lt→le p x np nx t in
-              let low : lt p (lowerOf hi x) ≡ false = le→not-lt (lowerOf hi x) p (le-trans (lowerOf hi x) x p (lower-second hi x nh nx) a) in
+              let low : lt p (lowerOf hi x) ≡ false =
+              le→not-lt (lowerOf hi x) p (le-trans (lowerOf hi x) x p (lower-second hi x nh nx) a) in
               elim (by-cases (lt p y)) [
                 | inl u ↦ rw (l, h, low, a, u, lt→not-le p (higherOf lo y) (lt-le-trans p y (higherOf lo y) u (higher-second lo y nl ny)))
                 | inr u ↦ rw (l, h, low, a, u, higher-both (λ z. le z p ≡ true) lo y l (not-lt→le p y np ny u))
@@ -145,13 +185,17 @@ module _ (hi : Float) (nh : Number hi) where
       inside-low : within lo hi p ≡ false → within lo (lowerOf hi x) p ≡ false
       inside-low w = elim (by-cases (within lo (lowerOf hi x) p)) [
         | inr k ↦ k
-        | inl k ↦ absurd (clash (within lo hi p) (both (le lo p) (lt p hi) (and-left (le lo p) (lt p (lowerOf hi x)) k) (lt-le-trans p (lowerOf hi x) hi (and-right (le lo p) (lt p (lowerOf hi x)) k) (lower-first hi x nh))) w)
+        | inl k ↦ absurd (clash (within lo hi p)
+            (both (le lo p) (lt p hi) (and-left (le lo p) (lt p (lowerOf hi x)) k)
+            (lt-le-trans p (lowerOf hi x) hi (and-right (le lo p) (lt p (lowerOf hi x)) k) (lower-first hi x nh))) w)
       ]
 
       inside-high : within lo hi p ≡ false → within (higherOf lo y) hi p ≡ false
       inside-high w = elim (by-cases (within (higherOf lo y) hi p)) [
         | inr k ↦ k
-        | inl k ↦ absurd (clash (within lo hi p) (both (le lo p) (lt p hi) (le-trans lo (higherOf lo y) p (higher-first lo y nl) (and-left (le (higherOf lo y) p) (lt p hi) k)) (and-right (le (higherOf lo y) p) (lt p hi) k)) w)
+        | inl k ↦ absurd (clash (within lo hi p)
+            (both (le lo p) (lt p hi) (le-trans lo (higherOf lo y) p (higher-first lo y nl)
+            (and-left (le (higherOf lo y) p) (lt p hi) k)) (and-right (le (higherOf lo y) p) (lt p hi) k)) w)
       ]
 
   pub cut-holds : (lo : Float) (b : List Float) (p : Float) → Number lo → All Number b → rising b ≡ true → oddN (length b) ≡ false
@@ -165,7 +209,8 @@ module _ (hi : Float) (nh : Number hi) where
       let above = rising-above x (y ∷ b) r in
       holds-append first (cutBy next hi b) p (oddN-mod (length first) (pair-even lo (lowerOf hi x)))
       ∙ ap₂ _||_ (pair-holds lo (lowerOf hi x) p)
-      (cut-holds next b p (higher-both Number lo y nl (nb .1 .0)) (nb .1 .1) (rising-tail y b (rising-tail x (y ∷ b) r)) (sym (not-not (oddN (length b))) ∙ e))
+      (cut-holds next b p (higher-both Number lo y nl (nb .1 .0)) (nb .1 .1)
+      (rising-tail y b (rising-tail x (y ∷ b) r)) (sym (not-not (oddN (length b))) ∙ e))
       ∙ cut-point lo x y p (holds b p) nl (nb .0) (nb .1 .0) (above .0) (λ t. holds-above b p (above-less p x (lt→le p x t) b (above .1)))
 
 -- ---- a list less another
@@ -173,14 +218,16 @@ less-even : (a b : List Float) → All Number a → length (lessOf a b) % 2 ≡ 
 unfolding lessOf
 less-even [] b na = omega arith
 less-even (lo ∷ []) b na = omega arith
-less-even (lo ∷ hi ∷ a) b na = omega (arith, length-append (cutBy lo hi b) (lessOf a b), cut-even hi (na .1 .0) lo b, less-even a b (na .1 .1))
+less-even (lo ∷ hi ∷ a) b na =
+    omega (arith, length-append (cutBy lo hi b) (lessOf a b), cut-even hi (na .1 .0) lo b, less-even a b (na .1 .1))
 
 less-over : (z : Float) (a b : List Float) → All Number a → All Number b → Above z a → Above z (lessOf a b)
 unfolding lessOf
 less-over z [] b na nb h = tt
 less-over z (lo ∷ []) b na nb h = tt
 less-over z (lo ∷ hi ∷ a) b na nb h =
-    all-append (Over z) (cutBy lo hi b) (lessOf a b) (cut-over hi (na .1 .0) z lo b (na .0) nb (h .0)) (less-over z a b (na .1 .1) nb (h .1 .1))
+    all-append (Over z) (cutBy lo hi b) (lessOf a b) (cut-over hi (na .1 .0) z lo b (na .0) nb (h .0))
+    (less-over z a b (na .1 .1) nb (h .1 .1))
 
 less-rising : (a b : List Float) → All Number a → All Number b → rising a ≡ true → rising b ≡ true → rising (lessOf a b) ≡ true
 unfolding lessOf rising
@@ -188,10 +235,14 @@ less-rising [] b na nb ra rb = refl
 less-rising (lo ∷ []) b na nb ra rb = refl
 less-rising (lo ∷ hi ∷ a) b na nb ra rb =
     let r : rising (hi ∷ a) ≡ true = rising-tail lo (hi ∷ a) ra in
-    rising-append (cutBy lo hi b) (lessOf a b) (cut-rising hi (na .1 .0) lo b (na .0) nb rb) (less-rising a b (na .1 .1) nb (rising-tail hi a r) rb)
-    (all-map (AtMost hi) (λ e. Above e (lessOf a b)) (λ e k. above-less e hi k (lessOf a b) (less-over hi a b (na .1 .1) nb (rising-above hi a r))) (cutBy lo hi b) (cut-upTo hi (na .1 .0) lo b))
+    rising-append (cutBy lo hi b) (lessOf a b) (cut-rising hi (na .1 .0) lo b (na .0) nb rb)
+    (less-rising a b (na .1 .1) nb (rising-tail hi a r) rb)
+    (all-map (AtMost hi) (λ e. Above e (lessOf a b))
+    (λ e k. above-less e hi k (lessOf a b) (less-over hi a b (na .1 .1) nb (rising-above hi a r))) (cutBy lo hi b)
+    (cut-upTo hi (na .1 .0) lo b))
 
-less-holds : (a b : List Float) (p : Float) → All Number a → All Number b → rising b ≡ true → oddN (length b) ≡ false → holds (lessOf a b) p ≡ less a b p
+less-holds : (a b : List Float) (p : Float) → All Number a → All Number b → rising b ≡ true → oddN (length b) ≡ false
+    → holds (lessOf a b) p ≡ less a b p
 unfolding lessOf holds
 less-holds [] b p na nb rb e = refl
 less-holds (lo ∷ []) b p na nb rb e = refl
@@ -203,12 +254,14 @@ less-holds (lo ∷ hi ∷ a) b p na nb rb e =
 -- the canonical form of the points of a that are not in b
 pub less-list : (a b : List Float) → sound a ≡ true → sound b ≡ true → ListOf (less a b) (lessOf a b)
 less-list a b sa sb = record {
-  isSound = make-sound (lessOf a b) (less-even a b (numbers-of a sa)) (less-rising a b (numbers-of a sa) (numbers-of b sb) (sound-rising a sa) (sound-rising b sb));
+  isSound = make-sound (lessOf a b) (less-even a b (numbers-of a sa))
+      (less-rising a b (numbers-of a sa) (numbers-of b sb) (sound-rising a sa) (sound-rising b sb));
   points = λ p. less-holds a b p (numbers-of a sa) (numbers-of b sb) (sound-rising b sb) (sound-even b sb);
 }
 
 -- ---- where nothing is taken the list stays, end by end
-cut-apart : (lo hi : Float) (b : List Float) → lt lo hi ≡ true → All Number b → rising b ≡ true → ((p : Float) → within lo hi p ≡ true → holds b p ≡ false) → cutBy lo hi b ≡ lo ∷ hi ∷ []
+cut-apart : (lo hi : Float) (b : List Float) → lt lo hi ≡ true → All Number b → rising b ≡ true
+    → ((p : Float) → within lo hi p ≡ true → holds b p ≡ false) → cutBy lo hi b ≡ lo ∷ hi ∷ []
 unfolding cutBy holds
 cut-apart lo hi [] h nb r f = rw h refl
 cut-apart lo hi (x ∷ []) h nb r f = rw h refl
@@ -221,33 +274,42 @@ cut-apart lo hi (x ∷ y ∷ b) h nb r f =
             | inr u ↦ not-lt→le lo y (n .0) (nb .1 .0) u
             | inl u ↦
                 let p = higherOf lo x in
-                let in-a : within lo hi p ≡ true = both (le lo p) (lt p hi) (higher-first lo x (n .0)) (higher-both (λ e. lt e hi ≡ true) lo x h t) in
-                let in-b : within x y p ≡ true = both (le x p) (lt p y) (higher-second lo x (n .0) (nb .0)) (higher-both (λ e. lt e y ≡ true) lo x u up) in
+                let in-a : within lo hi p ≡ true =
+                both (le lo p) (lt p hi) (higher-first lo x (n .0)) (higher-both (λ e. lt e hi ≡ true) lo x h t) in
+                let in-b : within x y p ≡ true =
+                both (le x p) (lt p y) (higher-second lo x (n .0) (nb .0)) (higher-both (λ e. lt e y ≡ true) lo x u up) in
                 absurd (clash (within x y p || holds b p) (or-left (within x y p) (holds b p) in-b) (f p in-a))
           ] in
           cut-skip hi (n .1) lo x y b (lt→le x lo (lt-le-trans x y lo up low)) low
-          ∙ cut-apart lo hi b h (nb .1 .1) (rising-tail y b (rising-tail x (y ∷ b) r)) (λ p w. or-neither (within x y p) (holds b p) (f p w) .1)
+          ∙ cut-apart lo hi b h (nb .1 .1) (rising-tail y b (rising-tail x (y ∷ b) r))
+          (λ p w. or-neither (within x y p) (holds b p) (f p w) .1)
       | inr t ↦
           let far : le hi x ≡ true = not-lt→le x hi (nb .0) (n .1) t in
           let whole : pairIf lo (lowerOf hi x) ≡ lo ∷ hi ∷ [] = rw (t, h) refl in
           ap₂ _++_ whole
-          (cut-none hi (n .1) (higherOf lo y) b (higher-both Number lo y (n .0) (nb .1 .0)) (nb .1 .1) (le-trans hi x (higherOf lo y) far (le-trans x y (higherOf lo y) (lt→le x y up) (higher-second lo y (n .0) (nb .1 .0)))))
+          (cut-none hi (n .1) (higherOf lo y) b (higher-both Number lo y (n .0) (nb .1 .0)) (nb .1 .1)
+          (le-trans hi x (higherOf lo y) far
+          (le-trans x y (higherOf lo y) (lt→le x y up) (higher-second lo y (n .0) (nb .1 .0)))))
     ]
 
-less-stays : (a b : List Float) → rising a ≡ true → oddN (length a) ≡ false → All Number b → rising b ≡ true → ((p : Float) → holds a p ≡ true → holds b p ≡ false) → lessOf a b ≡ a
+less-stays : (a b : List Float) → rising a ≡ true → oddN (length a) ≡ false → All Number b → rising b ≡ true
+    → ((p : Float) → holds a p ≡ true → holds b p ≡ false) → lessOf a b ≡ a
 unfolding lessOf holds
 less-stays [] b ra e nb rb f = refl
 less-stays (lo ∷ []) b ra e nb rb f = absurd (true≢false e)
 less-stays (lo ∷ hi ∷ a) b ra e nb rb f =
     ap₂ _++_ (cut-apart lo hi b (rising-above lo (hi ∷ a) ra .0) nb rb (λ p w. f p (or-left (within lo hi p) (holds a p) w)))
-    (less-stays a b (rising-tail hi a (rising-tail lo (hi ∷ a) ra)) (sym (not-not (oddN (length a))) ∙ e) nb rb (λ p w. f p (or-right (within lo hi p) (holds a p) w)))
+    (less-stays a b (rising-tail hi a (rising-tail lo (hi ∷ a) ra)) (sym (not-not (oddN (length a))) ∙ e) nb rb
+    (λ p w. f p (or-right (within lo hi p) (holds a p) w)))
 
 pub less-apart : (a b : List Float) → sound a ≡ true → sound b ≡ true → Apart a b → lessOf a b ≡ a
 less-apart a b sa sb f = less-stays a b (sound-rising a sa) (sound-even a sa) (numbers-of b sb) (sound-rising b sb) f
 
 -- a boundary moves exactly where some point is in both lists
-pub less-moves : (a b : List Float) → sound a ≡ true → sound b ≡ true → (p : Float) → holds a p ≡ true → holds b p ≡ true → equal a (lessOf a b) ≡ false
+pub less-moves : (a b : List Float) → sound a ≡ true → sound b ≡ true → (p : Float) → holds a p ≡ true
+    → holds b p ≡ true → equal a (lessOf a b) ≡ false
 less-moves a b sa sb p h k = elim (by-cases (equal a (lessOf a b))) [
   | inr e ↦ e
-  | inl e ↦ absurd (clash (holds (lessOf a b) p) (sym (equal-holds a (lessOf a b) e p) ∙ h) (less-list a b sa sb .points p ∙ rw (h, k) refl))
+  | inl e ↦ absurd (clash (holds (lessOf a b) p) (sym (equal-holds a (lessOf a b) e p) ∙ h)
+      (less-list a b sa sb .points p ∙ rw (h, k) refl))
 ]

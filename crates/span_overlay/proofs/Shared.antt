@@ -15,7 +15,20 @@ use Rattle.doubles.proofs.Order.{lt→le, le→not-lt, le-trans, lt-trans, lt-l
 use Rattle.spans.proofs.Ends.{All, all-append, all-map, Over, AtMost, Above, above-less, rising-tail, rising-above, rising-append}
 use Rattle.spans.proofs.Sets.{oddN-mod, sound-rising, make-sound}
 use Rattle.spans.proofs.Points.{holds-append, numbers-of}
-use Rattle.span_overlay.proofs.Less.{higher-first, higher-second, higher-both, lower-first, lower-second, lower-both, pair-all, pair-even, pair-rising, pair-holds, pair-none, either}
+use Rattle.span_overlay.proofs.Less.{
+  higher-first,
+  higher-second,
+  higher-both,
+  lower-first,
+  lower-second,
+  lower-both,
+  pair-all,
+  pair-even,
+  pair-rising,
+  pair-holds,
+  pair-none,
+  either,
+}
 
 -- of two numbers, Rust's `max` and `min`
 pub larger-is : (x y : Float) → Number x → largerOf x y ≡ higherOf x y
@@ -34,11 +47,15 @@ module _ (lo hi x y : Float) (nl : Number lo) (nh : Number hi) (nx : Number x) (
   -- apart: the second past the first, the first past the second
   pub apart-past : lt hi x ≡ true → pairIf (largerOf lo x) (smallerOf hi y) ≡ []
   apart-past h = shared-is ∙ pair-none (higherOf lo x) (lowerOf hi y)
-      (le→not-lt (lowerOf hi y) (higherOf lo x) (le-trans (lowerOf hi y) hi (higherOf lo x) (lower-first hi y nh) (le-trans hi x (higherOf lo x) (lt→le hi x h) (higher-second lo x nl nx))))
+      (le→not-lt (lowerOf hi y) (higherOf lo x)
+      (le-trans (lowerOf hi y) hi (higherOf lo x) (lower-first hi y nh)
+      (le-trans hi x (higherOf lo x) (lt→le hi x h) (higher-second lo x nl nx))))
 
   pub apart-front : lt y lo ≡ true → pairIf (largerOf lo x) (smallerOf hi y) ≡ []
   apart-front h = shared-is ∙ pair-none (higherOf lo x) (lowerOf hi y)
-      (le→not-lt (lowerOf hi y) (higherOf lo x) (le-trans (lowerOf hi y) y (higherOf lo x) (lower-second hi y nh ny) (le-trans y lo (higherOf lo x) (lt→le y lo h) (higher-first lo x nl))))
+      (le→not-lt (lowerOf hi y) (higherOf lo x)
+      (le-trans (lowerOf hi y) y (higherOf lo x) (lower-second hi y nh ny)
+      (le-trans y lo (higherOf lo x) (lt→le y lo h) (higher-first lo x nl))))
 
   pub both-hold : (p : Float) → holds (pairIf (largerOf lo x) (smallerOf hi y)) p ≡ (within lo hi p && within x y p)
   both-hold p = ap (λ (l : List Float). holds l p) shared-is ∙ pair-holds (higherOf lo x) (lowerOf hi y) p ∙ go
@@ -48,28 +65,46 @@ module _ (lo hi x y : Float) (nl : Number lo) (nh : Number hi) (nx : Number x) (
         | inl w ↦
             let l = and-left (le (higherOf lo x) p) (lt p (lowerOf hi y)) w in
             let h = and-right (le (higherOf lo x) p) (lt p (lowerOf hi y)) w in
-            w ∙ sym (rw (le-trans lo (higherOf lo x) p (higher-first lo x nl) l, lt-le-trans p (lowerOf hi y) hi h (lower-first hi y nh), le-trans x (higherOf lo x) p (higher-second lo x nl nx) l, lt-le-trans p (lowerOf hi y) y h (lower-second hi y nh ny)) refl)
+            w ∙ sym (rw (
+              le-trans lo (higherOf lo x) p (higher-first lo x nl) l,
+              lt-le-trans p (lowerOf hi y) hi h (lower-first hi y nh),
+              le-trans x (higherOf lo x) p (higher-second lo x nl nx) l,
+              lt-le-trans p (lowerOf hi y) y h (lower-second hi y nh ny),
+            ) refl)
         | inr w ↦ w ∙ sym (elim (by-cases (within lo hi p && within x y p)) [
           | inr k ↦ k
           | inl k ↦
               let a = and-left (within lo hi p) (within x y p) k in
               let b = and-right (within lo hi p) (within x y p) k in
-              absurd (clash (within (higherOf lo x) (lowerOf hi y) p) (both (le (higherOf lo x) p) (lt p (lowerOf hi y)) (higher-both (λ z. le z p ≡ true) lo x (and-left (le lo p) (lt p hi) a) (and-left (le x p) (lt p y) b)) (lower-both (λ z. lt p z ≡ true) hi y (and-right (le lo p) (lt p hi) a) (and-right (le x p) (lt p y) b))) w)
+              absurd (clash (within (higherOf lo x) (lowerOf hi y) p)
+              (both (le (higherOf lo x) p) (lt p (lowerOf hi y))
+              (higher-both (λ z. le z p ≡ true) lo x (and-left (le lo p) (lt p hi) a)
+              (and-left (le x p) (lt p y) b))
+              (lower-both (λ z. lt p z ≡ true) hi y (and-right (le lo p) (lt p hi) a) (and-right (le x p) (lt p y) b))) w)
         ])
       ]
 
   -- its ends lie above what is below both los, up to both his
   pub shared-over : (z : Float) → lt z lo ≡ true → Above z (pairIf (largerOf lo x) (smallerOf hi y))
-  shared-over z h = rw shared-is (pair-all (Over z) (higherOf lo x) (lowerOf hi y) (λ t. let k = lt-le-trans z lo (higherOf lo x) h (higher-first lo x nl) in (k, lt-trans z (higherOf lo x) (lowerOf hi y) k t)))
+  shared-over z h = rw shared-is
+      (pair-all (Over z) (higherOf lo x) (lowerOf hi y)
+      (λ t. let k = lt-le-trans z lo (higherOf lo x) h (higher-first lo x nl) in
+      (k, lt-trans z (higherOf lo x) (lowerOf hi y) k t)))
 
   pub shared-upTo : All (λ e. (le e hi ≡ true) × (le e y ≡ true)) (pairIf (largerOf lo x) (smallerOf hi y))
   shared-upTo = rw shared-is (pair-all (λ e. (le e hi ≡ true) × (le e y ≡ true)) (higherOf lo x) (lowerOf hi y) (λ t. (
-    (le-trans (higherOf lo x) (lowerOf hi y) hi (lt→le (higherOf lo x) (lowerOf hi y) t) (lower-first hi y nh), le-trans (higherOf lo x) (lowerOf hi y) y (lt→le (higherOf lo x) (lowerOf hi y) t) (lower-second hi y nh ny)),
+    (
+      le-trans (higherOf lo x) (lowerOf hi y) hi (lt→le (higherOf lo x) (lowerOf hi y) t) (lower-first hi y nh),
+      le-trans (higherOf lo x) (lowerOf hi y) y (lt→le (higherOf lo x) (lowerOf hi y) t) (lower-second hi y nh ny),
+    ),
     (lower-first hi y nh, lower-second hi y nh ny),
   )))
 
   pub shared-above : (z : Float) → lt z x ≡ true → Above z (pairIf (largerOf lo x) (smallerOf hi y))
-  shared-above z h = rw shared-is (pair-all (Over z) (higherOf lo x) (lowerOf hi y) (λ t. let k = lt-le-trans z x (higherOf lo x) h (higher-second lo x nl nx) in (k, lt-trans z (higherOf lo x) (lowerOf hi y) k t)))
+  shared-above z h = rw shared-is
+      (pair-all (Over z) (higherOf lo x) (lowerOf hi y)
+      (λ t. let k = lt-le-trans z x (higherOf lo x) h (higher-second lo x nl nx) in
+      (k, lt-trans z (higherOf lo x) (lowerOf hi y) k t)))
 
 -- ---- a pair with a list
 module _ (lo hi : Float) (nl : Number lo) (nh : Number hi) where
@@ -83,26 +118,34 @@ module _ (lo hi : Float) (nl : Number lo) (nh : Number hi) where
   unfolding sharedBy
   by-even [] = omega arith
   by-even (x ∷ []) = omega arith
-  by-even (x ∷ y ∷ b) = omega (arith, length-append (pairIf (largerOf lo x) (smallerOf hi y)) (sharedBy lo hi b), pair-even (largerOf lo x) (smallerOf hi y), by-even b)
+  by-even (x ∷ y ∷ b) = omega (
+    arith,
+    length-append (pairIf (largerOf lo x) (smallerOf hi y)) (sharedBy lo hi b),
+    pair-even (largerOf lo x) (smallerOf hi y),
+    by-even b,
+  )
 
   by-over : (z : Float) (b : List Float) → All Number b → lt z lo ≡ true → Above z (sharedBy lo hi b)
   unfolding sharedBy
   by-over z [] nb h = tt
   by-over z (x ∷ []) nb h = tt
-  by-over z (x ∷ y ∷ b) nb h = all-append (Over z) (pairIf (largerOf lo x) (smallerOf hi y)) (sharedBy lo hi b) (shared-over lo hi x y nl nh (nb .0) (nb .1 .0) z h) (by-over z b (nb .1 .1) h)
+  by-over z (x ∷ y ∷ b) nb h = all-append (Over z) (pairIf (largerOf lo x) (smallerOf hi y)) (sharedBy lo hi b)
+      (shared-over lo hi x y nl nh (nb .0) (nb .1 .0) z h) (by-over z b (nb .1 .1) h)
 
   by-above : (z : Float) (b : List Float) → All Number b → Above z b → Above z (sharedBy lo hi b)
   unfolding sharedBy
   by-above z [] nb h = tt
   by-above z (x ∷ []) nb h = tt
-  by-above z (x ∷ y ∷ b) nb h = all-append (Over z) (pairIf (largerOf lo x) (smallerOf hi y)) (sharedBy lo hi b) (shared-above lo hi x y nl nh (nb .0) (nb .1 .0) z (h .0)) (by-above z b (nb .1 .1) (h .1 .1))
+  by-above z (x ∷ y ∷ b) nb h = all-append (Over z) (pairIf (largerOf lo x) (smallerOf hi y)) (sharedBy lo hi b)
+      (shared-above lo hi x y nl nh (nb .0) (nb .1 .0) z (h .0)) (by-above z b (nb .1 .1) (h .1 .1))
 
   by-upTo : (b : List Float) → All Number b → All (AtMost hi) (sharedBy lo hi b)
   unfolding sharedBy
   by-upTo [] nb = tt
   by-upTo (x ∷ []) nb = tt
   by-upTo (x ∷ y ∷ b) nb = all-append (AtMost hi) (pairIf (largerOf lo x) (smallerOf hi y)) (sharedBy lo hi b)
-      (all-map (λ e. (le e hi ≡ true) × (le e y ≡ true)) (AtMost hi) (λ e k. k .0) (pairIf (largerOf lo x) (smallerOf hi y)) (shared-upTo lo hi x y nl nh (nb .0) (nb .1 .0))) (by-upTo b (nb .1 .1))
+      (all-map (λ e. (le e hi ≡ true) × (le e y ≡ true)) (AtMost hi) (λ e k. k .0)
+      (pairIf (largerOf lo x) (smallerOf hi y)) (shared-upTo lo hi x y nl nh (nb .0) (nb .1 .0))) (by-upTo b (nb .1 .1))
 
   by-rising : (b : List Float) → All Number b → rising b ≡ true → rising (sharedBy lo hi b) ≡ true
   unfolding sharedBy rising
@@ -112,7 +155,9 @@ module _ (lo hi : Float) (nl : Number lo) (nh : Number hi) where
       let first = pairIf (largerOf lo x) (smallerOf hi y) in
       let t : rising (y ∷ b) ≡ true = rising-tail x (y ∷ b) r in
       rising-append first (sharedBy lo hi b) (pair-rising (largerOf lo x) (smallerOf hi y)) (by-rising b (nb .1 .1) (rising-tail y b t))
-      (all-map (λ e. (le e hi ≡ true) × (le e y ≡ true)) (λ e. Above e (sharedBy lo hi b)) (λ e k. above-less e y (k .1) (sharedBy lo hi b) (by-above y b (nb .1 .1) (rising-above y b t))) first (shared-upTo lo hi x y nl nh (nb .0) (nb .1 .0)))
+      (all-map (λ e. (le e hi ≡ true) × (le e y ≡ true)) (λ e. Above e (sharedBy lo hi b))
+      (λ e k. above-less e y (k .1) (sharedBy lo hi b) (by-above y b (nb .1 .1) (rising-above y b t))) first
+      (shared-upTo lo hi x y nl nh (nb .0) (nb .1 .0)))
 
   by-holds : (b : List Float) (p : Float) → All Number b → holds (sharedBy lo hi b) p ≡ (within lo hi p && holds b p)
   unfolding sharedBy holds
@@ -121,7 +166,8 @@ module _ (lo hi : Float) (nl : Number lo) (nh : Number hi) where
   by-holds (x ∷ y ∷ b) p nb =
       let first = pairIf (largerOf lo x) (smallerOf hi y) in
       holds-append first (sharedBy lo hi b) p (oddN-mod (length first) (pair-even (largerOf lo x) (smallerOf hi y)))
-      ∙ ap₂ _||_ (both-hold lo hi x y nl nh (nb .0) (nb .1 .0) p) (by-holds b p (nb .1 .1)) ∙ parts (within lo hi p) (within x y p) (holds b p)
+      ∙ ap₂ _||_ (both-hold lo hi x y nl nh (nb .0) (nb .1 .0) p) (by-holds b p (nb .1 .1))
+      ∙ parts (within lo hi p) (within x y p) (holds b p)
     where
       parts : (w u v : Bool) → ((w && u) || (w && v)) ≡ (w && (u || v))
       parts true u v = refl
@@ -134,7 +180,8 @@ unfolding commonOf sharedBy
 past-front x y [] b na nx ny h = refl
 past-front x y (lo ∷ []) b na nx ny h = refl
 past-front x y (lo ∷ hi ∷ a) b na nx ny h =
-    ap₂ _++_ (ap (λ (l : List Float). l ++ sharedBy lo hi b) (apart-front lo hi x y (na .0) (na .1 .0) nx ny (h .0))) (past-front x y a b (na .1 .1) nx ny (h .1 .1))
+    ap₂ _++_ (ap (λ (l : List Float). l ++ sharedBy lo hi b) (apart-front lo hi x y (na .0) (na .1 .0) nx ny (h .0)))
+    (past-front x y a b (na .1 .1) nx ny (h .1 .1))
 
 pub with-none : (a : List Float) → commonOf a [] ≡ []
 unfolding commonOf sharedBy
@@ -146,14 +193,21 @@ common-even : (a b : List Float) → All Number a → length (commonOf a b) % 2 
 unfolding commonOf
 common-even [] b na = omega arith
 common-even (x ∷ []) b na = omega arith
-common-even (lo ∷ hi ∷ a) b na = omega (arith, length-append (sharedBy lo hi b) (commonOf a b), by-even lo hi (na .0) (na .1 .0) b, common-even a b (na .1 .1))
+common-even (lo ∷ hi ∷ a) b na =
+    omega (
+      arith,
+      length-append (sharedBy lo hi b) (commonOf a b),
+      by-even lo hi (na .0) (na .1 .0) b,
+      common-even a b (na .1 .1),
+    )
 
 common-over : (z : Float) (a b : List Float) → All Number a → All Number b → Above z a → Above z (commonOf a b)
 unfolding commonOf
 common-over z [] b na nb h = tt
 common-over z (x ∷ []) b na nb h = tt
 common-over z (lo ∷ hi ∷ a) b na nb h =
-    all-append (Over z) (sharedBy lo hi b) (commonOf a b) (by-over lo hi (na .0) (na .1 .0) z b nb (h .0)) (common-over z a b (na .1 .1) nb (h .1 .1))
+    all-append (Over z) (sharedBy lo hi b) (commonOf a b) (by-over lo hi (na .0) (na .1 .0) z b nb (h .0))
+    (common-over z a b (na .1 .1) nb (h .1 .1))
 
 common-rising : (a b : List Float) → All Number a → All Number b → rising a ≡ true → rising b ≡ true → rising (commonOf a b) ≡ true
 unfolding commonOf rising
@@ -161,8 +215,11 @@ common-rising [] b na nb ra rb = refl
 common-rising (x ∷ []) b na nb ra rb = refl
 common-rising (lo ∷ hi ∷ a) b na nb ra rb =
     let r : rising (hi ∷ a) ≡ true = rising-tail lo (hi ∷ a) ra in
-    rising-append (sharedBy lo hi b) (commonOf a b) (by-rising lo hi (na .0) (na .1 .0) b nb rb) (common-rising a b (na .1 .1) nb (rising-tail hi a r) rb)
-    (all-map (AtMost hi) (λ e. Above e (commonOf a b)) (λ e k. above-less e hi k (commonOf a b) (common-over hi a b (na .1 .1) nb (rising-above hi a r))) (sharedBy lo hi b) (by-upTo lo hi (na .0) (na .1 .0) b nb))
+    rising-append (sharedBy lo hi b) (commonOf a b) (by-rising lo hi (na .0) (na .1 .0) b nb rb)
+    (common-rising a b (na .1 .1) nb (rising-tail hi a r) rb)
+    (all-map (AtMost hi) (λ e. Above e (commonOf a b))
+    (λ e k. above-less e hi k (commonOf a b) (common-over hi a b (na .1 .1) nb (rising-above hi a r)))
+    (sharedBy lo hi b) (by-upTo lo hi (na .0) (na .1 .0) b nb))
 
 common-holds : (a b : List Float) (p : Float) → All Number a → All Number b → holds (commonOf a b) p ≡ common a b p
 unfolding commonOf holds
@@ -175,6 +232,7 @@ common-holds (lo ∷ hi ∷ a) b p na nb =
 
 pub common-list : (a b : List Float) → sound a ≡ true → sound b ≡ true → ListOf (common a b) (commonOf a b)
 common-list a b sa sb = record {
-  isSound = make-sound (commonOf a b) (common-even a b (numbers-of a sa)) (common-rising a b (numbers-of a sa) (numbers-of b sb) (sound-rising a sa) (sound-rising b sb));
+  isSound = make-sound (commonOf a b) (common-even a b (numbers-of a sa))
+      (common-rising a b (numbers-of a sa) (numbers-of b sb) (sound-rising a sa) (sound-rising b sb));
   points = λ p. common-holds a b p (numbers-of a sa) (numbers-of b sb);
 }

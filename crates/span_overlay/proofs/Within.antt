@@ -23,14 +23,16 @@ module _ (P : Float → Type 0) where
   cut-all lo hi [] h k pb = pair-all P lo hi (λ _. (h, k))
   cut-all lo hi (x ∷ []) h k pb = pair-all P lo hi (λ _. (h, k))
   cut-all lo hi (x ∷ y ∷ b) h k pb =
-      all-append P (pairIf lo (lowerOf hi x)) (cutBy (higherOf lo y) hi b) (pair-all P lo (lowerOf hi x) (λ _. (h, lower-both P hi x k (pb .0))))
+      all-append P (pairIf lo (lowerOf hi x)) (cutBy (higherOf lo y) hi b)
+      (pair-all P lo (lowerOf hi x) (λ _. (h, lower-both P hi x k (pb .0))))
       (cut-all (higherOf lo y) hi b (higher-both P lo y h (pb .1 .0)) k (pb .1 .1))
 
   pub less-all : (a b : List Float) → All P a → All P b → All P (lessOf a b)
   unfolding lessOf
   less-all [] b pa pb = tt
   less-all (lo ∷ []) b pa pb = tt
-  less-all (lo ∷ hi ∷ a) b pa pb = all-append P (cutBy lo hi b) (lessOf a b) (cut-all lo hi b (pa .0) (pa .1 .0) pb) (less-all a b (pa .1 .1) pb)
+  less-all (lo ∷ hi ∷ a) b pa pb =
+      all-append P (cutBy lo hi b) (lessOf a b) (cut-all lo hi b (pa .0) (pa .1 .0) pb) (less-all a b (pa .1 .1) pb)
 
 -- ---- where each of document 01's points of the inner list is in the outer one, each number of it is
 pub inside-points : (p c : List Float) → All Double p → All Double c → sound p ≡ true → sound c ≡ true
@@ -72,7 +74,8 @@ by-within lo hi (x ∷ y ∷ b) h nb r f =
           ]))
       | inl u ↦
           -- lo and all below hi are in this pair: the pairs past it lie above y
-          let start : le x lo ≡ true = elim (or-cases (within x y lo) (holds b lo) (f lo (both (le lo lo) (lt lo hi) (le-refl lo (n .0)) h))) [
+          let start : le x lo ≡ true = elim
+          (or-cases (within x y lo) (holds b lo) (f lo (both (le lo lo) (lt lo hi) (le-refl lo (n .0)) h))) [
             | inl v ↦ and-left (le x lo) (lt lo y) v
             | inr v ↦ absurd (clash (holds b lo) v (holds-above b lo (above-less lo y (lt→le lo y u) b (rising-above y b t))))
           ] in
@@ -89,7 +92,8 @@ by-within lo hi (x ∷ y ∷ b) h nb r f =
           (above-less hi y (not-lt→le y hi (nb .1 .0) (n .1) end) b (rising-above y b t)))
     ]
 
-common-stays : (c p : List Float) → rising c ≡ true → oddN (length c) ≡ false → All Number p → rising p ≡ true → Within p c → commonOf c p ≡ c
+common-stays : (c p : List Float) → rising c ≡ true → oddN (length c) ≡ false → All Number p → rising p ≡ true
+    → Within p c → commonOf c p ≡ c
 unfolding commonOf holds
 common-stays [] p rc e np rp f = refl
 common-stays (lo ∷ []) p rc e np rp f = absurd (true≢false e)

@@ -17,7 +17,8 @@ pub record OverlayCutPre (rest : List Float) (from hi : Float) (before : List Fl
   pub room : n + length rest + 2 ≤ length before
 
 -- what the list leaves of the pair stands past the first n ends; the ends of the list that are passed are at most hi
-pub record OverlayCutPost (rest : List Float) (from hi : Float) (before : List Float) (n : ℕ) (after : List Float) (r : Place) : Type 0 where
+pub record OverlayCutPost (rest : List Float) (from hi : Float) (before : List Float) (n : ℕ) (after : List Float)
+    (r : Place) : Type 0 where
   pub size : length after ≡ length before
   pub passedMost : r .passed ≤ length rest
   pub passedEven : r .passed % 2 ≡ 0

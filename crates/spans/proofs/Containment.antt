@@ -1,4 +1,5 @@
--- The walk over two lists says exactly whether the points of one lie in the other, and with that the test of a ray says whether it is valid.
+-- The walk over two lists says exactly whether the points of one lie in the other, and with that the test of a ray
+-- says whether it is valid.
 use mathlib.Core.Path.{_≡_, refl, sym, ap, subst}
 use mathlib.Core.Logic.{⊎-elim}
 use mathlib.Core.Bool.{Bool, true, false, cond}
@@ -20,7 +21,9 @@ past-first x [] p r h = absurd (clash false h refl)
 past-first x (a ∷ []) p r h = absurd (clash false h refl)
 past-first x (a ∷ b ∷ l) p r h = ⊎-elim
     (λ (w : within a b p ≡ true). lt-le-trans x a p (rising-first x a (b ∷ l) r) (and-left (le a p) (lt p b) w))
-    (λ (m : holds l p ≡ true). lt-trans x a p (rising-first x a (b ∷ l) r) (lt-trans a b p (rising-first a b l (rising-tail x (a ∷ b ∷ l) r)) (past-first b l p (rising-tail a (b ∷ l) (rising-tail x (a ∷ b ∷ l) r)) m)))
+    (λ (m : holds l p ≡ true). lt-trans x a p (rising-first x a (b ∷ l) r)
+    (lt-trans a b p (rising-first a b l (rising-tail x (a ∷ b ∷ l) r))
+    (past-first b l p (rising-tail a (b ∷ l) (rising-tail x (a ∷ b ∷ l) r)) m)))
     (or-cases (within a b p) (holds l p) h)
 
 -- ---- the list from its first pair that does not end below x
@@ -37,7 +40,8 @@ unfolding from rising
 from-rises x [] r = refl
 from-rises x (a ∷ []) r = refl
 from-rises x (a ∷ b ∷ l) r = ⊎-elim
-    (λ (t : lt b x ≡ true). subst (λ (m : List Float). rising m ≡ true) (sym (from-skip x a b l t)) (from-rises x l (rising-tail b l (rising-tail a (b ∷ l) r))))
+    (λ (t : lt b x ≡ true). subst (λ (m : List Float). rising m ≡ true) (sym (from-skip x a b l t))
+    (from-rises x l (rising-tail b l (rising-tail a (b ∷ l) r))))
     (λ (t : lt b x ≡ false). subst (λ (m : List Float). rising m ≡ true) (sym (from-stop x a b l t)) r)
     (by-cases (lt b x))
 
@@ -46,7 +50,8 @@ unfolding from holds
 from-holds x [] p h = h
 from-holds x (a ∷ []) p h = h
 from-holds x (a ∷ b ∷ l) p h = ⊎-elim
-    (λ (t : lt b x ≡ true). or-right (within a b p) (holds l p) (from-holds x l p (subst (λ (m : List Float). holds m p ≡ true) (from-skip x a b l t) h)))
+    (λ (t : lt b x ≡ true). or-right (within a b p) (holds l p)
+    (from-holds x l p (subst (λ (m : List Float). holds m p ≡ true) (from-skip x a b l t) h)))
     (λ (t : lt b x ≡ false). subst (λ (m : List Float). holds m p ≡ true) (from-stop x a b l t) h)
     (by-cases (lt b x))
 
@@ -69,7 +74,8 @@ covers-holds [] lo hi p c w = absurd (clash false c refl)
 covers-holds (a ∷ []) lo hi p c w = absurd (clash false c refl)
 covers-holds (a ∷ b ∷ l) lo hi p c w =
     or-left (within a b p) (holds l p)
-    (both (le a p) (lt p b) (le-trans a lo p (and-left (le a lo) (le hi b) c) (and-left (le lo p) (lt p hi) w)) (lt-le-trans p hi b (and-right (le lo p) (lt p hi) w) (and-right (le a lo) (le hi b) c)))
+    (both (le a p) (lt p b) (le-trans a lo p (and-left (le a lo) (le hi b) c) (and-left (le lo p) (lt p hi) w))
+    (lt-le-trans p hi b (and-right (le lo p) (lt p hi) w) (and-right (le a lo) (le hi b) c)))
 
 -- ---- contained lists have their points in the outer one
 pub contained-points : (outer inner : List Float) → contained outer inner ≡ true → (p : Float) → holds inner p ≡ true → holds outer p ≡ true
@@ -77,17 +83,21 @@ unfolding contained holds
 contained-points outer [] c p h = absurd (clash false h refl)
 contained-points outer (lo ∷ []) c p h = absurd (clash false h refl)
 contained-points outer (lo ∷ hi ∷ inner) c p h = from-holds hi outer p (⊎-elim
-    (λ (w : within lo hi p ≡ true). covers-holds (from hi outer) lo hi p (and-left (covers (from hi outer) lo hi) (contained (from hi outer) inner) c) w)
-    (λ (m : holds inner p ≡ true). contained-points (from hi outer) inner (and-right (covers (from hi outer) lo hi) (contained (from hi outer) inner) c) p m)
+    (λ (w : within lo hi p ≡ true). covers-holds (from hi outer) lo hi p
+    (and-left (covers (from hi outer) lo hi) (contained (from hi outer) inner) c) w)
+    (λ (m : holds inner p ≡ true). contained-points (from hi outer) inner
+    (and-right (covers (from hi outer) lo hi) (contained (from hi outer) inner) c) p m)
     (or-cases (within lo hi p) (holds inner p) h))
 
 -- ---- and the other way
-covered : (l : List Float) (lo hi : Float) → rising l ≡ true → lt lo hi ≡ true → ((p : Float) → within lo hi p ≡ true → holds l p ≡ true) → covers (from hi l) lo hi ≡ true
+covered : (l : List Float) (lo hi : Float) → rising l ≡ true → lt lo hi ≡ true
+    → ((p : Float) → within lo hi p ≡ true → holds l p ≡ true) → covers (from hi l) lo hi ≡ true
 unfolding holds from
 covered [] lo hi r lh all = absurd (clash false (all lo (both (le lo lo) (lt lo hi) (le-refl lo (lt-number lo hi lh .0)) lh)) refl)
 covered (a ∷ []) lo hi r lh all = absurd (clash false (all lo (both (le lo lo) (lt lo hi) (le-refl lo (lt-number lo hi lh .0)) lh)) refl)
 covered (a ∷ b ∷ l) lo hi r lh all = ⊎-elim
-    (λ (t : lt b hi ≡ true). subst (λ (m : List Float). covers m lo hi ≡ true) (sym (from-skip hi a b l t)) (covered l lo hi (rising-tail b l (rising-tail a (b ∷ l) r)) lh (later t)))
+    (λ (t : lt b hi ≡ true). subst (λ (m : List Float). covers m lo hi ≡ true) (sym (from-skip hi a b l t))
+    (covered l lo hi (rising-tail b l (rising-tail a (b ∷ l) r)) lh (later t)))
     (λ (t : lt b hi ≡ false). subst (λ (m : List Float). covers m lo hi ≡ true) (sym (from-stop hi a b l t)) (here t))
     (by-cases (lt b hi))
   where
@@ -110,7 +120,9 @@ covered (a ∷ b ∷ l) lo hi r lh all = ⊎-elim
 
     later : lt b hi ≡ true → (p : Float) → within lo hi p ≡ true → holds l p ≡ true
     later t p w = ⊎-elim
-        (λ (v : within a b p ≡ true). absurd (clash (lt p b) (and-right (le a p) (lt p b) v) (le→not-lt b p (le-trans b lo p (before t) (and-left (le lo p) (lt p hi) w)))))
+        (λ (v : within a b p ≡ true). absurd
+        (clash (lt p b) (and-right (le a p) (lt p b) v)
+        (le→not-lt b p (le-trans b lo p (before t) (and-left (le lo p) (lt p hi) w)))))
         (λ (m : holds l p ≡ true). m)
         (or-cases (within a b p) (holds l p) (all p w))
 
@@ -119,10 +131,12 @@ covered (a ∷ b ∷ l) lo hi r lh all = ⊎-elim
         let hb : le hi b ≡ true = not-lt→le b hi (lt-number a b ab .1) (lt-number lo hi lh .1) t in
         both (le a lo) (le hi b) (⊎-elim
         (λ (w : within a b lo ≡ true). and-left (le a lo) (lt lo b) w)
-        (λ (m : holds l lo ≡ true). absurd (clash (lt lo b) (lt-le-trans lo hi b lh hb) (lt-asym b lo (past-first b l lo (rising-tail a (b ∷ l) r) m))))
+        (λ (m : holds l lo ≡ true). absurd
+        (clash (lt lo b) (lt-le-trans lo hi b lh hb) (lt-asym b lo (past-first b l lo (rising-tail a (b ∷ l) r) m))))
         (or-cases (within a b lo) (holds l lo) (all lo (both (le lo lo) (lt lo hi) (le-refl lo (lt-number lo hi lh .0)) lh)))) hb
 
-pub points-contained : (outer inner : List Float) → rising outer ≡ true → rising inner ≡ true → ((p : Float) → holds inner p ≡ true → holds outer p ≡ true) → contained outer inner ≡ true
+pub points-contained : (outer inner : List Float) → rising outer ≡ true → rising inner ≡ true
+    → ((p : Float) → holds inner p ≡ true → holds outer p ≡ true) → contained outer inner ≡ true
 unfolding contained holds
 points-contained outer [] ro ri all = refl
 points-contained outer (lo ∷ []) ro ri all = refl
@@ -130,7 +144,8 @@ points-contained outer (lo ∷ hi ∷ inner) ro ri all =
     both (covers (from hi outer) lo hi) (contained (from hi outer) inner)
     (covered outer lo hi ro (rising-first lo hi inner ri) (λ p w. all p (or-left (within lo hi p) (holds inner p) w)))
     (points-contained (from hi outer) inner (from-rises hi outer ro) (rising-tail hi inner (rising-tail lo (hi ∷ inner) ri))
-    (λ p m. from-keeps hi outer p (past-first hi inner p (rising-tail lo (hi ∷ inner) ri) m) (all p (or-right (within lo hi p) (holds inner p) m))))
+    (λ p m. from-keeps hi outer p (past-first hi inner p (rising-tail lo (hi ∷ inner) ri) m)
+    (all p (or-right (within lo hi p) (holds inner p) m))))
 
 -- ---- the test of a ray
 module _ (lo hi : Float) (possible certain : List Float) where
@@ -155,4 +170,5 @@ module _ (lo hi : Float) (possible certain : List Float) where
       (both (sound certain) _ (r .certain-sound)
       (both (bounded lo hi possible) _ (r .possible-bounded)
       (both (bounded lo hi certain) _ (r .certain-bounded)
-      (points-contained possible certain (sound-rising possible (r .possible-sound)) (sound-rising certain (r .certain-sound)) (r .inside)))))
+      (points-contained possible certain (sound-rising possible (r .possible-sound))
+      (sound-rising certain (r .certain-sound)) (r .inside)))))

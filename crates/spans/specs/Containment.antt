@@ -27,4 +27,5 @@ contained outer (lo ∷ hi ∷ inner) = covers (from hi outer) lo hi && containe
 -- the test of a ray
 unfoldable pub valid : Float → Float → List Float → List Float → Bool
 unfolding bounded contained
-valid lo hi possible certain = sound possible && (sound certain && (bounded lo hi possible && (bounded lo hi certain && contained possible certain)))
+valid lo hi possible certain =
+    sound possible && (sound certain && (bounded lo hi possible && (bounded lo hi certain && contained possible certain)))

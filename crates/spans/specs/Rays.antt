@@ -19,8 +19,9 @@ pub record ValidRay (lo hi : Float) (possible certain : List Float) : Type 0 whe
   pub certain-bounded : bounded lo hi certain ≡ true
   pub inside : (p : Float) → holds certain p ≡ true → holds possible p ≡ true
 
--- Both lists after a merge, end by end: the old ones less the lists that normalising makes of the hits. The Rust takes of certain what it then
--- has in common with possible; that is all of it, since certain lies within possible and larger and smaller keep the first of two equal ends.
+-- Both lists after a merge, end by end: the old ones less the lists that normalising makes of the hits. The Rust
+-- takes of certain what it then has in common with possible; that is all of it, since certain lies within possible
+-- and larger and smaller keep the first of two equal ends.
 pub record MergedExactly (possible certain outer inner possibleAfter certainAfter : List Float) : Type 0 where
   pub outerNormal : List Float
   pub innerNormal : List Float

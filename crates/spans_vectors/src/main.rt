@@ -1,10 +1,10 @@
 // Holds the list functions of `spans` to recorded answers of camlib and to document 01's refusals, read from standard input.
 //
-// A row has 595 bytes: 35 words of 16 hexadecimal digits, a space or the newline after each. oracle/harness/src/bin/record_spans.rs, which
-// records them, says what they are. The ends of a normalised list are compared as numbers, since which of two zeros stands there is open; all
-// other cells of a buffer are compared bit for bit.
-// For each function it writes how many rows agree and how many differ, then how many can't be read, and the number of the first row that
-// differs.
+// A row has 595 bytes: 35 words of 16 hexadecimal digits, a space or the newline after each.
+// oracle/harness/src/bin/record_spans.rs, which records them, says what they are. The ends of a normalised list are
+// compared as numbers, since which of two zeros stands there is open; all other cells of a buffer are compared bit
+// for bit. For each function it writes how many rows agree and how many differ, then how many can't be read, and the
+// number of the first row that differs.
 use span_compare::BoolAnswer;
 use spans::ListAnswer;
 use vector_rows::RowCounts;

@@ -45,20 +45,27 @@ module _ (spec : DexelStockSpec) (g : DexelGrid) (c : Cells) where
   pub short-links : length (c .links) / 2 < spec .«max_intervals» → true ≡ isShort spec g c
   unfolding isShort
   short-links h =
-      sym (or-right (ltb (length (c .spans) / 2) (spec .«max_intervals»)) (ltb (length (c .links) / 2) (spec .«max_intervals») || ltb (length (c .heads)) (2 * rayCount g))
-      (or-left (ltb (length (c .links) / 2) (spec .«max_intervals»)) (ltb (length (c .heads)) (2 * rayCount g)) (lt-ltb (length (c .links) / 2) (spec .«max_intervals») h)))
+      sym (or-right (ltb (length (c .spans) / 2) (spec .«max_intervals»))
+      (ltb (length (c .links) / 2) (spec .«max_intervals») || ltb (length (c .heads)) (2 * rayCount g))
+      (or-left (ltb (length (c .links) / 2) (spec .«max_intervals»)) (ltb (length (c .heads)) (2 * rayCount g))
+      (lt-ltb (length (c .links) / 2) (spec .«max_intervals») h)))
 
-  pub short-heads : spec .«max_intervals» ≤ length (c .spans) / 2 → spec .«max_intervals» ≤ length (c .links) / 2 → (rays : ℕ) → rays ≡ rayCount g → ltb (length (c .heads)) (2 * rays) ≡ isShort spec g c
+  pub short-heads : spec .«max_intervals» ≤ length (c .spans) / 2 → spec .«max_intervals» ≤ length (c .links) / 2
+      → (rays : ℕ) → rays ≡ rayCount g → ltb (length (c .heads)) (2 * rays) ≡ isShort spec g c
   unfolding isShort
   short-heads hs hl rays e =
       ap (λ (r : ℕ). ltb (length (c .heads)) (2 * r)) e
-      ∙ sym (or-here (ltb (length (c .links) / 2) (spec .«max_intervals»)) (ltb (length (c .heads)) (2 * rayCount g)) (le-ltb (length (c .links) / 2) (spec .«max_intervals») hl))
-      ∙ sym (or-here (ltb (length (c .spans) / 2) (spec .«max_intervals»)) (ltb (length (c .links) / 2) (spec .«max_intervals») || ltb (length (c .heads)) (2 * rayCount g)) (le-ltb (length (c .spans) / 2) (spec .«max_intervals») hs))
+      ∙ sym (or-here (ltb (length (c .links) / 2) (spec .«max_intervals»)) (ltb (length (c .heads)) (2 * rayCount g))
+      (le-ltb (length (c .links) / 2) (spec .«max_intervals») hl))
+      ∙ sym (or-here (ltb (length (c .spans) / 2) (spec .«max_intervals»))
+      (ltb (length (c .links) / 2) (spec .«max_intervals») || ltb (length (c .heads)) (2 * rayCount g))
+      (le-ltb (length (c .spans) / 2) (spec .«max_intervals») hs))
 
   pub room-of : isShort spec g c ≡ false → Room (spec .«max_intervals») (2 * rayCount g) c
   unfolding isShort
   room-of h =
-      let a = or-neither (ltb (length (c .spans) / 2) (spec .«max_intervals»)) (ltb (length (c .links) / 2) (spec .«max_intervals») || ltb (length (c .heads)) (2 * rayCount g)) h in
+      let a = or-neither (ltb (length (c .spans) / 2) (spec .«max_intervals»))
+      (ltb (length (c .links) / 2) (spec .«max_intervals») || ltb (length (c .heads)) (2 * rayCount g)) h in
       let b = or-neither (ltb (length (c .links) / 2) (spec .«max_intervals»)) (ltb (length (c .heads)) (2 * rayCount g)) (a .1) in
       record {
         in-spans = omega (arith, ltb-false (length (c .spans) / 2) (spec .«max_intervals») (a .0));

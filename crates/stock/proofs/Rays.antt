@@ -28,11 +28,15 @@ tells-good Q r t h = t .0 (not-false r h)
 
 module _ (spec : DexelStockSpec) (g : DexelGrid) (c : Cells) where
   -- each list can be read off its chain
-  pub list-readable : ChainsInRoom spec g c → (j : ℕ) → j < 2 * rayCount g → Readable (spec .«max_intervals») (c .spans) (c .links) (getD (c .heads) j 0)
+  pub list-readable : ChainsInRoom spec g c → (j : ℕ) → j < 2 * rayCount g
+      → Readable (spec .«max_intervals») (c .spans) (c .links) (getD (c .heads) j 0)
   list-readable ch j h = readable (ch .store) (ch .room .in-spans) (ch .room .in-links) j h
 
-  pub valid-within : (ray : ℕ) (b : RayBounds) (r : Bool) → b ≡ boundsOf spec g ray → Decides (ValidRay (b .lo) (b .hi) (rayList spec c ray Possible) (rayList spec c ray Certain)) r → Decides (ValidAt spec g c ray) r
-  valid-within ray b r e t = subst (λ (x : RayBounds). Decides (ValidRay (x .lo) (x .hi) (rayList spec c ray Possible) (rayList spec c ray Certain)) r) e t
+  pub valid-within : (ray : ℕ) (b : RayBounds) (r : Bool) → b ≡ boundsOf spec g ray
+      → Decides (ValidRay (b .lo) (b .hi) (rayList spec c ray Possible) (rayList spec c ray Certain)) r
+      → Decides (ValidAt spec g c ray) r
+  valid-within ray b r e t = subst
+      (λ (x : RayBounds). Decides (ValidRay (x .lo) (x .hi) (rayList spec c ray Possible) (rayList spec c ray Certain)) r) e t
 
   pub ray-bad : (ray n : ℕ) (r : Bool) → ray < n → Decides (ValidAt spec g c ray) r → not r ≡ true → Decides (ValidTo spec g c n) false
   ray-bad ray n r h t bad = tells-bad (ValidTo spec g c n) (ValidAt spec g c ray) r t bad (λ all. all ray h)
@@ -44,16 +48,28 @@ module _ (spec : DexelStockSpec) (g : DexelGrid) (c : Cells) where
   rays-good ray n e all = ((λ t. subst (ValidTo spec g c) e all), (λ p. refl))
 
   -- ---- the check of a stock
-  pub lists-counted : (total m : ℕ) (r : Bool) → m ≡ rayCount g → Decides (ChainsSound (spec .«max_intervals») (2 * m) total c) r → Decides (ChainsSound (spec .«max_intervals») (2 * rayCount g) total c) r
+  pub lists-counted : (total m : ℕ) (r : Bool) → m ≡ rayCount g
+      → Decides (ChainsSound (spec .«max_intervals») (2 * m) total c) r
+      → Decides (ChainsSound (spec .«max_intervals») (2 * rayCount g) total c) r
   lists-counted total m r e t = subst (λ (k : ℕ). Decides (ChainsSound (spec .«max_intervals») (2 * k) total c) r) e t
 
-  pub store-bad : (total : ℕ) (r : Bool) → Decides (ChainsSound (spec .«max_intervals») (2 * rayCount g) total c) r → not r ≡ true → Decides (SoundCells spec g c total) false
-  store-bad total r t bad = tells-bad (SoundCells spec g c total) (ChainsSound (spec .«max_intervals») (2 * rayCount g) total c) r t bad (λ s. s .store)
+  pub store-bad : (total : ℕ) (r : Bool) → Decides (ChainsSound (spec .«max_intervals») (2 * rayCount g) total c) r
+      → not r ≡ true → Decides (SoundCells spec g c total) false
+  store-bad total r t bad = tells-bad (SoundCells spec g c total)
+      (ChainsSound (spec .«max_intervals») (2 * rayCount g) total c) r t bad (λ s. s .store)
 
-  pub chained-of : (total : ℕ) (r : Bool) → Room (spec .«max_intervals») (2 * rayCount g) c → Decides (ChainsSound (spec .«max_intervals») (2 * rayCount g) total c) r → not r ≡ false → ChainsInRoom spec g c
-  chained-of total r room t good = record { room = room; total = total; store = tells-good (ChainsSound (spec .«max_intervals») (2 * rayCount g) total c) r t good }
+  pub chained-of : (total : ℕ) (r : Bool) → Room (spec .«max_intervals») (2 * rayCount g) c
+      → Decides (ChainsSound (spec .«max_intervals») (2 * rayCount g) total c) r → not r ≡ false → ChainsInRoom spec g c
+  chained-of total r room t good =
+      record {
+        room = room;
+        total = total;
+        store = tells-good (ChainsSound (spec .«max_intervals») (2 * rayCount g) total c) r t good;
+      }
 
-  pub stock-tells : (total : ℕ) (r s : Bool) → Decides (ChainsSound (spec .«max_intervals») (2 * rayCount g) total c) r → not r ≡ false → Decides (ValidTo spec g c (rayCount g)) s → Decides (SoundCells spec g c total) s
+  pub stock-tells : (total : ℕ) (r s : Bool)
+      → Decides (ChainsSound (spec .«max_intervals») (2 * rayCount g) total c) r → not r ≡ false
+      → Decides (ValidTo spec g c (rayCount g)) s → Decides (SoundCells spec g c total) s
   stock-tells total r s t good v = (
     (λ e. record { store = tells-good (ChainsSound (spec .«max_intervals») (2 * rayCount g) total c) r t good; valid = v .0 e }),
     (λ p. v .1 (p .valid)),

@@ -36,7 +36,8 @@ rayLists spec g c r k = rayList spec c (r .0) k
 
 -- a ray of the store is valid within the box's bounds along it
 abbrev pub ValidAt : DexelStockSpec → DexelGrid → Cells → ℕ → Type 0
-ValidAt spec g c ray = ValidRay (boundsOf spec g ray .lo) (boundsOf spec g ray .hi) (rayList spec c ray Possible) (rayList spec c ray Certain)
+ValidAt spec g c ray = ValidRay (boundsOf spec g ray .lo) (boundsOf spec g ray .hi) (rayList spec c ray Possible)
+    (rayList spec c ray Certain)
 
 -- the first n rays are valid
 abbrev pub ValidTo : DexelStockSpec → DexelGrid → Cells → ℕ → Type 0
@@ -53,7 +54,8 @@ SoundStock spec g s = SoundCells spec g (s .cells) (s .intervals)
 
 -- 12: fewer whole records than `max_intervals`, or fewer heads than two per ray
 unfoldable pub isShort : DexelStockSpec → DexelGrid → Cells → Bool
-isShort spec g c = ltb (length (c .spans) / 2) (spec .«max_intervals») || (ltb (length (c .links) / 2) (spec .«max_intervals») || ltb (length (c .heads)) (2 * rayCount g))
+isShort spec g c = ltb (length (c .spans) / 2) (spec .«max_intervals»)
+    || (ltb (length (c .links) / 2) (spec .«max_intervals») || ltb (length (c .heads)) (2 * rayCount g))
 
 -- a stock by its lent cells and its small record's numbers
 abbrev pub stock : (spans : List Float) (links heads : List ℕ) (generation intervals : ℕ) → Stock

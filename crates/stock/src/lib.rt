@@ -88,7 +88,8 @@ pub fn is_chained(
     intervals: u64,
 ) -> bool
     requires { ⌜ Room (spec .«max_intervals») (2 * rayCount g) (cells (now spans) (now links) (now heads)) ⌝ }
-    ensures { λ r. ⌜ Decides (ChainsSound (spec .«max_intervals») (2 * rayCount g) intervals (cells (now (spans .entry)) (now (links .entry)) (now (heads .entry)))) r ⌝ }
+    ensures { λ r. ⌜ Decides (ChainsSound (spec .«max_intervals») (2 * rayCount g) intervals
+        (cells (now (spans .entry)) (now (links .entry)) (now (heads .entry)))) r ⌝ }
 {
     let n = spec.max_intervals as usize;
     let m = 2 * (grid_rays::total_rays(g) as usize);

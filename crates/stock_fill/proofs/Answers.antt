@@ -28,8 +28,10 @@ module _ (spec : DexelStockSpec) (g : DexelGrid) (before : Cells) where
   fill-short r e t = (inl (sym e ∙ t, refl), refl)
 
   pub fill-done : (rays : ℕ) (spans : List Float) (links heads : List ℕ) → isShort spec g before ≡ false → rays ≡ rayCount g
-      → spans ≡ uncutSpans spec g (spec .«max_intervals») (before .spans) → links ≡ uncutLinks spec g (spec .«max_intervals») (before .links) → heads ≡ uncutHeads (2 * rays) (before .heads)
-      → FillPost (roomCauses spec g before) spec g before (cells spans links heads) (Accepted (record { generation = 0; intervals = 2 * rays }))
+      → spans ≡ uncutSpans spec g (spec .«max_intervals») (before .spans)
+      → links ≡ uncutLinks spec g (spec .«max_intervals») (before .links) → heads ≡ uncutHeads (2 * rays) (before .heads)
+      → FillPost (roomCauses spec g before) spec g before (cells spans links heads)
+      (Accepted (record { generation = 0; intervals = 2 * rays }))
   unfolding NoneDue
   fill-done rays spans links heads h e s l d = (
     ((λ t. clash (isShort spec g before) t h), tt),
@@ -38,12 +40,19 @@ module _ (spec : DexelStockSpec) (g : DexelGrid) (before : Cells) where
   )
 
 module _ (spec : DexelStockSpec) (units : List ℕ) (before after : Cells) where
-  pub fill-accepted : (g : DexelGrid) (r : FillAnswer) → gridOf spec units ≡ Griddable g → FillPost (roomCauses spec g before) spec g before after r → FillPost (fillCauses spec units before) spec (gridIn spec) before after r
-  fill-accepted g r h f = let a = accepted spec units g h in at r (a .0) (subst (λ (x : DexelGrid). FillPost (roomCauses spec x before) spec x before after r) (a .1) f)
+  pub fill-accepted : (g : DexelGrid) (r : FillAnswer) → gridOf spec units ≡ Griddable g
+      → FillPost (roomCauses spec g before) spec g before after r
+      → FillPost (fillCauses spec units before) spec (gridIn spec) before after r
+  fill-accepted g r h f = let a = accepted spec units g h in
+      at r (a .0) (subst (λ (x : DexelGrid). FillPost (roomCauses spec x before) spec x before after r) (a .1) f)
     where
-      at : (r : FillAnswer) → NoneDue (gridCauses spec units) → FillPost (roomCauses spec (gridIn spec) before) spec (gridIn spec) before after r → FillPost (fillCauses spec units before) spec (gridIn spec) before after r
+      at : (r : FillAnswer) → NoneDue (gridCauses spec units)
+          → FillPost (roomCauses spec (gridIn spec) before) spec (gridIn spec) before after r
+          → FillPost (fillCauses spec units before) spec (gridIn spec) before after r
       at (Refused k) n f = (due-second (gridCauses spec units) (roomCauses spec (gridIn spec) before) k n (f .0), f .1)
       at (Accepted t) n f = (none-in-both (gridCauses spec units) (roomCauses spec (gridIn spec) before) n (f .0), f .1, f .2)
 
-pub fill-refused : (spec : DexelStockSpec) (units : List ℕ) (before : Cells) (k : ℕ) → gridOf spec units ≡ NoGrid k → FillPost (fillCauses spec units before) spec (gridIn spec) before before (Refused k)
-fill-refused spec units before k h = (due-first (gridCauses spec units) (roomCauses spec (gridIn spec) before) k (refused spec units k h), refl)
+pub fill-refused : (spec : DexelStockSpec) (units : List ℕ) (before : Cells) (k : ℕ) → gridOf spec units ≡ NoGrid k
+    → FillPost (fillCauses spec units before) spec (gridIn spec) before before (Refused k)
+fill-refused spec units before k h =
+    (due-first (gridCauses spec units) (roomCauses spec (gridIn spec) before) k (refused spec units k h), refl)

@@ -1,4 +1,5 @@
--- The uncut store, which the fill lays: one full pair in each list, records from 1 up in ray order, possible first, and all other records free.
+-- The uncut store, which the fill lays: one full pair in each list, records from 1 up in ray order, possible first,
+-- and all other records free.
 use mathlib.Core.Path.{_≡_}
 use mathlib.Core.Bool.{true, cond}
 use mathlib.Core.List.{List, [], _∷_, _++_}
@@ -43,7 +44,8 @@ uncutHeads (suc j) heads = set (uncutHeads j heads) j (j + 1)
 
 -- the cells of the uncut store: `max_intervals` records and two heads for each ray are written, and the cells past these are as before
 abbrev pub uncut : DexelStockSpec → DexelGrid → Cells → Cells
-uncut spec g c = cells (uncutSpans spec g (spec .«max_intervals») (c .spans)) (uncutLinks spec g (spec .«max_intervals») (c .links)) (uncutHeads (2 * rayCount g) (c .heads))
+uncut spec g c = cells (uncutSpans spec g (spec .«max_intervals») (c .spans))
+    (uncutLinks spec g (spec .«max_intervals») (c .links)) (uncutHeads (2 * rayCount g) (c .heads))
 
 -- and its small record
 abbrev pub uncutTally : DexelGrid → Tally
@@ -53,7 +55,8 @@ uncutTally g = record { generation = 0; intervals = 2 * rayCount g }
 abbrev pub roomCauses : DexelStockSpec → DexelGrid → Cells → List Cause
 roomCauses spec g c = cause 12 (isShort spec g c ≡ true) ∷ []
 
--- a refused call gives the number that is due and leaves the cells as they were; an accepted one, with no cause, lays the uncut store of the grid
+-- a refused call gives the number that is due and leaves the cells as they were; an accepted one, with no cause, lays
+-- the uncut store of the grid
 abbrev pub FillPost : List Cause → DexelStockSpec → DexelGrid → Cells → Cells → FillAnswer → Type 0
 FillPost causes spec g before after (Refused k) = Due causes k × (after ≡ before)
 FillPost causes spec g before after (Accepted t) = NoneDue causes × (t ≡ uncutTally g) × (after ≡ uncut spec g before)

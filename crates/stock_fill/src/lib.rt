@@ -49,7 +49,8 @@ fn fill_records(
     m: usize,
 )
     requires { ⌜ (m ≡ 2 * rayCount g) × (2 * n ≤ length (now spans)) × (2 * n ≤ length (now links)) ⌝ }
-    ensures { λ _. ⌜ (now (spans .exit) ≡ uncutSpans spec g n (now (spans .entry))) × (now (links .exit) ≡ uncutLinks spec g n (now (links .entry))) ⌝ }
+    ensures { λ _. ⌜ (now (spans .exit) ≡ uncutSpans spec g n (now (spans .entry)))
+        × (now (links .exit) ≡ uncutLinks spec g n (now (links .entry))) ⌝ }
 {
     let mut i: usize = 0;
     while i < n {
@@ -87,7 +88,8 @@ fn fill_grid(
 ) -> FillAnswer
     requires { ⌜ GridFacts spec g ⌝ }
     ensures { λ r. ⌜ FillPost (roomCauses spec g (cells (now (spans .entry)) (now (links .entry)) (now (heads .entry)))) spec g
-        (cells (now (spans .entry)) (now (links .entry)) (now (heads .entry))) (cells (now (spans .exit)) (now (links .exit)) (now (heads .exit))) r ⌝ }
+        (cells (now (spans .entry)) (now (links .entry)) (now (heads .entry)))
+        (cells (now (spans .exit)) (now (links .exit)) (now (heads .exit))) r ⌝ }
 {
     if stock::is_short(spec, g, spans, links, heads) {
         return FillAnswer::Refused(12);
@@ -110,8 +112,10 @@ pub fn fill(
     links: &mut [u64],
     heads: &mut [u64],
 ) -> FillAnswer
-    ensures { λ r. ⌜ FillPost (fillCauses spec (now (units .entry)) (cells (now (spans .entry)) (now (links .entry)) (now (heads .entry)))) spec (gridIn spec)
-        (cells (now (spans .entry)) (now (links .entry)) (now (heads .entry))) (cells (now (spans .exit)) (now (links .exit)) (now (heads .exit))) r ⌝ }
+    ensures { λ r. ⌜ FillPost (fillCauses spec (now (units .entry))
+        (cells (now (spans .entry)) (now (links .entry)) (now (heads .entry)))) spec (gridIn spec)
+        (cells (now (spans .entry)) (now (links .entry)) (now (heads .entry)))
+        (cells (now (spans .exit)) (now (links .exit)) (now (heads .exit))) r ⌝ }
 {
     match grid_from_spec::grid(spec, units) {
         GridAnswer::Accepted(g) => fill_grid(spec, g, spans, links, heads),

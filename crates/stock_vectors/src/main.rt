@@ -1,9 +1,10 @@
 // Holds `merge`, `fill` and `volume` to recorded answers of camlib and to document 01's refusals, read from standard input.
 //
-// A row has 1479 bytes: 87 words of 16 hexadecimal digits, a space or the newline after each. oracle/compare/src/bin/record_stock.rs, which
-// records them, says what they are. Ends of merged lists and volumes are compared as numbers, all other cells bit for bit; every cell of a buffer
-// is 7 before the call.
-// For each function it writes how many rows agree and how many differ, then how many can't be read, and the number of the first row that differs.
+// A row has 1479 bytes: 87 words of 16 hexadecimal digits, a space or the newline after each.
+// oracle/compare/src/bin/record_stock.rs, which records them, says what they are. Ends of merged lists and volumes
+// are compared as numbers, all other cells bit for bit; every cell of a buffer is 7 before the call. For each
+// function it writes how many rows agree and how many differ, then how many can't be read, and the number of the
+// first row that differs.
 use ray_merge::MergeAnswer;
 use ray_subtract::MergedList;
 use stock_fill::FillAnswer;

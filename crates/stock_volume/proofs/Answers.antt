@@ -35,12 +35,14 @@ module _ (spec : DexelStockSpec) (g : DexelGrid) (c : Cells) (intervals : ℕ) w
   unfolding Due
   measure-short r e t = inl (sym e ∙ t, refl)
 
-  pub measure-bad : (r s : Bool) → r ≡ isShort spec g c → r ≡ false → Decides (ChainsSound (spec .«max_intervals») (2 * rayCount g) intervals c) s → not s ≡ true
+  pub measure-bad : (r s : Bool) → r ≡ isShort spec g c → r ≡ false
+      → Decides (ChainsSound (spec .«max_intervals») (2 * rayCount g) intervals c) s → not s ≡ true
       → VolumePost (storeCauses spec g c intervals) spec g c intervals (Declined 11)
   unfolding Due
   measure-bad r s e f t h = inr ((λ u. clash (isShort spec g c) u (sym e ∙ f)), inl ((λ p. clash s (t .1 (p .store)) (not-true s h)), refl))
 
-  pub measure-done : (r s : Bool) → r ≡ isShort spec g c → r ≡ false → Decides (ChainsSound (spec .«max_intervals») (2 * rayCount g) intervals c) s → not s ≡ false
+  pub measure-done : (r s : Bool) → r ≡ isShort spec g c → r ≡ false
+      → Decides (ChainsSound (spec .«max_intervals») (2 * rayCount g) intervals c) s → not s ≡ false
       → (m : VolumeAnswer) → VolumeRaysPost spec g c m → VolumePost (storeCauses spec g c intervals) spec g c intervals m
   unfolding Due NoneDue
   measure-done r s e f t h (Declined k) m = inr ((λ u. clash (isShort spec g c) u (sym e ∙ f)), inl ((λ p. m .1 (p .valid)), m .0))
@@ -53,22 +55,29 @@ module _ (spec : DexelStockSpec) (g : DexelGrid) (c : Cells) (intervals : ℕ) w
 
 -- ---- the rays of a store
 module _ (spec : DexelStockSpec) (g : DexelGrid) (c : Cells) where
-  pub axis-bad : (a : WorldAxis) (r : AxisSums) → AxisVolumePost spec g c a r → not (r .valid) ≡ true → VolumeRaysPost spec g c (Declined 11)
+  pub axis-bad : (a : WorldAxis) (r : AxisSums) → AxisVolumePost spec g c a r → not (r .valid) ≡ true
+      → VolumeRaysPost spec g c (Declined 11)
   axis-bad a r t h = (refl, (λ all. clash (r .valid) (t .if-valid all) (not-true (r .valid) h)))
 
-  pub axes-good : (total : Float) (x y z : AxisSums) (w : DexelVolume) → w ≡ boundsBy total (x .volume) (y .volume) (z .volume) → total ≡ boxVolume spec
-      → AxisVolumePost spec g c (worldAxis 0) x → not (x .valid) ≡ false → AxisVolumePost spec g c (worldAxis 1) y → not (y .valid) ≡ false → AxisVolumePost spec g c (worldAxis 2) z → not (z .valid) ≡ false
+  pub axes-good : (total : Float) (x y z : AxisSums) (w : DexelVolume)
+      → w ≡ boundsBy total (x .volume) (y .volume) (z .volume) → total ≡ boxVolume spec
+      → AxisVolumePost spec g c (worldAxis 0) x → not (x .valid) ≡ false → AxisVolumePost spec g c (worldAxis 1) y
+      → not (y .valid) ≡ false → AxisVolumePost spec g c (worldAxis 2) z → not (z .valid) ≡ false
       → VolumeRaysPost spec g c (Told w)
   axes-good total x y z w d p tx hx ty hy tz hz = (
     after-z spec g c (tz .is-valid (not-false (z .valid) hz)),
-    d ∙ ap (λ (t : Float). boundsBy t (x .volume) (y .volume) (z .volume)) p ∙ ap (λ (v : AxisVolume). boundsBy (boxVolume spec) v (y .volume) (z .volume)) (tx .summed (not-false (x .valid) hx))
-        ∙ ap (λ (v : AxisVolume). boundsBy (boxVolume spec) (volumeAlong spec g c (worldAxis 0)) v (z .volume)) (ty .summed (not-false (y .valid) hy))
-        ∙ ap (λ (v : AxisVolume). boundsBy (boxVolume spec) (volumeAlong spec g c (worldAxis 0)) (volumeAlong spec g c (worldAxis 1)) v) (tz .summed (not-false (z .valid) hz)),
+    d ∙ ap (λ (t : Float). boundsBy t (x .volume) (y .volume) (z .volume)) p
+        ∙ ap (λ (v : AxisVolume). boundsBy (boxVolume spec) v (y .volume) (z .volume)) (tx .summed (not-false (x .valid) hx))
+        ∙ ap (λ (v : AxisVolume). boundsBy (boxVolume spec) (volumeAlong spec g c (worldAxis 0)) v (z .volume))
+        (ty .summed (not-false (y .valid) hy))
+        ∙ ap (λ (v : AxisVolume). boundsBy (boxVolume spec) (volumeAlong spec g c (worldAxis 0))
+        (volumeAlong spec g c (worldAxis 1)) v) (tz .summed (not-false (z .valid) hz)),
   )
 
 module _ (spec : DexelStockSpec) (units : List ℕ) (c : Cells) (intervals : ℕ) where
   pub volume-accepted : (g : DexelGrid) (r : VolumeAnswer) → gridOf spec units ≡ Griddable g
-      → VolumePost (storeCauses spec g c intervals) spec g c intervals r → VolumePost (volumeCauses spec units c intervals) spec (gridIn spec) c intervals r
+      → VolumePost (storeCauses spec g c intervals) spec g c intervals r
+      → VolumePost (volumeCauses spec units c intervals) spec (gridIn spec) c intervals r
   volume-accepted g r h f =
       let a = accepted spec units g h in
       at r (a .0) (subst (λ (x : DexelGrid). VolumePost (storeCauses spec x c intervals) spec x c intervals r) (a .1) f)

@@ -48,7 +48,8 @@ volumeAlong spec g c a = volumeTo spec c (areaOf g a) (offset g a) (raysAlong g 
 unfoldable pub boxVolume : DexelStockSpec → Float
 boxVolume spec = mul binary64 (mul binary64 (mul binary64 one (extentsOf spec .x)) (extentsOf spec .y)) (extentsOf spec .z)
 
--- what the three grids tell: the largest of the certain volumes, the smallest of the possible ones, and what the box has besides, not below zero
+-- what the three grids tell: the largest of the certain volumes, the smallest of the possible ones, and what the box
+-- has besides, not below zero
 unfoldable pub boundsBy : Float → (x y z : AxisVolume) → DexelVolume
 boundsBy total x y z =
     let lower : Float = largerOf (largerOf (largerOf plusZero (x .certain)) (y .certain)) (z .certain) in
@@ -68,7 +69,8 @@ boundsBy total x y z =
 
 -- the volume of a stock
 abbrev pub volumeOf : DexelStockSpec → DexelGrid → Cells → DexelVolume
-volumeOf spec g c = boundsBy (boxVolume spec) (volumeAlong spec g c (worldAxis 0)) (volumeAlong spec g c (worldAxis 1)) (volumeAlong spec g c (worldAxis 2))
+volumeOf spec g c = boundsBy (boxVolume spec) (volumeAlong spec g c (worldAxis 0))
+    (volumeAlong spec g c (worldAxis 1)) (volumeAlong spec g c (worldAxis 2))
 
 -- 12 and 11, once `grid` accepts
 abbrev pub storeCauses : DexelStockSpec → DexelGrid → Cells → ℕ → List Cause

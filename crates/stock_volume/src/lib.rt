@@ -90,7 +90,8 @@ fn axis_volume(
     heads: &[u64],
     axis: WorldAxis,
 ) -> AxisSums
-    requires { ⌜ ChainsInRoom spec g (cells (now spans) (now links) (now heads)) × ValidTo spec g (cells (now spans) (now links) (now heads)) (offset g axis) ⌝ }
+    requires { ⌜ ChainsInRoom spec g (cells (now spans) (now links) (now heads))
+        × ValidTo spec g (cells (now spans) (now links) (now heads)) (offset g axis) ⌝ }
     ensures { λ r. ⌜ AxisVolumePost spec g (cells (now (spans .entry)) (now (links .entry)) (now (heads .entry))) axis r ⌝ }
 {
     let across = grid::cross(axis);
@@ -212,7 +213,8 @@ pub fn volume(
     heads: &[u64],
     intervals: u64,
 ) -> VolumeAnswer
-    ensures { λ r. ⌜ VolumePost (volumeCauses spec (now (units .entry)) (cells (now (spans .entry)) (now (links .entry)) (now (heads .entry))) intervals)
+    ensures { λ r. ⌜ VolumePost (volumeCauses spec (now (units .entry))
+        (cells (now (spans .entry)) (now (links .entry)) (now (heads .entry))) intervals)
         spec (gridIn spec) (cells (now (spans .entry)) (now (links .entry)) (now (heads .entry))) intervals r ⌝ }
 {
     match grid_from_spec::grid(spec, units) {

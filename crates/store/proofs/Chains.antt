@@ -31,14 +31,17 @@ module _ (links : List ℕ) (n o : ℕ) where
   pub chain-owner : {k : ℕ} {ps : List ℕ} → RecordChain links n o k ps → (x : ℕ) → List·Memᴰ x ps → (x < n) × (ownerAt links x ≡ o)
   chain-owner ends x m = absurd (List·Memᴰ·not-nil m)
   chain-owner (more {i} i<n own c) x m =
-      ⊎-elim (λ (e : x ≡ i). subst (λ (y : ℕ). (y < n) × (ownerAt links y ≡ o)) (sym e) (i<n, own)) (chain-owner c x) (List·Memᴰ·cases-cons m)
+      ⊎-elim (λ (e : x ≡ i). subst (λ (y : ℕ). (y < n) × (ownerAt links y ≡ o)) (sym e) (i<n, own)) (chain-owner c x)
+      (List·Memᴰ·cases-cons m)
 
   -- from a place in a chain runs a chain that is no longer
-  suffix : {k : ℕ} {ps : List ℕ} → RecordChain links n o k ps → (x : ℕ) → List·Memᴰ x ps → (qs : List ℕ) × RecordChain links n o (suc x) qs × (length qs ≤ length ps)
+  suffix : {k : ℕ} {ps : List ℕ} → RecordChain links n o k ps → (x : ℕ) → List·Memᴰ x ps
+      → (qs : List ℕ) × RecordChain links n o (suc x) qs × (length qs ≤ length ps)
   suffix ends x m = absurd (List·Memᴰ·not-nil m)
   suffix (more {i} {ps} i<n own c) x m = at (λ (m′ : List·Memᴰ x ps). suffix c x m′) (List·Memᴰ·cases-cons m)
     where
-      at : (List·Memᴰ x ps → (qs : List ℕ) × RecordChain links n o (suc x) qs × (length qs ≤ length ps)) → (x ≡ i) ⊎ List·Memᴰ x ps → (qs : List ℕ) × RecordChain links n o (suc x) qs × (length qs ≤ suc (length ps))
+      at : (List·Memᴰ x ps → (qs : List ℕ) × RecordChain links n o (suc x) qs × (length qs ≤ length ps))
+          → (x ≡ i) ⊎ List·Memᴰ x ps → (qs : List ℕ) × RecordChain links n o (suc x) qs × (length qs ≤ suc (length ps))
       at rec (inl e) = (i ∷ ps, subst (λ (y : ℕ). RecordChain links n o (suc y) (i ∷ ps)) (sym e) (more i<n own c), omega arith)
       at rec (inr m′) = let s = rec m′ in (s .0, s .1, omega (arith, s .2))
 
@@ -64,12 +67,17 @@ module _ (spans : List Float) (links heads : List ℕ) (n : ℕ) where
   run-tail j r all i lo hi = all i (omega arith) (omega arith)
 
   -- a place in the chains has the owner of one of them
-  owner-of : (j r : ℕ) → Run j r → (x : ℕ) → List·Memᴰ x (chained n links heads j r) → (x < n) × ((i : ℕ) × (j ≤ i) × (ownerAt links x ≡ suc i))
+  owner-of : (j r : ℕ) → Run j r → (x : ℕ) → List·Memᴰ x (chained n links heads j r)
+      → (x < n) × ((i : ℕ) × (j ≤ i) × (ownerAt links x ≡ suc i))
   unfolding chained
   owner-of j zero all x m = absurd (List·Memᴰ·not-nil m)
-  owner-of j (suc r) all x m = at (λ (m′ : List·Memᴰ x (chained n links heads (suc j) r)). owner-of (suc j) r (run-tail j r all) x m′) (List·Memᴰ·append-cases (placesOf n links heads j) m)
+  owner-of j (suc r) all x m = at
+      (λ (m′ : List·Memᴰ x (chained n links heads (suc j) r)). owner-of (suc j) r (run-tail j r all) x m′)
+      (List·Memᴰ·append-cases (placesOf n links heads j) m)
     where
-      at : (List·Memᴰ x (chained n links heads (suc j) r) → (x < n) × ((i : ℕ) × (suc j ≤ i) × (ownerAt links x ≡ suc i))) → List·Memᴰ x (placesOf n links heads j) ⊎ List·Memᴰ x (chained n links heads (suc j) r)
+      at : (List·Memᴰ x (chained n links heads (suc j) r)
+          → (x < n) × ((i : ℕ) × (suc j ≤ i) × (ownerAt links x ≡ suc i))) → List·Memᴰ x (placesOf n links heads j)
+          ⊎ List·Memᴰ x (chained n links heads (suc j) r)
           → (x < n) × ((i : ℕ) × (j ≤ i) × (ownerAt links x ≡ suc i))
       at rec (inl h) = let w = chain-owner links n (suc j) (run-head j r all) x h in (w .0, (j, omega arith, w .1))
       at rec (inr t) = let w = rec t in (w .0, (w .1 .0, omega (arith, w .1 .1), w .1 .2))
@@ -78,7 +86,8 @@ module _ (spans : List Float) (links heads : List ℕ) (n : ℕ) where
   unfolding chained Distinct
   chained-distinct j zero all = tt
   chained-distinct j (suc r) all =
-      distinct-append (placesOf n links heads j) (chained n links heads (suc j) r) (chain-distinct links n (suc j) (run-head j r all)) (chained-distinct (suc j) r (run-tail j r all))
+      distinct-append (placesOf n links heads j) (chained n links heads (suc j) r)
+      (chain-distinct links n (suc j) (run-head j r all)) (chained-distinct (suc j) r (run-tail j r all))
       (λ x mh mt. let w = owner-of (suc j) r (run-tail j r all) x mt in
       omega (arith, chain-owner links n (suc j) (run-head j r all) x mh .1, w .1 .1, w .1 .2))
 
@@ -105,10 +114,20 @@ module _ (links : List ℕ) (n o : ℕ) where
   step-of (more {i} {ps} i<n own c) h e ne =
       let one : suc i - 1 ≡ i = omega arith in
       let same : places links n (nextAt links i) ≡ ps = places-of links n o n c (omega arith) in
-      let made : (i < n) × (ownerAt links i ≡ o) × (places links n (suc i) ≡ i ∷ places links n (nextAt links i)) × RecordChain links n o (nextAt links i) (places links n (nextAt links i))
-      = (i<n, own, sym e ∙ ap (λ (l : List ℕ). i ∷ l) (sym same), subst (λ (l : List ℕ). RecordChain links n o (nextAt links i) l) (sym same) c) in
-      let at : (i′ : ℕ) → i′ ≡ i → (i′ < n) × (ownerAt links i′ ≡ o) × (places links n (suc i) ≡ i′ ∷ places links n (nextAt links i′)) × RecordChain links n o (nextAt links i′) (places links n (nextAt links i′))
-      = λ i′ e′. subst (λ (x : ℕ). (x < n) × (ownerAt links x ≡ o) × (places links n (suc i) ≡ x ∷ places links n (nextAt links x)) × RecordChain links n o (nextAt links x) (places links n (nextAt links x))) (sym e′) made in
+      let made : (i < n) × (ownerAt links i ≡ o) × (places links n (suc i) ≡ i ∷ places links n (nextAt links i))
+      × RecordChain links n o (nextAt links i) (places links n (nextAt links i))
+      = (
+        i<n,
+        own,
+        sym e ∙ ap (λ (l : List ℕ). i ∷ l) (sym same),
+        subst (λ (l : List ℕ). RecordChain links n o (nextAt links i) l) (sym same) c,
+      ) in
+      let at : (i′ : ℕ) → i′ ≡ i → (i′ < n) × (ownerAt links i′ ≡ o)
+      × (places links n (suc i) ≡ i′ ∷ places links n (nextAt links i′))
+      × RecordChain links n o (nextAt links i′) (places links n (nextAt links i′))
+      = λ i′ e′. subst (λ (x : ℕ). (x < n) × (ownerAt links x ≡ o)
+      × (places links n (suc i) ≡ x ∷ places links n (nextAt links x))
+      × RecordChain links n o (nextAt links x) (places links n (nextAt links x))) (sym e′) made in
       let r = at (suc i - 1) one in
       record { counted = r .0; owner = r .1; read = r .2; next = r .3 }
 
@@ -118,10 +137,12 @@ module _ (links : List ℕ) (n o : ℕ) where
 -- where a chain is, the places that are come to are it: the walk needs no more fuel than there are records
 pub chain-places : (links : List ℕ) (n o k : ℕ) (ps : List ℕ) → RecordChain links n o k ps → ps ≡ places links n k
 chain-places links n o k ps c =
-    let short : length ps ≤ countTo (λ i. true) n = distinct-le (λ i. true) n ps (chain-distinct links n o c) (λ x m. (chain-owner links n o c x m .0, refl)) in
+    let short : length ps ≤ countTo (λ i. true) n =
+    distinct-le (λ i. true) n ps (chain-distinct links n o c) (λ x m. (chain-owner links n o c x m .0, refl)) in
     sym (places-of links n o n c (omega (arith, short, count-max (λ i. true) n)))
 
-pub less-step : (links : List ℕ) (n o k : ℕ) → RecordChain links n o k (places links n k) → (k ≡ 0 → ⊥) → length (places links n (nextAt links (k - 1))) < length (places links n k)
+pub less-step : (links : List ℕ) (n o k : ℕ) → RecordChain links n o k (places links n k) → (k ≡ 0 → ⊥)
+    → length (places links n (nextAt links (k - 1))) < length (places links n k)
 less-step links n o k c ne = omega (arith, ap length (chain-step links n o k c ne .read))
 
 -- an empty list

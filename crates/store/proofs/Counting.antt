@@ -5,7 +5,18 @@
 use mathlib.Core.Path.{_≡_, refl, ap, _∙_, subst}
 use mathlib.Core.Bool.{Bool, true, false, not, _&&_}
 use mathlib.Core.Logic.{⊎-elim}
-use mathlib.Core.List.{List, [], _∷_, _++_, List·Memᴰ, List·Memᴰ·head, List·Memᴰ·tail, List·Memᴰ·cases-cons, List·Memᴰ·append-cases, List·Memᴰ·not-nil}
+use mathlib.Core.List.{
+  List,
+  [],
+  _∷_,
+  _++_,
+  List·Memᴰ,
+  List·Memᴰ·head,
+  List·Memᴰ·tail,
+  List·Memᴰ·cases-cons,
+  List·Memᴰ·append-cases,
+  List·Memᴰ·not-nil,
+}
 use Prim.Native.Nat.{ℕ, zero, suc, _+_, _≤_, _<_}
 use native.Mathlib.Decide.{ℕ-discrete}
 use native.Mathlib.Omega.{arith}
@@ -52,7 +63,8 @@ unfolding countTo
 count-in p x zero h px = absurd (omega arith)
 count-in p x (suc n) h px = by-cases (λ (l : x < n). count-in p x n l px) (ℕ-discrete n x)
   where
-    by-cases : (x < n → countTo p n ≡ suc (countTo (without p x) n)) → Dec (n ≡ x) → countTo p n + bit (p n) ≡ suc (countTo (without p x) n + bit (without p x n))
+    by-cases : (x < n → countTo p n ≡ suc (countTo (without p x) n)) → Dec (n ≡ x)
+        → countTo p n + bit (p n) ≡ suc (countTo (without p x) n + bit (without p x n))
     by-cases rec (yes e) =
         let at-n : bit (p n) ≡ 1 = ap (λ (k : ℕ). bit (p k)) e ∙ ap (λ (t : Bool). bit t) px in
         let without-n : bit (without p x n) ≡ 0 = ap (λ (t : Bool). bit t) (without-same p x n e) in
@@ -72,7 +84,8 @@ count-le p x (suc n) = by-cases (count-le p x n) (ℕ-discrete n x)
     one-le true = omega arith
     one-le false = omega arith
 
-    by-cases : countTo p n ≤ suc (countTo (without p x) n) → Dec (n ≡ x) → countTo p n + bit (p n) ≤ suc (countTo (without p x) n + bit (without p x n))
+    by-cases : countTo p n ≤ suc (countTo (without p x) n) → Dec (n ≡ x)
+        → countTo p n + bit (p n) ≤ suc (countTo (without p x) n + bit (without p x n))
     by-cases rec (yes e) =
         let below : countTo (without p x) n ≡ countTo p n = count-out p x n (omega arith) in
         omega (arith, one-le (p n))
@@ -102,24 +115,32 @@ abbrev pub Pass : (ℕ → Bool) → ℕ → List ℕ → Type 0
 Pass p n xs = (k : ℕ) → List·Memᴰ k xs → (k < n) × (p k ≡ true)
 
 pass-tail : (p : ℕ → Bool) (n x : ℕ) (xs : List ℕ) → (List·Memᴰ x xs → ⊥) → Pass p n (x ∷ xs) → Pass (without p x) n xs
-pass-tail p n x xs new all k m = (all k (List·Memᴰ·tail m) .0, without-other p x k (λ e. new (subst (λ (i : ℕ). List·Memᴰ i xs) e m)) (all k (List·Memᴰ·tail m) .1))
+pass-tail p n x xs new all k m = (
+  all k (List·Memᴰ·tail m) .0,
+  without-other p x k (λ e. new (subst (λ (i : ℕ). List·Memᴰ i xs) e m))
+      (all k (List·Memᴰ·tail m) .1),
+)
 
 pub distinct-le : (p : ℕ → Bool) (n : ℕ) (xs : List ℕ) → Distinct xs → Pass p n xs → length xs ≤ countTo p n
 unfolding Distinct
 distinct-le p n [] d all = omega arith
 distinct-le p n (x ∷ xs) d all =
     let below : length xs ≤ countTo (without p x) n = distinct-le (without p x) n xs (d .1) (pass-tail p n x xs (d .0) all) in
-    let here : countTo p n ≡ suc (countTo (without p x) n) = count-in p x n (all x (List·Memᴰ·head refl) .0) (all x (List·Memᴰ·head refl) .1) in
+    let here : countTo p n ≡ suc (countTo (without p x) n) =
+    count-in p x n (all x (List·Memᴰ·head refl) .0) (all x (List·Memᴰ·head refl) .1) in
     omega arith
 
-pub distinct-full : (p : ℕ → Bool) (n : ℕ) (xs : List ℕ) → Distinct xs → Pass p n xs → length xs ≡ countTo p n → (k : ℕ) → k < n → p k ≡ true → List·Memᴰ k xs
+pub distinct-full : (p : ℕ → Bool) (n : ℕ) (xs : List ℕ) → Distinct xs → Pass p n xs → length xs ≡ countTo p n
+    → (k : ℕ) → k < n → p k ≡ true → List·Memᴰ k xs
 unfolding Distinct
 distinct-full p n [] d all same k h pk =
     let here : countTo p n ≡ suc (countTo (without p k) n) = count-in p k n h pk in
     absurd (omega arith)
 distinct-full p n (x ∷ xs) d all same k h pk =
-    let here : countTo p n ≡ suc (countTo (without p x) n) = count-in p x n (all x (List·Memᴰ·head refl) .0) (all x (List·Memᴰ·head refl) .1) in
-    either (λ (w : without p x k ≡ true). distinct-full (without p x) n xs (d .1) (pass-tail p n x xs (d .0) all) (omega arith) k h w) (ℕ-discrete k x)
+    let here : countTo p n ≡ suc (countTo (without p x) n) =
+    count-in p x n (all x (List·Memᴰ·head refl) .0) (all x (List·Memᴰ·head refl) .1) in
+    either (λ (w : without p x k ≡ true). distinct-full (without p x) n xs (d .1) (pass-tail p n x xs (d .0) all)
+    (omega arith) k h w) (ℕ-discrete k x)
   where
     either : (without p x k ≡ true → List·Memᴰ k xs) → Dec (k ≡ x) → List·Memᴰ k (x ∷ xs)
     either rec (yes e) = List·Memᴰ·head e
@@ -131,14 +152,17 @@ covers-le p n [] in-xs =
     omega arith
 covers-le p n (x ∷ xs) in-xs =
     let below : countTo (without p x) n ≤ length xs = covers-le (without p x) n xs
-    (λ k h wk. ⊎-elim (λ (e : k ≡ x). absurd (without-ne p x k wk e)) (λ (m : List·Memᴰ k xs). m) (List·Memᴰ·cases-cons (in-xs k h (without-was p x k wk)))) in
+    (λ k h wk. ⊎-elim (λ (e : k ≡ x). absurd (without-ne p x k wk e)) (λ (m : List·Memᴰ k xs). m)
+    (List·Memᴰ·cases-cons (in-xs k h (without-was p x k wk)))) in
     omega (arith, below, count-le p x n)
 
 pub distinct-append : (s t : List ℕ) → Distinct s → Distinct t → ((x : ℕ) → List·Memᴰ x s → List·Memᴰ x t → ⊥) → Distinct (s ++ t)
 unfolding Distinct
 distinct-append [] t ds dt apart = dt
-distinct-append (x ∷ s) t ds dt apart =
-    ((λ m. ⊎-elim (ds .0) (apart x (List·Memᴰ·head refl)) (List·Memᴰ·append-cases s m)), distinct-append s t (ds .1) dt (λ y ms mt. apart y (List·Memᴰ·tail ms) mt))
+distinct-append (x ∷ s) t ds dt apart = (
+  (λ m. ⊎-elim (ds .0) (apart x (List·Memᴰ·head refl)) (List·Memᴰ·append-cases s m)),
+  distinct-append s t (ds .1) dt (λ y ms mt. apart y (List·Memᴰ·tail ms) mt),
+)
 
 pub count-max : (p : ℕ → Bool) (n : ℕ) → countTo p n ≤ n
 unfolding countTo

@@ -18,7 +18,9 @@ use Rattle.logic.specs.Logic.{bit, countTo}
 pub take-mem : (k : ℕ) (l : List ℕ) (x : ℕ) → List·Memᴰ x (take k l) → List·Memᴰ x l
 take-mem zero l x m = absurd (List·Memᴰ·not-nil m)
 take-mem (suc k) [] x m = absurd (List·Memᴰ·not-nil m)
-take-mem (suc k) (y ∷ l) x m = ⊎-elim (λ (e : x ≡ y). List·Memᴰ·head e) (λ (t : List·Memᴰ x (take k l)). List·Memᴰ·tail (take-mem k l x t)) (List·Memᴰ·cases-cons m)
+take-mem (suc k) (y ∷ l) x m =
+    ⊎-elim (λ (e : x ≡ y). List·Memᴰ·head e) (λ (t : List·Memᴰ x (take k l)). List·Memᴰ·tail (take-mem k l x t))
+    (List·Memᴰ·cases-cons m)
 
 pub take-distinct : (k : ℕ) (l : List ℕ) → Distinct l → Distinct (take k l)
 unfolding Distinct
@@ -36,7 +38,8 @@ module _ (spans : List Float) (links : List ℕ) where
   pub free-at : (r c x : ℕ) → List·Memᴰ x (freeFrom spans links c r) → FreeAt spans links c r x
   unfolding freeFrom
   free-at zero c x m = absurd (List·Memᴰ·not-nil m)
-  free-at (suc r) c x m = by-test (usedAt spans links c) refl (λ (t : List·Memᴰ x (freeFrom spans links (suc c) r)). free-at r (suc c) x t) m
+  free-at (suc r) c x m = by-test (usedAt spans links c) refl
+      (λ (t : List·Memᴰ x (freeFrom spans links (suc c) r)). free-at r (suc c) x t) m
     where
       later : FreeAt spans links (suc c) r x → FreeAt spans links c (suc r) x
       later f = record { from = omega (arith, f .from); below = omega (arith, f .below); unused = f .unused }
@@ -54,26 +57,33 @@ module _ (spans : List Float) (links : List ℕ) where
   free-distinct zero c = tt
   free-distinct (suc r) c = by-test (usedAt spans links c) (free-distinct r (suc c))
     where
-      by-test : (t : Bool) → Distinct (freeFrom spans links (suc c) r) → Distinct (cond t (freeFrom spans links (suc c) r) (c ∷ freeFrom spans links (suc c) r))
+      by-test : (t : Bool) → Distinct (freeFrom spans links (suc c) r)
+          → Distinct (cond t (freeFrom spans links (suc c) r) (c ∷ freeFrom spans links (suc c) r))
       by-test true d = d
       by-test false d = ((λ m. omega (arith, free-at r (suc c) c m .from)), d)
 
-  pub free-length : (r c : ℕ) → length (freeFrom spans links c r) + countTo (usedAt spans links) (c + r) ≡ r + countTo (usedAt spans links) c
+  pub free-length : (r c : ℕ) → length (freeFrom spans links c r) + countTo (usedAt spans links) (c + r) ≡ r
+      + countTo (usedAt spans links) c
   unfolding freeFrom countTo
   free-length zero c = ap (λ (x : ℕ). 0 + countTo (usedAt spans links) x) (add-zero c)
   free-length (suc r) c =
-      let rest : length (freeFrom spans links (suc c) r) + countTo (usedAt spans links) (suc c + r) ≡ r + (countTo (usedAt spans links) c + bit (usedAt spans links c)) = free-length r (suc c) in
+      let rest : length (freeFrom spans links (suc c) r) + countTo (usedAt spans links) (suc c + r) ≡ r
+      + (countTo (usedAt spans links) c + bit (usedAt spans links c)) = free-length r (suc c) in
       let sum : suc c + r ≡ c + suc r = omega arith in
-      let end : countTo (usedAt spans links) (suc c + r) ≡ countTo (usedAt spans links) (c + suc r) = ap (countTo (usedAt spans links)) sum in
+      let end : countTo (usedAt spans links) (suc c + r) ≡ countTo (usedAt spans links) (c + suc r) =
+      ap (countTo (usedAt spans links)) sum in
       by-test (usedAt spans links c) (omega arith)
     where
-      by-test : (t : Bool) → length (freeFrom spans links (suc c) r) + countTo (usedAt spans links) (c + suc r) ≡ r + (countTo (usedAt spans links) c + bit t)
-          → length (cond t (freeFrom spans links (suc c) r) (c ∷ freeFrom spans links (suc c) r)) + countTo (usedAt spans links) (c + suc r) ≡ suc r + countTo (usedAt spans links) c
+      by-test : (t : Bool) → length (freeFrom spans links (suc c) r) + countTo (usedAt spans links) (c + suc r) ≡ r
+          + (countTo (usedAt spans links) c + bit t)
+          → length (cond t (freeFrom spans links (suc c) r) (c ∷ freeFrom spans links (suc c) r))
+          + countTo (usedAt spans links) (c + suc r) ≡ suc r + countTo (usedAt spans links) c
       by-test true h = omega arith
       by-test false h = omega arith
 
 -- a sound store has exactly as many free records as its total leaves of n
-pub free-records : (n m total : ℕ) (spans : List Float) (links heads : List ℕ) → ChainsSound n m total (cells spans links heads) → length (freeFrom spans links 0 n) + total ≡ n
+pub free-records : (n m total : ℕ) (spans : List Float) (links heads : List ℕ)
+    → ChainsSound n m total (cells spans links heads) → length (freeFrom spans links 0 n) + total ≡ n
 unfolding countTo
 free-records n m total spans links heads s =
     let all : countTo (usedAt spans links) (0 + n) ≡ countTo (usedAt spans links) n = ap (countTo (usedAt spans links)) (zero-add n) in

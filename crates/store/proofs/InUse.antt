@@ -30,7 +30,8 @@ module _ (spans : List Float) (links : List ℕ) (i : ℕ) where
 
   pub used-owner : (ownerAt links i ≡ 0 → ⊥) → usedAt spans links i ≡ true
   unfolding usedAt
-  used-owner h = ap (λ (t : Bool). not (lo && (hi && (eqb (nextAt links i) 0 && t)))) (ne-eqb (ownerAt links i) 0 h) ∙ last lo hi (eqb (nextAt links i) 0)
+  used-owner h = ap (λ (t : Bool). not (lo && (hi && (eqb (nextAt links i) 0 && t)))) (ne-eqb (ownerAt links i) 0 h)
+      ∙ last lo hi (eqb (nextAt links i) 0)
 
   pub used-next : (nextAt links i ≡ 0 → ⊥) → usedAt spans links i ≡ true
   unfolding usedAt
@@ -40,7 +41,8 @@ module _ (spans : List Float) (links : List ℕ) (i : ℕ) where
   unfolding usedAt
   used-lo h = ap (λ (t : Bool). not (t && (hi && (eqb (nextAt links i) 0 && eqb (ownerAt links i) 0)))) h
 
-  pub used-hi : ownerAt links i ≡ 0 → nextAt links i ≡ 0 → isPlusZero (loAt spans i) ≡ true → usedAt spans links i ≡ not (isPlusZero (hiAt spans i))
+  pub used-hi : ownerAt links i ≡ 0 → nextAt links i ≡ 0 → isPlusZero (loAt spans i) ≡ true
+      → usedAt spans links i ≡ not (isPlusZero (hiAt spans i))
   unfolding usedAt
   used-hi o n l = simp (l, eq-eqb (nextAt links i) 0 n, eq-eqb (ownerAt links i) 0 o) (ap not (right hi))
     where

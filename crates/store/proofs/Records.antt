@@ -29,7 +29,8 @@ same-refl spans links x = record { lo = refl; hi = refl; next = refl; owner = re
 pub same-trans : {s s′ s″ : List Float} {l l′ l″ : List ℕ} {x : ℕ} → Same s s′ l l′ x → Same s′ s″ l′ l″ x → Same s s″ l l″ x
 same-trans a b = record { lo = b .lo ∙ a .lo; hi = b .hi ∙ a .hi; next = b .next ∙ a .next; owner = b .owner ∙ a .owner }
 
-pub same-used : {spans spans′ : List Float} {links links′ : List ℕ} {x : ℕ} → Same spans spans′ links links′ x → usedAt spans′ links′ x ≡ usedAt spans links x
+pub same-used : {spans spans′ : List Float} {links links′ : List ℕ} {x : ℕ} → Same spans spans′ links links′ x
+    → usedAt spans′ links′ x ≡ usedAt spans links x
 unfolding usedAt
 same-used s = cc
 
@@ -40,15 +41,18 @@ pub record Written (spans : List Float) (links : List ℕ) (x : ℕ) (a b : Floa
   pub next : nextAt links x ≡ p
   pub owner : ownerAt links x ≡ o
 
-pub written-same : {spans spans′ : List Float} {links links′ : List ℕ} {x : ℕ} {a b : Float} {p o : ℕ} → Same spans spans′ links links′ x → Written spans links x a b p o → Written spans′ links′ x a b p o
+pub written-same : {spans spans′ : List Float} {links links′ : List ℕ} {x : ℕ} {a b : Float} {p o : ℕ}
+    → Same spans spans′ links links′ x → Written spans links x a b p o → Written spans′ links′ x a b p o
 written-same s w = record { lo = s .lo ∙ w .lo; hi = s .hi ∙ w .hi; next = s .next ∙ w .next; owner = s .owner ∙ w .owner }
 
 module _ {A : Type 0} (l : List A) (i : ℕ) (a b d : A) where
   pub pair-first : (x : ℕ) → (x ≡ i → ⊥) → getD (set (set l (2 * i) a) (2 * i + 1) b) (2 * x) d ≡ getD l (2 * x) d
-  pair-first x ne = getD-set-other (set l (2 * i) a) (2 * i + 1) (2 * x) b d (λ e. omega arith) ∙ getD-set-other l (2 * i) (2 * x) a d (λ e. ne (omega arith))
+  pair-first x ne = getD-set-other (set l (2 * i) a) (2 * i + 1) (2 * x) b d (λ e. omega arith)
+      ∙ getD-set-other l (2 * i) (2 * x) a d (λ e. ne (omega arith))
 
   pub pair-second : (x : ℕ) → (x ≡ i → ⊥) → getD (set (set l (2 * i) a) (2 * i + 1) b) (2 * x + 1) d ≡ getD l (2 * x + 1) d
-  pair-second x ne = getD-set-other (set l (2 * i) a) (2 * i + 1) (2 * x + 1) b d (λ e. ne (omega arith)) ∙ getD-set-other l (2 * i) (2 * x + 1) a d (λ e. omega arith)
+  pair-second x ne = getD-set-other (set l (2 * i) a) (2 * i + 1) (2 * x + 1) b d (λ e. ne (omega arith))
+      ∙ getD-set-other l (2 * i) (2 * x + 1) a d (λ e. omega arith)
 
   pub first-here : 2 * i + 1 < length l → getD (set (set l (2 * i) a) (2 * i + 1) b) (2 * i) d ≡ a
   first-here h = getD-set-other (set l (2 * i) a) (2 * i + 1) (2 * i) b d (λ e. omega arith) ∙ getD-set-same l (2 * i) a d (omega arith)
@@ -97,7 +101,8 @@ within-then a b = record {
   links-past = b .links-past ∙ a .links-past;
 }
 
-pub within-put : (n : ℕ) (spans : List Float) (links : List ℕ) (i : ℕ) (a b : Float) (p o : ℕ) → i < n → Within n spans (putSpan spans i a b) links (putLink links i p o)
+pub within-put : (n : ℕ) (spans : List Float) (links : List ℕ) (i : ℕ) (a b : Float) (p o : ℕ) → i < n
+    → Within n spans (putSpan spans i a b) links (putLink links i p o)
 within-put n spans links i a b p o h = record {
   spans-size = pair-length spans i a b a;
   links-size = pair-length links i p o 0;

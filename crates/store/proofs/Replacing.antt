@@ -1,25 +1,55 @@
--- A sound store stays sound when one of its lists is replaced by another: that list then has the new places, and each other list is what it was.
+-- A sound store stays sound when one of its lists is replaced by another: that list then has the new places, and each
+-- other list is what it was.
 use mathlib.Core.Path.{_≡_, refl, sym, ap, _∙_, subst}
 use mathlib.Core.Bool.{true}
 use mathlib.Core.Logic.{⊎-elim}
-use mathlib.Core.List.{List, [], _∷_, _++_, List·Memᴰ, List·Memᴰ·head, List·Memᴰ·tail, List·Memᴰ·not-nil, List·Memᴰ·append-cases, Memᴰ·append-left, Memᴰ·append-right}
+use mathlib.Core.List.{
+  List,
+  [],
+  _∷_,
+  _++_,
+  List·Memᴰ,
+  List·Memᴰ·head,
+  List·Memᴰ·tail,
+  List·Memᴰ·not-nil,
+  List·Memᴰ·append-cases,
+  Memᴰ·append-left,
+  Memᴰ·append-right,
+}
 use Prim.Native.Nat.{ℕ, zero, suc, _+_, _≤_, _<_}
 use native.Mathlib.Decide.{ℕ-discrete}
 use native.Mathlib.Omega.{arith}
 use lib.Ieee.{Float}
 use lib.ListN.{length, getD, length-append}
-use Rattle.store.specs.Store.{nextAt, ownerAt, usedAt, RecordChain, ends, more, placesOf, chained, endsAt, Cells, ChainsSound, storeList}
+use Rattle.store.specs.Store.{
+  nextAt,
+  ownerAt,
+  usedAt,
+  RecordChain,
+  ends,
+  more,
+  placesOf,
+  chained,
+  endsAt,
+  Cells,
+  ChainsSound,
+  storeList,
+}
 use Rattle.store.proofs.Records.{Same, same-used, among}
 use Rattle.store.proofs.Chains.{chain-owner, chain-places}
 
 -- a chain whose cells stay
-pub chain-kept : (links links′ : List ℕ) (n o : ℕ) {k : ℕ} {ps : List ℕ} → RecordChain links n o k ps → ((x : ℕ) → List·Memᴰ x ps → (nextAt links′ x ≡ nextAt links x) × (ownerAt links′ x ≡ ownerAt links x)) → RecordChain links′ n o k ps
+pub chain-kept : (links links′ : List ℕ) (n o : ℕ) {k : ℕ} {ps : List ℕ} → RecordChain links n o k ps
+    → ((x : ℕ) → List·Memᴰ x ps → (nextAt links′ x ≡ nextAt links x) × (ownerAt links′ x ≡ ownerAt links x))
+    → RecordChain links′ n o k ps
 chain-kept links links′ n o ends same = ends
 chain-kept links links′ n o (more {i} {ps} i<n own c) same =
     let s = same i (List·Memᴰ·head refl) in
-    more i<n (s .1 ∙ own) (subst (λ (k : ℕ). RecordChain links′ n o k ps) (sym (s .0)) (chain-kept links links′ n o c (λ x m. same x (List·Memᴰ·tail m))))
+    more i<n (s .1 ∙ own) (subst (λ (k : ℕ). RecordChain links′ n o k ps) (sym (s .0))
+    (chain-kept links links′ n o c (λ x m. same x (List·Memᴰ·tail m))))
 
-pub ends-kept : (spans spans′ : List Float) (links links′ ps : List ℕ) → ((x : ℕ) → List·Memᴰ x ps → Same spans spans′ links links′ x) → endsAt spans′ ps ≡ endsAt spans ps
+pub ends-kept : (spans spans′ : List Float) (links links′ ps : List ℕ)
+    → ((x : ℕ) → List·Memᴰ x ps → Same spans spans′ links links′ x) → endsAt spans′ ps ≡ endsAt spans ps
 unfolding endsAt
 ends-kept spans spans′ links links′ [] same = refl
 ends-kept spans spans′ links links′ (i ∷ ps) same =
@@ -29,12 +59,14 @@ ends-kept spans spans′ links links′ (i ∷ ps) same =
 
 -- ---- the places of all lists
 module _ (n : ℕ) (links heads : List ℕ) where
-  pub mem-of : (r a x : ℕ) → List·Memᴰ x (chained n links heads a r) → (i : ℕ) × (a ≤ i) × (i < a + r) × List·Memᴰ x (placesOf n links heads i)
+  pub mem-of : (r a x : ℕ) → List·Memᴰ x (chained n links heads a r)
+      → (i : ℕ) × (a ≤ i) × (i < a + r) × List·Memᴰ x (placesOf n links heads i)
   unfolding chained
   mem-of zero a x m = absurd (List·Memᴰ·not-nil m)
   mem-of (suc r) a x m =
       ⊎-elim (λ (h : List·Memᴰ x (placesOf n links heads a)). (a, omega arith, omega arith, h))
-      (λ (t : List·Memᴰ x (chained n links heads (suc a) r)). let w = mem-of r (suc a) x t in (w .0, omega (arith, w .1), omega (arith, w .2), w .3))
+      (λ (t : List·Memᴰ x (chained n links heads (suc a) r)). let w = mem-of r (suc a) x t in
+      (w .0, omega (arith, w .1), omega (arith, w .2), w .3))
       (List·Memᴰ·append-cases (placesOf n links heads a) m)
 
   pub mem-to : (r a i x : ℕ) → a ≤ i → i < a + r → List·Memᴰ x (placesOf n links heads i) → List·Memᴰ x (chained n links heads a r)
@@ -42,7 +74,8 @@ module _ (n : ℕ) (links heads : List ℕ) where
   mem-to zero a i x lo hi m = absurd (omega arith)
   mem-to (suc r) a i x lo hi m = at (λ (l : suc a ≤ i). mem-to r (suc a) i x l (omega arith) m) (ℕ-discrete i a)
     where
-      at : (suc a ≤ i → List·Memᴰ x (chained n links heads (suc a) r)) → Dec (i ≡ a) → List·Memᴰ x (placesOf n links heads a ++ chained n links heads (suc a) r)
+      at : (suc a ≤ i → List·Memᴰ x (chained n links heads (suc a) r)) → Dec (i ≡ a)
+          → List·Memᴰ x (placesOf n links heads a ++ chained n links heads (suc a) r)
       at rec (yes e) = Memᴰ·append-left (chained n links heads (suc a) r) (subst (λ (y : ℕ). List·Memᴰ x (placesOf n links heads y)) e m)
       at rec (no ne) = Memᴰ·append-right (placesOf n links heads a) (rec (omega (arith, ne)))
 
@@ -50,7 +83,8 @@ module _ (n : ℕ) (links heads : List ℕ) where
 pub record Replaces (n m : ℕ) (c d : Cells) (j : ℕ) (qs : List ℕ) : Type 0 where
   pub chain : RecordChain (d .links) n (suc j) (getD (d .heads) j 0) qs
   pub head : (i : ℕ) → (i ≡ j → ⊥) → getD (d .heads) i 0 ≡ getD (c .heads) i 0
-  pub cells : (x : ℕ) → (List·Memᴰ x (placesOf n (c .links) (c .heads) j) → ⊥) → (List·Memᴰ x qs → ⊥) → Same (c .spans) (d .spans) (c .links) (d .links) x
+  pub cells : (x : ℕ) → (List·Memᴰ x (placesOf n (c .links) (c .heads) j) → ⊥) → (List·Memᴰ x qs → ⊥)
+      → Same (c .spans) (d .spans) (c .links) (d .links) x
   pub freed : (x : ℕ) → x < n → List·Memᴰ x (placesOf n (c .links) (c .heads) j) → usedAt (d .spans) (d .links) x ≡ true → List·Memᴰ x qs
   pub apart : (i : ℕ) → i < m → (i ≡ j → ⊥) → (x : ℕ) → List·Memᴰ x (placesOf n (c .links) (c .heads) i) → List·Memᴰ x qs → ⊥
 
@@ -72,7 +106,12 @@ module _ (n m total : ℕ) (c d : Cells) (j : ℕ) (qs : List ℕ) (s : ChainsSo
 
   -- another list has none of the places of list j
   others-apart : (i : ℕ) → i < m → (i ≡ j → ⊥) → (x : ℕ) → List·Memᴰ x (was i) → List·Memᴰ x (was j) → ⊥
-  others-apart i i<m ne x mi mj = ne (omega (arith, chain-owner (c .links) n (suc i) (s .chains i i<m) x mi .1, chain-owner (c .links) n (suc j) (s .chains j j<m) x mj .1))
+  others-apart i i<m ne x mi mj =
+      ne (omega (
+        arith,
+        chain-owner (c .links) n (suc i) (s .chains i i<m) x mi .1,
+        chain-owner (c .links) n (suc j) (s .chains j j<m) x mj .1,
+      ))
 
   other-cells : (i : ℕ) → i < m → (i ≡ j → ⊥) → (x : ℕ) → List·Memᴰ x (was i) → Same (c .spans) (d .spans) (c .links) (d .links) x
   other-cells i i<m ne x mx = r .cells x (others-apart i i<m ne x mx) (r .apart i i<m ne x mx)
@@ -91,34 +130,57 @@ module _ (n m total : ℕ) (c d : Cells) (j : ℕ) (qs : List ℕ) (s : ChainsSo
   all-chains i i<m = at (ℕ-discrete i j)
     where
       at : Dec (i ≡ j) → RecordChain (d .links) n (suc i) (getD (d .heads) i 0) (is i)
-      at (yes e) = subst (λ (y : ℕ). RecordChain (d .links) n (suc y) (getD (d .heads) y 0) (is y)) (sym e) (subst (λ (l : List ℕ). RecordChain (d .links) n (suc j) (getD (d .heads) j 0) l) (sym here-now) (r .chain))
-      at (no ne) = subst (λ (l : List ℕ). RecordChain (d .links) n (suc i) (getD (d .heads) i 0) l) (sym (others-kept i i<m ne)) (other-chain i i<m ne)
+      at (yes e) = subst (λ (y : ℕ). RecordChain (d .links) n (suc y) (getD (d .heads) y 0) (is y)) (sym e)
+          (subst (λ (l : List ℕ). RecordChain (d .links) n (suc j) (getD (d .heads) j 0) l) (sym here-now) (r .chain))
+      at (no ne) = subst (λ (l : List ℕ). RecordChain (d .links) n (suc i) (getD (d .heads) i 0) l)
+          (sym (others-kept i i<m ne)) (other-chain i i<m ne)
 
   -- the lists before j, or after it, together are what they were
-  same-run : (k a : ℕ) → a + k ≤ m → ((i : ℕ) → a ≤ i → i < a + k → i ≡ j → ⊥) → length (chained n (d .links) (d .heads) a k) ≡ length (chained n (c .links) (c .heads) a k)
+  same-run : (k a : ℕ) → a + k ≤ m → ((i : ℕ) → a ≤ i → i < a + k → i ≡ j → ⊥)
+      → length (chained n (d .links) (d .heads) a k) ≡ length (chained n (c .links) (c .heads) a k)
   unfolding chained
   same-run zero a h out = refl
   same-run (suc k) a h out =
       let first : length (is a) ≡ length (was a) = ap length (others-kept a (omega arith) (out a (omega arith) (omega arith))) in
-      let rest : length (chained n (d .links) (d .heads) (suc a) k) ≡ length (chained n (c .links) (c .heads) (suc a) k) = same-run k (suc a) (omega arith) (λ i lo hi. out i (omega arith) (omega arith)) in
-      omega (arith, length-append (is a) (chained n (d .links) (d .heads) (suc a) k), length-append (was a) (chained n (c .links) (c .heads) (suc a) k))
+      let rest : length (chained n (d .links) (d .heads) (suc a) k)
+      ≡ length (chained n (c .links) (c .heads) (suc a) k) =
+      same-run k (suc a) (omega arith) (λ i lo hi. out i (omega arith) (omega arith)) in
+      omega (
+        arith,
+        length-append (is a) (chained n (d .links) (d .heads) (suc a) k),
+        length-append (was a) (chained n (c .links) (c .heads) (suc a) k),
+      )
 
-  count-run : (k a : ℕ) → a + k ≤ m → a ≤ j → j < a + k → length (chained n (c .links) (c .heads) a k) + length qs ≡ length (was j) + length (chained n (d .links) (d .heads) a k)
+  count-run : (k a : ℕ) → a + k ≤ m → a ≤ j → j < a + k → length (chained n (c .links) (c .heads) a k) + length qs
+      ≡ length (was j) + length (chained n (d .links) (d .heads) a k)
   unfolding chained
   count-run zero a h lo hi = absurd (omega arith)
   count-run (suc k) a h lo hi = at (λ (l : suc a ≤ j). count-run k (suc a) (omega arith) l (omega arith)) (ℕ-discrete a j)
     where
-      at : (suc a ≤ j → length (chained n (c .links) (c .heads) (suc a) k) + length qs ≡ length (was j) + length (chained n (d .links) (d .heads) (suc a) k)) → Dec (a ≡ j)
-          → length (was a ++ chained n (c .links) (c .heads) (suc a) k) + length qs ≡ length (was j) + length (is a ++ chained n (d .links) (d .heads) (suc a) k)
+      at : (suc a ≤ j → length (chained n (c .links) (c .heads) (suc a) k) + length qs ≡ length (was j)
+          + length (chained n (d .links) (d .heads) (suc a) k)) → Dec (a ≡ j)
+          → length (was a ++ chained n (c .links) (c .heads) (suc a) k) + length qs ≡ length (was j)
+          + length (is a ++ chained n (d .links) (d .heads) (suc a) k)
       at rec (yes e) =
           let before : length (was a) ≡ length (was j) = ap (λ (y : ℕ). length (was y)) e in
           let after : length (is a) ≡ length qs = ap (λ (y : ℕ). length (is y)) e ∙ ap length here-now in
-          let rest : length (chained n (d .links) (d .heads) (suc a) k) ≡ length (chained n (c .links) (c .heads) (suc a) k) = same-run k (suc a) (omega arith) (λ i lo′ hi′ e′. omega arith) in
-          omega (arith, length-append (was a) (chained n (c .links) (c .heads) (suc a) k), length-append (is a) (chained n (d .links) (d .heads) (suc a) k))
+          let rest : length (chained n (d .links) (d .heads) (suc a) k)
+          ≡ length (chained n (c .links) (c .heads) (suc a) k) =
+          same-run k (suc a) (omega arith) (λ i lo′ hi′ e′. omega arith) in
+          omega (
+            arith,
+            length-append (was a) (chained n (c .links) (c .heads) (suc a) k),
+            length-append (is a) (chained n (d .links) (d .heads) (suc a) k),
+          )
       at rec (no ne) =
           let first : length (is a) ≡ length (was a) = ap length (others-kept a (omega arith) ne) in
-          let rest : length (chained n (c .links) (c .heads) (suc a) k) + length qs ≡ length (was j) + length (chained n (d .links) (d .heads) (suc a) k) = rec (omega (arith, ne)) in
-          omega (arith, length-append (was a) (chained n (c .links) (c .heads) (suc a) k), length-append (is a) (chained n (d .links) (d .heads) (suc a) k))
+          let rest : length (chained n (c .links) (c .heads) (suc a) k) + length qs ≡ length (was j)
+          + length (chained n (d .links) (d .heads) (suc a) k) = rec (omega (arith, ne)) in
+          omega (
+            arith,
+            length-append (was a) (chained n (c .links) (c .heads) (suc a) k),
+            length-append (is a) (chained n (d .links) (d .heads) (suc a) k),
+          )
 
   in-use : (x : ℕ) → x < n → usedAt (d .spans) (d .links) x ≡ true → List·Memᴰ x (chained n (d .links) (d .heads) 0 m)
   in-use x x<n u = at (among x qs) (among x (was j))
@@ -147,7 +209,8 @@ module _ (n m total : ℕ) (c d : Cells) (j : ℕ) (qs : List ℕ) (s : ChainsSo
   one-of zero a lo hi = absurd (omega arith)
   one-of (suc k) a lo hi = at (λ (l : suc a ≤ j). one-of k (suc a) l (omega arith)) (ℕ-discrete a j)
     where
-      at : (suc a ≤ j → length (was j) ≤ length (chained n (c .links) (c .heads) (suc a) k)) → Dec (a ≡ j) → length (was j) ≤ length (was a ++ chained n (c .links) (c .heads) (suc a) k)
+      at : (suc a ≤ j → length (was j) ≤ length (chained n (c .links) (c .heads) (suc a) k)) → Dec (a ≡ j)
+          → length (was j) ≤ length (was a ++ chained n (c .links) (c .heads) (suc a) k)
       at rec (yes e) =
           let same : length (was a) ≡ length (was j) = ap (λ (y : ℕ). length (was y)) e in
           omega (arith, length-append (was a) (chained n (c .links) (c .heads) (suc a) k))
@@ -159,7 +222,8 @@ module _ (n m total : ℕ) (c d : Cells) (j : ℕ) (qs : List ℕ) (s : ChainsSo
   replaced = record {
     here = here-now;
     places-kept = others-kept;
-    lists-kept = λ i i<m ne. ap (endsAt (d .spans)) (others-kept i i<m ne) ∙ ends-kept (c .spans) (d .spans) (c .links) (d .links) (was i) (other-cells i i<m ne);
+    lists-kept = λ i i<m ne. ap (endsAt (d .spans)) (others-kept i i<m ne)
+        ∙ ends-kept (c .spans) (d .spans) (c .links) (d .links) (was i) (other-cells i i<m ne);
     isSound = λ total′ sum. record { chains = all-chains; others = in-use; counts = omega (arith, s .counts, of-count) };
     less = omega (arith, s .counts, one-of m 0 (omega arith) (omega arith));
   }

@@ -29,7 +29,8 @@ pub record FillListPre (n : ℕ) (spans : List Float) (links : List ℕ) (o : �
   pub cursor : FreeCursor n spans links from
 
 -- the pairs are laid as a chain over the lowest free places
-pub record FillListPost (n : ℕ) (spans : List Float) (links : List ℕ) (o : ℕ) (pairs : List Float) (count head cursor : ℕ) (spans′ : List Float) (links′ : List ℕ) : Type 0 where
+pub record FillListPost (n : ℕ) (spans : List Float) (links : List ℕ) (o : ℕ) (pairs : List Float)
+    (count head cursor : ℕ) (spans′ : List Float) (links′ : List ℕ) : Type 0 where
   pub at : head ≡ headOf (take count (freeFrom spans links 0 n))
   pub spans-left : spans′ ≡ filledSpans spans (take count (freeFrom spans links 0 n)) pairs
   pub links-left : links′ ≡ filledLinks links o (take count (freeFrom spans links 0 n))

@@ -39,7 +39,8 @@ pub record Room (n m : ℕ) (c : Cells) : Type 0 where
 -- the updates are of lists from k on, below m and ascending, and each has whole pairs
 pub data Ascending (m : ℕ) : ℕ → List Update → Type 0 where
   none : {k : ℕ} → Ascending m k []
-  next : {k : ℕ} {u : Update} {us : List Update} → k ≤ u .list → u .list < m → length (u .ends) % 2 ≡ 0 → Ascending m (suc (u .list)) us → Ascending m k (u ∷ us)
+  next : {k : ℕ} {u : Update} {us : List Update} → k ≤ u .list → u .list < m → length (u .ends) % 2 ≡ 0
+      → Ascending m (suc (u .list)) us → Ascending m k (u ∷ us)
 
 -- list j after the updates, where it was l before
 unfoldable pub listAfter : List Update → ℕ → List Float → List Float

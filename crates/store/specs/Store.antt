@@ -1,5 +1,6 @@
--- The lent store. A pool of n records, numbered from 1, holds m lists. Record i + 1 stands at place i: its ends lo and hi are cells 2i and 2i + 1 of the spans, its next and owner cells 2i and 2i + 1 of the links.
--- List j has the head at cell j of the heads, and owner j + 1: ray r's possible list is 2r, its certain list 2r + 1.
+-- The lent store. A pool of n records, numbered from 1, holds m lists. Record i + 1 stands at place i: its ends lo
+-- and hi are cells 2i and 2i + 1 of the spans, its next and owner cells 2i and 2i + 1 of the links. List j has the
+-- head at cell j of the heads, and owner j + 1: ray r's possible list is 2r, its certain list 2r + 1.
 use mathlib.Core.Path.{_≡_}
 use mathlib.Core.Bool.{Bool, true, false, not, cond, _&&_}
 use mathlib.Core.List.{List, [], _∷_, _++_, List·Memᴰ}
@@ -55,7 +56,8 @@ places links (suc fuel) (suc i) = i ∷ places links fuel (nextAt links i)
 -- From record number k a chain runs over the places ps, of counted records of the owner o, to a zero.
 pub data RecordChain (links : List ℕ) (n o : ℕ) : ℕ → List ℕ → Type 0 where
   ends : RecordChain links n o zero []
-  more : {i : ℕ} {ps : List ℕ} → i < n → ownerAt links i ≡ o → RecordChain links n o (nextAt links i) ps → RecordChain links n o (suc i) (i ∷ ps)
+  more : {i : ℕ} {ps : List ℕ} → i < n → ownerAt links i ≡ o → RecordChain links n o (nextAt links i) ps
+      → RecordChain links n o (suc i) (i ∷ ps)
 
 -- the places of list j, in order. No record comes twice in a chain, so n are enough
 abbrev pub placesOf : ℕ → List ℕ → List ℕ → ℕ → List ℕ

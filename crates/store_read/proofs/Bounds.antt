@@ -1,4 +1,5 @@
--- A list is sound exactly where each pair begins past the end of the one before and has lo < hi, and then its first and last end tell its bounds.
+-- A list is sound exactly where each pair begins past the end of the one before and has lo < hi, and then its first
+-- and last end tell its bounds.
 use mathlib.Core.Path.{_≡_, refl, sym, ap, _∙_, subst}
 use mathlib.Core.Logic.{⊎-elim}
 use mathlib.Core.Bool.{Bool, true, false, not, _&&_}
@@ -42,7 +43,11 @@ after-pair : (x a b : Float) (l : List Float) → after x (a ∷ b ∷ l) ≡ tr
 unfolding after
 after-pair x a b l h =
     let p = and-left (not (le a x) && lt a b) (after b l) h in
-    record { past = and-left (not (le a x)) (lt a b) p; pair = and-right (not (le a x)) (lt a b) p; rest = and-right (not (le a x) && lt a b) (after b l) h }
+    record {
+      past = and-left (not (le a x)) (lt a b) p;
+      pair = and-right (not (le a x)) (lt a b) p;
+      rest = and-right (not (le a x) && lt a b) (after b l) h;
+    }
 
 pair-after : (x a b : Float) (l : List Float) → not (le a x) ≡ true → lt a b ≡ true → after b l ≡ true → after x (a ∷ b ∷ l) ≡ true
 unfolding after
@@ -66,7 +71,10 @@ fits-of x (a ∷ []) n h = absurd (clash false h refl)
 fits-of x (a ∷ b ∷ l) n h =
     let p = after-pair x a b l h in
     let f = fits-of b l (lt-number a b (p .pair) .1) (p .rest) in
-    record { whole = omega (arith, f .whole); rises = both (lt x a) _ (past-lt x a b n (p .pair) (p .past)) (both (lt a b) _ (p .pair) (f .rises)) }
+    record {
+      whole = omega (arith, f .whole);
+      rises = both (lt x a) _ (past-lt x a b n (p .pair) (p .past)) (both (lt a b) _ (p .pair) (f .rises));
+    }
 
 fits-to : (x : Float) (l : List Float) → Number x → Fits x l → after x l ≡ true
 unfolding after rising
@@ -87,10 +95,13 @@ sound-after x (a ∷ b ∷ l) n = same-if _ _ to of
   where
     to : sound (a ∷ b ∷ l) ≡ true → after x (a ∷ b ∷ l) ≡ true
     to h =
-        let w : length (a ∷ b ∷ l) % 2 ≡ 0 = eqb-true (length (a ∷ b ∷ l) % 2) 0 (and-left (eqb (length (a ∷ b ∷ l) % 2) 0) (rising (a ∷ b ∷ l)) h) in
+        let w : length (a ∷ b ∷ l) % 2 ≡ 0 =
+        eqb-true (length (a ∷ b ∷ l) % 2) 0 (and-left (eqb (length (a ∷ b ∷ l) % 2) 0) (rising (a ∷ b ∷ l)) h) in
         let r = and-right (eqb (length (a ∷ b ∷ l) % 2) 0) (rising (a ∷ b ∷ l)) h in
         let ab : lt a b ≡ true = and-left (lt a b) (rising (b ∷ l)) r in
-        pair-after x a b l (ap not (le-nan a x n)) ab (fits-to b l (lt-number a b ab .1) (record { whole = omega arith; rises = and-right (lt a b) (rising (b ∷ l)) r }))
+        pair-after x a b l (ap not (le-nan a x n)) ab
+        (fits-to b l (lt-number a b ab .1)
+        (record { whole = omega arith; rises = and-right (lt a b) (rising (b ∷ l)) r }))
 
     of : after x (a ∷ b ∷ l) ≡ true → sound (a ∷ b ∷ l) ≡ true
     of h =
@@ -107,18 +118,23 @@ lastEnd x (a ∷ b ∷ l) = lastEnd b l
 
 module _ (low high : Float) where
   -- the bounds of the ends of a pair, and those of the pair
-  two-bounded : (a b : Float) (l : List Float) → le low a ≡ true → lt a b ≡ true → le b high ≡ true → bounded low high l ≡ true → bounded low high (a ∷ b ∷ l) ≡ true
+  two-bounded : (a b : Float) (l : List Float) → le low a ≡ true → lt a b ≡ true → le b high ≡ true
+      → bounded low high l ≡ true → bounded low high (a ∷ b ∷ l) ≡ true
   unfolding bounded
-  two-bounded a b l la ab bh rest = both (le low a) _ la (both (le a high) _ (le-trans a b high (lt→le a b ab) bh) (both (le low b) _ (le-trans low a b la (lt→le a b ab)) (both (le b high) _ bh rest)))
+  two-bounded a b l la ab bh rest =
+      both (le low a) _ la (both (le a high) _ (le-trans a b high (lt→le a b ab) bh)
+      (both (le low b) _ (le-trans low a b la (lt→le a b ab)) (both (le b high) _ bh rest)))
 
-  two-bounds : (a b : Float) (l : List Float) → bounded low high (a ∷ b ∷ l) ≡ true → (le low a ≡ true) × (le b high ≡ true) × (bounded low high l ≡ true)
+  two-bounds : (a b : Float) (l : List Float) → bounded low high (a ∷ b ∷ l) ≡ true
+      → (le low a ≡ true) × (le b high ≡ true) × (bounded low high l ≡ true)
   unfolding bounded
   two-bounds a b l h =
       let of-b = and-right (le low b) _ (and-right (le a high) _ (and-right (le low a) _ h)) in
       (and-left (le low a) _ h, and-left (le b high) (bounded low high l) of-b, and-right (le b high) (bounded low high l) of-b)
 
   -- where the last end is within the bounds, all of a list that rises from within them is
-  last-tells : (x : Float) (l : List Float) → Number x → le low x ≡ true → after x l ≡ true → le (lastEnd x l) high ≡ true → (bounded low high l ≡ true) × (le x high ≡ true)
+  last-tells : (x : Float) (l : List Float) → Number x → le low x ≡ true → after x l ≡ true
+      → le (lastEnd x l) high ≡ true → (bounded low high l ≡ true) × (le x high ≡ true)
   unfolding after bounded lastEnd
   last-tells x [] n lx h e = (refl, e)
   last-tells x (a ∷ []) n lx h e = absurd (clash false h refl)
@@ -130,14 +146,16 @@ module _ (low high : Float) where
       let rest = last-tells b l (lt-number a b (p .pair) .1) (le-trans low a b la ab) (p .rest) e in
       (two-bounded a b l la (p .pair) (rest .1) (rest .0), le-trans x a high xa (le-trans a b high ab (rest .1)))
 
-  last-within : (x : Float) (l : List Float) → bounded low high l ≡ true → le x high ≡ true → after x l ≡ true → le (lastEnd x l) high ≡ true
+  last-within : (x : Float) (l : List Float) → bounded low high l ≡ true → le x high ≡ true → after x l ≡ true
+      → le (lastEnd x l) high ≡ true
   unfolding after lastEnd
   last-within x [] h e s = e
   last-within x (a ∷ []) h e s = absurd (clash false s refl)
   last-within x (a ∷ b ∷ l) h e s = let i = two-bounds a b l h in last-within b l (i .2) (i .1) (after-pair x a b l s .rest)
 
   -- the bounds of a sound list by its two ends
-  ends-tell : (x : Float) (l : List Float) → after x l ≡ true → startsIn low l ≡ true → (l ≡ [] → ⊥) → bounded low high l ≡ le (lastEnd x l) high
+  ends-tell : (x : Float) (l : List Float) → after x l ≡ true → startsIn low l ≡ true → (l ≡ [] → ⊥)
+      → bounded low high l ≡ le (lastEnd x l) high
   unfolding lastEnd after
   ends-tell x [] h s ne = absurd (ne refl)
   ends-tell x (a ∷ []) h s ne = absurd (clash false h refl)
@@ -160,11 +178,13 @@ module _ (low high : Float) where
   from-bounded x [] h = refl
   from-bounded x (a ∷ []) h = refl
   from-bounded x (a ∷ b ∷ l) h = ⊎-elim
-      (λ (t : lt b x ≡ true). subst (λ (m : List Float). bounded low high m ≡ true) (sym (from-skip x a b l t)) (from-bounded x l (two-bounds a b l h .2)))
+      (λ (t : lt b x ≡ true). subst (λ (m : List Float). bounded low high m ≡ true) (sym (from-skip x a b l t))
+      (from-bounded x l (two-bounds a b l h .2)))
       (λ (t : lt b x ≡ false). subst (λ (m : List Float). bounded low high m ≡ true) (sym (from-stop x a b l t)) h)
       (by-cases (lt b x))
 
-  covers-bounds : (l : List Float) (lo hi : Float) → bounded low high l ≡ true → covers l lo hi ≡ true → (le low lo ≡ true) × (le hi high ≡ true)
+  covers-bounds : (l : List Float) (lo hi : Float) → bounded low high l ≡ true → covers l lo hi ≡ true
+      → (le low lo ≡ true) × (le hi high ≡ true)
   covers-bounds [] lo hi h c = absurd (clash false c refl)
   covers-bounds (a ∷ []) lo hi h c = absurd (clash false c refl)
   covers-bounds (a ∷ b ∷ l) lo hi h c =
@@ -172,7 +192,8 @@ module _ (low high : Float) where
       (le-trans low a lo (i .0) (and-left (le a lo) (le hi b) c), le-trans hi b high (and-right (le a lo) (le hi b) c) (i .1))
 
   -- what lies in a list within the bounds is within them
-  pub contained-bounded : (x : Float) (outer inner : List Float) → bounded low high outer ≡ true → after x inner ≡ true → contained outer inner ≡ true → bounded low high inner ≡ true
+  pub contained-bounded : (x : Float) (outer inner : List Float) → bounded low high outer ≡ true
+      → after x inner ≡ true → contained outer inner ≡ true → bounded low high inner ≡ true
   unfolding bounded after contained
   contained-bounded x outer [] h s c = refl
   contained-bounded x outer (lo ∷ []) h s c = absurd (clash false s refl)
@@ -180,7 +201,9 @@ module _ (low high : Float) where
       let p = after-pair x lo hi inner s in
       let cut : bounded low high (from hi outer) ≡ true = from-bounded hi outer h in
       let i = covers-bounds (from hi outer) lo hi cut (and-left (covers (from hi outer) lo hi) (contained (from hi outer) inner) c) in
-      two-bounded lo hi inner (i .0) (p .pair) (i .1) (contained-bounded hi (from hi outer) inner cut (p .rest) (and-right (covers (from hi outer) lo hi) (contained (from hi outer) inner) c))
+      two-bounded lo hi inner (i .0) (p .pair) (i .1)
+      (contained-bounded hi (from hi outer) inner cut (p .rest)
+      (and-right (covers (from hi outer) lo hi) (contained (from hi outer) inner) c))
 
 -- ---- the loops of `sound_between` and `sound_within`
 module _ (n : ℕ) (spans : List Float) (links : List ℕ) where
@@ -189,18 +212,28 @@ module _ (n : ℕ) (spans : List Float) (links : List ℕ) where
   after-none x k e = ap (after x) (no-ends n spans links k e)
 
   after-step : (x : Float) (k : ℕ) → Step n spans links k
-      → after x (listFrom n spans links k) ≡ ((not (le (loAt spans (k - 1)) x) && lt (loAt spans (k - 1)) (hiAt spans (k - 1))) && after (hiAt spans (k - 1)) (listFrom n spans links (nextAt links (k - 1))))
+      → after x (listFrom n spans links k)
+      ≡ ((not (le (loAt spans (k - 1)) x) && lt (loAt spans (k - 1)) (hiAt spans (k - 1)))
+      && after (hiAt spans (k - 1)) (listFrom n spans links (nextAt links (k - 1))))
   unfolding after
   after-step x k s = ap (after x) (s .read)
 
-  pub after-bad : (x : Float) (k : ℕ) (r : Bool) → Step n spans links k → r ≡ (not (le (loAt spans (k - 1)) x) && lt (loAt spans (k - 1)) (hiAt spans (k - 1))) → not r ≡ true → after x (listFrom n spans links k) ≡ false
-  after-bad x k r s e h = after-step x k s ∙ ap (λ (t : Bool). t && after (hiAt spans (k - 1)) (listFrom n spans links (nextAt links (k - 1)))) (sym e ∙ not-true r h)
+  pub after-bad : (x : Float) (k : ℕ) (r : Bool) → Step n spans links k
+      → r ≡ (not (le (loAt spans (k - 1)) x) && lt (loAt spans (k - 1)) (hiAt spans (k - 1))) → not r ≡ true
+      → after x (listFrom n spans links k) ≡ false
+  after-bad x k r s e h = after-step x k s
+      ∙ ap (λ (t : Bool). t && after (hiAt spans (k - 1)) (listFrom n spans links (nextAt links (k - 1))))
+      (sym e ∙ not-true r h)
 
-  pub after-good : (x : Float) (k : ℕ) (r : Bool) → Step n spans links k → r ≡ (not (le (loAt spans (k - 1)) x) && lt (loAt spans (k - 1)) (hiAt spans (k - 1))) → not r ≡ false
+  pub after-good : (x : Float) (k : ℕ) (r : Bool) → Step n spans links k
+      → r ≡ (not (le (loAt spans (k - 1)) x) && lt (loAt spans (k - 1)) (hiAt spans (k - 1))) → not r ≡ false
       → after x (listFrom n spans links k) ≡ after (hiAt spans (k - 1)) (listFrom n spans links (nextAt links (k - 1)))
-  after-good x k r s e h = after-step x k s ∙ ap (λ (t : Bool). t && after (hiAt spans (k - 1)) (listFrom n spans links (nextAt links (k - 1)))) (sym e ∙ not-false r h)
+  after-good x k r s e h = after-step x k s
+      ∙ ap (λ (t : Bool). t && after (hiAt spans (k - 1)) (listFrom n spans links (nextAt links (k - 1))))
+      (sym e ∙ not-false r h)
 
-  pub last-step : (x : Float) (k : ℕ) → Step n spans links k → lastEnd x (listFrom n spans links k) ≡ lastEnd (hiAt spans (k - 1)) (listFrom n spans links (nextAt links (k - 1)))
+  pub last-step : (x : Float) (k : ℕ) → Step n spans links k
+      → lastEnd x (listFrom n spans links k) ≡ lastEnd (hiAt spans (k - 1)) (listFrom n spans links (nextAt links (k - 1)))
   unfolding lastEnd
   last-step x k s = ap (lastEnd x) (s .read)
 
@@ -209,15 +242,19 @@ module _ (n : ℕ) (spans : List Float) (links : List ℕ) where
   last-none x k e = ap (lastEnd x) (no-ends n spans links k e)
 
   -- ---- the end of `sound_between`
-  pub none-between : (low high : Float) (k : ℕ) → k ≡ 0 → (sound (listFrom n spans links k) && bounded low high (listFrom n spans links k)) ≡ true
+  pub none-between : (low high : Float) (k : ℕ) → k ≡ 0
+      → (sound (listFrom n spans links k) && bounded low high (listFrom n spans links k)) ≡ true
   unfolding sound rising bounded
   none-between low high k e = ap (λ (l : List Float). sound l && bounded low high l) (no-ends n spans links k e)
 
-  pub all-between : (low high x : Float) (k : ℕ) (r : Bool) (e : Float) → isNan x ≡ true → Step n spans links k → r ≡ startsIn low (listFrom n spans links k) → not r ≡ false
-      → after x (listFrom n spans links k) ≡ true → lastEnd x (listFrom n spans links k) ≡ e → (sound (listFrom n spans links k) && bounded low high (listFrom n spans links k)) ≡ le e high
+  pub all-between : (low high x : Float) (k : ℕ) (r : Bool) (e : Float) → isNan x ≡ true → Step n spans links k
+      → r ≡ startsIn low (listFrom n spans links k) → not r ≡ false
+      → after x (listFrom n spans links k) ≡ true → lastEnd x (listFrom n spans links k) ≡ e
+      → (sound (listFrom n spans links k) && bounded low high (listFrom n spans links k)) ≡ le e high
   all-between low high x k r e nx s er h a z =
       ap (λ (t : Bool). t && bounded low high (listFrom n spans links k)) (sound-after x (listFrom n spans links k) nx ∙ a)
-      ∙ ends-tell low high x (listFrom n spans links k) a (sym er ∙ not-false r h) (λ none. cons-some (sym (s .read) ∙ none)) ∙ ap (λ (y : Float). le y high) z
+      ∙ ends-tell low high x (listFrom n spans links k) a (sym er ∙ not-false r h)
+      (λ none. cons-some (sym (s .read) ∙ none)) ∙ ap (λ (y : Float). le y high) z
 
 -- ---- the answers of `follows` and `starts_within`
 pub begins-before : (a b : Bool) → a ≡ true → false ≡ (not a && b)
@@ -245,7 +282,8 @@ zero-nan = ap isNan zero-over-zero
 pub sum-bad : (p : Bool) (l : List Float) (x : Float) → p ≡ false → ListSumPost p l (record { good = false; length = x })
 sum-bad p l x h = record { told = sym h; summed = λ z. absurd (clash false z refl) }
 
-pub sum-good : (p r : Bool) (l : List Float) (x : Float) → p ≡ r → lengthFrom plusZero l ≡ x → ListSumPost p l (record { good = r; length = x })
+pub sum-good : (p r : Bool) (l : List Float) (x : Float) → p ≡ r → lengthFrom plusZero l ≡ x
+    → ListSumPost p l (record { good = r; length = x })
 sum-good p r l x h e = record { told = sym h; summed = λ z. sym e }
 
 -- ---- two tests at once
@@ -263,15 +301,19 @@ both-same a b c d e f = ap (λ (t : Bool). t && c) e ∙ ap (λ (t : Bool). b &&
 
 -- ---- the answers of `measure_ray`
 module _ (low high : Float) (possible certain : List Float) where
-  pub possible-bad : (p : ListSum) → ListSumPost (sound possible && bounded low high possible) possible p → not (p .good) ≡ true → (x y : Float) → RaySumsPost low high possible certain (record { valid = false; possible = x; certain = y })
+  pub possible-bad : (p : ListSum) → ListSumPost (sound possible && bounded low high possible) possible p
+      → not (p .good) ≡ true → (x y : Float)
+      → RaySumsPost low high possible certain (record { valid = false; possible = x; certain = y })
   possible-bad p s h x y = record {
     is-valid = λ z. absurd (clash false z refl);
-    if-valid = λ v. absurd (clash (sound possible && bounded low high possible) (both _ _ (v .possible-sound) (v .possible-bounded)) (sym (s .told) ∙ not-true (p .good) h));
+    if-valid = λ v. absurd (clash (sound possible && bounded low high possible)
+        (both _ _ (v .possible-sound) (v .possible-bounded)) (sym (s .told) ∙ not-true (p .good) h));
     possible-length = λ z. absurd (clash false z refl);
     certain-length = λ z. absurd (clash false z refl);
   }
 
-  pub both-told : (p c : ListSum) → ListSumPost (sound possible && bounded low high possible) possible p → not (p .good) ≡ false → ListSumPost (sound certain && contained possible certain) certain c
+  pub both-told : (p c : ListSum) → ListSumPost (sound possible && bounded low high possible) possible p
+      → not (p .good) ≡ false → ListSumPost (sound certain && contained possible certain) certain c
       → RaySumsPost low high possible certain (record { valid = c .good; possible = p .length; certain = c .length })
   unfolding valid
   both-told p c s h t =
@@ -284,9 +326,14 @@ module _ (low high : Float) (possible certain : List Float) where
             let bp′ : bounded low high possible ≡ true = and-right (sound possible) _ bp in
             valid-ray low high possible certain
             (both (sound possible) _ (and-left _ (bounded low high possible) bp)
-            (both (sound certain) _ sc (both (bounded low high possible) _ bp′ (both (bounded low high certain) _ (contained-bounded low high nan possible certain bp′ (sym (sound-after nan certain nan-is) ∙ sc) cc) cc))));
+            (both (sound certain) _ sc (both (bounded low high possible) _ bp′
+            (both (bounded low high certain) _
+            (contained-bounded low high nan possible certain bp′ (sym (sound-after nan certain nan-is) ∙ sc) cc) cc))));
         if-valid = λ v. t .told
-            ∙ both (sound certain) _ (v .certain-sound) (and-right (bounded low high certain) _ (and-right (bounded low high possible) _ (and-right (sound certain) _ (and-right (sound possible) _ (ray-valid low high possible certain v)))));
+            ∙ both (sound certain) _ (v .certain-sound)
+            (and-right (bounded low high certain) _
+            (and-right (bounded low high possible) _
+            (and-right (sound certain) _ (and-right (sound possible) _ (ray-valid low high possible certain v)))));
         possible-length = λ z. s .summed (not-false (p .good) h);
         certain-length = λ z. t .summed z;
       }

@@ -18,7 +18,12 @@ pub record LinkStep (n : ℕ) (links : List ℕ) (k : ℕ) : Type 0 where
 pub link-step : {n : ℕ} {links : List ℕ} {k : ℕ} → Linked n links k → (k ≡ 0 → ⊥) → LinkStep n links k
 link-step {n} {links} {k} r ne =
     let s = chain-step links n (r .owner) k (r .chain) ne in
-    record { counted = s .counted; more = s .read; next = record { in-links = r .in-links; owner = r .owner; chain = s .next }; less = less-step links n (r .owner) k (r .chain) ne }
+    record {
+      counted = s .counted;
+      more = s .read;
+      next = record { in-links = r .in-links; owner = r .owner; chain = s .next };
+      less = less-step links n (r .owner) k (r .chain) ne;
+    }
 
 pub record Step (n : ℕ) (spans : List Float) (links : List ℕ) (k : ℕ) : Type 0 where
   pub counted : k - 1 < n
@@ -30,7 +35,12 @@ pub step : {n : ℕ} {spans : List Float} {links : List ℕ} {k : ℕ} → Reada
 unfolding endsAt
 step {n} {spans} {links} {k} r ne =
     let s = link-step (r .linked) ne in
-    record { counted = s .counted; read = ap (endsAt spans) (s .more); next = record { in-spans = r .in-spans; linked = s .next }; less = s .less }
+    record {
+      counted = s .counted;
+      read = ap (endsAt spans) (s .more);
+      next = record { in-spans = r .in-spans; linked = s .next };
+      less = s .less;
+    }
 
 pub no-ends : (n : ℕ) (spans : List Float) (links : List ℕ) (k : ℕ) → k ≡ 0 → listFrom n spans links k ≡ []
 unfolding endsAt
@@ -42,5 +52,6 @@ ends-length spans [] = refl
 ends-length spans (i ∷ ps) = omega (arith, ends-length spans ps)
 
 -- each list of a sound store can be read
-pub readable : {n m total : ℕ} {c : Cells} → ChainsSound n m total c → 2 * n ≤ length (c .spans) → 2 * n ≤ length (c .links) → (j : ℕ) → j < m → Readable n (c .spans) (c .links) (getD (c .heads) j 0)
+pub readable : {n m total : ℕ} {c : Cells} → ChainsSound n m total c → 2 * n ≤ length (c .spans)
+    → 2 * n ≤ length (c .links) → (j : ℕ) → j < m → Readable n (c .spans) (c .links) (getD (c .heads) j 0)
 readable s hs hl j h = record { in-spans = hs; linked = record { in-links = hl; owner = suc j; chain = s .chains j h } }

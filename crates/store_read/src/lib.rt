@@ -41,11 +41,12 @@ pub struct ListSum {
     pub length: f64,
 }
 
-// Whether the list is sound and within the bounds: as it rises, its first and its last end tell the bounds. No end is at most the NaN that stands
-// for the end before the first pair.
+// Whether the list is sound and within the bounds: as it rises, its first and its last end tell the bounds. No end is
+// at most the NaN that stands for the end before the first pair.
 fn sound_between(spans: &[f64], links: &[u64], n: usize, head: u64, low: f64, high: f64) -> ListSum
     requires { ⌜ Readable n (now spans) (now links) head ⌝ }
-    ensures { λ r. ⌜ ListSumPost (sound (listFrom n (now (spans .entry)) (now (links .entry)) head) && bounded low high (listFrom n (now (spans .entry)) (now (links .entry)) head))
+    ensures { λ r. ⌜ ListSumPost (sound (listFrom n (now (spans .entry)) (now (links .entry)) head)
+        && bounded low high (listFrom n (now (spans .entry)) (now (links .entry)) head))
         (listFrom n (now (spans .entry)) (now (links .entry)) head) r ⌝ }
 {
     let mut sum = 0.0;
@@ -100,7 +101,8 @@ fn first_reaching(spans: &[f64], links: &[u64], n: usize, head: u64, x: f64) -> 
 // Whether the first pair from record number `outer` on reaches over the pair at place i.
 fn reaches_over(spans: &[f64], links: &[u64], n: usize, outer: u64, i: usize) -> bool
     requires { ⌜ Readable n (now spans) (now links) outer × (2 * i + 1 < length (now spans)) ⌝ }
-    ensures { λ r. ⌜ r ≡ covers (listFrom n (now (spans .entry)) (now (links .entry)) outer) (loAt (now (spans .entry)) i) (hiAt (now (spans .entry)) i) ⌝ }
+    ensures { λ r. ⌜ r ≡ covers (listFrom n (now (spans .entry)) (now (links .entry)) outer)
+        (loAt (now (spans .entry)) i) (hiAt (now (spans .entry)) i) ⌝ }
 {
     if outer == 0 {
         return false;
@@ -115,7 +117,9 @@ fn reaches_over(spans: &[f64], links: &[u64], n: usize, outer: u64, i: usize) ->
 // Whether the inner list is sound and each of its pairs lies in one of the outer list's.
 fn sound_within(spans: &[f64], links: &[u64], n: usize, outer: u64, inner: u64) -> ListSum
     requires { ⌜ Readable n (now spans) (now links) outer × Readable n (now spans) (now links) inner ⌝ }
-    ensures { λ r. ⌜ ListSumPost (sound (listFrom n (now (spans .entry)) (now (links .entry)) inner) && contained (listFrom n (now (spans .entry)) (now (links .entry)) outer) (listFrom n (now (spans .entry)) (now (links .entry)) inner))
+    ensures { λ r. ⌜ ListSumPost (sound (listFrom n (now (spans .entry)) (now (links .entry)) inner)
+        && contained (listFrom n (now (spans .entry)) (now (links .entry)) outer)
+        (listFrom n (now (spans .entry)) (now (links .entry)) inner))
         (listFrom n (now (spans .entry)) (now (links .entry)) inner) r ⌝ }
 {
     let mut sum = 0.0;
@@ -165,7 +169,8 @@ pub fn measure_ray(
     high: f64,
 ) -> RaySums
     requires { ⌜ Readable n (now spans) (now links) possible × Readable n (now spans) (now links) certain ⌝ }
-    ensures { λ r. ⌜ RaySumsPost low high (listFrom n (now (spans .entry)) (now (links .entry)) possible) (listFrom n (now (spans .entry)) (now (links .entry)) certain) r ⌝ }
+    ensures { λ r. ⌜ RaySumsPost low high (listFrom n (now (spans .entry)) (now (links .entry)) possible)
+        (listFrom n (now (spans .entry)) (now (links .entry)) certain) r ⌝ }
 {
     let p = sound_between(spans, links, n, possible, low, high);
     if !p.good {
@@ -194,8 +199,10 @@ pub fn valid_ray_at(
     high: f64,
 ) -> bool
     requires { ⌜ Readable n (now spans) (now links) possible × Readable n (now spans) (now links) certain ⌝ }
-    ensures { λ r. ⌜ (r ≡ true → ValidRay low high (listFrom n (now (spans .entry)) (now (links .entry)) possible) (listFrom n (now (spans .entry)) (now (links .entry)) certain))
-        × (ValidRay low high (listFrom n (now (spans .entry)) (now (links .entry)) possible) (listFrom n (now (spans .entry)) (now (links .entry)) certain) → r ≡ true) ⌝ }
+    ensures { λ r. ⌜ (r ≡ true → ValidRay low high (listFrom n (now (spans .entry)) (now (links .entry)) possible)
+        (listFrom n (now (spans .entry)) (now (links .entry)) certain))
+        × (ValidRay low high (listFrom n (now (spans .entry)) (now (links .entry)) possible)
+        (listFrom n (now (spans .entry)) (now (links .entry)) certain) → r ≡ true) ⌝ }
 {
     let r = measure_ray(spans, links, n, possible, certain, low, high);
     r.valid

@@ -24,19 +24,24 @@ module _ (n : ℕ) (c : Cells) (ray : ℕ) (pairs : List Float) (at possible cer
   second-is : secondPart ≡ pairsFrom pairs (at + 2 * possible) certain
   second-is = part-is pairs (at + 2 * possible) certain
 
-  first-laid : (r : ℕ) (d : Cells) → LayListPost n c (update (2 * ray) firstPart) r d → d ≡ laidList n c (update (2 * ray) (pairsFrom pairs at possible))
+  first-laid : (r : ℕ) (d : Cells) → LayListPost n c (update (2 * ray) firstPart) r d
+      → d ≡ laidList n c (update (2 * ray) (pairsFrom pairs at possible))
   first-laid r d w = w .left ∙ ap (λ (l : List Float). laidList n c (update (2 * ray) l)) first-is
 
   module _ (ok : LayRayPre n c ray (pairsFrom pairs at possible) (pairsFrom pairs (at + 2 * possible) certain)) where
     pub possible-layable : LayListPre n c (update (2 * ray) firstPart)
     possible-layable = subst (λ (l : List Float). LayListPre n c (update (2 * ray) l)) (sym first-is) (ok .possible)
 
-    pub certain-layable : (r : ℕ) (d : Cells) → LayListPost n c (update (2 * ray) firstPart) r d → LayListPre n d (update (2 * ray + 1) secondPart)
+    pub certain-layable : (r : ℕ) (d : Cells) → LayListPost n c (update (2 * ray) firstPart) r d
+        → LayListPre n d (update (2 * ray + 1) secondPart)
     certain-layable r d w =
         subst (λ (x : Cells). LayListPre n x (update (2 * ray + 1) secondPart)) (sym (first-laid r d w))
-        (subst (λ (l : List Float). LayListPre n (laidList n c (update (2 * ray) (pairsFrom pairs at possible))) (update (2 * ray + 1) l)) (sym second-is) (ok .certain))
+        (subst (λ (l : List Float). LayListPre n (laidList n c (update (2 * ray) (pairsFrom pairs at possible)))
+        (update (2 * ray + 1) l)) (sym second-is) (ok .certain))
 
-  pub ray-laid : (r r′ : ℕ) (d d′ : Cells) → LayListPost n c (update (2 * ray) firstPart) r d → LayListPost n d (update (2 * ray + 1) secondPart) r′ d′ → LayRayPost n c ray (pairsFrom pairs at possible) (pairsFrom pairs (at + 2 * possible) certain) r′ d′
+  pub ray-laid : (r r′ : ℕ) (d d′ : Cells) → LayListPost n c (update (2 * ray) firstPart) r d
+      → LayListPost n d (update (2 * ray + 1) secondPart) r′ d′
+      → LayRayPost n c ray (pairsFrom pairs at possible) (pairsFrom pairs (at + 2 * possible) certain) r′ d′
   ray-laid r r′ d d′ w w′ = record {
     left = w′ .left ∙ ap (λ (l : List Float). laidList n d (update (2 * ray + 1) l)) second-is
         ∙ ap (λ (x : Cells). laidList n x (update (2 * ray + 1) (pairsFrom pairs (at + 2 * possible) certain))) (first-laid r d w);

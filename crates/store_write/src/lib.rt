@@ -12,7 +12,8 @@ ghost use Rattle.store.specs.Steps.{LayListPre, LayListPost, FreeListPre};
 
 // The first free place from `from` on, of which there is one.
 fn next_free(spans: &[f64], links: &[u64], n: usize, from: usize) -> usize
-    requires { ⌜ (2 * n ≤ length (now spans)) × (2 * n ≤ length (now links)) × (0 < length (freeFrom (now spans) (now links) from (n - from))) ⌝ }
+    requires { ⌜ (2 * n ≤ length (now spans)) × (2 * n ≤ length (now links))
+        × (0 < length (freeFrom (now spans) (now links) from (n - from))) ⌝ }
     ensures { λ r. ⌜ NextFree (now (spans .entry)) (now (links .entry)) n from r ⌝ }
 {
     let mut at = from;
@@ -39,7 +40,8 @@ pub fn put_record(
     owner: u64,
 )
     requires { ⌜ (2 * i + 1 < length (now spans)) × (2 * i + 1 < length (now links)) ⌝ }
-    ensures { λ _. ⌜ (now (spans .exit) ≡ putSpan (now (spans .entry)) i lo hi) × (now (links .exit) ≡ putLink (now (links .entry)) i next owner) ⌝ }
+    ensures { λ _. ⌜ (now (spans .exit) ≡ putSpan (now (spans .entry)) i lo hi)
+        × (now (links .exit) ≡ putLink (now (links .entry)) i next owner) ⌝ }
 {
     spans[2 * i] = lo;
     spans[2 * i + 1] = hi;
@@ -58,7 +60,8 @@ fn fill_list(
     count: usize,
 ) -> ListFilled
     requires { ⌜ FillListPre n (now spans) (now links) owner (now pairs) count from ⌝ }
-    ensures { λ r. ⌜ FillListPost n (now (spans .entry)) (now (links .entry)) owner (now (pairs .entry)) count (r .head) (r .cursor) (now (spans .exit)) (now (links .exit)) ⌝ }
+    ensures { λ r. ⌜ FillListPost n (now (spans .entry)) (now (links .entry)) owner (now (pairs .entry)) count
+        (r .head) (r .cursor) (now (spans .exit)) (now (links .exit)) ⌝ }
 {
     let first = next_free(spans, links, n, from);
     let mut at = first;
@@ -80,7 +83,8 @@ fn fill_list(
     }
 }
 
-// Lays list j from the lowest free record, and says before which place no record is free then. The lists of a commit take this place one from the other, so that it only rises.
+// Lays list j from the lowest free record, and says before which place no record is free then. The lists of a commit
+// take this place one from the other, so that it only rises.
 fn lay_list(
     spans: &mut [f64],
     links: &mut [u64],
@@ -90,8 +94,10 @@ fn lay_list(
     j: usize,
     pairs: &[f64],
 ) -> usize
-    requires { ⌜ LayListPre n (cells (now spans) (now links) (now heads)) (update j (now pairs)) × FreeCursor n (now spans) (now links) from ⌝ }
-    ensures { λ r. ⌜ LayListPost n (cells (now (spans .entry)) (now (links .entry)) (now (heads .entry))) (update j (now (pairs .entry))) r (cells (now (spans .exit)) (now (links .exit)) (now (heads .exit))) ⌝ }
+    requires { ⌜ LayListPre n (cells (now spans) (now links) (now heads)) (update j (now pairs))
+        × FreeCursor n (now spans) (now links) from ⌝ }
+    ensures { λ r. ⌜ LayListPost n (cells (now (spans .entry)) (now (links .entry)) (now (heads .entry)))
+        (update j (now (pairs .entry))) r (cells (now (spans .exit)) (now (links .exit)) (now (heads .exit))) ⌝ }
 {
     let count = pairs.len() / 2;
     if count == 0 {
@@ -117,8 +123,10 @@ pub fn lay_ray(
     certain: usize,
 ) -> usize
     requires { ⌜ (at + 2 * possible + 2 * certain ≤ length (now pairs)) × FreeCursor n (now spans) (now links) from
-        × LayRayPre n (cells (now spans) (now links) (now heads)) ray (pairsFrom (now pairs) at possible) (pairsFrom (now pairs) (at + 2 * possible) certain) ⌝ }
-    ensures { λ r. ⌜ LayRayPost n (cells (now (spans .entry)) (now (links .entry)) (now (heads .entry))) ray (pairsFrom (now (pairs .entry)) at possible) (pairsFrom (now (pairs .entry)) (at + 2 * possible) certain)
+        × LayRayPre n (cells (now spans) (now links) (now heads)) ray (pairsFrom (now pairs) at possible)
+        (pairsFrom (now pairs) (at + 2 * possible) certain) ⌝ }
+    ensures { λ r. ⌜ LayRayPost n (cells (now (spans .entry)) (now (links .entry)) (now (heads .entry))) ray
+        (pairsFrom (now (pairs .entry)) at possible) (pairsFrom (now (pairs .entry)) (at + 2 * possible) certain)
         r (cells (now (spans .exit)) (now (links .exit)) (now (heads .exit))) ⌝ }
 {
     let j = 2 * ray;
@@ -130,7 +138,8 @@ pub fn lay_ray(
 
 // Frees the records of a chain.
 fn free_chain(spans: &mut [f64], links: &mut [u64], n: usize, owner: u64, head: u64)
-    requires { ⌜ (2 * n ≤ length (now spans)) × (2 * n ≤ length (now links)) × RecordChain (now links) n owner head (places (now links) n head) ⌝ }
+    requires { ⌜ (2 * n ≤ length (now spans)) × (2 * n ≤ length (now links))
+        × RecordChain (now links) n owner head (places (now links) n head) ⌝ }
     ensures { λ _. ⌜ (now (spans .exit) ≡ freedSpans (now (spans .entry)) (places (now (links .entry)) n head))
         × (now (links .exit) ≡ freedLinks (now (links .entry)) (places (now (links .entry)) n head)) ⌝ }
 {
@@ -148,7 +157,8 @@ fn free_chain(spans: &mut [f64], links: &mut [u64], n: usize, owner: u64, head: 
 // Frees list j: its records and its head.
 fn free_list(spans: &mut [f64], links: &mut [u64], heads: &mut [u64], n: usize, j: usize)
     requires { ⌜ FreeListPre n (cells (now spans) (now links) (now heads)) j ⌝ }
-    ensures { λ _. ⌜ cells (now (spans .exit)) (now (links .exit)) (now (heads .exit)) ≡ freedList n (cells (now (spans .entry)) (now (links .entry)) (now (heads .entry))) j ⌝ }
+    ensures { λ _. ⌜ cells (now (spans .exit)) (now (links .exit)) (now (heads .exit))
+        ≡ freedList n (cells (now (spans .entry)) (now (links .entry)) (now (heads .entry))) j ⌝ }
 {
     let head = heads[j];
     free_chain(spans, links, n, (j as u64) + 1, head);

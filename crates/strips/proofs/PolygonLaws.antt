@@ -33,15 +33,18 @@ next-out f at n j h k =
     let m : length (take n at) ≤ j = omega arith in
     rw (drop-of-length-le (take n at) m)
 
-pub step : (above : Bool) (b : Float) (f d q : Point) (at : List Point) (n i : ℕ) (e : Extent) → i < n → n ≤ length at → q ≡ headOr f (drop (i + 1) (take n at))
-    → widenAll (widenAll e (edge above b (getD at i d) q)) (edges above b f (drop (i + 1) (take n at))) ≡ widenAll e (edges above b f (drop i (take n at)))
+pub step : (above : Bool) (b : Float) (f d q : Point) (at : List Point) (n i : ℕ) (e : Extent) → i < n → n ≤ length at
+    → q ≡ headOr f (drop (i + 1) (take n at))
+    → widenAll (widenAll e (edge above b (getD at i d) q)) (edges above b f (drop (i + 1) (take n at)))
+    ≡ widenAll e (edges above b f (drop i (take n at)))
 unfolding edges
 step above b f d q at n i e h k g =
     let l : length (take n at) ≡ n = length-take-le n at k in
     let m : i < length (take n at) = omega arith in
     rw (g, ← widen-append, add-one, drop-cons (take n at) i d, getD-take)
 
-pub clip-edges : (above : Bool) (b : Float) (d : Point) (at : List Point) (n : ℕ) → n ≤ length at → clip above b (take n at) ≡ edges above b (getD at 0 d) (take n at)
+pub clip-edges : (above : Bool) (b : Float) (d : Point) (at : List Point) (n : ℕ) → n ≤ length at
+    → clip above b (take n at) ≡ edges above b (getD at 0 d) (take n at)
 unfolding clip edges
 clip-edges above b d [] zero k = refl
 clip-edges above b d [] (suc n) k = refl

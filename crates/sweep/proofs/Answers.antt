@@ -69,7 +69,8 @@ module _ (s : Setting) (intervals : ℕ) (chords : List Float) where
 
     module _ (b : Bool) (w : Decides (SoundCells (s .spec) (s .grid) (s .cells) intervals) b) where
       pub check-bad : not b ≡ true → SweepCheckPost s intervals chords (Declined 11)
-      check-bad h = later _ _ 11 long (first _ _ (bad (λ (p : SoundCells (s .spec) (s .grid) (s .cells) intervals). clash b (w .1 p) (not-true b h))))
+      check-bad h = later _ _ 11 long
+          (first _ _ (bad (λ (p : SoundCells (s .spec) (s .grid) (s .cells) intervals). clash b (w .1 p) (not-true b h))))
         where
           bad : (SoundCells (s .spec) (s .grid) (s .cells) intervals → ⊥) → SweepInputBad s intervals chords
           bad h = unfold SweepInputBad in inr h
@@ -80,15 +81,20 @@ module _ (s : Setting) (intervals : ℕ) (chords : List Float) where
         fine (inl h) = h even
         fine (inr h) = h (w .0 good)
 
-        pub check-tool-bad : (tool : ToolCheck) (k : ℕ) → ToolCheckPost (s .profile .shape) (s .profile .cutter) tool → tool ≡ Unusable k → SweepCheckPost s intervals chords (Declined k)
+        pub check-tool-bad : (tool : ToolCheck) (k : ℕ) → ToolCheckPost (s .profile .shape) (s .profile .cutter) tool
+            → tool ≡ Unusable k → SweepCheckPost s intervals chords (Declined k)
         check-tool-bad tool k c h =
-            later _ _ k long (later _ _ k fine (due-first (toolCauses (s .profile .shape) (s .profile .cutter)) chordCauses k (subst (ToolCheckPost (s .profile .shape) (s .profile .cutter)) h c)))
+            later _ _ k long (later _ _ k fine
+            (due-first (toolCauses (s .profile .shape) (s .profile .cutter)) chordCauses k
+            (subst (ToolCheckPost (s .profile .shape) (s .profile .cutter)) h c)))
 
-        module _ (tool : ToolCheck) (c : ToolCheckPost (s .profile .shape) (s .profile .cutter) tool) (h : tool ≡ Usable) (q : Bool) (f : q ≡ chordsFit (s .kernel .frame) (s .kernel .guard) chords) where
+        module _ (tool : ToolCheck) (c : ToolCheckPost (s .profile .shape) (s .profile .cutter) tool)
+            (h : tool ≡ Usable) (q : Bool) (f : q ≡ chordsFit (s .kernel .frame) (s .kernel .guard) chords) where
           pub check-chords-bad : q ≡ false → SweepCheckPost s intervals chords (Declined 7)
           check-chords-bad n =
               later _ _ 7 long (later _ _ 7 fine
-              (due-second (toolCauses (s .profile .shape) (s .profile .cutter)) chordCauses 7 (subst (ToolCheckPost (s .profile .shape) (s .profile .cutter)) h c) (first _ _ (sym f ∙ n))))
+              (due-second (toolCauses (s .profile .shape) (s .profile .cutter)) chordCauses 7
+              (subst (ToolCheckPost (s .profile .shape) (s .profile .cutter)) h c) (first _ _ (sym f ∙ n))))
 
           pub check-good : GridFacts (s .spec) (s .grid) → q ≡ true → SweepCheckPost s intervals chords Admitted
           unfolding NoneDue
@@ -97,13 +103,18 @@ module _ (s : Setting) (intervals : ℕ) (chords : List Float) where
               long,
               (
                 fine,
-                none-in-both (toolCauses (s .profile .shape) (s .profile .cutter)) chordCauses (subst (ToolCheckPost (s .profile .shape) (s .profile .cutter)) h c)
-                    ((λ (n : chordsFit (s .kernel .frame) (s .kernel .guard) chords ≡ false). clash (chordsFit (s .kernel .frame) (s .kernel .guard) chords) (sym f ∙ y) n), tt),
+                none-in-both (toolCauses (s .profile .shape) (s .profile .cutter)) chordCauses
+                    (subst (ToolCheckPost (s .profile .shape) (s .profile .cutter)) h c) (
+                      (λ (n : chordsFit (s .kernel .frame) (s .kernel .guard) chords ≡ false). clash
+                          (chordsFit (s .kernel .frame) (s .kernel .guard) chords) (sym f ∙ y) n),
+                      tt,
+                    ),
               ),
             ),
             record {
               facts = facts;
-              chained = sound-chained (s .spec) (s .grid) (s .cells) intervals (room-of (s .spec) (s .grid) (s .cells) (sym e ∙ t)) (w .0 good);
+              chained = sound-chained (s .spec) (s .grid) (s .cells) intervals
+                  (room-of (s .spec) (s .grid) (s .cells) (sym e ∙ t)) (w .0 good);
               valid = w .0 good .valid;
             },
             w .0 good,
@@ -138,10 +149,12 @@ module _ (k : ℕ) (log : List Float) where
   cleared (inr e) = sym (ap (λ (m : ℕ). cond (eqb m 8 || eqb m 16) (replicate (length log) plusZero) log) e)
 
 -- ---- the end of a walk
-pub end-is : (x y : Progress) (r : SweepAnswer) (log after : List Float) → x ≡ y → r ≡ endOf y → after ≡ endLog y log → (r ≡ endOf x) × (after ≡ endLog x log)
+pub end-is : (x y : Progress) (r : SweepAnswer) (log after : List Float) → x ≡ y → r ≡ endOf y → after ≡ endLog y log
+    → (r ≡ endOf x) × (after ≡ endLog x log)
 end-is x y r log after e h k = subst (λ (z : Progress). (r ≡ endOf z) × (after ≡ endLog z log)) (sym e) (h, k)
 
-pub logged-room : (budget : ℕ) (rays : List (List Float)) (c : VisitCursor) (log after : List Float) (x : Progress) → WalkPost budget rays c log x after → loggedBy x ≤ length after
+pub logged-room : (budget : ℕ) (rays : List (List Float)) (c : VisitCursor) (log after : List Float) (x : Progress)
+    → WalkPost budget rays c log x after → loggedBy x ≤ length after
 logged-room budget rays c log after (At d) w = w .room
 logged-room budget rays c log after (Stopped k) w = omega arith
 
@@ -156,12 +169,14 @@ module _ (s : Setting) (chords : List Float) (budget : ℕ) (log mid : List Floa
   visit-due k h (inl e) = subst (Due (visitCauses s chords budget (length log))) (sym e) (first _ _ (h ∙ ap Stop e))
   visit-due k h (inr e) =
       subst (Due (visitCauses s chords budget (length log))) (sym e)
-      (later _ _ 16 (λ (q : walkOf s chords budget (length log) ≡ Stop 8). apart (stop-is _ 8 16 q (h ∙ ap Stop e))) (first _ _ (h ∙ ap Stop e)))
+      (later _ _ 16 (λ (q : walkOf s chords budget (length log) ≡ Stop 8). apart (stop-is _ 8 16 q (h ∙ ap Stop e)))
+      (first _ _ (h ∙ ap Stop e)))
     where
       apart : _≡_ {A = ℕ} 8 16 → ⊥
       apart z = omega arith
 
-  pub visit-answer : (intervals : ℕ) → SoundCells (s .spec) (s .grid) (s .cells) intervals → (x : Progress) → WalkPost budget (sweepEntries s chords) origin log x mid
+  pub visit-answer : (intervals : ℕ) → SoundCells (s .spec) (s .grid) (s .cells) intervals → (x : Progress)
+      → WalkPost budget (sweepEntries s chords) origin log x mid
       → SweepPost (visitCauses s chords budget (length log)) s intervals chords log (endLog x mid) (endOf x)
   unfolding NoneDue logOf
   visit-answer intervals isSound (Stopped k) w =
@@ -172,12 +187,22 @@ module _ (s : Setting) (chords : List Float) (budget : ℕ) (log mid : List Floa
       let r = walk-done budget (length log) (sweepEntries s chords) 0 [] (d .visits) (take (d .at) mid) (w .walked) in
       let l : length (logOf s chords) ≡ d .at = sym (ap length (r .1)) ∙ length-take-le (d .at) mid (w .room) in
       let z : 0 + length (sweepEntries s chords) ≡ length (sweepEntries s chords) = omega arith in (
-        ((λ (q : walkOf s chords budget (length log) ≡ Stop 8). done-no-stop _ (d .visits) 8 (take (d .at) mid) (w .walked) q), ((λ (q : walkOf s chords budget (length log) ≡ Stop 16). done-no-stop _ (d .visits) 16 (take (d .at) mid) (w .walked) q), tt)),
+        (
+          (λ (q : walkOf s chords budget (length log) ≡ Stop 8). done-no-stop _ (d .visits) 8 (take (d .at) mid)
+              (w .walked) q),
+          (
+            (λ (q : walkOf s chords budget (length log) ≡ Stop 16). done-no-stop _ (d .visits) 16
+                (take (d .at) mid) (w .walked) q),
+            tt,
+          ),
+        ),
         record {
           isSound = isSound;
           entries = omega (arith, l, log-length s chords);
           visits = r .0 ∙ z ∙ sweep-length s chords;
-          log = ap (λ (m : List Float). m ++ replicate (length mid - d .at) plusZero) (r .1) ∙ ap (λ (n : ℕ). logOf s chords ++ replicate n plusZero) (ap (λ (n : ℕ). n - d .at) (w .same) ∙ ap (λ (n : ℕ). length log - n) (sym l));
+          log = ap (λ (m : List Float). m ++ replicate (length mid - d .at) plusZero) (r .1)
+              ∙ ap (λ (n : ℕ). logOf s chords ++ replicate n plusZero)
+              (ap (λ (n : ℕ). n - d .at) (w .same) ∙ ap (λ (n : ℕ). length log - n) (sym l));
         },
       )
 
@@ -189,16 +214,21 @@ module _ (s : Setting) (intervals : ℕ) (chords : List Float) (budget : ℕ) (l
       let d : Due (settingCauses s intervals chords) k = subst (SweepCheckPost s intervals chords) h c in
       (due-first (settingCauses s intervals chords) (visitCauses s chords budget (length log)) k d, setting-kept k log s intervals chords d)
 
-  pub admitted : (ready : SweepCheck) → SweepCheckPost s intervals chords ready → ready ≡ Admitted → SweepCheckPost s intervals chords Admitted
+  pub admitted : (ready : SweepCheck) → SweepCheckPost s intervals chords ready → ready ≡ Admitted
+      → SweepCheckPost s intervals chords Admitted
   admitted ready c h = subst (SweepCheckPost s intervals chords) h c
 
   after-setting : (after : List Float) (r : SweepAnswer) → NoneDue (settingCauses s intervals chords)
       → SweepPost (visitCauses s chords budget (length log)) s intervals chords log after r
       → SweepPost (causesIn s intervals chords budget (length log)) s intervals chords log after r
-  after-setting after (Refused k) n f = (due-second (settingCauses s intervals chords) (visitCauses s chords budget (length log)) k n (f .0), f .1)
-  after-setting after (Accepted t) n f = (none-in-both (settingCauses s intervals chords) (visitCauses s chords budget (length log)) n (f .0), f .1)
+  after-setting after (Refused k) n f =
+      (due-second (settingCauses s intervals chords) (visitCauses s chords budget (length log)) k n (f .0), f .1)
+  after-setting after (Accepted t) n f =
+      (none-in-both (settingCauses s intervals chords) (visitCauses s chords budget (length log)) n (f .0), f .1)
 
-  pub grid-swept : (ready : SweepCheck) (x : Progress) (mid after : List Float) (r : SweepAnswer) → SweepCheckPost s intervals chords ready → ready ≡ Admitted → WalkPost budget (sweepEntries s chords) (record { visits = 0; at = 0 }) log x mid
+  pub grid-swept : (ready : SweepCheck) (x : Progress) (mid after : List Float) (r : SweepAnswer)
+      → SweepCheckPost s intervals chords ready → ready ≡ Admitted
+      → WalkPost budget (sweepEntries s chords) (record { visits = 0; at = 0 }) log x mid
       → (r ≡ endOf x) × (after ≡ endLog x mid) → SweepPost (causesIn s intervals chords budget (length log)) s intervals chords log after r
   grid-swept ready x mid after r c h w e =
       after-setting after r (admitted ready c h .0)
@@ -207,7 +237,8 @@ module _ (s : Setting) (intervals : ℕ) (chords : List Float) (budget : ℕ) (l
       (visit-answer s chords budget log mid intervals (admitted ready c h .2) x w)))
 
 -- ---- the sweep
-module _ (spec : DexelStockSpec) (units : List ℕ) (k : Kernel) (p : Profile) (c : Cells) (intervals : ℕ) (chords : List Float) (budget : ℕ) (log : List Float) where
+module _ (spec : DexelStockSpec) (units : List ℕ) (k : Kernel) (p : Profile) (c : Cells) (intervals : ℕ)
+    (chords : List Float) (budget : ℕ) (log : List Float) where
   abbrev here : Setting
   here = setting spec (gridIn spec) k p c
 
@@ -220,8 +251,10 @@ module _ (spec : DexelStockSpec) (units : List ℕ) (k : Kernel) (p : Profile) (
   after-grid : (after : List Float) (r : SweepAnswer) → NoneDue (gridCauses spec units)
       → SweepPost (causesIn here intervals chords budget (length log)) here intervals chords log after r
       → SweepPost (sweepCauses units here intervals chords budget (length log)) here intervals chords log after r
-  after-grid after (Refused n) a f = (due-second (gridCauses spec units) (causesIn here intervals chords budget (length log)) n a (f .0), f .1)
-  after-grid after (Accepted t) a f = (none-in-both (gridCauses spec units) (causesIn here intervals chords budget (length log)) a (f .0), f .1)
+  after-grid after (Refused n) a f =
+      (due-second (gridCauses spec units) (causesIn here intervals chords budget (length log)) n a (f .0), f .1)
+  after-grid after (Accepted t) a f =
+      (none-in-both (gridCauses spec units) (causesIn here intervals chords budget (length log)) a (f .0), f .1)
 
   pub sweep-accepted : (g : DexelGrid) (after : List Float) (r : SweepAnswer) → gridOf spec units ≡ Griddable g
       → SweepPost (causesIn (setting spec g k p c) intervals chords budget (length log)) (setting spec g k p c) intervals chords log after r
@@ -229,10 +262,12 @@ module _ (spec : DexelStockSpec) (units : List ℕ) (k : Kernel) (p : Profile) (
   sweep-accepted g after r h f =
       let a = accepted spec units g h in
       after-grid after r (a .0)
-      (subst (λ (x : DexelGrid). SweepPost (causesIn (setting spec x k p c) intervals chords budget (length log)) (setting spec x k p c) intervals chords log after r) (a .1) f)
+      (subst (λ (x : DexelGrid). SweepPost (causesIn (setting spec x k p c) intervals chords budget (length log))
+      (setting spec x k p c) intervals chords log after r) (a .1) f)
 
 -- the same frame and the same profile give the same answer
-module _ (spec : DexelStockSpec) (units : List ℕ) (c : Cells) (intervals : ℕ) (guard : Float) (chords : List Float) (budget : ℕ) (log after : List Float) (r : SweepAnswer) where
+module _ (spec : DexelStockSpec) (units : List ℕ) (c : Cells) (intervals : ℕ) (guard : Float) (chords : List Float)
+    (budget : ℕ) (log after : List Float) (r : SweepAnswer) where
   abbrev with : Frame → Profile → Setting
   with f p = setting spec (gridIn spec) (record { frame = f; guard = guard }) p c
 

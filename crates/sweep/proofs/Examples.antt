@@ -19,7 +19,18 @@ use Rattle.grid.specs.Rays.{rayCount, raysAlong, offset, rayAxis, boundsOf, cel
 use Rattle.frame.specs.declared.Axis.the-variants.{PosZ}
 use Rattle.frame.specs.Frame.{frameOf, axisDigit, worldAxisOf, localAxisOf, signAlong, localAt, localOf, turned, worldOf}
 use Rattle.cutter.specs.Cutter.{isFinite, cuttingRadius, offTool, radiusAt, cutRadius, cutMax, cutMin}
-use Rattle.cutter.specs.Limits.{aboveZero, fromZero, isNotNan, sizesFit, heightsFit, lengthsFit, diametersFit, shapeFits, withinLimits, isBeam}
+use Rattle.cutter.specs.Limits.{
+  aboveZero,
+  fromZero,
+  isNotNan,
+  sizesFit,
+  heightsFit,
+  lengthsFit,
+  diametersFit,
+  shapeFits,
+  withinLimits,
+  isBeam,
+}
 use Rattle.cutter.specs.declared.CutterShape.the-variants.{Flat}
 use Rattle.strips.specs.Strip.{bandDistance, halfChord, chordStrip, diskStrip, stadiumStrip, hull, sideStrip}
 use Rattle.store.specs.Store.{places, endsAt}
@@ -43,16 +54,28 @@ use Rattle.sweep.specs.Examples.{SweepExamplesRight, halves, lent, blank
 use Rattle.doubles.specs.Rounding.{ratio}
 
 pub examples-right : SweepExamplesRight sweepExamples
-unfolding sweepExamples blank flat sweeping threeChords fourEntries trackOf axisEntries firstAxis secondAxis chordEntries sweepEntries chordOf walk entryOf entryFor rayEntry each rowEntries rectEntries outerFrom outerOf innerFrom innerOf rayHitOf planPoint reachOf sideOf laneOf spanOver cellsMet cellsAcross rectangleOf localCenter sectionWith sectionOf lastOf spansMeet overlapsOf recordAt uncutSpans uncutLinks uncutHeads places endsAt bandDistance halfChord chordStrip diskStrip stadiumStrip hull sideStrip isFinite cuttingRadius offTool radiusAt cutRadius cutMax cutMin axisDigit worldAxisOf localAxisOf signAlong localAt localOf turned worldOf rayCount raysAlong offset rayAxis boundsOf cellAt cellCount byDigit squareRoot ratio largerOf smallerOf absOf clampOf floorOf ceilOf ofBits ofInt toUnsigned neg add sub mul div lt le eq isNan
+unfolding sweepExamples blank flat sweeping threeChords fourEntries trackOf axisEntries firstAxis secondAxis
+    chordEntries sweepEntries chordOf walk entryOf entryFor rayEntry each rowEntries rectEntries outerFrom outerOf
+    innerFrom innerOf rayHitOf planPoint reachOf sideOf laneOf spanOver cellsMet cellsAcross rectangleOf localCenter
+    sectionWith sectionOf lastOf spansMeet overlapsOf recordAt uncutSpans uncutLinks uncutHeads places endsAt
+    bandDistance halfChord chordStrip diskStrip stadiumStrip hull sideStrip isFinite cuttingRadius offTool radiusAt
+    cutRadius cutMax cutMin axisDigit worldAxisOf localAxisOf signAlong localAt localOf turned worldOf rayCount
+    raysAlong offset rayAxis boundsOf cellAt cellCount byDigit squareRoot ratio largerOf smallerOf absOf clampOf
+    floorOf ceilOf ofBits ofInt toUnsigned neg add sub mul div lt le eq isNan
 examples-right = (refl, (refl, (refl, (refl, (refl, tt)))))
 
 pub total-right : visitTotal sweeping threeChords ≡ 5
-unfolding visitTotal sumEach raysIn blank flat sweeping threeChords firstAxis secondAxis chordOf planPoint reachOf sideOf laneOf spanOver cellsMet cellsAcross rectangleOf recordAt uncutSpans uncutLinks uncutHeads axisDigit worldAxisOf localAxisOf signAlong localAt localOf turned worldOf rayCount raysAlong offset rayAxis boundsOf cellAt cellCount byDigit ratio largerOf smallerOf absOf clampOf floorOf ceilOf ofBits ofInt toUnsigned neg add sub mul div lt le eq isNan
+unfolding visitTotal sumEach raysIn blank flat sweeping threeChords firstAxis secondAxis chordOf planPoint reachOf
+    sideOf laneOf spanOver cellsMet cellsAcross rectangleOf recordAt uncutSpans uncutLinks uncutHeads axisDigit
+    worldAxisOf localAxisOf signAlong localAt localOf turned worldOf rayCount raysAlong offset rayAxis boundsOf cellAt
+    cellCount byDigit ratio largerOf smallerOf absOf clampOf floorOf ceilOf ofBits ofInt toUnsigned neg add sub mul
+    div lt le eq isNan
 total-right = refl
 
 -- ---- the first example has no cause, so a sweep with these arguments is accepted
 grid-made : gridOf blank mm ≡ Griddable (gridIn blank)
-unfolding blank gridOf gridOver misdescribed isMm isBetween allBetween anyBelow anyAbove cellCount magnitudeOf leastStep tooFine byDigit largerOf absOf ceilOf ofBits ofInt toUnsigned add sub mul div neg lt le eq isNan
+unfolding blank gridOf gridOver misdescribed isMm isBetween allBetween anyBelow anyAbove cellCount magnitudeOf
+    leastStep tooFine byDigit largerOf absOf ceilOf ofBits ofInt toUnsigned add sub mul div neg lt le eq isNan
 grid-made = refl
 
 three-rays : rayCount (gridIn blank) ≡ 3
@@ -64,7 +87,8 @@ unfolding blank isShort rayCount cellCount largerOf ceilOf ofBits ofInt toUnsign
 lent-room = refl
 
 laid-room : isShort blank (gridIn blank) (uncut blank (gridIn blank) lent) ≡ false
-unfolding blank isShort recordAt uncutSpans uncutLinks uncutHeads rayCount raysAlong offset rayAxis boundsOf byDigit cellCount largerOf ceilOf ofBits ofInt toUnsigned sub div lt le eq isNan
+unfolding blank isShort recordAt uncutSpans uncutLinks uncutHeads rayCount raysAlong offset rayAxis boundsOf byDigit
+    cellCount largerOf ceilOf ofBits ofInt toUnsigned sub div lt le eq isNan
 laid-room = refl
 
 tool-fits : withinLimits Flat flat ≡ true
@@ -72,7 +96,9 @@ unfolding flat ratio withinLimits sizesFit heightsFit lengthsFit diametersFit sh
 tool-fits = refl
 
 chords-fit : chordsFit (frameOf PosZ) (halves 1) threeChords ≡ true
-unfolding threeChords ratio chordsFit guardFits every chordFits endsFit numbersFit lengthFits planSize chordOf isBetween allBetween axisDigit worldAxisOf signAlong localAt localOf byDigit largerOf absOf ofBits neg sub mul lt le eq isNan
+unfolding threeChords ratio chordsFit guardFits every chordFits endsFit numbersFit lengthFits planSize chordOf
+    isBetween allBetween axisDigit worldAxisOf signAlong localAt localOf byDigit largerOf absOf ofBits neg sub mul lt
+    le eq isNan
 chords-fit = refl
 
 whole-chords : length threeChords % 8 ≡ 0
@@ -91,7 +117,19 @@ example-accepted =
       (λ e. clash _ e laid-room),
       (
         sound,
-        ((λ e. clash false e refl), ((λ e. clash _ tool-fits e), ((λ e. clash _ chords-fit e), ((λ e. done-no-stop _ 5 8 fourEntries (examples-right .0) e), ((λ e. done-no-stop _ 5 16 fourEntries (examples-right .0) e), tt))))),
+        (
+          (λ e. clash false e refl),
+          (
+            (λ e. clash _ tool-fits e),
+            (
+              (λ e. clash _ chords-fit e),
+              (
+                (λ e. done-no-stop _ 5 8 fourEntries (examples-right .0) e),
+                ((λ e. done-no-stop _ 5 16 fourEntries (examples-right .0) e), tt),
+              ),
+            ),
+          ),
+        ),
       ),
     )
   where

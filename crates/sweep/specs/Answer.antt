@@ -29,7 +29,8 @@ use Rattle.store.specs.Store.{Cells}
 
 -- the setting that the arguments of a sweep describe
 abbrev pub settingOf : DexelStockSpec → Axis → CutterShape → PreparedCutter → (guard : Float) → Cells → Setting
-settingOf spec axis shape cutter guard c = setting spec (gridIn spec) (record { frame = frameOf axis; guard = guard }) (profileOf shape cutter) c
+settingOf spec axis shape cutter guard c =
+    setting spec (gridIn spec) (record { frame = frameOf axis; guard = guard }) (profileOf shape cutter) c
 
 -- 11: chords with part of one over, or a store that is not sound
 unfoldable pub SweepInputBad : Setting → (intervals : ℕ) → (chords : List Float) → Type 0
@@ -40,7 +41,8 @@ abbrev pub settingCauses : Setting → (intervals : ℕ) → (chords : List Floa
 settingCauses s intervals chords =
     cause 12 (isShort (s .spec) (s .grid) (s .cells) ≡ true)
     ∷ cause 11 (SweepInputBad s intervals chords)
-    ∷ (toolCauses (s .profile .shape) (s .profile .cutter) ++ (cause 7 (chordsFit (s .kernel .frame) (s .kernel .guard) chords ≡ false) ∷ []))
+    ∷ (toolCauses (s .profile .shape) (s .profile .cutter)
+    ++ (cause 7 (chordsFit (s .kernel .frame) (s .kernel .guard) chords ≡ false) ∷ []))
 
 -- the walk over all rays, with a log of `len` cells
 abbrev pub walkOf : Setting → (chords : List Float) → (budget len : ℕ) → Walked

@@ -1,6 +1,7 @@
--- One small sweep worked out, as a table; `examples-right` in proofs/Examples.antt claims it, and `example-accepted` that it has no cause.
--- The blank is the uncut box from 0 to 10 in one cell, so with one ray along each axis. A flat cutter of radius 13 points up: over its cutting length
--- it covers the ray's cross-section of ±5 from 12 to the left to 12 to the right. The guard is 1/2.
+-- One small sweep worked out, as a table; `examples-right` in proofs/Examples.antt claims it, and `example-accepted`
+-- that it has no cause. The blank is the uncut box from 0 to 10 in one cell, so with one ray along each axis. A flat
+-- cutter of radius 13 points up: over its cutting length it covers the ray's cross-section of ±5 from 12 to the left
+-- to 12 to the right. The guard is 1/2.
 use mathlib.Core.Path.{_≡_}
 use mathlib.Core.List.{List, [], _∷_, _++_}
 use Prim.Native.Nat.{ℕ}
@@ -34,7 +35,14 @@ abbrev pub exampleCorner : Float → Vec3
 exampleCorner x = record { x = x; y = x; z = x }
 
 unfoldable pub blank : DexelStockSpec
-blank = record { version = 1; «min_mm» = exampleCorner plusZero; «max_mm» = exampleCorner ten; «cell_size_mm» = ten; «max_rays» = 3; «max_intervals» = 6 }
+blank = record {
+  version = 1;
+  «min_mm» = exampleCorner plusZero;
+  «max_mm» = exampleCorner ten;
+  «cell_size_mm» = ten;
+  «max_rays» = 3;
+  «max_intervals» = 6;
+}
 
 unfoldable pub flat : PreparedCutter
 unfolding ratio
@@ -63,10 +71,12 @@ sweeping = settingOf blank PosZ Flat flat (halves 1) (uncut blank (gridIn blank)
 abbrev pub plunge : (x y z : Float) → List Float
 plunge x y z = x ∷ y ∷ z ∷ x ∷ y ∷ z ∷ plusZero ∷ plusZero ∷ []
 
--- through the blank; with the tip in the blank, so that no height of the cross-section is certainly covered; and far beside it, where one ray is visited
+-- through the blank; with the tip in the blank, so that no height of the cross-section is certainly covered; and far
+-- beside it, where one ray is visited
 unfoldable pub threeChords : List Float
 unfolding ratio
-threeChords = plunge (ratio 5 1) (ratio 5 1) (below 2) ++ plunge (ratio 5 1) (ratio 5 1) (halves 2) ++ plunge (ratio 100 1) (ratio 5 1) (below 2)
+threeChords = plunge (ratio 5 1) (ratio 5 1) (below 2) ++ plunge (ratio 5 1) (ratio 5 1) (halves 2)
+    ++ plunge (ratio 100 1) (ratio 5 1) (below 2)
 
 -- the two rays across the tool are each hit by the first chord with an inner, and by the second without: no inner is [0, 0]
 unfoldable pub fourEntries : List Float

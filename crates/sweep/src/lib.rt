@@ -68,7 +68,9 @@ fn check_sweep(
     intervals: u64,
 ) -> SweepCheck
     requires { ⌜ GridFacts spec g ⌝ }
-    ensures { λ r. ⌜ SweepCheckPost (setting spec g k p (cells (now (spans .entry)) (now (links .entry)) (now (heads .entry)))) intervals (now (chords .entry)) r ⌝ }
+    ensures { λ r. ⌜ SweepCheckPost
+        (setting spec g k p (cells (now (spans .entry)) (now (links .entry)) (now (heads .entry)))) intervals
+        (now (chords .entry)) r ⌝ }
 {
     if stock::is_short(spec, g, spans, links, heads) {
         return SweepCheck::Declined(12);
@@ -109,8 +111,11 @@ fn sweep_grid(
     log: &mut [f64],
 ) -> SweepAnswer
     requires { ⌜ GridFacts spec g ⌝ }
-    ensures { λ r. ⌜ SweepPost (causesIn (setting spec g k p (cells (now (spans .entry)) (now (links .entry)) (now (heads .entry)))) intervals (now (chords .entry)) budget (length (now (log .entry))))
-        (setting spec g k p (cells (now (spans .entry)) (now (links .entry)) (now (heads .entry)))) intervals (now (chords .entry)) (now (log .entry)) (now (log .exit)) r ⌝ }
+    ensures { λ r. ⌜ SweepPost (causesIn
+        (setting spec g k p (cells (now (spans .entry)) (now (links .entry)) (now (heads .entry)))) intervals
+        (now (chords .entry)) budget (length (now (log .entry))))
+        (setting spec g k p (cells (now (spans .entry)) (now (links .entry)) (now (heads .entry)))) intervals
+        (now (chords .entry)) (now (log .entry)) (now (log .exit)) r ⌝ }
 {
     let ready = check_sweep(spec, g, k, p, chords, spans, links, heads, intervals);
     match ready {
@@ -151,8 +156,13 @@ pub fn sweep(
     budget: u64,
     log: &mut [f64],
 ) -> SweepAnswer
-    ensures { λ r. ⌜ SweepPost (sweepCauses (now (units .entry)) (settingOf spec axis shape cutter guard (cells (now (spans .entry)) (now (links .entry)) (now (heads .entry)))) intervals (now (chords .entry)) budget (length (now (log .entry))))
-        (settingOf spec axis shape cutter guard (cells (now (spans .entry)) (now (links .entry)) (now (heads .entry)))) intervals (now (chords .entry)) (now (log .entry)) (now (log .exit)) r ⌝ }
+    ensures { λ r. ⌜ SweepPost (sweepCauses (now (units .entry))
+        (settingOf spec axis shape cutter guard
+        (cells (now (spans .entry)) (now (links .entry)) (now (heads .entry)))) intervals (now (chords .entry)) budget
+        (length (now (log .entry))))
+        (settingOf spec axis shape cutter guard
+        (cells (now (spans .entry)) (now (links .entry)) (now (heads .entry)))) intervals (now (chords .entry))
+        (now (log .entry)) (now (log .exit)) r ⌝ }
 {
     match grid_from_spec::grid(spec, units) {
         GridAnswer::Refused(n) => {

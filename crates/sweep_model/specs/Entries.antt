@@ -35,7 +35,8 @@ possibleAt n t spans links heads u v = listFrom n spans links (getD heads (2 * (
 
 -- what the ray at the cells u and v adds to the log
 unfoldable pub rayEntry : (n : ℕ) → AxisRays → Profile → ChordOnAxis → List Float → (links heads : List ℕ) → (u v : ℕ) → List Float
-rayEntry n t p l spans links heads u v = entryFor (t .axis) (indexOf t u v) (rayHitOf p l (sectionOf l u v) (possibleAt n t spans links heads u v))
+rayEntry n t p l spans links heads u v =
+    entryFor (t .axis) (indexOf t u v) (rayHitOf p l (sectionOf l u v) (possibleAt n t spans links heads u v))
 
 -- f at `from` and the numbers after it, `count` of them, one after the other
 unfoldable pub each : (ℕ → List (List Float)) → (from count : ℕ) → List (List Float)

@@ -1,4 +1,5 @@
--- Tests of a ray's possible list, a flat list of ends (sweep.rs: `spans_meet`; dexel.rs: `overlaps`). No comparison is true of a NaN, and `largerOf` and `smallerOf` pass one over.
+-- Tests of a ray's possible list, a flat list of ends (sweep.rs: `spans_meet`; dexel.rs: `overlaps`). No comparison
+-- is true of a NaN, and `largerOf` and `smallerOf` pass one over.
 use mathlib.Core.Bool.{Bool, false, _&&_, _||_}
 use mathlib.Core.List.{List, [], _∷_}
 use lib.Ieee.{Float, lt}

@@ -47,7 +47,8 @@ rectangleIn s c a = rectangleOf (s .spec) (s .grid) (s .profile) (laneIn s c a) 
 unfoldable pub axisEntries : Setting → Chord → WorldAxis → List (List Float)
 axisEntries s c a =
     rectangleEntries
-    (rayEntry (s .spec .«max_intervals») (trackOf (s .grid) a) (s .profile) (laneIn s c a) (s .cells .spans) (s .cells .links) (s .cells .heads))
+    (rayEntry (s .spec .«max_intervals») (trackOf (s .grid) a) (s .profile) (laneIn s c a) (s .cells .spans)
+    (s .cells .links) (s .cells .heads))
     (rectangleIn s c a)
 
 -- the two world axes other than the tool's, ascending

@@ -14,4 +14,5 @@ pub data Walked : Type 0 where
 -- the rays still to visit, after k visits with the entries l in a log of `len` cells
 unfoldable pub walk : (budget len : ℕ) → List (List Float) → (k : ℕ) → List Float → Walked
 walk budget len [] k l = Done k l
-walk budget len (e ∷ es) k l = cond (leb budget k) (Stop 8) (cond (leb (length l + length e) len) (walk budget len es (k + 1) (l ++ e)) (Stop 16))
+walk budget len (e ∷ es) k l =
+    cond (leb budget k) (Stop 8) (cond (leb (length l + length e) len) (walk budget len es (k + 1) (l ++ e)) (Stop 16))

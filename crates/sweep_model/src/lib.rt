@@ -1,4 +1,5 @@
-// The lateral sweep as document 01 and camlib's sweep.rs define it: its types here, the definitions in specs/. What a chord does to a ray, which rays it visits, and the log of all visits.
+// The lateral sweep as document 01 and camlib's sweep.rs define it: its types here, the definitions in specs/. What a
+// chord does to a ray, which rays it visits, and the log of all visits.
 use cutter::CutterShape;
 use cutter::PreparedCutter;
 use frame::Frame;

@@ -20,7 +20,8 @@ module _ (p : Profile) (l : ChordOnAxis) (s : Section) (possible : List Float) w
   unfolding rayHitOf
   hit-miss h o = rw (h, o)
 
-  pub hit-clear : (lo hi : Float) → spansMeet possible (l .reach) ≡ true → outerOf p l s ≡ Hit lo hi → overlapsOf possible (pair lo hi) ≡ false → Off ≡ rayHitOf p l s possible
+  pub hit-clear : (lo hi : Float) → spansMeet possible (l .reach) ≡ true → outerOf p l s ≡ Hit lo hi
+      → overlapsOf possible (pair lo hi) ≡ false → Off ≡ rayHitOf p l s possible
   unfolding rayHitOf
   hit-clear lo hi h o t = rw (h, o, t)
 

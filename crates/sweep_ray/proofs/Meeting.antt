@@ -30,7 +30,8 @@ or-first a b h = ap (λ (z : Bool). z || b) h
 or-second : (a b : Bool) → a ≡ false → (a || b) ≡ b
 or-second a b h = ap (λ (z : Bool). z || b) h
 
-overlaps-cons : (lo hi : Float) (s : Pair) (l : List Float) → overlapsOf (lo ∷ hi ∷ l) s ≡ (lt (largerOf lo (s .lo)) (smallerOf hi (s .hi)) || (lt hi (s .hi) && overlapsOf l s))
+overlaps-cons : (lo hi : Float) (s : Pair) (l : List Float)
+    → overlapsOf (lo ∷ hi ∷ l) s ≡ (lt (largerOf lo (s .lo)) (smallerOf hi (s .hi)) || (lt hi (s .hi) && overlapsOf l s))
 unfolding overlapsOf
 overlaps-cons lo hi s l = refl
 
@@ -48,31 +49,40 @@ module _ {n : ℕ} {spans : List Float} {links : List ℕ} {k : ℕ} (x : Float)
   pub above-here : Step n spans links k → lt x (hiAt spans (k - 1)) ≡ true → someAbove (listFrom n spans links k) x ≡ true
   above-here s h = ap (λ (l : List Float). someAbove l x) (s .read) ∙ above-cons _ _ x _ ∙ or-first _ _ h
 
-  pub above-later : Step n spans links k → lt x (hiAt spans (k - 1)) ≡ false → someAbove (listFrom n spans links k) x ≡ someAbove (listFrom n spans links (nextAt links (k - 1))) x
+  pub above-later : Step n spans links k → lt x (hiAt spans (k - 1)) ≡ false
+      → someAbove (listFrom n spans links k) x ≡ someAbove (listFrom n spans links (nextAt links (k - 1))) x
   above-later s h = ap (λ (l : List Float). someAbove l x) (s .read) ∙ above-cons _ _ x _ ∙ or-second _ _ h
 
 pub above-none : (n : ℕ) (spans : List Float) (links : List ℕ) (k : ℕ) (x : Float) → k ≡ 0 → someAbove (listFrom n spans links k) x ≡ false
 above-none n spans links k x e = ap (λ (l : List Float). someAbove l x) (no-ends n spans links k e) ∙ above-nil x
 
 module _ {n : ℕ} {spans : List Float} {links : List ℕ} {k : ℕ} (s : Pair) where
-  pub overlaps-here : Step n spans links k → lt (largerOf (loAt spans (k - 1)) (s .lo)) (smallerOf (hiAt spans (k - 1)) (s .hi)) ≡ true → overlapsOf (listFrom n spans links k) s ≡ true
+  pub overlaps-here : Step n spans links k
+      → lt (largerOf (loAt spans (k - 1)) (s .lo)) (smallerOf (hiAt spans (k - 1)) (s .hi)) ≡ true
+      → overlapsOf (listFrom n spans links k) s ≡ true
   overlaps-here t h = ap (λ (l : List Float). overlapsOf l s) (t .read) ∙ overlaps-cons _ _ s _ ∙ or-first _ _ h
 
-  pub overlaps-no : Step n spans links k → lt (largerOf (loAt spans (k - 1)) (s .lo)) (smallerOf (hiAt spans (k - 1)) (s .hi)) ≡ false → lt (hiAt spans (k - 1)) (s .hi) ≡ false → overlapsOf (listFrom n spans links k) s ≡ false
+  pub overlaps-no : Step n spans links k
+      → lt (largerOf (loAt spans (k - 1)) (s .lo)) (smallerOf (hiAt spans (k - 1)) (s .hi)) ≡ false
+      → lt (hiAt spans (k - 1)) (s .hi) ≡ false → overlapsOf (listFrom n spans links k) s ≡ false
   overlaps-no t h j = ap (λ (l : List Float). overlapsOf l s) (t .read) ∙ overlaps-cons _ _ s _ ∙ or-second _ _ h ∙ and-first _ _ j
 
-  pub overlaps-later : Step n spans links k → lt (largerOf (loAt spans (k - 1)) (s .lo)) (smallerOf (hiAt spans (k - 1)) (s .hi)) ≡ false → lt (hiAt spans (k - 1)) (s .hi) ≡ true
+  pub overlaps-later : Step n spans links k
+      → lt (largerOf (loAt spans (k - 1)) (s .lo)) (smallerOf (hiAt spans (k - 1)) (s .hi)) ≡ false
+      → lt (hiAt spans (k - 1)) (s .hi) ≡ true
       → overlapsOf (listFrom n spans links k) s ≡ overlapsOf (listFrom n spans links (nextAt links (k - 1))) s
   overlaps-later t h j = ap (λ (l : List Float). overlapsOf l s) (t .read) ∙ overlaps-cons _ _ s _ ∙ or-second _ _ h ∙ and-second _ _ j
 
-pub overlaps-none : (n : ℕ) (spans : List Float) (links : List ℕ) (k : ℕ) (s : Pair) → k ≡ 0 → overlapsOf (listFrom n spans links k) s ≡ false
+pub overlaps-none : (n : ℕ) (spans : List Float) (links : List ℕ) (k : ℕ) (s : Pair) → k ≡ 0
+    → overlapsOf (listFrom n spans links k) s ≡ false
 overlaps-none n spans links k s e = ap (λ (l : List Float). overlapsOf l s) (no-ends n spans links k e) ∙ overlaps-nil s
 
 -- in a rising list the last end is above all that one of its ends is above
 pub last-above : (x y : Float) (l : List Float) → rising (y ∷ l) ≡ true → lt x y ≡ true → lt x (lastOf y l) ≡ true
 unfolding lastOf rising
 last-above x y [] r h = h
-last-above x y (z ∷ l) r h = last-above x z l (and-right (lt y z) (rising (z ∷ l)) r) (lt-trans x y z h (and-left (lt y z) (rising (z ∷ l)) r))
+last-above x y (z ∷ l) r h = last-above x z l (and-right (lt y z) (rising (z ∷ l)) r)
+    (lt-trans x y z h (and-left (lt y z) (rising (z ∷ l)) r))
 
 or-false : (a : Bool) → (a || false) ≡ a
 or-false true = refl
@@ -83,15 +93,19 @@ absorbed true b f = sym (f refl)
 absorbed false b f = refl
 
 module _ (spans : List Float) (x : Float) where
-  ends-above : (i : ℕ) (ps : List ℕ) → rising (endsAt spans (i ∷ ps)) ≡ true → someAbove (endsAt spans (i ∷ ps)) x ≡ lt x (lastOf (loAt spans i) (hiAt spans i ∷ endsAt spans ps))
+  ends-above : (i : ℕ) (ps : List ℕ) → rising (endsAt spans (i ∷ ps)) ≡ true
+      → someAbove (endsAt spans (i ∷ ps)) x ≡ lt x (lastOf (loAt spans i) (hiAt spans i ∷ endsAt spans ps))
   unfolding endsAt someAbove lastOf rising
   ends-above i [] r = or-false (lt x (hiAt spans i))
   ends-above i (j ∷ ps) r =
       let t = and-right (lt (loAt spans i) (hiAt spans i)) _ r in
       ap (λ (b : Bool). lt x (hiAt spans i) || b) (ends-above j ps (and-right (lt (hiAt spans i) (loAt spans j)) _ t))
-      ∙ absorbed (lt x (hiAt spans i)) (lt x (lastOf (hiAt spans j) (endsAt spans ps))) (last-above x (hiAt spans i) (loAt spans j ∷ hiAt spans j ∷ endsAt spans ps) t)
+      ∙ absorbed (lt x (hiAt spans i)) (lt x (lastOf (hiAt spans j) (endsAt spans ps)))
+      (last-above x (hiAt spans i) (loAt spans j ∷ hiAt spans j ∷ endsAt spans ps) t)
 
-meet-cons : (i : ℕ) (ps : List ℕ) (spans : List Float) (s : Pair) → spansMeet (endsAt spans (i ∷ ps)) s ≡ (lt (loAt spans i) (s .hi) && lt (s .lo) (lastOf (loAt spans i) (hiAt spans i ∷ endsAt spans ps)))
+meet-cons : (i : ℕ) (ps : List ℕ) (spans : List Float) (s : Pair)
+    → spansMeet (endsAt spans (i ∷ ps)) s
+    ≡ (lt (loAt spans i) (s .hi) && lt (s .lo) (lastOf (loAt spans i) (hiAt spans i ∷ endsAt spans ps)))
 unfolding endsAt spansMeet
 meet-cons i ps spans s = refl
 
@@ -103,13 +117,17 @@ pub meet-empty : (n : ℕ) (spans : List Float) (links : List ℕ) (k : ℕ) (s 
 meet-empty n spans links k s e = ap (λ (l : List Float). spansMeet l s) (no-ends n spans links k e) ∙ meet-nil s
 
 module _ {n : ℕ} {spans : List Float} {links : List ℕ} {k : ℕ} (s : Pair) where
-  pub meet-above : Readable n spans links k → (k ≡ 0 → ⊥) → lt (loAt spans (k - 1)) (s .hi) ≡ false → spansMeet (listFrom n spans links k) s ≡ false
+  pub meet-above : Readable n spans links k → (k ≡ 0 → ⊥) → lt (loAt spans (k - 1)) (s .hi) ≡ false
+      → spansMeet (listFrom n spans links k) s ≡ false
   meet-above r ne h =
       let more = link-step (r .linked) ne .more in
       ap (λ (ps : List ℕ). spansMeet (endsAt spans ps) s) more ∙ meet-cons (k - 1) _ spans s ∙ and-first _ _ h
 
-  pub meet-some : Readable n spans links k → (k ≡ 0 → ⊥) → sound (listFrom n spans links k) ≡ true → lt (loAt spans (k - 1)) (s .hi) ≡ true → spansMeet (listFrom n spans links k) s ≡ someAbove (listFrom n spans links k) (s .lo)
+  pub meet-some : Readable n spans links k → (k ≡ 0 → ⊥) → sound (listFrom n spans links k) ≡ true
+      → lt (loAt spans (k - 1)) (s .hi) ≡ true
+      → spansMeet (listFrom n spans links k) s ≡ someAbove (listFrom n spans links k) (s .lo)
   meet-some r ne so h =
       let more = link-step (r .linked) ne .more in
       let ri = ap (λ (ps : List ℕ). rising (endsAt spans ps)) (sym more) ∙ sound-rising _ so in
-      ap (λ (ps : List ℕ). spansMeet (endsAt spans ps) s) more ∙ meet-cons (k - 1) _ spans s ∙ and-second _ _ h ∙ sym (ends-above spans (s .lo) (k - 1) _ ri) ∙ ap (λ (ps : List ℕ). someAbove (endsAt spans ps) (s .lo)) (sym more)
+      ap (λ (ps : List ℕ). spansMeet (endsAt spans ps) s) more ∙ meet-cons (k - 1) _ spans s ∙ and-second _ _ h
+      ∙ sym (ends-above spans (s .lo) (k - 1) _ ri) ∙ ap (λ (ps : List ℕ). someAbove (endsAt spans ps) (s .lo)) (sym more)

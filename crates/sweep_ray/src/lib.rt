@@ -167,7 +167,8 @@ pub fn ray_hit(
     }
 }
 
-// Whether an upper end of the list is above x. In a sound list that tells whether the last one is, and most lists answer at their first pair.
+// Whether an upper end of the list is above x. In a sound list that tells whether the last one is, and most lists
+// answer at their first pair.
 fn some_above(spans: &[f64], links: &[u64], n: usize, head: u64, x: f64) -> bool
     requires { ⌜ Readable n (now spans) (now links) head ⌝ }
     ensures { λ r. ⌜ r ≡ someAbove (listFrom n (now (spans .entry)) (now (links .entry)) head) x ⌝ }

@@ -1,10 +1,10 @@
 // Holds `sweep` to recorded answers of camlib and to document 01's refusals, read from standard input.
 //
-// A row has 4131 bytes: 243 words of 16 hexadecimal digits, a space or the newline after each. oracle/compare/src/bin/record_sweep.rs, which
-// records them, says what they are. The cells of a log's entries are compared as numbers, all other cells bit for bit; every cell of the log is 7
-// before the call.
-// For accepted and for refused sweeps it writes how many rows agree and how many differ, then how many can't be read, and the number of the first
-// row that differs.
+// A row has 4131 bytes: 243 words of 16 hexadecimal digits, a space or the newline after each.
+// oracle/compare/src/bin/record_sweep.rs, which records them, says what they are. The cells of a log's entries are
+// compared as numbers, all other cells bit for bit; every cell of the log is 7 before the call. For accepted and for
+// refused sweeps it writes how many rows agree and how many differ, then how many can't be read, and the number of
+// the first row that differs.
 use frame::Axis;
 use sweep::SweepAnswer;
 use vector_rows::RowCounts;
@@ -42,8 +42,8 @@ fn axis_of(n: u64) -> Axis {
     Axis::NegZ
 }
 
-// Words 0 and 5 to 13: the description; 1 to 4: the units; 17: the interval total; 19 to 30: the shape and the cutter; 31: the guard; 33: the budget;
-// 34: the cells of the log.
+// Words 0 and 5 to 13: the description; 1 to 4: the units; 17: the interval total; 19 to 30: the shape and the
+// cutter; 31: the guard; 33: the budget; 34: the cells of the log.
 fn sweep_on(
     w: &[u64; 243],
     spans: &[f64],

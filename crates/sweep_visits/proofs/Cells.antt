@@ -8,14 +8,16 @@ use lib.Seq.{sets-eq, take-at, length-take-le}
 use lib.Ieee.{Float}
 
 pub six-stores : (l : List Float) (i : ℕ) (a b c d e f : Float) → i + 6 ≤ length l
-    → set (set (set (set (set (set l i a) (i + 1) b) (i + 2) c) (i + 3) d) (i + 4) e) (i + 5) f ≡ take i l ++ ((a ∷ b ∷ c ∷ d ∷ e ∷ f ∷ []) ++ drop (i + 6) l)
+    → set (set (set (set (set (set l i a) (i + 1) b) (i + 2) c) (i + 3) d) (i + 4) e) (i + 5) f ≡ take i l
+    ++ ((a ∷ b ∷ c ∷ d ∷ e ∷ f ∷ []) ++ drop (i + 6) l)
 six-stores l i a b c d e f h =
     let e1 : i + 1 ≡ suc i = omega arith in
     let e2 : i + 2 ≡ suc (suc i) = omega arith in
     let e3 : i + 3 ≡ suc (suc (suc i)) = omega arith in
     let e4 : i + 4 ≡ suc (suc (suc (suc i))) = omega arith in
     let e5 : i + 5 ≡ suc (suc (suc (suc (suc i)))) = omega arith in
-    rw (e1, e2, e3, e4, e5) (sets-eq (a ∷ b ∷ c ∷ d ∷ e ∷ f ∷ []) l i h ∙ append-assoc (take i l) (a ∷ b ∷ c ∷ d ∷ e ∷ f ∷ []) (drop (i + 6) l))
+    rw (e1, e2, e3, e4, e5) (sets-eq (a ∷ b ∷ c ∷ d ∷ e ∷ f ∷ []) l i h
+    ∙ append-assoc (take i l) (a ∷ b ∷ c ∷ d ∷ e ∷ f ∷ []) (drop (i + 6) l))
 
 -- a run w put into l at n
 module _ (l w : List Float) (n : ℕ) (fits : n + length w ≤ length l) where

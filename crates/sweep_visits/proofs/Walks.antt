@@ -27,7 +27,21 @@ use Rattle.sweep_model.specs.declared.RayRect.{RayRect}
 use Rattle.sweep_model.specs.declared.RayRect.the-variants.{Rays, NoRays}
 use Rattle.sweep_model.specs.declared.RayHit.{RayHit}
 use Rattle.sweep_model.specs.declared.RayHit.the-variants.{On, Off}
-use Rattle.sweep_model.specs.Entries.{entryOf, entryFor, indexOf, possibleAt, rayEntry, each, sumEach, rowEntries, rectEntries, rectangleEntries, raysIn, joined, loggedEntries}
+use Rattle.sweep_model.specs.Entries.{
+  entryOf,
+  entryFor,
+  indexOf,
+  possibleAt,
+  rayEntry,
+  each,
+  sumEach,
+  rowEntries,
+  rectEntries,
+  rectangleEntries,
+  raysIn,
+  joined,
+  loggedEntries,
+}
 use Rattle.sweep_model.specs.Walk.{Walked, Done, Stop, walk}
 use Rattle.sweep_visits.proofs.Cells.{put-take, put-length}
 use Rattle.sweep_visits.specs.Steps.{Went, Halted, WalkPost, RayReady, AxisReady}
@@ -36,17 +50,20 @@ abbrev onward : Walked → (ℕ → List Float → Walked) → Walked
 onward (Done k l) f = f k l
 onward (Stop n) f = Stop n
 
-onward-cond : (a b : Bool) (w : Walked) (f : ℕ → List Float → Walked) → cond a (Stop 8) (cond b (onward w f) (Stop 16)) ≡ onward (cond a (Stop 8) (cond b w (Stop 16))) f
+onward-cond : (a b : Bool) (w : Walked) (f : ℕ → List Float → Walked)
+    → cond a (Stop 8) (cond b (onward w f) (Stop 16)) ≡ onward (cond a (Stop 8) (cond b w (Stop 16))) f
 onward-cond true b w f = refl
 onward-cond false true w f = refl
 onward-cond false false w f = refl
 
 module _ (budget len : ℕ) where
-  walk-append : (r s : List (List Float)) (k : ℕ) (l : List Float) → walk budget len (r ++ s) k l ≡ onward (walk budget len r k l) (walk budget len s)
+  walk-append : (r s : List (List Float)) (k : ℕ) (l : List Float)
+      → walk budget len (r ++ s) k l ≡ onward (walk budget len r k l) (walk budget len s)
   unfolding walk
   walk-append [] s k l = refl
   walk-append (e ∷ r) s k l =
-      ap (λ (w : Walked). cond (leb budget k) (Stop 8) (cond (leb (length l + length e) len) w (Stop 16))) (walk-append r s (k + 1) (l ++ e))
+      ap (λ (w : Walked). cond (leb budget k) (Stop 8) (cond (leb (length l + length e) len) w (Stop 16)))
+      (walk-append r s (k + 1) (l ++ e))
       ∙ onward-cond (leb budget k) (leb (length l + length e) len) (walk budget len r (k + 1) (l ++ e)) (walk budget len s)
 
 module _ {budget : ℕ} where
@@ -54,7 +71,8 @@ module _ {budget : ℕ} where
   unfolding walk
   went-none h = record { walked = refl; room = h; same = refl }
 
-  pub went-then : {r s : List (List Float)} {c d e : VisitCursor} {log mid end : List Float} → Went budget r c log d mid → Went budget s d mid e end → Went budget (r ++ s) c log e end
+  pub went-then : {r s : List (List Float)} {c d e : VisitCursor} {log mid end : List Float}
+      → Went budget r c log d mid → Went budget s d mid e end → Went budget (r ++ s) c log e end
   went-then {r} {s} {c} {d} {e} {log} {mid} {end} a b = record {
     walked = walk-append budget (length log) r s (c .visits) (take (c .at) log)
         ∙ ap (λ (w : Walked). onward w (walk budget (length log) s)) (a .walked)
@@ -63,7 +81,8 @@ module _ {budget : ℕ} where
     same = b .same ∙ a .same;
   }
 
-  pub went-halt : {r s : List (List Float)} {c d : VisitCursor} {log mid end : List Float} {k : ℕ} → Went budget r c log d mid → Halted budget s d mid k end → Halted budget (r ++ s) c log k end
+  pub went-halt : {r s : List (List Float)} {c d : VisitCursor} {log mid end : List Float} {k : ℕ}
+      → Went budget r c log d mid → Halted budget s d mid k end → Halted budget (r ++ s) c log k end
   went-halt {r} {s} {c} {d} {log} {mid} {end} {k} a b = record {
     walked = walk-append budget (length log) r s (c .visits) (take (c .at) log)
         ∙ ap (λ (w : Walked). onward w (walk budget (length log) s)) (a .walked)
@@ -71,9 +90,11 @@ module _ {budget : ℕ} where
     same = b .same ∙ a .same;
   }
 
-  pub halt-before : {r : List (List Float)} {c : VisitCursor} {log end : List Float} {k : ℕ} (s : List (List Float)) → Halted budget r c log k end → Halted budget (r ++ s) c log k end
+  pub halt-before : {r : List (List Float)} {c : VisitCursor} {log end : List Float} {k : ℕ} (s : List (List Float))
+      → Halted budget r c log k end → Halted budget (r ++ s) c log k end
   halt-before {r} {c} {log} s a = record {
-    walked = walk-append budget (length log) r s (c .visits) (take (c .at) log) ∙ ap (λ (w : Walked). onward w (walk budget (length log) s)) (a .walked);
+    walked = walk-append budget (length log) r s (c .visits) (take (c .at) log)
+        ∙ ap (λ (w : Walked). onward w (walk budget (length log) s)) (a .walked);
     same = a .same;
   }
 
@@ -96,24 +117,33 @@ module _ {budget : ℕ} {e : List Float} {c : VisitCursor} {log : List Float} (f
   halt-8 h = record { walked = walk-8 budget (length log) e (c .visits) (take (c .at) log) h; same = refl }
 
   halt-16 : c .visits < budget → length log < c .at + length e → Halted budget (e ∷ []) c log 16 log
-  halt-16 h f = record { walked = walk-16 budget (length log) e (c .visits) (take (c .at) log) h (rw (length-take-le (c .at) log fits) f); same = refl }
+  halt-16 h f = record {
+    walked =
+        walk-16 budget (length log) e (c .visits) (take (c .at) log) h (rw (length-take-le (c .at) log fits) f);
+    same = refl;
+  }
 
-  pub halt-full : (x : List Float) → e ≡ x → length x ≡ 6 → c .visits < budget → length log - c .at < 6 → Halted budget (e ∷ []) c log 16 log
+  pub halt-full : (x : List Float) → e ≡ x → length x ≡ 6 → c .visits < budget → length log - c .at < 6
+      → Halted budget (e ∷ []) c log 16 log
   halt-full x q z h f =
       let k : length e ≡ 6 = ap length q ∙ z in
       halt-16 h (omega arith)
 
-  went-one : (after : List Float) → c .visits < budget → c .at + length e ≤ length log → after ≡ take (c .at) log ++ (e ++ drop (c .at + length e) log)
+  went-one : (after : List Float) → c .visits < budget → c .at + length e ≤ length log
+      → after ≡ take (c .at) log ++ (e ++ drop (c .at + length e) log)
       → Went budget (e ∷ []) c log (record { visits = c .visits + 1; at = c .at + length e }) after
   went-one after h f w =
       let same : length after ≡ length log = ap length w ∙ put-length log e (c .at) f in
       record {
-        walked = walk-one budget (length log) e (c .visits) (take (c .at) log) h (rw (length-take-le (c .at) log fits) f) ∙ ap (Done (c .visits + 1)) (sym (ap (take (c .at + length e)) w ∙ put-take log e (c .at) f));
+        walked = walk-one budget (length log) e (c .visits) (take (c .at) log) h
+            (rw (length-take-le (c .at) log fits) f)
+            ∙ ap (Done (c .visits + 1)) (sym (ap (take (c .at + length e)) w ∙ put-take log e (c .at) f));
         room = omega arith;
         same = same;
       }
 
-  pub went-on : (m : ℕ) → length e ≡ m → (after : List Float) → c .visits < budget → c .at + m ≤ length log → after ≡ take (c .at) log ++ (e ++ drop (c .at + m) log)
+  pub went-on : (m : ℕ) → length e ≡ m → (after : List Float) → c .visits < budget → c .at + m ≤ length log
+      → after ≡ take (c .at) log ++ (e ++ drop (c .at + m) log)
       → Went budget (e ∷ []) c log (record { visits = c .visits + 1; at = c .at + m }) after
   went-on m q after h f w = rw (← q) (went-one after h (rw q f) (rw q w))
 
@@ -121,7 +151,9 @@ module _ {budget : ℕ} {e : List Float} {c : VisitCursor} {log : List Float} (f
   went-off q h =
       let z : length e ≡ 0 = ap length q in
       record {
-        walked = walk-one budget (length log) e (c .visits) (take (c .at) log) h (omega (arith, length-take-le (c .at) log fits)) ∙ ap (Done (c .visits + 1)) (ap (λ (t : List Float). take (c .at) log ++ t) q ∙ append-nil (take (c .at) log));
+        walked = walk-one budget (length log) e (c .visits) (take (c .at) log) h
+            (omega (arith, length-take-le (c .at) log fits))
+            ∙ ap (Done (c .visits + 1)) (ap (λ (t : List Float). take (c .at) log ++ t) q ∙ append-nil (take (c .at) log));
         room = fits;
         same = refl;
       }
@@ -133,7 +165,9 @@ module _ (f : ℕ → List (List Float)) where
   each-more from zero = ap f (add-zero from) ∙ sym (append-nil (f from))
   each-more from (suc n) =
       let e : from + suc n ≡ suc from + n = omega arith in
-      ap (λ (m : ℕ). (f from ++ each f (suc from) n) ++ f m) e ∙ append-assoc (f from) (each f (suc from) n) (f (suc from + n)) ∙ ap (λ (t : List (List Float)). f from ++ t) (each-more (suc from) n)
+      ap (λ (m : ℕ). (f from ++ each f (suc from) n) ++ f m) e
+      ∙ append-assoc (f from) (each f (suc from) n) (f (suc from + n))
+      ∙ ap (λ (t : List (List Float)). f from ++ t) (each-more (suc from) n)
 
   each-rest : (from i n : ℕ) → each f from (i + n) ≡ each f from i ++ each f (from + i) n
   unfolding each
@@ -148,7 +182,8 @@ module _ (f : ℕ → List (List Float)) where
       ∙ sym (append-assoc (f from) (each f (suc from) i) (each f (from + suc i) n))
 
 -- a loop over the pieces from `from` to before `past`: those before `at` are walked
-pub record Sweeping (budget : ℕ) (f : ℕ → List (List Float)) (from past : ℕ) (c : VisitCursor) (log : List Float) (d : VisitCursor) (mid : List Float) (at : ℕ) : Type 0 where
+pub record Sweeping (budget : ℕ) (f : ℕ → List (List Float)) (from past : ℕ) (c : VisitCursor) (log : List Float)
+    (d : VisitCursor) (mid : List Float) (at : ℕ) : Type 0 where
   pub begun : from ≤ at
   pub within : at - from ≤ past - from
   pub went : Went budget (each f from (at - from)) c log d mid
@@ -169,10 +204,12 @@ module _ {budget : ℕ} (f : ℕ → List (List Float)) (from past : ℕ) {c : V
         let g : suc (at - from) ≡ at + 1 - from = omega arith in
         ap (λ (m : ℕ). each f from (at - from) ++ f m) e ∙ each-more f from (at - from) ∙ ap (each f from) g
 
-    pub sweeping-next : {e : VisitCursor} {end : List Float} → at < past → Went budget (f at) d mid e end → Sweeping budget f from past c log e end (at + 1)
+    pub sweeping-next : {e : VisitCursor} {end : List Float} → at < past → Went budget (f at) d mid e end
+        → Sweeping budget f from past c log e end (at + 1)
     sweeping-next h b = record { begun = omega arith; within = omega arith; went = rw (← one-more) (went-then (s .went) b) }
 
-    pub sweeping-halt : {k : ℕ} {end : List Float} → at < past → Halted budget (f at) d mid k end → Halted budget (each f from (past - from)) c log k end
+    pub sweeping-halt : {k : ℕ} {end : List Float} → at < past → Halted budget (f at) d mid k end
+        → Halted budget (each f from (past - from)) c log k end
     sweeping-halt h b =
         let q = s .begun in
         let e : past - from ≡ (at + 1 - from) + (past - (at + 1)) = omega arith in
@@ -186,7 +223,8 @@ module _ {budget : ℕ} (f : ℕ → List (List Float)) (from past : ℕ) {c : V
 below : (u v row rows : ℕ) → u < row → v < rows → v * row + u < row * rows
 below u v row rows h l = let m : suc v * row ≤ rows * row = mul-le-mul-right row l in omega arith
 
-pub ray-ready : {n : ℕ} {t : AxisRays} {spans : List Float} {links heads : List ℕ} → AxisReady n t spans links heads → (u v : ℕ) → u < t .row → v < t .rows → RayReady n t spans links heads u v
+pub ray-ready : {n : ℕ} {t : AxisRays} {spans : List Float} {links heads : List ℕ} → AxisReady n t spans links heads
+    → (u v : ℕ) → u < t .row → v < t .rows → RayReady n t spans links heads u v
 ray-ready {n} {t} r u v h l =
     let b = below u v (t .row) (t .rows) h l in
     let q = r .few in
@@ -197,7 +235,8 @@ module _ (n : ℕ) (t : AxisRays) (p : Profile) (l : ChordOnAxis) (spans : List 
   unfolding rayEntry entryFor
   entry-off h = rw h
 
-  pub entry-on : (x : HitPairs) → rayHitOf p l (sectionOf l u v) (possibleAt n t spans links heads u v) ≡ On x → rayEntry n t p l spans links heads u v ≡ entryOf (t .axis) (indexOf t u v) x
+  pub entry-on : (x : HitPairs) → rayHitOf p l (sectionOf l u v) (possibleAt n t spans links heads u v) ≡ On x
+      → rayEntry n t p l spans links heads u v ≡ entryOf (t .axis) (indexOf t u v) x
   unfolding rayEntry entryFor
   entry-on x h = rw h
 
@@ -228,13 +267,16 @@ entriesIn (Stop n) = []
 
 module _ (budget len : ℕ) where
   -- to the end: each ray is a visit, and the log has all entries
-  pub walk-done : (rays : List (List Float)) (k : ℕ) (l : List Float) (n : ℕ) (m : List Float) → walk budget len rays k l ≡ Done n m → (n ≡ k + length rays) × (m ≡ l ++ joined rays)
+  pub walk-done : (rays : List (List Float)) (k : ℕ) (l : List Float) (n : ℕ) (m : List Float)
+      → walk budget len rays k l ≡ Done n m → (n ≡ k + length rays) × (m ≡ l ++ joined rays)
   unfolding walk joined
   walk-done [] k l n m h = (sym (ap visitsIn h) ∙ sym (add-zero k), sym (ap entriesIn h) ∙ sym (append-nil l))
   walk-done (e ∷ rays) k l n m h = go (leb budget k) (leb (length l + length e) len) h (walk-done rays (k + 1) (l ++ e) n m)
     where
       go : (a b : Bool) → cond a (Stop 8) (cond b (walk budget len rays (k + 1) (l ++ e)) (Stop 16)) ≡ Done n m
-          → (walk budget len rays (k + 1) (l ++ e) ≡ Done n m → (n ≡ k + 1 + length rays) × (m ≡ (l ++ e) ++ joined rays)) → (n ≡ k + suc (length rays)) × (m ≡ l ++ (e ++ joined rays))
+          → (walk budget len rays (k + 1) (l ++ e) ≡ Done n m
+          → (n ≡ k + 1 + length rays) × (m ≡ (l ++ e) ++ joined rays))
+          → (n ≡ k + suc (length rays)) × (m ≡ l ++ (e ++ joined rays))
       go true b q f = absurd (clash true refl (ap stops q))
       go false false q f = absurd (clash true refl (ap stops q))
       go false true q f = let r = f q in (omega (arith, r .0), r .1 ∙ append-assoc l e (joined rays))
@@ -245,7 +287,8 @@ module _ (budget len : ℕ) where
   walk-stop [] k l n h = absurd (clash false (ap stops h) refl)
   walk-stop (e ∷ rays) k l n h = go (leb budget k) (leb (length l + length e) len) h (walk-stop rays (k + 1) (l ++ e) n)
     where
-      go : (a b : Bool) → cond a (Stop 8) (cond b (walk budget len rays (k + 1) (l ++ e)) (Stop 16)) ≡ Stop n → (walk budget len rays (k + 1) (l ++ e) ≡ Stop n → (n ≡ 8) ⊎ (n ≡ 16)) → (n ≡ 8) ⊎ (n ≡ 16)
+      go : (a b : Bool) → cond a (Stop 8) (cond b (walk budget len rays (k + 1) (l ++ e)) (Stop 16)) ≡ Stop n
+          → (walk budget len rays (k + 1) (l ++ e) ≡ Stop n → (n ≡ 8) ⊎ (n ≡ 16)) → (n ≡ 8) ⊎ (n ≡ 16)
       go true b q f = inl (sym (ap visitsIn q))
       go false false q f = inr (sym (ap visitsIn q))
       go false true q f = f q
@@ -277,7 +320,8 @@ sum-of (suc n) k from = ap (λ (m : ℕ). k + m) (sum-of n k (suc from)) ∙ add
 
 row-length : (f : (u v : ℕ) → List Float) (r : RayRange) (v : ℕ) → length (rowEntries f r v) ≡ r .u1 + 1 - r .u0
 unfolding rowEntries
-row-length f r v = each-length (λ u. f u v ∷ []) (r .u0) (r .u1 + 1 - r .u0) ∙ sum-of (r .u1 + 1 - r .u0) 1 (r .u0) ∙ mul-one (r .u1 + 1 - r .u0)
+row-length f r v = each-length (λ u. f u v ∷ []) (r .u0) (r .u1 + 1 - r .u0) ∙ sum-of (r .u1 + 1 - r .u0) 1 (r .u0)
+    ∙ mul-one (r .u1 + 1 - r .u0)
 
 rect-length : (f : (u v : ℕ) → List Float) (r : RayRange) → length (rectEntries f r) ≡ (r .v1 + 1 - r .v0) * (r .u1 + 1 - r .u0)
 unfolding rectEntries
@@ -311,11 +355,18 @@ unfolding entryFor entryOf
 entry-sixes axis index Off = inl refl
 entry-sixes axis index (On h) = inr refl
 
-pub rectangle-sixes : (n : ℕ) (t : AxisRays) (p : Profile) (l : ChordOnAxis) (spans : List Float) (links heads : List ℕ) (r : RayRect) → Sixes (rectangleEntries (rayEntry n t p l spans links heads) r)
+pub rectangle-sixes : (n : ℕ) (t : AxisRays) (p : Profile) (l : ChordOnAxis) (spans : List Float)
+    (links heads : List ℕ) (r : RayRect) → Sixes (rectangleEntries (rayEntry n t p l spans links heads) r)
 unfolding rectEntries rowEntries rayEntry Sixes
 rectangle-sixes n t p l spans links heads NoRays = tt
 rectangle-sixes n t p l spans links heads (Rays r) =
-    sixes-each (r .v1 + 1 - r .v0) _ (λ (v : ℕ). sixes-each (r .u1 + 1 - r .u0) _ (λ (u : ℕ). (entry-sixes (t .axis) (indexOf t u v) (rayHitOf p l (sectionOf l u v) (possibleAt n t spans links heads u v)), tt)) (r .u0)) (r .v0)
+    sixes-each (r .v1 + 1 - r .v0) _
+    (λ (v : ℕ). sixes-each (r .u1 + 1 - r .u0) _
+    (λ (u : ℕ). (
+      entry-sixes (t .axis) (indexOf t u v)
+          (rayHitOf p l (sectionOf l u v) (possibleAt n t spans links heads u v)),
+      tt,
+    )) (r .u0)) (r .v0)
 
 abbrev filled : List Float → Bool
 filled [] = false
@@ -327,6 +378,7 @@ sixes-count [] h = refl
 sixes-count ([] ∷ es) h = sixes-count es (h .1)
 sixes-count ((x ∷ e) ∷ es) h = length-append (x ∷ e) (joined es) ∙ more (h .0) (sixes-count es (h .1))
   where
-    more : ((x ∷ e ≡ []) ⊎ (length (x ∷ e) ≡ 6)) → length (joined es) ≡ 6 * loggedEntries es → length (x ∷ e) + length (joined es) ≡ 6 * suc (loggedEntries es)
+    more : ((x ∷ e ≡ []) ⊎ (length (x ∷ e) ≡ 6)) → length (joined es) ≡ 6 * loggedEntries es
+        → length (x ∷ e) + length (joined es) ≡ 6 * suc (loggedEntries es)
     more (inl q) k = absurd (clash true refl (ap filled q))
     more (inr q) k = omega (arith, q, k)

@@ -16,7 +16,8 @@ use Rattle.sweep_model.specs.Walk.{Done, Stop, walk}
 use Rattle.store.specs.Store.{listFrom}
 
 -- from cursor c with this log to the cursor d with that one all these rays are visited
-pub record Went (budget : ℕ) (rays : List (List Float)) (c : VisitCursor) (log : List Float) (d : VisitCursor) (after : List Float) : Type 0 where
+pub record Went (budget : ℕ) (rays : List (List Float)) (c : VisitCursor) (log : List Float) (d : VisitCursor)
+    (after : List Float) : Type 0 where
   pub walked : walk budget (length log) rays (c .visits) (take (c .at) log) ≡ Done (d .visits) (take (d .at) after)
   pub room : d .at ≤ length after
   pub same : length after ≡ length log

@@ -1,4 +1,5 @@
-// The walk over the rays of a rectangle, v outside and u inside: the visit budget, and an entry in the log for each hit ray (sweep.rs: `Kernel::rays`).
+// The walk over the rays of a rectangle, v outside and u inside: the visit budget, and an entry in the log for each
+// hit ray (sweep.rs: `Kernel::rays`).
 ghost use mathlib.Core.Path.{_≡_};
 ghost use mathlib.Core.List.{_++_, _∷_, []};
 ghost use Prim.Native.Nat.{_+_, _<_, _≤_};
@@ -55,7 +56,9 @@ fn visit_ray(
     log: &mut [f64],
 ) -> Progress
     requires { ⌜ RayReady n t (now spans) (now links) (now heads) u v × (c .at ≤ length (now log)) ⌝ }
-    ensures { λ r. ⌜ WalkPost budget (rayEntry n t p l (now (spans .entry)) (now (links .entry)) (now (heads .entry)) u v ∷ []) c (now (log .entry)) r (now (log .exit)) ⌝ }
+    ensures { λ r. ⌜ WalkPost budget
+        (rayEntry n t p l (now (spans .entry)) (now (links .entry)) (now (heads .entry)) u v ∷ []) c
+        (now (log .entry)) r (now (log .exit)) ⌝ }
 {
     if budget <= c.visits {
         return Progress::Stopped(8);
@@ -102,7 +105,9 @@ fn sweep_row(
     log: &mut [f64],
 ) -> Progress
     requires { ⌜ AxisReady n t (now spans) (now links) (now heads) × (r .u1 < t .row) × (v < t .rows) × (start .at ≤ length (now log)) ⌝ }
-    ensures { λ x. ⌜ WalkPost budget (rowEntries (rayEntry n t p l (now (spans .entry)) (now (links .entry)) (now (heads .entry))) r v) start (now (log .entry)) x (now (log .exit)) ⌝ }
+    ensures { λ x. ⌜ WalkPost budget
+        (rowEntries (rayEntry n t p l (now (spans .entry)) (now (links .entry)) (now (heads .entry))) r v) start
+        (now (log .entry)) x (now (log .exit)) ⌝ }
 {
     let mut c = start;
     let mut u = r.u0;
@@ -135,8 +140,11 @@ pub fn sweep_rect(
     heads: &[u64],
     log: &mut [f64],
 ) -> Progress
-    requires { ⌜ AxisReady n t (now spans) (now links) (now heads) × (r .u1 < t .row) × (r .v1 < t .rows) × (start .at ≤ length (now log)) ⌝ }
-    ensures { λ x. ⌜ WalkPost budget (rectEntries (rayEntry n t p l (now (spans .entry)) (now (links .entry)) (now (heads .entry))) r) start (now (log .entry)) x (now (log .exit)) ⌝ }
+    requires { ⌜ AxisReady n t (now spans) (now links) (now heads) × (r .u1 < t .row) × (r .v1 < t .rows)
+        × (start .at ≤ length (now log)) ⌝ }
+    ensures { λ x. ⌜ WalkPost budget
+        (rectEntries (rayEntry n t p l (now (spans .entry)) (now (links .entry)) (now (heads .entry))) r) start
+        (now (log .entry)) x (now (log .exit)) ⌝ }
 {
     let mut c = start;
     let mut v = r.v0;

@@ -87,15 +87,18 @@ module _ (spec : DexelStockSpec) (g : DexelGrid) (f : GridFacts spec g) where
   unfolding cellsMet
   met-under w p = go (lt (p .hi) (alongOf (spec .«min_mm») w)) (lt (alongOf (spec .«max_mm») w) (p .lo)) (lt (p .hi) (p .lo))
     where
-      go : (a b c : Bool) → Under (cellsAlong g w) (cond a Missed (cond b Missed (cond c Missed (Met (cellAt spec g w (p .lo)) (cellAt spec g w (p .hi))))))
+      go : (a b c : Bool) → Under (cellsAlong g w)
+          (cond a Missed (cond b Missed (cond c Missed (Met (cellAt spec g w (p .lo)) (cellAt spec g w (p .hi))))))
       go true b c = tt
       go false true c = tt
       go false false true = tt
       go false false false = cell-below spec g f w (p .hi)
 
-  rectangle-inside : (p : Profile) (l : ChordOnAxis) (a : WorldAxis) → Inside (cellsAlong g (crossOf a .u)) (cellsAlong g (crossOf a .v)) (rectangleOf spec g p l a)
+  rectangle-inside : (p : Profile) (l : ChordOnAxis) (a : WorldAxis)
+      → Inside (cellsAlong g (crossOf a .u)) (cellsAlong g (crossOf a .v)) (rectangleOf spec g p l a)
   unfolding rectangleOf cellsAcross
-  rectangle-inside p l a = inside _ _ (cellsAcross spec g p l (crossOf a .u)) (cellsAcross spec g p l (crossOf a .v)) (met-under (crossOf a .u) _) (met-under (crossOf a .v) _)
+  rectangle-inside p l a = inside _ _ (cellsAcross spec g p l (crossOf a .u)) (cellsAcross spec g p l (crossOf a .v))
+      (met-under (crossOf a .u) _) (met-under (crossOf a .v) _)
 
 -- what the walk over a rectangle asks for
 pub record RectReady (n : ℕ) (t : AxisRays) (c : Cells) (q : RayRange) : Type 0 where
@@ -103,35 +106,55 @@ pub record RectReady (n : ℕ) (t : AxisRays) (c : Cells) (q : RayRange) : Type 
   pub row : q .u1 < t .row
   pub rows : q .v1 < t .rows
 
-pub rect-ready : (spec : DexelStockSpec) (g : DexelGrid) (c : Cells) → Sweepable spec g c → (p : Profile) (l : ChordOnAxis) (a : WorldAxis) (t : AxisRays) (r : RayRect) (q : RayRange)
+pub rect-ready : (spec : DexelStockSpec) (g : DexelGrid) (c : Cells) → Sweepable spec g c
+    → (p : Profile) (l : ChordOnAxis) (a : WorldAxis) (t : AxisRays) (r : RayRect) (q : RayRange)
     → t ≡ trackOf g a → r ≡ rectangleOf spec g p l a → r ≡ Rays q → RectReady (spec .«max_intervals») t c q
-rect-ready spec g c s p l a t r q e h k = subst (λ (x : AxisRays). RectReady (spec .«max_intervals») x c q) (sym e) (made (subst (Inside (cellsAlong g (crossOf a .u)) (cellsAlong g (crossOf a .v))) (sym h ∙ k) (rectangle-inside spec g (s .facts) p l a)))
+rect-ready spec g c s p l a t r q e h k =
+    subst (λ (x : AxisRays). RectReady (spec .«max_intervals») x c q) (sym e)
+    (made (subst (Inside (cellsAlong g (crossOf a .u)) (cellsAlong g (crossOf a .v))) (sym h ∙ k)
+    (rectangle-inside spec g (s .facts) p l a)))
   where
-    made : (q .u1 < cellsAlong g (crossOf a .u)) × (q .v1 < cellsAlong g (crossOf a .v)) → RectReady (spec .«max_intervals») (trackOf g a) c q
+    made : (q .u1 < cellsAlong g (crossOf a .u)) × (q .v1 < cellsAlong g (crossOf a .v))
+        → RectReady (spec .«max_intervals») (trackOf g a) c q
     made i = record { rays = ready spec g c s a; row = unfold trackOf in i .0; rows = unfold trackOf in i .1 }
 
 -- ---- one axis of a chord
 module _ (s : Setting) (c : Chord) (a : WorldAxis) where
   axis-is : (l : ChordOnAxis) (r : RayRect) → l ≡ laneIn s c a → r ≡ rectangleOf (s .spec) (s .grid) (s .profile) l a
-      → axisEntries s c a ≡ rectangleEntries (rayEntry (s .spec .«max_intervals») (trackOf (s .grid) a) (s .profile) l (s .cells .spans) (s .cells .links) (s .cells .heads)) r
+      → axisEntries s c a ≡ rectangleEntries
+      (rayEntry (s .spec .«max_intervals») (trackOf (s .grid) a) (s .profile) l (s .cells .spans)
+      (s .cells .links) (s .cells .heads)) r
   unfolding axisEntries
   axis-is l r e h =
-      sym (ap (λ (x : ChordOnAxis). rectangleEntries (rayEntry (s .spec .«max_intervals») (trackOf (s .grid) a) (s .profile) x (s .cells .spans) (s .cells .links) (s .cells .heads)) (rectangleOf (s .spec) (s .grid) (s .profile) x a)) e)
-      ∙ ap (rectangleEntries (rayEntry (s .spec .«max_intervals») (trackOf (s .grid) a) (s .profile) l (s .cells .spans) (s .cells .links) (s .cells .heads))) (sym h)
+      sym (ap (λ (x : ChordOnAxis). rectangleEntries
+      (rayEntry (s .spec .«max_intervals») (trackOf (s .grid) a) (s .profile) x (s .cells .spans)
+      (s .cells .links) (s .cells .heads)) (rectangleOf (s .spec) (s .grid) (s .profile) x a)) e)
+      ∙ ap (rectangleEntries (rayEntry (s .spec .«max_intervals») (trackOf (s .grid) a) (s .profile) l
+      (s .cells .spans) (s .cells .links) (s .cells .heads))) (sym h)
 
-  pub axis-none : {budget : ℕ} {start : VisitCursor} {log : List Float} (l : ChordOnAxis) (r : RayRect) → l ≡ laneIn s c a → r ≡ rectangleOf (s .spec) (s .grid) (s .profile) l a → r ≡ NoRays → start .at ≤ length log
+  pub axis-none : {budget : ℕ} {start : VisitCursor} {log : List Float} (l : ChordOnAxis) (r : RayRect)
+      → l ≡ laneIn s c a → r ≡ rectangleOf (s .spec) (s .grid) (s .profile) l a → r ≡ NoRays → start .at ≤ length log
       → WalkPost budget (axisEntries s c a) start log (At start) log
   axis-none {budget} {start} {log} l r e h k room =
-      subst (λ (es : List (List Float)). Went budget es start log start log) (sym (axis-is l r e h ∙ ap (rectangleEntries (rayEntry (s .spec .«max_intervals») (trackOf (s .grid) a) (s .profile) l (s .cells .spans) (s .cells .links) (s .cells .heads))) k)) (went-none room)
+      subst (λ (es : List (List Float)). Went budget es start log start log)
+      (sym (axis-is l r e h ∙ ap (rectangleEntries
+      (rayEntry (s .spec .«max_intervals») (trackOf (s .grid) a) (s .profile) l (s .cells .spans)
+      (s .cells .links) (s .cells .heads))) k)) (went-none room)
 
-  pub axis-some : (budget : ℕ) (start : VisitCursor) (log after : List Float) (x : Progress) (l : ChordOnAxis) (t : AxisRays) (r : RayRect) (q : RayRange)
+  pub axis-some : (budget : ℕ) (start : VisitCursor) (log after : List Float) (x : Progress) (l : ChordOnAxis)
+      (t : AxisRays) (r : RayRect) (q : RayRange)
       → l ≡ laneIn s c a → t ≡ trackOf (s .grid) a → r ≡ rectangleOf (s .spec) (s .grid) (s .profile) l a → r ≡ Rays q
-      → WalkPost budget (rectEntries (rayEntry (s .spec .«max_intervals») t (s .profile) l (s .cells .spans) (s .cells .links) (s .cells .heads)) q) start log x after
+      → WalkPost budget (rectEntries
+      (rayEntry (s .spec .«max_intervals») t (s .profile) l (s .cells .spans) (s .cells .links) (s .cells .heads))
+      q) start log x after
       → WalkPost budget (axisEntries s c a) start log x after
   axis-some budget start log after x l t r q e f h k w =
       subst (λ (es : List (List Float)). WalkPost budget es start log x after)
-      (ap (λ (y : AxisRays). rectEntries (rayEntry (s .spec .«max_intervals») y (s .profile) l (s .cells .spans) (s .cells .links) (s .cells .heads)) q) f
-      ∙ sym (axis-is l r e h ∙ ap (rectangleEntries (rayEntry (s .spec .«max_intervals») (trackOf (s .grid) a) (s .profile) l (s .cells .spans) (s .cells .links) (s .cells .heads))) k)) w
+      (ap (λ (y : AxisRays). rectEntries
+      (rayEntry (s .spec .«max_intervals») y (s .profile) l (s .cells .spans) (s .cells .links) (s .cells .heads)) q) f
+      ∙ sym (axis-is l r e h ∙ ap (rectangleEntries
+      (rayEntry (s .spec .«max_intervals») (trackOf (s .grid) a) (s .profile) l (s .cells .spans)
+      (s .cells .links) (s .cells .heads))) k)) w
 
 pub track-is : (g : DexelGrid) (a : WorldAxis) (w : CrossAxes) (o m n : ℕ) → w ≡ crossOf a → o ≡ offset g a
     → m ≡ cellsAlong g (w .u) → n ≡ cellsAlong g (w .v) → record { axis = a; first = o; row = m; rows = n } ≡ trackOf g a

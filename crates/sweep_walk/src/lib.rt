@@ -49,7 +49,9 @@ fn sweep_axis(
     log: &mut [f64],
 ) -> Progress
     requires { ⌜ Sweepable spec g (cells (now spans) (now links) (now heads)) × (start .at ≤ length (now log)) ⌝ }
-    ensures { λ x. ⌜ WalkPost budget (axisEntries (setting spec g k p (cells (now (spans .entry)) (now (links .entry)) (now (heads .entry)))) chord axis) start (now (log .entry)) x (now (log .exit)) ⌝ }
+    ensures { λ x. ⌜ WalkPost budget
+        (axisEntries (setting spec g k p (cells (now (spans .entry)) (now (links .entry)) (now (heads .entry))))
+        chord axis) start (now (log .entry)) x (now (log .exit)) ⌝ }
 {
     let l = sweep_kernel::lane_of(spec, g, k, p, chord, axis);
     let n = spec.max_intervals as usize;
@@ -105,7 +107,9 @@ fn sweep_chord(
     log: &mut [f64],
 ) -> Progress
     requires { ⌜ Sweepable spec g (cells (now spans) (now links) (now heads)) × (start .at ≤ length (now log)) ⌝ }
-    ensures { λ x. ⌜ WalkPost budget (chordEntries (setting spec g k p (cells (now (spans .entry)) (now (links .entry)) (now (heads .entry)))) chord) start (now (log .entry)) x (now (log .exit)) ⌝ }
+    ensures { λ x. ⌜ WalkPost budget
+        (chordEntries (setting spec g k p (cells (now (spans .entry)) (now (links .entry)) (now (heads .entry))))
+        chord) start (now (log .entry)) x (now (log .exit)) ⌝ }
 {
     let first = first_axis(k.frame);
     let second = second_axis(k.frame);
@@ -160,7 +164,9 @@ pub fn sweep_chords(
     log: &mut [f64],
 ) -> Progress
     requires { ⌜ Sweepable spec g (cells (now spans) (now links) (now heads)) ⌝ }
-    ensures { λ x. ⌜ WalkPost budget (sweepEntries (setting spec g k p (cells (now (spans .entry)) (now (links .entry)) (now (heads .entry)))) (now (chords .entry)))
+    ensures { λ x. ⌜ WalkPost budget
+        (sweepEntries (setting spec g k p (cells (now (spans .entry)) (now (links .entry)) (now (heads .entry))))
+        (now (chords .entry)))
         (record { visits = 0; at = 0 }) (now (log .entry)) x (now (log .exit)) ⌝ }
 {
     let n = chords.len() / 8;

@@ -21,7 +21,8 @@ pub extern "C" fn tridexel_commit_changes(
     pairs: &[f64],
     changed: &mut u64,
 ) -> u32
-    ensures { λ r. ⌜ AnsweredBy committedNumbers Committed.Refused (ChangesPost spec (now (units .entry)) base (now (changes .entry)) (now (pairs .entry))
+    ensures { λ r. ⌜ AnsweredBy committedNumbers Committed.Refused
+        (ChangesPost spec (now (units .entry)) base (now (changes .entry)) (now (pairs .entry))
         (stock (now (spans .entry)) (now (links .entry)) (now (heads .entry)) (now (generation .entry)) (now (intervals .entry)))
         (stock (now (spans .exit)) (now (links .exit)) (now (heads .exit)) (now (generation .exit)) (now (intervals .exit)))) r
         (now (changed .entry)) (now (changed .exit)) ⌝ }

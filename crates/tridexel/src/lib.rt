@@ -20,7 +20,9 @@ ghost use Rattle.c_results.specs.Numbers.{AnsweredBy, listedNumbers, toldNumber
 // `span_normalize::normalize`; `pairs` becomes the number of pairs.
 #[no_mangle]
 pub extern "C" fn tridexel_normalize(spans: &[f64], out: &mut [f64], pairs: &mut usize) -> u32
-    ensures { λ r. ⌜ AnsweredBy listedNumbers Listed.Refused (ListPost (NormalOf (now (spans .entry))) (normalizeCauses (now (spans .entry)) (length (now (out .entry)))) (now (out .entry)) (now (out .exit)))
+    ensures { λ r. ⌜ AnsweredBy listedNumbers Listed.Refused
+        (ListPost (NormalOf (now (spans .entry))) (normalizeCauses (now (spans .entry)) (length (now (out .entry))))
+        (now (out .entry)) (now (out .exit)))
         r (now (pairs .entry)) (now (pairs .exit)) ⌝ }
 {
     let l = span_normalize::normalize(spans, out);
@@ -76,8 +78,8 @@ pub extern "C" fn tridexel_overlaps(a: &[f64], b: &[f64], yes: &mut u32) -> u32
     c_results::hand_told(t, yes)
 }
 
-// `ray_merge::merge`; for possible and certain, in this order, `moved` becomes 1 where the list is a new one in the work buffer and 0 where it is the
-// caller's own, and `pairs` the number of its pairs.
+// `ray_merge::merge`; for possible and certain, in this order, `moved` becomes 1 where the list is a new one in the
+// work buffer and 0 where it is the caller's own, and `pairs` the number of its pairs.
 #[no_mangle]
 pub extern "C" fn tridexel_merge(
     possible: &[f64],

@@ -29,7 +29,11 @@ pub extern "C" fn tridexel_sweep(
     entries: &mut usize,
     visits: &mut u64,
 ) -> u32
-    ensures { λ r. ⌜ AnsweredBy sweptNumbers Swept.Refused (SweepPost (sweepCauses (now (units .entry)) (settingOf spec (axisOf axis) (shapeOf axis kind m n) cutter guard (cells (now (spans .entry)) (now (links .entry)) (now (heads .entry)))) intervals (now (chords .entry)) budget (length (now (log .entry))))
+    ensures { λ r. ⌜ AnsweredBy sweptNumbers Swept.Refused
+        (SweepPost (sweepCauses (now (units .entry))
+        (settingOf spec (axisOf axis) (shapeOf axis kind m n) cutter guard
+        (cells (now (spans .entry)) (now (links .entry)) (now (heads .entry)))) intervals (now (chords .entry)) budget
+        (length (now (log .entry))))
         (settingOf spec (axisOf axis) (shapeOf axis kind m n) cutter guard (cells (now (spans .entry)) (now (links .entry)) (now (heads .entry)))) intervals (now (chords .entry)) (now (log .entry)) (now (log .exit)))
         r (totals (now (entries .entry)) (now (visits .entry))) (totals (now (entries .exit)) (now (visits .exit))) ⌝ }
 {

@@ -38,7 +38,8 @@ module _ {A : Type 0} (d : A) (wanted : ℕ → A) where
       never : (j : ℕ) → j < 0 → ⊥
       never j h = omega (arith, h)
 
-  pub one-filled : (size : ℕ) (out : List A) (k : ℕ) (x : A) → FilledTo d wanted size out k → k < length out → x ≡ wanted k → FilledTo d wanted size (set out k x) (k + 1)
+  pub one-filled : (size : ℕ) (out : List A) (k : ℕ) (x : A) → FilledTo d wanted size out k → k < length out
+      → x ≡ wanted k → FilledTo d wanted size (set out k x) (k + 1)
   one-filled size out k x s h e =
       record {
         same = length-set out k x ∙ s .same;

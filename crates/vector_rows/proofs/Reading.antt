@@ -50,7 +50,8 @@ one-read text at size out i w v s h e m f =
     last : (i j : ℕ) → (j < i → ⊥) → j < i + 1 → i ≡ j
     last i j a g = omega arith
 
-pub read-stops : (text : List ℕ) (at : ℕ) (out : List ℕ) (i : ℕ) (w : Word) → i < length out → w ≡ hexAt text (at + 17 * i) 16 → isMissing w ≡ true → Reads text at out false
+pub read-stops : (text : List ℕ) (at : ℕ) (out : List ℕ) (i : ℕ) (w : Word) → i < length out
+    → w ≡ hexAt text (at + 17 * i) 16 → isMissing w ≡ true → Reads text at out false
 read-stops text at out i w h e m = one-missing i h (sym e ∙ no-value w m)
 
 pub read-ends : (text : List ℕ) (at size : ℕ) (out : List ℕ) (i : ℕ) → ReadTo text at size out i → length out ≤ i → Reads text at out true

@@ -111,7 +111,8 @@ pub fn cutter_at(w: &[u64], from: usize) -> PreparedCutter
 
 // The shape whose number is word `from`, and whose own numbers are the two behind it.
 pub fn shape_at(w: &[u64], from: usize) -> CutterShape
-    ensures { λ r. ⌜ r ≡ namedShape (wordOf (now (w .entry)) from 0) (doubleOf (now (w .entry)) from 1) (doubleOf (now (w .entry)) from 2) ⌝ }
+    ensures { λ r. ⌜ r ≡ namedShape (wordOf (now (w .entry)) from 0) (doubleOf (now (w .entry)) from 1)
+        (doubleOf (now (w .entry)) from 2) ⌝ }
 {
     enum_codes::named_shape(
         word_of(w, from, 0),
@@ -233,7 +234,8 @@ pub enum RowOutcome {
     Unread,
 }
 
-// How many rows of each function agree and differ, how many can't be read, how many there were, and the number of the first that differs, from 1.
+// How many rows of each function agree and differ, how many can't be read, how many there were, and the number of the
+// first that differs, from 1.
 pub struct RowCounts {
     pub agree: [u64; 16],
     pub differ: [u64; 16],

@@ -19,7 +19,20 @@ use Rattle.doubles_sqrt.specs.Root.{squareRoot}
 use Rattle.strips.specs.Strip.{bandDistance, halfChord, chordStrip, diskStrip}
 use Rattle.cutter.specs.Cutter.{isFinite, offTool, arcAt, cuttingRadius, radiusAt}
 use Rattle.frame.specs.Frame.{worldOf}
-use Rattle.worked.specs.Examples.{WorkedExample, normalizes, subtracts, intersects, contains, grids, disk, radius-at, turns, RowRight, WorkedRight, workedExamples}
+use Rattle.worked.specs.Examples.{
+  WorkedExample,
+  normalizes,
+  subtracts,
+  intersects,
+  contains,
+  grids,
+  disk,
+  radius-at,
+  turns,
+  RowRight,
+  WorkedRight,
+  workedExamples,
+}
 
 told : (b : Bool) → b ≡ true → T b
 told b h = subst T (sym h) tt
@@ -163,4 +176,5 @@ unfolding workedExamples is-normal says holds sound retained lessOf commonOf
     gridOf gridOver misdescribed isMm isBetween allBetween anyBelow anyAbove cellCount magnitudeOf leastStep tooFine rayCount
     diskStrip chordStrip halfChord bandDistance squareRoot radiusAt offTool isFinite cuttingRadius arcAt worldOf
     absOf ceilOf ofBits toBits ofInt toUnsigned sub mul div le fits isNan
-examples-right = all workedExamples (refl, (refl, (refl, (refl, (refl, (refl, (refl, (refl, (refl, ((refl, refl), (refl, (refl, (refl, tt)))))))))))))
+examples-right = all workedExamples
+    (refl, (refl, (refl, (refl, (refl, (refl, (refl, (refl, (refl, ((refl, refl), (refl, (refl, (refl, tt)))))))))))))

@@ -15,7 +15,14 @@ digit-of-requires-2 : tie.Need-digit-of-requires-2
 digit-of-requires-2 c κs = search needs
 
 returns : tie.Need-returns
-returns c = inl (rw (c .before .before .before .before .before .m .given .1, ← c .before .before .before .digit-of .ensures, ← c .before .before .digit-of2 .ensures) refl, refl)
+returns c = inl (
+  rw (
+    c .before .before .before .before .before .m .given .1,
+    ← c .before .before .before .digit-of .ensures,
+    ← c .before .before .digit-of2 .ensures,
+  ) refl,
+  refl,
+)
 
 enum-known-m-2 : tie.Need-enum-known-m-2
 enum-known-m-2 c = search needs

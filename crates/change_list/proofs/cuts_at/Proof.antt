@@ -11,7 +11,10 @@ returns c =
     let a = c .before .before .before .before .before .before .before .before .before in
     let s = cells (a .args .spans .now) (a .args .links .now) (a .args .heads .now) in
     let w = a .args .pairs .now in
-    cuts-parts (a .args .spec) (a .args .g) s (a .args .ray) (c .cuts .result) _ _ _ _ _ _ _ _ (part-is w (a .args .at) (a .args .bp)) (part-is w (a .args .at + 2 * a .args .bp) (a .args .bc)) (part-is w (a .args .at + 2 * a .args .bp + 2 * a .args .bc) (a .args .ap)) (part-is w (a .args .at + 2 * a .args .bp + 2 * a .args .bc + 2 * a .args .ap) (a .args .ac)) (c .cuts .ensures)
+    cuts-parts (a .args .spec) (a .args .g) s (a .args .ray) (c .cuts .result) _ _ _ _ _ _ _ _
+    (part-is w (a .args .at) (a .args .bp)) (part-is w (a .args .at + 2 * a .args .bp) (a .args .bc))
+    (part-is w (a .args .at + 2 * a .args .bp + 2 * a .args .bc) (a .args .ap))
+    (part-is w (a .args .at + 2 * a .args .bp + 2 * a .args .bc + 2 * a .args .ap) (a .args .ac)) (c .cuts .ensures)
 
 pub cuts-at-spec : {M : Type 1} → statement M
 cuts-at-spec =

@@ -14,13 +14,18 @@ rays-requires : tie.Need-rays-requires
 rays-requires c κs = search needs
 
 returns-2 : tie.Need-returns-2
-returns-2 c = let a = c .before .before .before .before .before .before .args in no-ray (a .g) (a .h .axis) (a .h .index) (a .from) (c .before .before .rays .result) (c .before .before .rays .ensures) (c .if2 .taken)
+returns-2 c = let a = c .before .before .before .before .before .before .args in
+    no-ray (a .g) (a .h .axis) (a .h .index) (a .from) (c .before .before .rays .result)
+    (c .before .before .rays .ensures) (c .if2 .taken)
 
 ray-named-requires : tie.Need-ray-named-requires
 ray-named-requires c κs = search needs
 
 returns-3 : tie.Need-returns-3
-returns-3 c = let a = c .before .before .before .before .before .before .before .args in a-ray (a .g) (a .h .axis) (a .h .index) (a .from) (c .before .before .before .rays .result) (c .ray-named .result) (omega (arith, c .before .before .before .before .before .if1 .left)) (c .before .before .before .rays .ensures) (omega (arith, c .before .if2 .left)) (c .ray-named .ensures)
+returns-3 c = let a = c .before .before .before .before .before .before .before .args in
+    a-ray (a .g) (a .h .axis) (a .h .index) (a .from) (c .before .before .before .rays .result) (c .ray-named .result)
+    (omega (arith, c .before .before .before .before .before .if1 .left)) (c .before .before .before .rays .ensures)
+    (omega (arith, c .before .if2 .left)) (c .ray-named .ensures)
 
 pub names-spec : {M : Type 1} → statement M
 names-spec =

@@ -5,29 +5,57 @@ use Rattle.change_list.proofs.only_loses.Statement.{statement}
 use Rattle.change_list.proofs.only_loses.Tie as tie
 
 returns : tie.Need-returns
-returns c = let a = c .before .before .before .before .before .before .args in only-1 (a .lo) (a .hi) (a .p .now) (a .q .now) (a .np .now) (a .nq .now) (c .before .valid-ray .result) (c .before .valid-ray .ensures) (c .if1 .taken)
+returns c = let a = c .before .before .before .before .before .before .args in
+    only-1 (a .lo) (a .hi) (a .p .now) (a .q .now) (a .np .now) (a .nq .now) (c .before .valid-ray .result)
+    (c .before .valid-ray .ensures) (c .if1 .taken)
 
 covers-requires : tie.Need-covers-requires
-covers-requires c κs = let v = tells-good _ (c .before .valid-ray .result) (c .before .valid-ray .ensures) (c .if1 .left) in (c .before .before .before .before .before .before .pre .0, v .possible-sound)
+covers-requires c κs = let v =
+    tells-good _ (c .before .valid-ray .result) (c .before .valid-ray .ensures) (c .if1 .left) in
+    (c .before .before .before .before .before .before .pre .0, v .possible-sound)
 
 returns-2 : tie.Need-returns-2
-returns-2 c = let a = c .before .before .before .before .before .before .before .before .args in only-2 (a .lo) (a .hi) (a .p .now) (a .q .now) (a .np .now) (a .nq .now) (c .before .covers .result) (c .before .covers .ensures) (c .if2 .taken)
+returns-2 c = let a = c .before .before .before .before .before .before .before .before .args in
+    only-2 (a .lo) (a .hi) (a .p .now) (a .q .now) (a .np .now) (a .nq .now) (c .before .covers .result)
+    (c .before .covers .ensures) (c .if2 .taken)
 
 covers-requires-2 : tie.Need-covers-requires-2
-covers-requires-2 c κs = let v = tells-good _ (c .before .before .before .valid-ray .result) (c .before .before .before .valid-ray .ensures) (c .before .before .if1 .left) in (c .before .before .before .before .before .before .before .before .pre .1, v .certain-sound)
+covers-requires-2 c κs = let v =
+    tells-good _ (c .before .before .before .valid-ray .result) (c .before .before .before .valid-ray .ensures)
+    (c .before .before .if1 .left) in
+    (c .before .before .before .before .before .before .before .before .pre .1, v .certain-sound)
 
 returns-3 : tie.Need-returns-3
-returns-3 c = let a = c .before .before .before .before .before .before .before .before .before .before .args in only-3 (a .lo) (a .hi) (a .p .now) (a .q .now) (a .np .now) (a .nq .now) (c .before .covers2 .result) (c .before .covers2 .ensures) (c .if3 .taken)
+returns-3 c = let a = c .before .before .before .before .before .before .before .before .before .before .args in
+    only-3 (a .lo) (a .hi) (a .p .now) (a .q .now) (a .np .now) (a .nq .now) (c .before .covers2 .result)
+    (c .before .covers2 .ensures) (c .if3 .taken)
 
 returns-4 : tie.Need-returns-4
 returns-4 c =
     let a = c .before .before .before .before .before .before .before .before .before .before .before .before .args in
-    only-4 (a .lo) (a .hi) (a .p .now) (a .q .now) (a .np .now) (a .nq .now) (c .before .same-ends .result) (tells-good _ (c .before .before .before .before .before .before .before .valid-ray .result) (c .before .before .before .before .before .before .before .valid-ray .ensures) (c .before .before .before .before .before .before .if1 .left)) (covers-good _ _ (c .before .before .before .before .before .covers .result) (c .before .before .before .before .before .covers .ensures) (c .before .before .before .before .if2 .left)) (covers-good _ _ (c .before .before .before .covers2 .result) (c .before .before .before .covers2 .ensures) (c .before .before .if3 .left)) (c .before .same-ends .ensures) (c .if4 .taken)
+    only-4 (a .lo) (a .hi) (a .p .now) (a .q .now) (a .np .now) (a .nq .now) (c .before .same-ends .result)
+    (tells-good _ (c .before .before .before .before .before .before .before .valid-ray .result)
+    (c .before .before .before .before .before .before .before .valid-ray .ensures)
+    (c .before .before .before .before .before .before .if1 .left))
+    (covers-good _ _ (c .before .before .before .before .before .covers .result)
+    (c .before .before .before .before .before .covers .ensures) (c .before .before .before .before .if2 .left))
+    (covers-good _ _ (c .before .before .before .covers2 .result) (c .before .before .before .covers2 .ensures)
+    (c .before .before .if3 .left)) (c .before .same-ends .ensures) (c .if4 .taken)
 
 returns-5 : tie.Need-returns-5
 returns-5 c =
     let a = c .before .before .before .before .before .before .before .before .before .before .before .before .before .args in
-    only-5 (a .lo) (a .hi) (a .p .now) (a .q .now) (a .np .now) (a .nq .now) (c .before .before .same-ends .result) (c .same-ends2 .result) (tells-good _ (c .before .before .before .before .before .before .before .before .valid-ray .result) (c .before .before .before .before .before .before .before .before .valid-ray .ensures) (c .before .before .before .before .before .before .before .if1 .left)) (covers-good _ _ (c .before .before .before .before .before .before .covers .result) (c .before .before .before .before .before .before .covers .ensures) (c .before .before .before .before .before .if2 .left)) (covers-good _ _ (c .before .before .before .before .covers2 .result) (c .before .before .before .before .covers2 .ensures) (c .before .before .before .if3 .left)) (c .before .before .same-ends .ensures) (c .before .if4 .left) (c .same-ends2 .ensures)
+    only-5 (a .lo) (a .hi) (a .p .now) (a .q .now) (a .np .now) (a .nq .now) (c .before .before .same-ends .result)
+    (c .same-ends2 .result) (tells-good _
+    (c .before .before .before .before .before .before .before .before .valid-ray .result)
+    (c .before .before .before .before .before .before .before .before .valid-ray .ensures)
+    (c .before .before .before .before .before .before .before .if1 .left))
+    (covers-good _ _ (c .before .before .before .before .before .before .covers .result)
+    (c .before .before .before .before .before .before .covers .ensures)
+    (c .before .before .before .before .before .if2 .left))
+    (covers-good _ _ (c .before .before .before .before .covers2 .result)
+    (c .before .before .before .before .covers2 .ensures) (c .before .before .before .if3 .left))
+    (c .before .before .same-ends .ensures) (c .before .if4 .left) (c .same-ends2 .ensures)
 
 pub only-loses-spec : {M : Type 1} → statement M
 only-loses-spec =

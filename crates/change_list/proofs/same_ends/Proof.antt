@@ -24,13 +24,23 @@ shared-slice-read-if2-2 : tie.Need-shared-slice-read-if2-2 Inv-loop μ-loop
 shared-slice-read-if2-2 c = omega (arith, c .before .before .before .before .if1 .left)
 
 returns-2 : tie.Need-returns-2 Inv-loop μ-loop
-returns-2 c = let a = c .before .before .before .before .before .before .args in ends-differ (a .a .now) (a .b .now) (c .before .before .before .before .loop .k) (c .before .before .before .loop-test .taken) (c .before .before .before .before .before .if1 .left) (c .if2 .taken) (c .before .before .before .before .loop .inv .1)
+returns-2 c = let a = c .before .before .before .before .before .before .args in
+    ends-differ (a .a .now) (a .b .now) (c .before .before .before .before .loop .k)
+    (c .before .before .before .loop-test .taken) (c .before .before .before .before .before .if1 .left)
+    (c .if2 .taken) (c .before .before .before .before .loop .inv .1)
 
 loop-again : tie.Need-loop-again Inv-loop μ-loop
-loop-again c = let a = c .before .before .before .before .before .before .args in (omega arith, ends-agree (a .a .now) (a .b .now) (c .before .before .before .before .loop .k) (c .before .before .before .loop-test .taken) (c .before .before .before .before .before .if1 .left) (c .if2 .left) (c .before .before .before .before .loop .inv .1))
+loop-again c = let a = c .before .before .before .before .before .before .args in (
+  omega arith,
+  ends-agree (a .a .now) (a .b .now) (c .before .before .before .before .loop .k)
+      (c .before .before .before .loop-test .taken) (c .before .before .before .before .before .if1 .left)
+      (c .if2 .left) (c .before .before .before .before .loop .inv .1),
+)
 
 returns-3 : tie.Need-returns-3 Inv-loop μ-loop
-returns-3 c = let a = c .before .before .before .args in ends-all (a .a .now) (a .b .now) (c .before .loop .k) (c .loop-test .left) (c .before .before .if1 .left) (c .before .loop .inv .1)
+returns-3 c = let a = c .before .before .before .args in
+    ends-all (a .a .now) (a .b .now) (c .before .loop .k) (c .loop-test .left) (c .before .before .if1 .left)
+    (c .before .loop .inv .1)
 
 pub same-ends-spec : {M : Type 1} → statement M
 same-ends-spec =

@@ -24,16 +24,23 @@ chord-fits-requires : tie.Need-chord-fits-requires Inv-loop μ-loop
 chord-fits-requires c κs = omega (arith, c .loop-test .taken)
 
 returns-2 : tie.Need-returns-2 Inv-loop μ-loop
-returns-2 c = chord-out _ _ _ (c .before .before .before .loop .i) (c .before .chord-fits .result) (c .before .before .loop-test .taken) (c .before .chord-fits .ensures) (c .if2 .taken)
+returns-2 c = chord-out _ _ _ (c .before .before .before .loop .i) (c .before .chord-fits .result)
+    (c .before .before .loop-test .taken) (c .before .chord-fits .ensures) (c .if2 .taken)
 
 loop-less : tie.Need-loop-less Inv-loop μ-loop
 loop-less c = omega (arith, c .before .before .loop-test .taken)
 
 loop-again : tie.Need-loop-again Inv-loop μ-loop
-loop-again c = (omega (arith, c .before .before .loop-test .taken), every-more _ (c .before .before .before .loop .i) (c .before .chord-fits .result) (c .before .before .before .loop .inv .1) (c .before .chord-fits .ensures) (c .if2 .left))
+loop-again c = (
+  omega (arith, c .before .before .loop-test .taken),
+  every-more _ (c .before .before .before .loop .i) (c .before .chord-fits .result)
+      (c .before .before .before .loop .inv .1) (c .before .chord-fits .ensures) (c .if2 .left),
+)
 
 returns-3 : tie.Need-returns-3 Inv-loop μ-loop
-returns-3 c = all-fit _ _ _ (c .before .loop .i) (c .before .before .before .guard-fits .result) (omega (arith, c .loop-test .left, c .before .loop .inv .0)) (c .before .before .before .guard-fits .ensures) (c .before .before .if1 .left) (c .before .loop .inv .1)
+returns-3 c = all-fit _ _ _ (c .before .loop .i) (c .before .before .before .guard-fits .result)
+    (omega (arith, c .loop-test .left, c .before .loop .inv .0)) (c .before .before .before .guard-fits .ensures)
+    (c .before .before .if1 .left) (c .before .loop .inv .1)
 
 pub check-chords-spec : {M : Type 1} → statement M
 check-chords-spec =

@@ -5,7 +5,12 @@ use Rattle.chords.proofs.chord_at.Tie as tie
 
 returns : tie.Need-returns
 unfolding chordOf
-returns c = simp (← c .before .before .local2 .ensures, ← c .before .before .before .point-at2 .ensures, ← c .before .before .before .before .local .ensures, ← c .before .before .before .before .before .point-at .ensures)
+returns c = simp (
+  ← c .before .before .local2 .ensures,
+  ← c .before .before .before .point-at2 .ensures,
+  ← c .before .before .before .before .local .ensures,
+  ← c .before .before .before .before .before .point-at .ensures,
+)
 
 pub chord-at-spec : {M : Type 1} → statement M
 chord-at-spec =

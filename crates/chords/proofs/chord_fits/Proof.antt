@@ -13,7 +13,9 @@ numbers-fit-requires : tie.Need-numbers-fit-requires
 numbers-fit-requires c κs = search needs
 
 returns : tie.Need-returns
-returns c = ends-in _ _ _ (c .before .before .before .ends-fit .result) _ (c .before .chord-at .result) (c .before .before .before .ends-fit .ensures) (c .before .before .if1 .taken) (c .before .chord-at .ensures) (c .numbers-fit .ensures)
+returns c = ends-in _ _ _ (c .before .before .before .ends-fit .result) _ (c .before .chord-at .result)
+    (c .before .before .before .ends-fit .ensures) (c .before .before .if1 .taken) (c .before .chord-at .ensures)
+    (c .numbers-fit .ensures)
 
 returns-2 : tie.Need-returns-2
 returns-2 c = ends-out _ _ _ (c .before .ends-fit .result) (c .before .ends-fit .ensures) (c .if1 .left)

@@ -5,7 +5,13 @@ use Rattle.chords.proofs.ends_fit.Tie as tie
 
 returns : tie.Need-returns
 unfolding endsFit
-returns c = simp (← c .all-within2 .ensures, ← c .before .point-at2 .ensures, c .before .before .if1 .taken, ← c .before .before .before .all-within .ensures, ← c .before .before .before .before .point-at .ensures)
+returns c = simp (
+  ← c .all-within2 .ensures,
+  ← c .before .point-at2 .ensures,
+  c .before .before .if1 .taken,
+  ← c .before .before .before .all-within .ensures,
+  ← c .before .before .before .before .point-at .ensures,
+)
 
 returns-2 : tie.Need-returns-2
 unfolding endsFit

@@ -13,11 +13,20 @@ commit-grid-requires c κs =
 
 returns : tie.Need-returns
 returns c =
-    let a = c .before .before .before .before .before .before .before .before .before .before .before .before .before .before .before .before .before .before .before .before .args in
-    grid-accepted (a .spec) (a .units .now) (stock (a .spans .now) (a .links .now) (a .heads .now) (a .generation) (a .intervals)) (a .changes .now) (a .pairs .now) (a .base) _ _ (c .before .before .before .before .before .before .commit-grid .result .answer) (sym (c .before .before .before .before .before .before .before .before .before .before .before .before .before .grid .ensures .is) ∙ c .before .before .before .before .before .before .before .before .before .before .before .g .given .1) (c .before .before .before .before .before .before .commit-grid .ensures)
+    let a = c .before .before .before .before .before .before .before .before .before .before .before .before .before
+    .before .before .before .before .before .before .before .args in
+    grid-accepted (a .spec) (a .units .now)
+    (stock (a .spans .now) (a .links .now) (a .heads .now) (a .generation) (a .intervals)) (a .changes .now)
+    (a .pairs .now) (a .base) _ _ (c .before .before .before .before .before .before .commit-grid .result .answer)
+    (sym (c .before .before .before .before .before .before .before .before .before .before .before .before
+    .before .grid .ensures .is) ∙ c .before .before .before .before .before .before .before .before .before
+    .before .before .g .given .1) (c .before .before .before .before .before .before .commit-grid .ensures)
 
 returns-2 : tie.Need-returns-2
-returns-2 c = let a = c .before .before .before .before .before .before .before .before .before .before .args in grid-refused (a .spec) (a .units .now) (stock (a .spans .now) (a .links .now) (a .heads .now) (a .generation) (a .intervals)) (a .changes .now) (a .pairs .now) (a .base) _ (sym (c .before .before .before .grid .ensures .is) ∙ c .before .k .given .1)
+returns-2 c = let a = c .before .before .before .before .before .before .before .before .before .before .args in
+    grid-refused (a .spec) (a .units .now)
+    (stock (a .spans .now) (a .links .now) (a .heads .now) (a .generation) (a .intervals)) (a .changes .now)
+    (a .pairs .now) (a .base) _ (sym (c .before .before .before .grid .ensures .is) ∙ c .before .k .given .1)
 
 pub commit-changes-on-spec : {M : Type 1} → statement M
 commit-changes-on-spec =

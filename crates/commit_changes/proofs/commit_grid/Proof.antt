@@ -9,20 +9,49 @@ judge-requires : tie.Need-judge-requires
 judge-requires c κs = c .before .before .before .before .before .before .before .before .pre
 
 apply-changes-requires : tie.Need-apply-changes-requires
-apply-changes-requires c κs = let a = c .before .before .before .before .before .before .before .before .before .before .before .before .before .before .before .args in (a .intervals, judged-fitting (a .spec) (a .g) (stock (a .spans .now) (a .links .now) (a .heads .now) (a .generation) (a .intervals)) (a .changes .now) (a .pairs .now) (a .base) _ (c .before .before .before .before .before .before .judge .ensures) _ (c .before .before .before .before .total .given .1))
+apply-changes-requires c κs = let a =
+    c .before .before .before .before .before .before .before .before .before .before .before .before .before .before
+    .before .args in (
+      a .intervals,
+      judged-fitting (a .spec) (a .g)
+          (stock (a .spans .now) (a .links .now) (a .heads .now) (a .generation) (a .intervals)) (a .changes .now)
+          (a .pairs .now) (a .base) _ (c .before .before .before .before .before .before .judge .ensures) _
+          (c .before .before .before .before .total .given .1),
+    )
 
 add-t32 : tie.Need-add-t32
 add-t32 c =
-    let a = c .before .before .before .before .before .before .before .before .before .before .before .before .before .before .before .before .before .before .before .before .before .before .args in
-    omega (arith, generation-steps (a .spec) (a .g) (stock (a .spans .now) (a .links .now) (a .heads .now) (a .generation) (a .intervals)) (a .changes .now) (a .pairs .now) (a .base) _ (c .before .before .before .before .before .before .before .before .before .before .before .before .before .judge .ensures) _ (c .before .before .before .before .before .before .before .before .before .before .before .total .given .1) (omega (arith, c .before .before .before .before .before .before .before .before .before .before .before .before .before .before .before .before .before .before .before .before .before .before .good .0)))
+    let a = c .before .before .before .before .before .before .before .before .before .before .before .before .before
+    .before .before .before .before .before .before .before .before .before .args in
+    omega (
+      arith,
+      generation-steps (a .spec) (a .g)
+          (stock (a .spans .now) (a .links .now) (a .heads .now) (a .generation) (a .intervals)) (a .changes .now)
+          (a .pairs .now) (a .base) _ (c .before .before .before .before .before .before .before .before .before .before
+          .before .before .before .judge .ensures) _
+          (c .before .before .before .before .before .before .before .before .before .before .before .total .given .1)
+          (omega (
+            arith,
+            c .before .before .before .before .before .before .before .before .before .before .before
+                .before .before .before .before .before .before .before .before .before .before .before .good .0,
+          )),
+    )
 
 returns : tie.Need-returns
 returns c =
-    let a = c .before .before .before .before .before .before .before .before .before .before .before .before .before .before .before .before .before .before .before .before .before .before .args in
-    judged-fits (a .spec) (a .g) (stock (a .spans .now) (a .links .now) (a .heads .now) (a .generation) (a .intervals)) (a .changes .now) (a .pairs .now) (a .base) _ (c .before .before .before .before .before .before .before .before .before .before .before .before .before .judge .ensures) _ (c .before .before .before .before .before .before .before .before .before .before .before .total .given .1) _ (c .before .before .before .before .before .before .apply-changes .ensures)
+    let a = c .before .before .before .before .before .before .before .before .before .before .before .before .before
+    .before .before .before .before .before .before .before .before .before .args in
+    judged-fits (a .spec) (a .g) (stock (a .spans .now) (a .links .now) (a .heads .now) (a .generation)
+    (a .intervals)) (a .changes .now) (a .pairs .now) (a .base) _
+    (c .before .before .before .before .before .before .before .before .before .before .before .before .before
+    .judge .ensures) _ (c .before .before .before .before .before .before .before .before .before .before .before
+    .total .given .1) _ (c .before .before .before .before .before .before .apply-changes .ensures)
 
 returns-2 : tie.Need-returns-2
-returns-2 c = let a = c .before .before .before .before .before .before .before .before .before .before .before .before .args in judged-no (a .spec) (a .g) (stock (a .spans .now) (a .links .now) (a .heads .now) (a .generation) (a .intervals)) (a .changes .now) (a .pairs .now) (a .base) _ (c .before .before .before .judge .ensures) _ (c .before .k .given .1)
+returns-2 c = let a = c .before .before .before .before .before .before .before .before .before .before .before
+    .before .args in judged-no (a .spec) (a .g)
+    (stock (a .spans .now) (a .links .now) (a .heads .now) (a .generation) (a .intervals)) (a .changes .now)
+    (a .pairs .now) (a .base) _ (c .before .before .before .judge .ensures) _ (c .before .k .given .1)
 
 pub commit-grid-spec : {M : Type 1} → statement M
 commit-grid-spec =

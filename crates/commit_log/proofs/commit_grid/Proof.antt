@@ -8,19 +8,34 @@ returns : tie.Need-returns
 returns c = refuse _ _ _ _ _ _ _ (c .before .refusal .ensures) (c .if1 .taken)
 
 cut-lists-requires : tie.Need-cut-lists-requires
-cut-lists-requires c κs = ready _ _ _ _ _ _ (c .before .before .before .before .before .before .before .before .before .before .before .before .before .before .before .pre) _ (c .before .before .before .before .before .refusal .ensures) (c .before .before .before .before .if1 .left)
+cut-lists-requires c κs = ready _ _ _ _ _ _
+    (c .before .before .before .before .before .before .before .before .before .before .before .before .before .before
+    .before .pre) _ (c .before .before .before .before .before .refusal .ensures)
+    (c .before .before .before .before .if1 .left)
 
 count-used-requires : tie.Need-count-used-requires
-count-used-requires c κs = let r = c .before .before .before .before .before .before .before .before .before .before .before .before .before .before .before .before .refusal .ensures .passed (c .before .before .before .before .before .before .before .before .before .before .before .before .before .before .before .if1 .left) .room in (omega (arith, r .in-spans), omega (arith, r .in-links))
+count-used-requires c κs = let r =
+    c .before .before .before .before .before .before .before .before .before .before .before .before .before .before
+    .before .before .refusal .ensures .passed
+    (c .before .before .before .before .before .before .before .before .before .before .before .before .before .before
+    .before .if1 .left) .room in (omega (arith, r .in-spans), omega (arith, r .in-links))
 
 add-t39 : tie.Need-add-t39
-add-t39 c = omega (arith, c .before .before .before .before .before .before .before .before .before .before .before .before .before .before .before .before .before .refusal .ensures .passed (c .before .before .before .before .before .before .before .before .before .before .before .before .before .before .before .before .if1 .left) .below)
+add-t39 c = omega (
+  arith,
+  c .before .before .before .before .before .before .before .before .before .before .before
+      .before .before .before .before .before .before .refusal .ensures .passed
+      (c .before .before .before .before .before .before .before .before .before .before .before .before .before .before
+      .before .before .if1 .left) .below,
+)
 
 returns-2 : tie.Need-returns-2
 returns-2 c =
-    let judged = c .before .before .before .before .before .before .before .before .before .before .before .before .before .before .before .before .before in
+    let judged = c .before .before .before .before .before .before .before .before .before .before .before .before
+    .before .before .before .before .before in
     accept _ _ _ _ _ _ _ (judged .refusal .ensures)
-    (c .before .before .before .before .before .before .before .before .before .before .before .before .before .before .before .before .if1 .left)
+    (c .before .before .before .before .before .before .before .before .before .before .before .before .before .before
+    .before .before .if1 .left)
     (judged .before .before .before .before .before .before .before .before .before .slice-known .given)
     (judged .before .before .before .before .before .before .shared-slice-known .given) _ _ _
     (c .before .before .before .before .before .before .before .before .before .before .before .cut-lists .ensures) _

@@ -6,10 +6,16 @@ use Rattle.commit_log.proofs.commit_log_on.Statement.{statement}
 use Rattle.commit_log.proofs.commit_log_on.Tie as tie
 
 commit-grid-requires : tie.Need-commit-grid-requires
-commit-grid-requires c κs = grid-facts _ _ _ (sym (c .before .before .before .before .before .before .before .grid .ensures .is) ∙ c .before .before .before .before .before .g .given .1)
+commit-grid-requires c κs = grid-facts _ _ _
+    (sym (c .before .before .before .before .before .before .before .grid .ensures .is)
+    ∙ c .before .before .before .before .before .g .given .1)
 
 returns : tie.Need-returns
-returns c = on-grid _ _ _ _ _ _ _ _ _ _ (sym (c .before .before .before .before .before .before .before .before .before .before .before .before .before .before .before .before .grid .ensures .is) ∙ c .before .before .before .before .before .before .before .before .before .before .before .before .before .before .g .given .1) (c .before .before .before .before .before .before .before .before .commit-grid .ensures)
+returns c = on-grid _ _ _ _ _ _ _ _ _ _
+    (sym (c .before .before .before .before .before .before .before .before .before .before .before .before .before
+    .before .before .before .grid .ensures .is)
+    ∙ c .before .before .before .before .before .before .before .before .before .before .before .before .before
+    .before .g .given .1) (c .before .before .before .before .before .before .before .before .commit-grid .ensures)
 
 returns-2 : tie.Need-returns-2
 returns-2 c = no-grid _ _ _ _ _ _ _ (sym (c .before .before .before .grid .ensures .is) ∙ c .before .k .given .1)

@@ -9,33 +9,56 @@ use Rattle.commit_run.proofs.run_logs.Tie as tie
 
 abbrev Inv-loop : tie.InvT-loop
 Inv-loop spec units spans₀ links₀ heads₀ logs ends allowances work₀ answers₀ count left₀ at₀ i₀ spans links heads work answers left at i =
-    RunTo spec units (stock spans₀ links₀ heads₀ (left₀ .generation) (left₀ .intervals)) logs ends allowances work₀ answers₀ i (stock spans links heads (left .generation) (left .intervals)) at work answers
+    RunTo spec units (stock spans₀ links₀ heads₀ (left₀ .generation) (left₀ .intervals))
+    logs ends allowances work₀ answers₀ i (stock spans links heads (left .generation) (left .intervals)) at work answers
 
 abbrev μ-loop : tie.MeasureT-loop
-μ-loop spec units spans₀ links₀ heads₀ logs ends allowances work₀ answers₀ count left₀ at₀ i₀ spans links heads work answers left at i = count - i
+μ-loop spec units spans₀ links₀ heads₀ logs ends allowances work₀ answers₀ count left₀ at₀ i₀ spans links heads work
+    answers left at i = count - i
 
 loop-holds : tie.Need-loop-holds Inv-loop μ-loop
 loop-holds c = run-start _ _ _ _ _ _ _ _ (c .before .before .before .before .before .before .before .slice-known .given)
 
 shared-slice-read-run-one : tie.Need-shared-slice-read-run-one Inv-loop μ-loop
-shared-slice-read-run-one c = omega (arith, c .before .before .before .before .before .loop-test .taken, c .before .before .before .before .before .before .before .before .before .before .before .before .before .before .before .before .pre .allowed)
+shared-slice-read-run-one c = omega (
+  arith,
+  c .before .before .before .before .before .loop-test .taken,
+  c .before .before .before .before .before .before .before .before .before .before .before .before .before .before
+      .before .before .pre .allowed,
+)
 
 run-one-requires : tie.Need-run-one-requires Inv-loop μ-loop
 run-one-requires c κs =
-    let p = c .before .before .before .before .before .before .before .before .before .before .before .before .before .before .before .before .before .before .pre in
+    let p = c .before .before .before .before .before .before .before .before .before .before .before .before .before
+    .before .before .before .before .before .pre in
     let i = c .before .before .before .before .before .before .before .before .loop .inv in
     let t = c .before .before .before .before .before .before .before .loop-test .taken in
     (omega (arith, i .begins, p .ascends _ t), p .within _ t, omega (arith, i .answers-size, p .room))
 
 add-i : tie.Need-add-i Inv-loop μ-loop
-add-i c = omega (arith, c .before .before .before .before .before .before .before .before .before .before .before .before .before .before .before .before .before .before .loop-test .taken, c .before .before .before .before .before .before .before .before .before .before .before .before .before .before .before .before .before .before .before .before .before .before .before .before .before .before .before .before .before .good)
+add-i c = omega (
+  arith,
+  c .before .before .before .before .before .before .before .before .before .before .before
+      .before .before .before .before .before .before .before .loop-test .taken,
+  c .before .before .before .before .before .before .before .before .before .before .before .before .before .before
+      .before .before .before .before .before .before .before .before .before .before .before .before .before .before
+      .before .good,
+)
 
 loop-less : tie.Need-loop-less Inv-loop μ-loop
 loop-less c = omega arith
 
 loop-again : tie.Need-loop-again Inv-loop μ-loop
 loop-again c =
-    run-next _ _ _ _ _ _ _ _ _ _ _ _ _ _ _ _ (c .before .before .before .before .before .before .before .before .before .before .before .before .before .before .before .before .before .before .before .loop .inv) (c .before .before .before .before .before .before .before .before .before .before .before .before .before .before .before .before .before .before .loop-test .taken) (c .before .before .before .before .before .before .before .before .before .before .before .before .before .before .before .before .before .before .before .before .before .before .before .before .before .before .before .before .before .pre .room) (c .before .before .before .before .before .before .before .before .before .before .run-one .ensures)
+    run-next _ _ _ _ _ _ _ _ _ _ _ _ _ _ _ _
+    (c .before .before .before .before .before .before .before .before .before .before .before .before .before
+    .before .before .before .before .before .before .loop .inv)
+    (c .before .before .before .before .before .before .before .before .before .before .before .before .before
+    .before .before .before .before .before .loop-test .taken)
+    (c .before .before .before .before .before .before .before .before .before .before .before .before .before
+    .before .before .before .before .before .before .before .before .before .before .before .before .before
+    .before .before .before .pre .room)
+    (c .before .before .before .before .before .before .before .before .before .before .run-one .ensures)
     (c .before .before .before .before .before .before .before .before .slice-known6 .given) (search needs) (search needs) (search needs)
     (search needs) (search needs)
 

@@ -5,7 +5,14 @@ use Rattle.cutter.proofs.cut_max.Tie as tie
 
 returns : tie.Need-returns
 unfolding cutMax
-returns c = simp (← c .cut-radius .ensures, ← c .before .clamp .ensures, ← c .before .before .widest-height .ensures, c .before .before .before .if1 .taken, ← c .before .before .before .before .smaller .ensures, ← c .before .before .before .before .before .larger .ensures)
+returns c = simp (
+  ← c .cut-radius .ensures,
+  ← c .before .clamp .ensures,
+  ← c .before .before .widest-height .ensures,
+  c .before .before .before .if1 .taken,
+  ← c .before .before .before .before .smaller .ensures,
+  ← c .before .before .before .before .before .larger .ensures,
+)
 
 returns-2 : tie.Need-returns-2
 unfolding cutMax

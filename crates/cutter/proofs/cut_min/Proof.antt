@@ -5,7 +5,13 @@ use Rattle.cutter.proofs.cut_min.Tie as tie
 
 returns : tie.Need-returns
 unfolding cutMin
-returns c = simp (← c .smaller .ensures, ← c .before .cut-radius2 .ensures, ← c .before .before .cut-radius .ensures, c .before .before .before .if2 .taken, c .before .before .before .before .before .if1 .taken)
+returns c = simp (
+  ← c .smaller .ensures,
+  ← c .before .cut-radius2 .ensures,
+  ← c .before .before .cut-radius .ensures,
+  c .before .before .before .if2 .taken,
+  c .before .before .before .before .before .if1 .taken,
+)
 
 returns-2 : tie.Need-returns-2
 unfolding cutMin

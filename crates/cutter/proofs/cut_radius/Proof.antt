@@ -5,11 +5,19 @@ use Rattle.cutter.proofs.cut_radius.Tie as tie
 
 returns : tie.Need-returns
 unfolding cutRadius
-returns c = simp (c .before .s .given .1, ← c .before .before .before .radius-at .ensures, ← c .before .before .before .before .clamp .ensures)
+returns c = simp (
+  c .before .s .given .1,
+  ← c .before .before .before .radius-at .ensures,
+  ← c .before .before .before .before .clamp .ensures,
+)
 
 returns-2 : tie.Need-returns-2
 unfolding cutRadius
-returns-2 c = simp (c .before .s2 .given .1, ← c .before .before .before .radius-at .ensures, ← c .before .before .before .before .clamp .ensures)
+returns-2 c = simp (
+  c .before .s2 .given .1,
+  ← c .before .before .before .radius-at .ensures,
+  ← c .before .before .before .before .clamp .ensures,
+)
 
 returns-3 : tie.Need-returns-3
 unfolding cutRadius

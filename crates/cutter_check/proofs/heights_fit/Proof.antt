@@ -5,7 +5,12 @@ use Rattle.cutter_check.proofs.heights_fit.Tie as tie
 
 returns : tie.Need-returns
 unfolding heightsFit
-returns c = simp (← c .all-three .ensures, ← c .before .is-from-zero3 .ensures, ← c .before .before .is-from-zero2 .ensures, ← c .before .before .before .is-from-zero .ensures)
+returns c = simp (
+  ← c .all-three .ensures,
+  ← c .before .is-from-zero3 .ensures,
+  ← c .before .before .is-from-zero2 .ensures,
+  ← c .before .before .before .is-from-zero .ensures,
+)
 
 pub heights-fit-spec : {M : Type 1} → statement M
 heights-fit-spec =

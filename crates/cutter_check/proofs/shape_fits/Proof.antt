@@ -5,7 +5,12 @@ use Rattle.cutter_check.proofs.shape_fits.Tie as tie
 
 returns : tie.Need-returns
 unfolding shapeFits
-returns c = simp (← c .is-from-zero4 .ensures, c .before .if1 .taken, ← c .before .before .is-from-zero3 .ensures, c .before .before .before .before .shape3 .given .1)
+returns c = simp (
+  ← c .is-from-zero4 .ensures,
+  c .before .if1 .taken,
+  ← c .before .before .is-from-zero3 .ensures,
+  c .before .before .before .before .shape3 .given .1,
+)
 
 returns-2 : tie.Need-returns-2
 unfolding shapeFits

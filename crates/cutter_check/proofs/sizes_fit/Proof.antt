@@ -5,7 +5,12 @@ use Rattle.cutter_check.proofs.sizes_fit.Tie as tie
 
 returns : tie.Need-returns
 unfolding sizesFit
-returns c = simp (← c .all-three .ensures, ← c .before .is-above-zero3 .ensures, ← c .before .before .is-above-zero2 .ensures, ← c .before .before .before .is-above-zero .ensures)
+returns c = simp (
+  ← c .all-three .ensures,
+  ← c .before .is-above-zero3 .ensures,
+  ← c .before .before .is-above-zero2 .ensures,
+  ← c .before .before .before .is-above-zero .ensures,
+)
 
 pub sizes-fit-spec : {M : Type 1} → statement M
 sizes-fit-spec =

@@ -1,4 +1,5 @@
--- `doubles_bits::bits_of` meets its contract: only the NaN differs from itself, and what `toBits` writes for it is the code's constant. Assumes nothing.
+-- `doubles_bits::bits_of` meets its contract: only the NaN differs from itself, and what `toBits` writes for it is
+-- the code's constant. Assumes nothing.
 use mathlib.Core.Path.{_≡_, refl, sym, ap, _∙_}
 use lib.Ieee.{nan, binary64, toBits}
 use lib.Ieee.Compare.{differs-from-itself}

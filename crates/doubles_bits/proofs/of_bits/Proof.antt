@@ -1,4 +1,5 @@
--- `doubles_bits::of_bits` meets its contract: a pattern is a NaN's where, without its sign, it is above an infinity's (`nanBits-above`). Assumes nothing.
+-- `doubles_bits::of_bits` meets its contract: a pattern is a NaN's where, without its sign, it is above an infinity's
+-- (`nanBits-above`). Assumes nothing.
 use mathlib.Core.Path.{sym, _∙_}
 use lib.Ieee.{binary64, ofBits}
 use lib.Ieee.Bits.{nanBits-is, nanBits-above}

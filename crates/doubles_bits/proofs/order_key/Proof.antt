@@ -1,4 +1,5 @@
--- `doubles_bits::order_key` meets its contract: the tests pick the key as `keyOf` does, and the bits of what is no NaN are a 64-bit number. Assumes nothing.
+-- `doubles_bits::order_key` meets its contract: the tests pick the key as `keyOf` does, and the bits of what is no
+-- NaN are a 64-bit number. Assumes nothing.
 use native.Mathlib.Omega.{arith}
 use lib.Ieee.{binary64}
 use lib.Ieee.Bits.{toBits-lt}

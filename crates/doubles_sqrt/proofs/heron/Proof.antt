@@ -36,7 +36,11 @@ returns c =
     let g = c .args .guess in
     let positive : 0 < g = omega arith in
     let above = heron-above m g positive in
-    record { above = above; large = large m _ (c .pre .0) above; small = omega (arith, quotient-small m g (c .pre .1 .0) (c .pre .1 .1 .0)) }
+    record {
+      above = above;
+      large = large m _ (c .pre .0) above;
+      small = omega (arith, quotient-small m g (c .pre .1 .0) (c .pre .1 .1 .0));
+    }
 
 pub heron-spec : {M : Type 1} → statement M
 heron-spec = tie.close (tie.spec div-result add-result returns)

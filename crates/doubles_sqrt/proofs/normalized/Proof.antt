@@ -24,7 +24,8 @@ half-left : (c : tie.In-loop Inv-loop μ-loop) → 0 < c .before .loop .half
 half-left c =
     let a = c .before .before .args .a in
     let pre = c .before .before .pre in
-    left-over (c .before .loop .m) (c .before .loop .half) (a .m) (a .half) (c .before .loop .inv .0) (pre .0) (le-trans (lit≤ tt) (pre .1 .1)) (c .loop-test .taken)
+    left-over (c .before .loop .m) (c .before .loop .half) (a .m) (a .half) (c .before .loop .inv .0) (pre .0)
+    (le-trans (lit≤ tt) (pre .1 .1)) (c .loop-test .taken)
 
 sub-half : tie.Need-sub-half Inv-loop μ-loop
 sub-half c = half-left c

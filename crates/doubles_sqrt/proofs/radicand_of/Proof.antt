@@ -17,7 +17,8 @@ radicand : (b : ℕ) → 2 ^ 52 ≤ b → b < 0x7ff0_0000_0000_0000
     → magnitude binary64 (ofBits binary64 b) * 2 ^ low binary64
     ≡ (2 ^ 52 + b % 2 ^ 52) * 2 ^ ((b / 2 ^ 52 - 1) % 2) * 2 ^ 52 * (2 ^ ((b / 2 ^ 52 - 1) / 2 + 511) * 2 ^ ((b / 2 ^ 52 - 1) / 2 + 511))
 radicand b h k =
-    ap (λ (x : ℕ). x * 2 ^ low binary64) (magnitude-at binary64 (ofBits binary64 b) ((2 ^ 52 + b % 2 ^ 52) * 2 ^ (b / 2 ^ 52 - 1)) (normal b h k))
+    ap (λ (x : ℕ). x * 2 ^ low binary64)
+    (magnitude-at binary64 (ofBits binary64 b) ((2 ^ 52 + b % 2 ^ 52) * 2 ^ (b / 2 ^ 52 - 1)) (normal b h k))
     ∙ joined (2 ^ 52 + b % 2 ^ 52) (b / 2 ^ 52 - 1) 511 (2 ^ 52) (2 ^ low binary64) refl
 
 returns : tie.Need-returns
@@ -53,7 +54,9 @@ returns-2 c =
     let M = 2 ^ 52 + b % 2 ^ 52 in
     let high : 2 ^ 52 ≤ b = omega (arith, c .before .if1 .left) in
     record {
-      is = radicand b high (c .before .before .pre .1) ∙ ap (λ (r : ℕ). M * 2 ^ r * 2 ^ 52 * (2 ^ (k / 2 + 511) * 2 ^ (k / 2 + 511))) (c .if2 .taken) ∙ ap (λ (x : ℕ). x * 2 ^ 52 * (2 ^ (k / 2 + 511) * 2 ^ (k / 2 + 511))) (mul-one M);
+      is = radicand b high (c .before .before .pre .1)
+          ∙ ap (λ (r : ℕ). M * 2 ^ r * 2 ^ 52 * (2 ^ (k / 2 + 511) * 2 ^ (k / 2 + 511))) (c .if2 .taken)
+          ∙ ap (λ (x : ℕ). x * 2 ^ 52 * (2 ^ (k / 2 + 511) * 2 ^ (k / 2 + 511))) (mul-one M);
       positive = omega arith;
       small = omega arith;
       least = omega arith;

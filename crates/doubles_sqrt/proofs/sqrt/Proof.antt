@@ -10,7 +10,15 @@ use lib.Ieee.Compare.{differs-from-itself}
 use Rattle.doubles_sqrt.specs.Root.{squareRoot}
 use Rattle.logic.proofs.Bools.{of-true}
 use Rattle.doubles.proofs.Order.{no-nan, zero-over-zero}
-use Rattle.doubles_sqrt.proofs.Result.{root-of-nan, root-of-zero, root-of-negative-zero, root-of-infinity, root-of-negative, finite-is-no-nan, positive-under}
+use Rattle.doubles_sqrt.proofs.Result.{
+  root-of-nan,
+  root-of-zero,
+  root-of-negative-zero,
+  root-of-infinity,
+  root-of-negative,
+  finite-is-no-nan,
+  positive-under,
+}
 use Rattle.doubles_sqrt.proofs.sqrt.Statement.{statement}
 use Rattle.doubles_sqrt.proofs.sqrt.Tie as tie
 
@@ -23,7 +31,8 @@ read : (c : tie.Start) → ofBits binary64 (toBits binary64 (c .args .x)) ≡ c 
 read c = ofBits-toBits binary64 (c .args .x) (held c)
 
 -- at a pattern k whose value is its own root
-own-root : (c : tie.Start) (k : ℕ) → toBits binary64 (c .args .x) ≡ k → squareRoot binary64 (ofBits binary64 k) ≡ ofBits binary64 k → c .args .x ≡ squareRoot binary64 (c .args .x)
+own-root : (c : tie.Start) (k : ℕ) → toBits binary64 (c .args .x) ≡ k
+    → squareRoot binary64 (ofBits binary64 k) ≡ ofBits binary64 k → c .args .x ≡ squareRoot binary64 (c .args .x)
 own-root c k e h = subst (λ (v : Float). v ≡ squareRoot binary64 v) (ap (λ (n : ℕ). ofBits binary64 n) (sym e) ∙ read c) (sym h)
 
 returns : tie.Need-returns
@@ -46,19 +55,26 @@ returns-4 c = own-root (c .before .before .before .before) 0x7ff0_0000_0000_0000
 returns-5 : tie.Need-returns-5
 returns-5 c =
     let start = c .before .before .before .before .before in
-    zero-over-zero ∙ sym (root-of-negative (toBits binary64 (start .args .x)) (c .if5 .taken) (toBits-lt binary64 (start .args .x) (held start))) ∙ ap (λ (v : Float). squareRoot binary64 v) (read start)
+    zero-over-zero ∙ sym (root-of-negative (toBits binary64 (start .args .x)) (c .if5 .taken)
+    (toBits-lt binary64 (start .args .x) (held start))) ∙ ap (λ (v : Float). squareRoot binary64 v) (read start)
 
 root-bits-requires : tie.Need-root-bits-requires
 root-bits-requires c κs =
     let else3 = c .before .before in
-    let start = else3 .before .before .before in
-    (omega (arith, else3 .before .if2 .left), positive-under (toBits binary64 (start .args .x)) (subst (λ (v : Float). T (not (isNan v))) (sym (read start)) (no-nan (start .args .x) (else3 .before .before .if1 .left))) (c .if5 .left) (else3 .if3 .left) (c .before .if4 .left))
+    let start = else3 .before .before .before in (
+      omega (arith, else3 .before .if2 .left),
+      positive-under (toBits binary64 (start .args .x))
+          (subst (λ (v : Float). T (not (isNan v))) (sym (read start))
+          (no-nan (start .args .x) (else3 .before .before .if1 .left))) (c .if5 .left) (else3 .if3 .left)
+          (c .before .if4 .left),
+    )
 
 float-from-bits-result : tie.Need-float-from-bits-result
 float-from-bits-result c = finite-is-no-nan (c .root-bits .result) (c .root-bits .ensures .1)
 
 returns-6 : tie.Need-returns-6
-returns-6 c = c .root-bits .ensures .0 ∙ ap (λ (v : Float). squareRoot binary64 v) (read (c .before .before .before .before .before .before))
+returns-6 c = c .root-bits .ensures .0
+    ∙ ap (λ (v : Float). squareRoot binary64 v) (read (c .before .before .before .before .before .before))
 
 pub sqrt-spec : {M : Type 1} → statement M
 sqrt-spec =

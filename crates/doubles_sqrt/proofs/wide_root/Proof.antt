@@ -32,7 +32,8 @@ module _ (m s : ℕ) (r : RootOf m s) where
   remainder = mod-lt (rest m s) twice-positive
 
   low-small : low m s ≤ 2 ^ 27
-  low-small = low-le m (2 ^ 27) s (low m s) (rest m s % (s * 2)) (r .lower, r .upper) positive wide (sym (div-add-mod' (rest m s) (s * 2))) remainder
+  low-small = low-le m (2 ^ 27) s (low m s) (rest m s % (s * 2)) (r .lower, r .upper) positive wide
+      (sym (div-add-mod' (rest m s) (s * 2))) remainder
 
   found : (t : ℕ) → IsRoot (m * 2 ^ 27 * 2 ^ 27) t → t ≡ wholeRoot (m * 2 ^ 54)
   found t h = root-unique (m * 2 ^ 54) t (wholeRoot (m * 2 ^ 54)) (subst (λ (x : ℕ). IsRoot x t) same h) (whole-root (m * 2 ^ 54))
@@ -41,10 +42,14 @@ module _ (m s : ℕ) (r : RootOf m s) where
       same = omega arith
 
   kept : low m s * low m s ≤ rest m s % (s * 2) * 2 ^ 27 → s * 2 ^ 27 + low m s ≡ wholeRoot (m * 2 ^ 54)
-  kept h = found (s * 2 ^ 27 + low m s) (whole m (2 ^ 27) s (low m s) (rest m s % (s * 2)) (r .lower, r .upper) positive wide (sym (div-add-mod' (rest m s) (s * 2))) remainder h)
+  kept h = found (s * 2 ^ 27 + low m s)
+      (whole m (2 ^ 27) s (low m s) (rest m s % (s * 2)) (r .lower, r .upper) positive wide
+      (sym (div-add-mod' (rest m s) (s * 2))) remainder h)
 
   one-less : rest m s % (s * 2) * 2 ^ 27 < low m s * low m s → s * 2 ^ 27 + low m s - 1 ≡ wholeRoot (m * 2 ^ 54)
-  one-less h = found (s * 2 ^ 27 + low m s - 1) (less m (2 ^ 27) s (low m s) (rest m s % (s * 2)) (r .lower, r .upper) positive wide (sym (div-add-mod' (rest m s) (s * 2))) remainder h)
+  one-less h = found (s * 2 ^ 27 + low m s - 1)
+      (less m (2 ^ 27) s (low m s) (rest m s % (s * 2)) (r .lower, r .upper) positive wide
+      (sym (div-add-mod' (rest m s) (s * 2))) remainder h)
 
 add-root : tie.Need-add-root
 add-root c = omega (arith, low-small (c .before .args .m) (c .whole-root .result) (c .whole-root .ensures))

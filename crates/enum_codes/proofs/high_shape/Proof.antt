@@ -19,11 +19,22 @@ returns-3 c = simp (eq-eqb _ _ (c .if3 .taken), ne-eqb _ _ (c .before .if2 .left
 
 returns-4 : tie.Need-returns-4
 unfolding highShape
-returns-4 c = simp (eq-eqb _ _ (c .if4 .taken), ne-eqb _ _ (c .before .if3 .left), ne-eqb _ _ (c .before .before .if2 .left), ne-eqb _ _ (c .before .before .before .if1 .left))
+returns-4 c = simp (
+  eq-eqb _ _ (c .if4 .taken),
+  ne-eqb _ _ (c .before .if3 .left),
+  ne-eqb _ _ (c .before .before .if2 .left),
+  ne-eqb _ _ (c .before .before .before .if1 .left),
+)
 
 returns-5 : tie.Need-returns-5
 unfolding highShape
-returns-5 c = simp (ne-eqb _ _ (c .if4 .left), ne-eqb _ _ (c .before .if3 .left), ne-eqb _ _ (c .before .before .if2 .left), ne-eqb _ _ (c .before .before .before .if1 .left), zero-over-zero)
+returns-5 c = simp (
+  ne-eqb _ _ (c .if4 .left),
+  ne-eqb _ _ (c .before .if3 .left),
+  ne-eqb _ _ (c .before .before .if2 .left),
+  ne-eqb _ _ (c .before .before .before .if1 .left),
+  zero-over-zero,
+)
 
 pub high-shape-spec : {M : Type 1} → statement M
 high-shape-spec = tie.close (tie.spec returns returns-2 returns-3 returns-4 returns-5)

@@ -19,11 +19,13 @@ digit-requires-2 c κs = search needs
 
 -- src/lib.rt:86:16
 add-t5 : tie.Need-add-t5
-add-t5 c = let a : c .digit2 .result ≤ 2 = rw (c .digit2 .ensures) (digit-most _) in let b : c .before .digit .result ≤ 2 = rw (c .before .digit .ensures) (digit-most _) in search needs
+add-t5 c = let a : c .digit2 .result ≤ 2 = rw (c .digit2 .ensures) (digit-most _) in
+    let b : c .before .digit .result ≤ 2 = rw (c .before .digit .ensures) (digit-most _) in search needs
 
 -- src/lib.rt:86:16
 sub-t6 : tie.Need-sub-t6
-sub-t6 c = let a : c .digit2 .result ≤ 2 = rw (c .digit2 .ensures) (digit-most _) in let b : c .before .digit .result ≤ 2 = rw (c .before .digit .ensures) (digit-most _) in omega arith
+sub-t6 c = let a : c .digit2 .result ≤ 2 = rw (c .digit2 .ensures) (digit-most _) in
+    let b : c .before .digit .result ≤ 2 = rw (c .before .digit .ensures) (digit-most _) in omega arith
 
 -- src/lib.rt:81:1
 returns : tie.Need-returns

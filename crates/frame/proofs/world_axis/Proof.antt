@@ -18,7 +18,8 @@ digit-requires-2 c κs = search needs
 
 -- src/lib.rt:77:16
 add-t5 : tie.Need-add-t5
-add-t5 c = let a : c .digit2 .result ≤ 2 = rw (c .digit2 .ensures) (digit-most _) in let b : c .before .digit .result ≤ 2 = rw (c .before .digit .ensures) (digit-most _) in search needs
+add-t5 c = let a : c .digit2 .result ≤ 2 = rw (c .digit2 .ensures) (digit-most _) in
+    let b : c .before .digit .result ≤ 2 = rw (c .before .digit .ensures) (digit-most _) in search needs
 
 -- src/lib.rt:72:1
 returns : tie.Need-returns

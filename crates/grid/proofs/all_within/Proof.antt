@@ -6,11 +6,22 @@ use Rattle.grid.proofs.all_within.Tie as tie
 
 returns : tie.Need-returns
 unfolding allBetween
-returns c = simp (← c .is-within3 .ensures, c .before .if2 .taken, ← c .before .before .is-within2 .ensures, c .before .before .before .if1 .taken, ← c .before .before .before .before .is-within .ensures)
+returns c = simp (
+  ← c .is-within3 .ensures,
+  c .before .if2 .taken,
+  ← c .before .before .is-within2 .ensures,
+  c .before .before .before .if1 .taken,
+  ← c .before .before .before .before .is-within .ensures,
+)
 
 returns-2 : tie.Need-returns-2
 unfolding allBetween
-returns-2 c = simp (c .if2 .left, ← c .before .is-within2 .ensures, c .before .before .if1 .taken, ← c .before .before .before .is-within .ensures)
+returns-2 c = simp (
+  c .if2 .left,
+  ← c .before .is-within2 .ensures,
+  c .before .before .if1 .taken,
+  ← c .before .before .before .is-within .ensures,
+)
 
 returns-3 : tie.Need-returns-3
 unfolding allBetween

@@ -9,7 +9,15 @@ unfolding cellAt
 returns c =
     let n = c .before .before in
     let i = n .before .before in
-    rw (← i .before .before .along .ensures, ← i .before .step-along .ensures, ← i .floor .ensures, ← n .before .cells-along .ensures, ← n .nearest-u64-to-f64 .ensures, ← c .before .clamp .ensures, ← c .to-u64 .ensures)
+    rw (
+      ← i .before .before .along .ensures,
+      ← i .before .step-along .ensures,
+      ← i .floor .ensures,
+      ← n .before .cells-along .ensures,
+      ← n .nearest-u64-to-f64 .ensures,
+      ← c .before .clamp .ensures,
+      ← c .to-u64 .ensures,
+    )
 
 pub cell-at-spec : {M : Type 1} → statement M
 cell-at-spec =

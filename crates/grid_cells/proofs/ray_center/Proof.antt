@@ -15,7 +15,16 @@ unfolding rayCenterOf cellCenter
 returns c =
     let a = c .before .before .before .before in
     let n = a .before .before in
-    rw (← n .before .cross .ensures, ← n .cells-along .ensures, ← a .before .nearest-u64-to-f64 .ensures, ← a .nearest-u64-to-f642 .ensures, ← c .before .before .before .along .ensures, ← c .before .before .step-along .ensures, ← c .before .along2 .ensures, ← c .step-along2 .ensures)
+    rw (
+      ← n .before .cross .ensures,
+      ← n .cells-along .ensures,
+      ← a .before .nearest-u64-to-f64 .ensures,
+      ← a .nearest-u64-to-f642 .ensures,
+      ← c .before .before .before .along .ensures,
+      ← c .before .before .step-along .ensures,
+      ← c .before .along2 .ensures,
+      ← c .step-along2 .ensures,
+    )
 
 pub ray-center-spec : {M : Type 1} → statement M
 ray-center-spec =

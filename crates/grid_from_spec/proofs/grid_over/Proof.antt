@@ -21,7 +21,14 @@ unfolding gridOver
 returns-3 c =
     let u = c .before .before in
     let n = u .before .before .before in
-    rw (← n .nearest-u64-to-f64 .ensures, ← u .before .before .any-above .ensures, u .before .if1 .left, u .if2 .left, ← c .before .nearest-u64-to-f642 .ensures, c .if3 .taken)
+    rw (
+      ← n .nearest-u64-to-f64 .ensures,
+      ← u .before .before .any-above .ensures,
+      u .before .if1 .left,
+      u .if2 .left,
+      ← c .before .nearest-u64-to-f642 .ensures,
+      c .if3 .taken,
+    )
 
 returns-4 : tie.Need-returns-4
 unfolding gridOver
@@ -29,7 +36,17 @@ returns-4 c =
     let t = c .before .before .before in
     let u = t .before .before in
     let n = u .before .before .before in
-    rw (← n .nearest-u64-to-f64 .ensures, ← u .before .before .any-above .ensures, u .before .if1 .left, u .if2 .left, ← t .before .nearest-u64-to-f642 .ensures, t .if3 .left, ← c .before .before .grid-with .ensures, ← c .before .is-too-fine .ensures, c .if4 .taken)
+    rw (
+      ← n .nearest-u64-to-f64 .ensures,
+      ← u .before .before .any-above .ensures,
+      u .before .if1 .left,
+      u .if2 .left,
+      ← t .before .nearest-u64-to-f642 .ensures,
+      t .if3 .left,
+      ← c .before .before .grid-with .ensures,
+      ← c .before .is-too-fine .ensures,
+      c .if4 .taken,
+    )
 
 returns-5 : tie.Need-returns-5
 unfolding gridOver
@@ -37,7 +54,17 @@ returns-5 c =
     let t = c .before .before .before in
     let u = t .before .before in
     let n = u .before .before .before in
-    rw (← n .nearest-u64-to-f64 .ensures, ← u .before .before .any-above .ensures, u .before .if1 .left, u .if2 .left, ← t .before .nearest-u64-to-f642 .ensures, t .if3 .left, ← c .before .before .grid-with .ensures, ← c .before .is-too-fine .ensures, c .if4 .left)
+    rw (
+      ← n .nearest-u64-to-f64 .ensures,
+      ← u .before .before .any-above .ensures,
+      u .before .if1 .left,
+      u .if2 .left,
+      ← t .before .nearest-u64-to-f642 .ensures,
+      t .if3 .left,
+      ← c .before .before .grid-with .ensures,
+      ← c .before .is-too-fine .ensures,
+      c .if4 .left,
+    )
 
 pub grid-over-spec : {M : Type 1} → statement M
 grid-over-spec =

@@ -33,7 +33,15 @@ returns-4 c =
     let t3 = t4 .before .before in
     let t2 = t3 .before .before in
     let t1 = t2 .before .before in
-    simp (eq-eqb _ _ (t1 .if1 .left), ← t2 .before .all-within .ensures, t2 .if2 .left, ← t3 .before .all-within2 .ensures, t3 .if3 .left, ← t4 .before .all-within3 .ensures, t4 .if4 .taken)
+    simp (
+      eq-eqb _ _ (t1 .if1 .left),
+      ← t2 .before .all-within .ensures,
+      t2 .if2 .left,
+      ← t3 .before .all-within2 .ensures,
+      t3 .if3 .left,
+      ← t4 .before .all-within3 .ensures,
+      t4 .if4 .taken,
+    )
 
 returns-5 : tie.Need-returns-5
 unfolding misdescribed
@@ -43,7 +51,16 @@ returns-5 c =
     let t3 = t4 .before .before in
     let t2 = t3 .before .before in
     let t1 = t2 .before .before in
-    simp (eq-eqb _ _ (t1 .if1 .left), ← t2 .before .all-within .ensures, t2 .if2 .left, ← t3 .before .all-within2 .ensures, t3 .if3 .left, ← t4 .before .all-within3 .ensures, t4 .if4 .left, eq-eqb _ _ (t5 .if5 .taken))
+    simp (
+      eq-eqb _ _ (t1 .if1 .left),
+      ← t2 .before .all-within .ensures,
+      t2 .if2 .left,
+      ← t3 .before .all-within2 .ensures,
+      t3 .if3 .left,
+      ← t4 .before .all-within3 .ensures,
+      t4 .if4 .left,
+      eq-eqb _ _ (t5 .if5 .taken),
+    )
 
 returns-6 : tie.Need-returns-6
 unfolding misdescribed
@@ -54,7 +71,17 @@ returns-6 c =
     let t3 = t4 .before .before in
     let t2 = t3 .before .before in
     let t1 = t2 .before .before in
-    simp (eq-eqb _ _ (t1 .if1 .left), ← t2 .before .all-within .ensures, t2 .if2 .left, ← t3 .before .all-within2 .ensures, t3 .if3 .left, ← t4 .before .all-within3 .ensures, t4 .if4 .left, ne-eqb _ _ (t5 .if5 .left), lt-ltb _ _ (t6 .if6 .taken))
+    simp (
+      eq-eqb _ _ (t1 .if1 .left),
+      ← t2 .before .all-within .ensures,
+      t2 .if2 .left,
+      ← t3 .before .all-within2 .ensures,
+      t3 .if3 .left,
+      ← t4 .before .all-within3 .ensures,
+      t4 .if4 .left,
+      ne-eqb _ _ (t5 .if5 .left),
+      lt-ltb _ _ (t6 .if6 .taken),
+    )
 
 returns-7 : tie.Need-returns-7
 unfolding misdescribed
@@ -66,7 +93,18 @@ returns-7 c =
     let t3 = t4 .before .before in
     let t2 = t3 .before .before in
     let t1 = t2 .before .before in
-    simp (eq-eqb _ _ (t1 .if1 .left), ← t2 .before .all-within .ensures, t2 .if2 .left, ← t3 .before .all-within2 .ensures, t3 .if3 .left, ← t4 .before .all-within3 .ensures, t4 .if4 .left, ne-eqb _ _ (t5 .if5 .left), le-ltb _ _ (t6 .if6 .left), eq-eqb _ _ (t7 .if7 .taken))
+    simp (
+      eq-eqb _ _ (t1 .if1 .left),
+      ← t2 .before .all-within .ensures,
+      t2 .if2 .left,
+      ← t3 .before .all-within2 .ensures,
+      t3 .if3 .left,
+      ← t4 .before .all-within3 .ensures,
+      t4 .if4 .left,
+      ne-eqb _ _ (t5 .if5 .left),
+      le-ltb _ _ (t6 .if6 .left),
+      eq-eqb _ _ (t7 .if7 .taken),
+    )
 
 returns-8 : tie.Need-returns-8
 unfolding misdescribed
@@ -78,7 +116,19 @@ returns-8 c =
     let t3 = t4 .before .before in
     let t2 = t3 .before .before in
     let t1 = t2 .before .before in
-    simp (eq-eqb _ _ (t1 .if1 .left), ← t2 .before .all-within .ensures, t2 .if2 .left, ← t3 .before .all-within2 .ensures, t3 .if3 .left, ← t4 .before .all-within3 .ensures, t4 .if4 .left, ne-eqb _ _ (t5 .if5 .left), le-ltb _ _ (t6 .if6 .left), ne-eqb _ _ (t7 .if7 .left), ← c .any-below .ensures)
+    simp (
+      eq-eqb _ _ (t1 .if1 .left),
+      ← t2 .before .all-within .ensures,
+      t2 .if2 .left,
+      ← t3 .before .all-within2 .ensures,
+      t3 .if3 .left,
+      ← t4 .before .all-within3 .ensures,
+      t4 .if4 .left,
+      ne-eqb _ _ (t5 .if5 .left),
+      le-ltb _ _ (t6 .if6 .left),
+      ne-eqb _ _ (t7 .if7 .left),
+      ← c .any-below .ensures,
+    )
 
 pub is-misdescribed-spec : {M : Type 1} → statement M
 is-misdescribed-spec =

@@ -17,11 +17,21 @@ ray-offset-requires-2 c κs = search needs
 
 returns-2 : tie.Need-returns-2
 unfolding rayAxis
-returns-2 c = rw (← c .before .before .before .ray-offset .ensures, le-ltb _ _ (c .before .before .if1 .left), ← c .before .ray-offset2 .ensures, lt-ltb _ _ (c .if2 .taken))
+returns-2 c = rw (
+  ← c .before .before .before .ray-offset .ensures,
+  le-ltb _ _ (c .before .before .if1 .left),
+  ← c .before .ray-offset2 .ensures,
+  lt-ltb _ _ (c .if2 .taken),
+)
 
 returns-3 : tie.Need-returns-3
 unfolding rayAxis
-returns-3 c = rw (← c .before .before .before .ray-offset .ensures, le-ltb _ _ (c .before .before .if1 .left), ← c .before .ray-offset2 .ensures, le-ltb _ _ (c .if2 .left))
+returns-3 c = rw (
+  ← c .before .before .before .ray-offset .ensures,
+  le-ltb _ _ (c .before .before .if1 .left),
+  ← c .before .ray-offset2 .ensures,
+  le-ltb _ _ (c .if2 .left),
+)
 
 pub ray-axis-spec : {M : Type 1} → statement M
 ray-axis-spec =

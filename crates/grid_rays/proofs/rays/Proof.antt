@@ -21,7 +21,8 @@ mul-result : tie.Need-mul-result
 unfolding raysAlong
 mul-result c =
     let s = c .before .before .before in
-    let e : c .before .cells-along .result * c .cells-along2 .result ≡ raysAlong (s .args .g) (s .args .axis) = rw (← c .before .before .cross .ensures, c .before .cells-along .ensures, c .cells-along2 .ensures) in
+    let e : c .before .cells-along .result * c .cells-along2 .result ≡ raysAlong (s .args .g) (s .args .axis) =
+    rw (← c .before .before .cross .ensures, c .before .cells-along .ensures, c .cells-along2 .ensures) in
     record { fits = omega (arith, along-le (s .args .g) (s .args .axis), s .pre) }
 
 returns : tie.Need-returns

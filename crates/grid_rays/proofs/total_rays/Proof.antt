@@ -12,16 +12,41 @@ rays-requires-2 : tie.Need-rays-requires-2
 rays-requires-2 c κs = search needs
 
 add-result : tie.Need-add-result
-add-result c = record { fits = omega (arith, total-is (c .before .before .args .g), c .before .before .pre, c .before .rays .ensures, c .rays2 .ensures) }
+add-result c = record {
+  fits =
+      omega (
+        arith,
+        total-is (c .before .before .args .g),
+        c .before .before .pre,
+        c .before .rays .ensures,
+        c .rays2 .ensures,
+      );
+}
 
 rays-requires-3 : tie.Need-rays-requires-3
 rays-requires-3 c κs = search needs
 
 add-result-2 : tie.Need-add-result-2
-add-result-2 c = record { fits = omega (arith, total-is (c .before .before .before .args .g), c .before .before .before .pre, c .before .before .rays .ensures, c .before .rays2 .ensures, c .rays3 .ensures) }
+add-result-2 c = record {
+  fits =
+      omega (
+        arith,
+        total-is (c .before .before .before .args .g),
+        c .before .before .before .pre,
+        c .before .before .rays .ensures,
+        c .before .rays2 .ensures,
+        c .rays3 .ensures,
+      );
+}
 
 returns : tie.Need-returns
-returns c = omega (arith, total-is (c .before .before .before .args .g), c .before .before .rays .ensures, c .before .rays2 .ensures, c .rays3 .ensures)
+returns c = omega (
+  arith,
+  total-is (c .before .before .before .args .g),
+  c .before .before .rays .ensures,
+  c .before .rays2 .ensures,
+  c .rays3 .ensures,
+)
 
 pub total-rays-spec : {M : Type 1} → statement M
 total-rays-spec =

@@ -54,7 +54,8 @@ digit-requires : tie.Need-digit-requires Inv-loop μ-loop
 digit-requires c κs = tt
 
 -- the number's place, known past the tests
-fit : (c : tie.Else3 Inv-loop μ-loop) → c .before .before .before .before .args .at + c .before .before .before .before .args .count ≤ length (c .before .before .before .before .args .text .now)
+fit : (c : tie.Else3 Inv-loop μ-loop) → c .before .before .before .before .args .at
+    + c .before .before .before .before .args .count ≤ length (c .before .before .before .before .args .text .now)
 fit c = omega arith
 
 returns-4 : tie.Need-returns-4 Inv-loop μ-loop
@@ -62,7 +63,8 @@ returns-4 c =
     let at-loop = c .before .before .before .before in
     let start = at-loop .before .before .before .before .before in
     inside _ _ _ Missing (at-loop .before .before .before .if1 .left) (fit (at-loop .before))
-    (sym (read-stop _ _ _ _ _ (at-loop .loop .inv) (c .before .before .before .loop-test .taken) (fit (at-loop .before)) (le-of-eq (sym (c .if4 .taken) ∙ c .before .digit .ensures))))
+    (sym (read-stop _ _ _ _ _ (at-loop .loop .inv) (c .before .before .before .loop-test .taken)
+    (fit (at-loop .before)) (le-of-eq (sym (c .if4 .taken) ∙ c .before .digit .ensures))))
 
 mul-value : tie.Need-mul-value Inv-loop μ-loop
 mul-value c =
@@ -72,7 +74,13 @@ mul-value c =
 add-value : tie.Need-add-value Inv-loop μ-loop
 add-value c =
     let at-loop = c .before .before .before .before in
-    omega (arith, small-at _ _ (at-loop .loop .inv .small) (omega arith), c .before .digit .ensures, digit-le (getD (at-loop .before .before .before .before .before .args .text .now) (at-loop .before .before .before .before .before .args .at + at-loop .loop .i) 0))
+    omega (
+      arith,
+      small-at _ _ (at-loop .loop .inv .small) (omega arith),
+      c .before .digit .ensures,
+      digit-le (getD (at-loop .before .before .before .before .before .args .text .now)
+          (at-loop .before .before .before .before .before .args .at + at-loop .loop .i) 0),
+    )
 
 add-i : tie.Need-add-i Inv-loop μ-loop
 add-i c = omega arith
@@ -87,7 +95,8 @@ loop-again c =
     let d = c .before .digit in
     let j = getD (start .args .text .now) (start .args .at + at-loop .loop .i) 0 in
     let below : hexDigit j < 16 = omega (arith, d .ensures, digit-le j, c .if4 .left) in
-    subst (λ (z : ℕ). Read (start .args .text .now) (start .args .at) (start .args .count) (at-loop .loop .value * 16 + z) (at-loop .loop .i + 1)) (sym (d .ensures))
+    subst (λ (z : ℕ). Read (start .args .text .now) (start .args .at) (start .args .count)
+    (at-loop .loop .value * 16 + z) (at-loop .loop .i + 1)) (sym (d .ensures))
     (read-more _ _ _ _ _ (at-loop .loop .inv) (c .before .before .before .loop-test .taken) (fit (at-loop .before)) below)
 
 returns-5 : tie.Need-returns-5 Inv-loop μ-loop
@@ -96,7 +105,8 @@ returns-5 c =
     let start = at-loop .before .before .before .before .before in
     let last : at-loop .loop .i ≡ start .args .count = omega (arith, at-loop .loop .inv .within, c .loop-test .left) in
     inside _ _ _ _ (at-loop .before .before .before .if1 .left) (fit (at-loop .before))
-    (read-all _ _ _ _ (subst (λ (z : ℕ). Read (start .args .text .now) (start .args .at) (start .args .count) (at-loop .loop .value) z) last (at-loop .loop .inv)))
+    (read-all _ _ _ _ (subst (λ (z : ℕ). Read (start .args .text .now) (start .args .at) (start .args .count)
+    (at-loop .loop .value) z) last (at-loop .loop .inv)))
 
 pub hex-at-spec : {M : Type 1} → statement M
 hex-at-spec =

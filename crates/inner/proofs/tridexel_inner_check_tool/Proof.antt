@@ -16,12 +16,16 @@ enum-known-t : tie.Need-enum-known-t
 enum-known-t c = search needs
 
 returns : tie.Need-returns
-returns c = rw (← c .before .before .before .named-shape .ensures) (accepted (c .before .before .before .named-shape .result) (c .before .before .before .before .args .c) _ (c .enum-told .given .1) (c .before .before .check-tool .ensures))
+returns c = rw (← c .before .before .before .named-shape .ensures)
+    (accepted (c .before .before .before .named-shape .result) (c .before .before .before .before .args .c) _
+    (c .enum-told .given .1) (c .before .before .check-tool .ensures))
 
 returns-2 : tie.Need-returns-2
 returns-2 c =
     rw (← c .before .before .before .before .named-shape .ensures)
-    (refused (c .before .before .before .before .named-shape .result) (c .before .before .before .before .before .args .c) _ _ (c .before .t .given .1) (c .before .before .before .check-tool .ensures))
+    (refused (c .before .before .before .before .named-shape .result)
+    (c .before .before .before .before .before .args .c) _ _ (c .before .t .given .1)
+    (c .before .before .before .check-tool .ensures))
 
 pub tridexel-inner-check-tool-spec : {M : Type 1} → statement M
 tridexel-inner-check-tool-spec =

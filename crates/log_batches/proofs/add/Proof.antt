@@ -25,12 +25,18 @@ returns-3 : tie.Need-returns-3
 returns-3 c =
     let start = c .before .before .before .before .before .before .before .before .before .before .before in
     let past = c .before .before .before .before .before .before .before .before .before .wrapping-sub-usize in
-    adds-lost (c .before .before .before .before .before .make-room .ensures) (start .pre .1) (λ e. past-none (past .ensures) (past .ok) (omega (arith, start .fits .first)) (c .if3 .taken))
+    adds-lost (c .before .before .before .before .before .make-room .ensures) (start .pre .1)
+    (λ e. past-none (past .ensures) (past .ok) (omega (arith, start .fits .first)) (c .if3 .taken))
 
 add-keys : tie.Need-add-keys
 add-keys c =
     let start = c .before .before .before .before .before .before .before .before .before .before .before in
-    omega (arith, key-fits (start .pre .0) (c .before .before .before .before .before .before .before .before .before .wrapping-sub-usize .result) (start .args .i) (start .pre .1) (c .before .before .before .before .before .before .before .if1 .left))
+    omega (
+      arith,
+      key-fits (start .pre .0)
+          (c .before .before .before .before .before .before .before .before .before .wrapping-sub-usize .result)
+          (start .args .i) (start .pre .1) (c .before .before .before .before .before .before .before .if1 .left),
+    )
 
 mul-keys : tie.Need-mul-keys
 mul-keys c = omega (arith, add-keys c)
@@ -51,7 +57,8 @@ returns-4 c =
     let room = c .before .before .before .before .before .make-room in
     let given = start .args in
     let low : given .first < 2 ^ 64 = omega (arith, start .fits .first) in
-    let from = past-from (past .ensures) (past .ok) low (c .before .before .before .before .before .before .before .if1 .left) (start .pre .2) in
+    let from = past-from (past .ensures) (past .ok) low
+    (c .before .before .before .before .before .before .before .if1 .left) (start .pre .2) in
     let is : past .result ≡ given .ray - given .first =
     past-is (past .ensures) (past .ok) low (c .before .before .before .before .before .before .before .if1 .left) (start .pre .2) in
     subst (λ (d : ℕ). AddPost (given .first) (given .ray) (given .n) (given .i) (given .keys .now) (given .w)

@@ -17,7 +17,12 @@ add-result-2 : tie.Need-add-result-2
 add-result-2 c =
     let given = c .before .before .before .args in
     let k = 2 * given .i + 1 in
-    omega (arith, one-at-most (ltb (getD (given .keys .now) k 0) (getD (given .keys .now) (k + 1) 0)), c .before .before .before .pre, c .before .before .if1 .left)
+    omega (
+      arith,
+      one-at-most (ltb (getD (given .keys .now) k 0) (getD (given .keys .now) (k + 1) 0)),
+      c .before .before .before .pre,
+      c .before .before .if1 .left,
+    )
 
 returns-2 : tie.Need-returns-2
 returns-2 c =

@@ -23,10 +23,23 @@ loop-holds c = (omega arith, λ j h. absurd (omega arith))
 
 returns : tie.Need-returns Inv-loop μ-loop
 unfolding EachNamed NamesNoRay
-returns c = record { yes = λ h. absurd (false≢true h); no = λ _. (entryAt (c .before .before .before .before .before .args .log .now) (c .before .before .before .loop .i), entry-in (c .before .before .before .before .before .args .log .now) (c .before .before .before .loop .i) (omega arith), sym (c .before .named .ensures) ∙ not-true _ (c .if1 .taken)) }
+returns c = record {
+  yes = λ h. absurd (false≢true h);
+  no = λ _. (
+    entryAt (c .before .before .before .before .before .args .log .now)
+        (c .before .before .before .loop .i),
+    entry-in (c .before .before .before .before .before .args .log .now)
+        (c .before .before .before .loop .i) (omega arith),
+    sym (c .before .named .ensures) ∙ not-true _ (c .if1 .taken),
+  );
+}
 
 loop-again : tie.Need-loop-again Inv-loop μ-loop
-loop-again c = (omega arith, below-more _ _ (c .before .before .before .loop .inv .1) (sym (c .before .named .ensures) ∙ not-false _ (c .if1 .left)))
+loop-again c = (
+  omega arith,
+  below-more _ _ (c .before .before .before .loop .inv .1)
+      (sym (c .before .named .ensures) ∙ not-false _ (c .if1 .left)),
+)
 
 returns-2 : tie.Need-returns-2 Inv-loop μ-loop
 unfolding EachNamed

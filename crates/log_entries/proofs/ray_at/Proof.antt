@@ -27,7 +27,8 @@ unfolding entryAt
 returns c =
     let start = c .before .before .before .before .before .before .before in
     let e = entryAt (start .args .log .now) (start .args .i) in
-    let rays : c .rays-before .result ≡ beforeAxis (e .axis) (raysAlong (start .args .g) (worldAxis 0)) (raysAlong (start .args .g) (worldAxis 1)) =
+    let rays : c .rays-before .result
+    ≡ beforeAxis (e .axis) (raysAlong (start .args .g) (worldAxis 0)) (raysAlong (start .args .g) (worldAxis 1)) =
     c .rays-before .ensures ∙ ap₂ (beforeAxis (e .axis)) (c .before .before .before .rays .ensures) (c .before .before .rays2 .ensures) in
     ap₂ _+_ rays (c .before .before .before .before .whole-number .ensures) ∙ ray-of (start .args .g) e (start .pre .2)
 

@@ -20,7 +20,8 @@ unfolding beforeAxis
 returns-2 c =
     let given = c .before .before .args in
     let one = cond (le (ofBits binary64 0x3ff0_0000_0000_0000) (given .axis)) (given .first) 0 in
-    ⊎-elim (λ w. w .1 ∙ sym (ap (λ (b : Bool). cond b (given .first) 0) (w .0 .taken))) (λ w. w .1 ∙ sym (ap (λ (b : Bool). cond b (given .first) 0) (w .0 .left))) (c .before .if1 .came)
+    ⊎-elim (λ w. w .1 ∙ sym (ap (λ (b : Bool). cond b (given .first) 0) (w .0 .taken)))
+    (λ w. w .1 ∙ sym (ap (λ (b : Bool). cond b (given .first) 0) (w .0 .left))) (c .before .if1 .came)
     ∙ sym (ap (λ (b : Bool). cond b (given .first + given .second) one) (c .if2 .left))
 
 pub rays-before-spec : {M : Type 1} → statement M

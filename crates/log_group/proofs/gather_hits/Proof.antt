@@ -17,10 +17,12 @@ abbrev μ-loop : tie.MeasureT-loop
 
 turned-at : (c : tie.In-loop Inv-loop μ-loop)
     → let a = c .before .before .before .before .before .before .before .before .args in
-    Turn (c .before .before .before .before .before .total-rays .result) (a .log .now) (hitKindOf (a .inner)) (a .ray) (a .at) (a .work .now) (c .before .loop .work) (c .before .loop .t) (c .before .loop .k)
+    Turn (c .before .before .before .before .before .total-rays .result) (a .log .now) (hitKindOf (a .inner)) (a .ray)
+    (a .at) (a .work .now) (c .before .loop .work) (c .before .loop .t) (c .before .loop .k)
 turned-at c =
     let a = c .before .before .before .before .before .before .before .before .args in
-    turn (c .before .before .before .before .before .total-rays .result) (a .log .now) (hitKindOf (a .inner)) (a .ray) (a .at) (a .work .now) (c .before .loop .work) (c .before .loop .t) (c .before .loop .k)
+    turn (c .before .before .before .before .before .total-rays .result) (a .log .now) (hitKindOf (a .inner)) (a .ray)
+    (a .at) (a .work .now) (c .before .loop .work) (c .before .loop .t) (c .before .loop .k)
     (c .loop-test .taken) (c .before .loop .inv)
 
 loop-holds : tie.Need-loop-holds Inv-loop μ-loop
@@ -28,15 +30,23 @@ loop-holds c =
     let m = c .before .before .before in
     let b = m .before .before .before in
     let a = b .args in
-    gathers (a .g) (a .log .now) (a .work .now) (b .pre .0) (a .ray) (b .pre .1) (m .total-rays .result) (m .total-rays .ensures) (hitKindOf (a .inner)) (a .at) (b .pre .3) (b .pre .2)
+    gathers (a .g) (a .log .now) (a .work .now) (b .pre .0) (a .ray) (b .pre .1) (m .total-rays .result)
+    (m .total-rays .ensures) (hitKindOf (a .inner)) (a .at) (b .pre .3) (b .pre .2)
     (c .number-at .result) (c .number-at .ensures)
 
 put-hit-requires : tie.Need-put-hit-requires Inv-loop μ-loop
 put-hit-requires c κs =
     let t = turned-at (c .before) in
     let m = c .before .before .before .before .before in
-    let l = c .before .before in
-    (omega (arith, t .below, m .column .ensures, column-most (hitKindOf (m .before .before .before .before .args .inner))), omega (arith, t .room, l .loop .inv .size))
+    let l = c .before .before in (
+      omega (
+        arith,
+        t .below,
+        m .column .ensures,
+        column-most (hitKindOf (m .before .before .before .before .args .inner)),
+      ),
+      omega (arith, t .room, l .loop .inv .size),
+    )
 
 add-number-at : tie.Need-add-number-at Inv-loop μ-loop
 add-number-at c =
@@ -65,7 +75,8 @@ loop-again c =
     let m = l .before .before .before in
     let t = turned-at (c .before .before .before .before .before .before) in
     let a = m .before .before .before .before .args in
-    again (m .before .total-rays .result) (a .log .now) (hitKindOf (a .inner)) (a .ray) (a .at) (a .work .now) (l .loop .work) (l .loop .t) (l .loop .k) (m .column .result) (p .put-hit .last .1 .1 .1 .0)
+    again (m .before .total-rays .result) (a .log .now) (hitKindOf (a .inner)) (a .ray) (a .at) (a .work .now)
+    (l .loop .work) (l .loop .t) (l .loop .k) (m .column .result) (p .put-hit .last .1 .1 .1 .0)
     (c .number-at2 .result) (m .column .ensures) (p .put-hit .ensures) (c .number-at2 .ensures) (t .again)
 
 same-length : tie.Need-same-length Inv-loop μ-loop
@@ -77,7 +88,8 @@ returns c =
     let m = l .before .before .before .before in
     let b = m .before .before .before in
     let a = b .args in
-    gathered (a .g) (a .log .now) (a .work .now) (b .pre .0) (a .ray) (b .pre .1) (m .total-rays .result) (m .total-rays .ensures) (hitKindOf (a .inner)) (a .at)
+    gathered (a .g) (a .log .now) (a .work .now) (b .pre .0) (a .ray) (b .pre .1) (m .total-rays .result)
+    (m .total-rays .ensures) (hitKindOf (a .inner)) (a .at)
     (l .loop .work) (l .loop .t) (l .loop .k) (c .loop-test .left) (l .loop .inv)
 
 pub gather-hits-spec : {M : Type 1} → statement M

@@ -36,11 +36,16 @@ fits t = omega (arith, t .total-rays .ensures, t .before .before .before .pre .1
 abbrev begun : tie.After-clear-from Inv-loop μ-loop → List Float
 begun y = let t = y .before .before in y .clear-from .last .0 ++ drop (t .total-rays .result) (t .before .before .before .args .work .now)
 
-begun-size : (y : tie.After-clear-from Inv-loop μ-loop) → length (begun y) ≡ length (y .before .before .before .before .before .args .work .now)
-begun-size y = let t = y .before .before in cleared-size (t .total-rays .result) (t .before .before .before .args .work .now) (y .clear-from .last .0) (fits t) (y .clear-from .ensures)
+begun-size : (y : tie.After-clear-from Inv-loop μ-loop)
+    → length (begun y) ≡ length (y .before .before .before .before .before .args .work .now)
+begun-size y = let t = y .before .before in
+    cleared-size (t .total-rays .result) (t .before .before .before .args .work .now) (y .clear-from .last .0)
+    (fits t) (y .clear-from .ensures)
 
 slice-aggregate-clear-from : tie.Need-slice-aggregate-clear-from Inv-loop μ-loop
-slice-aggregate-clear-from c = sym (length-take-le (c .before .total-rays .result) (c .before .before .before .before .args .work .now) (fits (c .before)))
+slice-aggregate-clear-from c =
+    sym (length-take-le (c .before .total-rays .result) (c .before .before .before .before .args .work .now)
+    (fits (c .before)))
 
 loop-holds : tie.Need-loop-holds Inv-loop μ-loop
 loop-holds c =
@@ -49,13 +54,18 @@ loop-holds c =
     let a = t .before .before .before in
     let e = t .total-rays .ensures in
     grouping-start (a .args .g) (a .args .log .now) (begun y) (begun y) (omega (arith, a .pre .1, begun-size y)) refl
-    (λ q h. cleared-none (t .total-rays .result) (a .args .work .now) (y .clear-from .last .0) (fits t) (y .clear-from .ensures) q (omega arith)) (λ q h. refl)
+    (λ q h. cleared-none (t .total-rays .result) (a .args .work .now) (y .clear-from .last .0) (fits t)
+    (y .clear-from .ensures) q (omega arith)) (λ q h. refl)
 
 ray-at-requires : tie.Need-ray-at-requires Inv-loop μ-loop
 ray-at-requires c κs =
     let l = c .before in
-    let a = c .before .before .before .before .before .before .before .before .before in
-    (omega (arith, a .pre .1), omega (arith, c .loop-test .taken, l .loop .inv .most), named (a .args .g) (a .args .log .now) (l .loop .i - 1) (a .pre .0) (omega (arith, c .loop-test .taken, l .loop .inv .most)))
+    let a = c .before .before .before .before .before .before .before .before .before in (
+      omega (arith, a .pre .1),
+      omega (arith, c .loop-test .taken, l .loop .inv .most),
+      named (a .args .g) (a .args .log .now) (l .loop .i - 1) (a .pre .0)
+          (omega (arith, c .loop-test .taken, l .loop .inv .most)),
+    )
 
 link-requires : tie.Need-link-requires Inv-loop μ-loop
 link-requires c κs =
@@ -64,8 +74,14 @@ link-requires c κs =
     let a = t .before .before .before in
     let r = c .before in
     let y = l .before .before .before in
-    let below : l .loop .i - 1 < entryCount (a .args .log .now) = omega (arith, c .before .before .loop-test .taken, l .loop .inv .most) in (
-      omega (arith, t .total-rays .ensures, r .ray-at .ensures, each-below (a .args .g) (a .args .log .now) (a .pre .0) (l .loop .i - 1) below),
+    let below : l .loop .i - 1 < entryCount (a .args .log .now) =
+    omega (arith, c .before .before .loop-test .taken, l .loop .inv .most) in (
+      omega (
+        arith,
+        t .total-rays .ensures,
+        r .ray-at .ensures,
+        each-below (a .args .g) (a .args .log .now) (a .pre .0) (l .loop .i - 1) below,
+      ),
       omega (arith, t .total-rays .ensures, a .pre .1, l .loop .inv .size, begun-size y),
     )
 
@@ -81,9 +97,11 @@ loop-again c =
     let t = y .before .before in
     let a = t .before .before .before in
     let below : l .loop .i - 1 < entryCount (a .args .log .now) = omega (arith, r .before .loop-test .taken, l .loop .inv .most) in
-    grouping-step (a .args .g) (a .args .log .now) (begun y) (l .loop .work) (omega (arith, a .pre .1, begun-size y)) (l .loop .i - 1) below (r .ray-at .result) (r .ray-at .ensures)
+    grouping-step (a .args .g) (a .args .log .now) (begun y) (l .loop .work) (omega (arith, a .pre .1, begun-size y))
+    (l .loop .i - 1) below (r .ray-at .result) (r .ray-at .ensures)
     (omega (arith, r .ray-at .ensures, each-below (a .args .g) (a .args .log .now) (a .pre .0) (l .loop .i - 1) below))
-    (subst (λ (n : ℕ). Grouping (a .args .g) (a .args .log .now) (begun y) (l .loop .work) n) (again (l .loop .i) (r .before .loop-test .taken)) (l .loop .inv))
+    (subst (λ (n : ℕ). Grouping (a .args .g) (a .args .log .now) (begun y) (l .loop .work) n)
+    (again (l .loop .i) (r .before .loop-test .taken)) (l .loop .inv))
     (t .total-rays .result) (t .total-rays .ensures) (omega arith) (k .link .last .0) (k .link .ensures)
 
 same-length : tie.Need-same-length Inv-loop μ-loop
@@ -95,8 +113,10 @@ returns c =
     let y = l .before .before .before in
     let t = y .before .before in
     let a = t .before .before .before in
-    grouping-done (a .args .g) (a .args .log .now) (begun y) (l .loop .work) (omega (arith, a .pre .1, begun-size y)) (a .pre .0) (l .loop .i) (omega (arith, c .loop-test .left)) (a .args .work .now) (begun-size y)
-    (λ q h. cleared-past (t .total-rays .result) (a .args .work .now) (y .clear-from .last .0) (fits t) (y .clear-from .ensures) q (omega (arith, t .total-rays .ensures))) (l .loop .inv)
+    grouping-done (a .args .g) (a .args .log .now) (begun y) (l .loop .work) (omega (arith, a .pre .1, begun-size y))
+    (a .pre .0) (l .loop .i) (omega (arith, c .loop-test .left)) (a .args .work .now) (begun-size y)
+    (λ q h. cleared-past (t .total-rays .result) (a .args .work .now) (y .clear-from .last .0) (fits t)
+    (y .clear-from .ensures) q (omega (arith, t .total-rays .ensures))) (l .loop .inv)
 
 pub group-spec : {M : Type 1} → statement M
 group-spec =

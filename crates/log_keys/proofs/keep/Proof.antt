@@ -11,7 +11,8 @@ returns c =
     let given = c .before .before .args in
     let yes = c .before .if1 .taken in
     record {
-      keys = sym (ap (λ (b : Bool). cond b (set (given .keys .now) (given .k) (getD (given .keys .now) (given .i) 0)) (given .keys .now)) yes);
+      keys = sym (ap (λ (b : Bool). cond b (set (given .keys .now) (given .k) (getD (given .keys .now) (given .i) 0))
+          (given .keys .now)) yes);
       next = sym (ap (λ (b : Bool). cond b (given .k + 1) (given .k)) yes);
     }
 

@@ -7,7 +7,8 @@ use Rattle.store.specs.Store.{cells}
 use Rattle.log_lay.proofs.free_all.Tie as tie
 
 abbrev Inv-loop : tie.InvT-loop
-Inv-loop spans₀ links₀ heads₀ n work sizes rays ray₀ spans links heads ray = FreedTo n (cells spans₀ links₀ heads₀) work sizes rays ray (cells spans links heads)
+Inv-loop spans₀ links₀ heads₀ n work sizes rays ray₀ spans links heads ray =
+    FreedTo n (cells spans₀ links₀ heads₀) work sizes rays ray (cells spans links heads)
 
 abbrev μ-loop : tie.MeasureT-loop
 μ-loop spans₀ links₀ heads₀ n work sizes rays ray₀ spans links heads ray = rays - ray
@@ -16,13 +17,17 @@ loop-holds : tie.Need-loop-holds Inv-loop μ-loop
 loop-holds c = freed-start _ _ _ _ _ (c .before .before .before .before .pre)
 
 free-ray-requires : tie.Need-free-ray-requires Inv-loop μ-loop
-free-ray-requires c κs = turn-freeable _ _ _ _ _ _ (c .before .before .before .before .loop .inv .still) (c .before .before .before .loop-test .taken)
+free-ray-requires c κs = turn-freeable _ _ _ _ _ _ (c .before .before .before .before .loop .inv .still)
+    (c .before .before .before .loop-test .taken)
 
 loop-less : tie.Need-loop-less Inv-loop μ-loop
 loop-less c = omega arith
 
 loop-again : tie.Need-loop-again Inv-loop μ-loop
-loop-again c = freed-next _ _ _ _ _ _ _ (c .before .before .before .before .before .before .before .before .before .before .before .loop .inv) (c .before .before .before .before .before .before .before .before .before .before .loop-test .taken) _ (c .before .before .before .before .before .before .free-ray .ensures)
+loop-again c = freed-next _ _ _ _ _ _ _
+    (c .before .before .before .before .before .before .before .before .before .before .before .loop .inv)
+    (c .before .before .before .before .before .before .before .before .before .before .loop-test .taken) _
+    (c .before .before .before .before .before .before .free-ray .ensures)
 
 same-length : tie.Need-same-length Inv-loop μ-loop
 same-length c = c .before .loop .inv .kept .spans-size

@@ -7,7 +7,10 @@ returns : tie.Need-returns
 returns c = freed-same _ _ _ _ _ _ (c .before .number-at .ensures) (c .if1 .taken)
 
 returns-2 : tie.Need-returns-2
-returns-2 c = freed-new _ _ _ _ _ _ (c .before .before .before .before .before .before .before .before .before .before .before .number-at .ensures) (c .before .before .before .before .before .before .before .before .before .before .if1 .left) _ (c .before .before .before .before .before .before .free-ray .ensures)
+returns-2 c = freed-new _ _ _ _ _ _
+    (c .before .before .before .before .before .before .before .before .before .before .before .number-at .ensures)
+    (c .before .before .before .before .before .before .before .before .before .before .if1 .left) _
+    (c .before .before .before .before .before .before .free-ray .ensures)
 
 pub free-ray-spec : {M : Type 1} → statement M
 free-ray-spec =

@@ -7,7 +7,8 @@ use Rattle.store.specs.Store.{cells}
 use Rattle.log_lay.proofs.lay_all.Tie as tie
 
 abbrev Inv-loop : tie.InvT-loop
-Inv-loop spans₀ links₀ heads₀ n work sizes at rays place₀ ray₀ spans links heads place ray = LaidTo n (cells spans₀ links₀ heads₀) work sizes at rays ray (cells spans links heads) place
+Inv-loop spans₀ links₀ heads₀ n work sizes at rays place₀ ray₀ spans links heads place ray =
+    LaidTo n (cells spans₀ links₀ heads₀) work sizes at rays ray (cells spans links heads) place
 
 abbrev μ-loop : tie.MeasureT-loop
 μ-loop spans₀ links₀ heads₀ n work sizes at rays place₀ ray₀ spans links heads place ray = rays - ray
@@ -16,13 +17,20 @@ loop-holds : tie.Need-loop-holds Inv-loop μ-loop
 loop-holds c = laid-start _ _ _ _ _ _ (c .before .before .before .before .pre)
 
 lay-ray-requires : tie.Need-lay-ray-requires Inv-loop μ-loop
-lay-ray-requires c κs = turn-layable _ _ _ _ _ _ (c .before .before .before .before .before .before .before .before .before .pre) _ _ _ (c .before .before .before .before .loop .inv) (c .before .before .before .loop-test .taken)
+lay-ray-requires c κs = turn-layable _ _ _ _ _ _
+    (c .before .before .before .before .before .before .before .before .before .pre) _ _ _
+    (c .before .before .before .before .loop .inv) (c .before .before .before .loop-test .taken)
 
 loop-less : tie.Need-loop-less Inv-loop μ-loop
 loop-less c = omega arith
 
 loop-again : tie.Need-loop-again Inv-loop μ-loop
-loop-again c = laid-next _ _ _ _ _ _ (c .before .before .before .before .before .before .before .before .before .before .before .before .before .before .before .before .pre) _ _ _ (c .before .before .before .before .before .before .before .before .before .before .before .loop .inv) (c .before .before .before .before .before .before .before .before .before .before .loop-test .taken) _ _ (c .before .before .before .before .before .before .lay-ray .ensures) (search needs) (search needs) (search needs)
+loop-again c = laid-next _ _ _ _ _ _
+    (c .before .before .before .before .before .before .before .before .before .before .before .before .before .before
+    .before .before .pre) _ _ _ (c .before .before .before .before .before .before .before .before .before .before
+    .before .loop .inv) (c .before .before .before .before .before .before .before .before .before .before .loop-test
+    .taken) _ _ (c .before .before .before .before .before .before .lay-ray .ensures) (search needs) (search needs)
+    (search needs)
 
 same-length : tie.Need-same-length Inv-loop μ-loop
 same-length c = c .before .loop .inv .spans-size

@@ -8,8 +8,10 @@ use Rattle.log_lay.proofs.lay_ray.Statement.{statement}
 use Rattle.log_lay.proofs.lay_ray.Tie as tie
 
 -- the two lists lie in the work buffer
-room : (c : tie.After-number-at2) → let a = c .before .before .before .before .before .before .before .args in a .place .at + 2 * (c .before .before .number-at .result - 1) + 2 * c .number-at2 .result ≤ length (a .work .now)
-room c = lists-room _ _ _ _ _ _ (c .before .before .before .before .before .before .before .pre) _ (c .before .before .number-at .ensures) (c .before .if1 .left) _ (c .number-at2 .ensures)
+room : (c : tie.After-number-at2) → let a = c .before .before .before .before .before .before .before .args in
+    a .place .at + 2 * (c .before .before .number-at .result - 1) + 2 * c .number-at2 .result ≤ length (a .work .now)
+room c = lists-room _ _ _ _ _ _ (c .before .before .before .before .before .before .before .pre) _
+    (c .before .before .number-at .ensures) (c .before .if1 .left) _ (c .number-at2 .ensures)
 
 returns : tie.Need-returns
 returns c = laid-same _ _ _ _ _ _ (c .before .before .before .before .before .before .pre) _ (c .before .number-at .ensures) (c .if1 .taken)
@@ -27,10 +29,22 @@ add-end : tie.Need-add-end
 add-end c = omega (arith, room c)
 
 lay-ray-requires : tie.Need-lay-ray-requires
-lay-ray-requires c κs = (room (c .before .before .before), c .before .before .before .before .before .before .before .before .before .before .pre .cursor, ray-layable _ _ _ _ _ _ (c .before .before .before .before .before .before .before .before .before .before .pre) _ (c .before .before .before .before .before .number-at .ensures) (c .before .before .before .before .if1 .left) _ (c .before .before .before .number-at2 .ensures))
+lay-ray-requires c κs = (
+  room (c .before .before .before),
+  c .before .before .before .before .before .before .before .before .before .before .pre .cursor,
+  ray-layable _ _ _ _ _ _ (c .before .before .before .before .before .before .before .before .before .before .pre) _
+      (c .before .before .before .before .before .number-at .ensures) (c .before .before .before .before .if1 .left) _
+      (c .before .before .before .number-at2 .ensures),
+)
 
 returns-2 : tie.Need-returns-2
-returns-2 c = laid-new _ _ _ _ _ _ (c .before .before .before .before .before .before .before .before .before .before .before .before .before .before .before .before .before .pre) _ (c .before .before .before .before .before .before .before .before .before .before .before .before .number-at .ensures) (c .before .before .before .before .before .before .before .before .before .before .before .if1 .left) _ (c .before .before .before .before .before .before .before .before .before .before .number-at2 .ensures) _ _ (c .before .before .before .before .before .before .lay-ray .ensures) refl
+returns-2 c = laid-new _ _ _ _ _ _
+    (c .before .before .before .before .before .before .before .before .before .before .before .before .before .before
+    .before .before .before .pre) _
+    (c .before .before .before .before .before .before .before .before .before .before .before .before .number-at
+    .ensures) (c .before .before .before .before .before .before .before .before .before .before .before .if1 .left) _
+    (c .before .before .before .before .before .before .before .before .before .before .number-at2 .ensures) _ _
+    (c .before .before .before .before .before .before .lay-ray .ensures) refl
 
 pub lay-ray-spec : {M : Type 1} → statement M
 lay-ray-spec =

@@ -31,7 +31,8 @@ loop-again : tie.Need-loop-again Inv-loop μ-loop
 loop-again c =
     let inv = c .before .before .before .before .before .before .before .loop .inv in
     let u = c .before .before .before .before .before .before .before .before .before .before .args .u in (
-      kept-turn _ _ _ _ _ (inv .0) (search needs) _ _ _ (ap (λ (x : Float). lt x u) (c .before .before .before .before .least-past .ensures))
+      kept-turn _ _ _ _ _ (inv .0) (search needs) _ _ _
+          (ap (λ (x : Float). lt x u) (c .before .before .before .before .least-past .ensures))
           (c .before .before .keep .ensures),
       search needs,
     )

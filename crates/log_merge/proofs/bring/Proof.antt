@@ -11,14 +11,17 @@ read-list-requires : tie.Need-read-list-requires
 read-list-requires c κs =
     let t = c .before .before .before .before .before .before .before in
     let a = t .args in
-    possible-ready (a .spec) (a .g) (cells (a .spans .now) (a .links .now) (a .heads .now)) (a .log .now) (a .work .now) (a .ray) (a .s) (t .pre)
+    possible-ready (a .spec) (a .g) (cells (a .spans .now) (a .links .now) (a .heads .now)) (a .log .now)
+    (a .work .now) (a .ray) (a .s) (t .pre)
 
 read-list-requires-2 : tie.Need-read-list-requires-2
 read-list-requires-2 c κs =
     let y = c .before .before .before .before in
     let t = y .before .before .before .before .before .before .before .before in
     let a = t .args in
-    certain-ready (a .spec) (a .g) (cells (a .spans .now) (a .links .now) (a .heads .now)) (a .log .now) (a .work .now) (a .ray) (a .s) (t .pre) (y .read-list .last .1 .1 .1 .1 .0) (y .read-list .result) (y .read-list .ensures)
+    certain-ready (a .spec) (a .g) (cells (a .spans .now) (a .links .now) (a .heads .now)) (a .log .now)
+    (a .work .now) (a .ray) (a .s) (t .pre) (y .read-list .last .1 .1 .1 .1 .0) (y .read-list .result)
+    (y .read-list .ensures)
 
 bring-hits-requires : tie.Need-bring-hits-requires
 bring-hits-requires c κs =
@@ -26,7 +29,8 @@ bring-hits-requires c κs =
     let y = z .before .before .before .before .before in
     let t = y .before .before .before .before .before .before .before .before in
     let a = t .args in
-    outer-ready (a .spec) (a .g) (cells (a .spans .now) (a .links .now) (a .heads .now)) (a .log .now) (a .work .now) (a .ray) (a .s) (t .pre) (y .read-list .last .1 .1 .1 .1 .0) (y .read-list .result) (y .read-list .ensures)
+    outer-ready (a .spec) (a .g) (cells (a .spans .now) (a .links .now) (a .heads .now)) (a .log .now) (a .work .now)
+    (a .ray) (a .s) (t .pre) (y .read-list .last .1 .1 .1 .1 .0) (y .read-list .result) (y .read-list .ensures)
     (z .read-list2 .last .1 .1 .1 .1 .0) (z .read-list2 .result) (z .read-list2 .ensures)
 
 add-bring-hits : tie.Need-add-bring-hits
@@ -36,8 +40,11 @@ add-bring-hits c =
     let y = z .before .before .before .before .before in
     let t = y .before .before .before .before .before .before .before .before in
     let a = t .args in
-    let i = inner-fits (a .spec) (a .g) (cells (a .spans .now) (a .links .now) (a .heads .now)) (a .log .now) (a .work .now) (a .ray) (a .s) (t .pre) (y .read-list .last .1 .1 .1 .1 .0) (y .read-list .result) (y .read-list .ensures)
-    (z .read-list2 .last .1 .1 .1 .1 .0) (z .read-list2 .result) (z .read-list2 .ensures) (h .bring-hits .last .1 .1 .0) (h .bring-hits .result) (h .bring-hits .ensures) in
+    let i = inner-fits (a .spec) (a .g) (cells (a .spans .now) (a .links .now) (a .heads .now)) (a .log .now)
+    (a .work .now) (a .ray) (a .s) (t .pre) (y .read-list .last .1 .1 .1 .1 .0) (y .read-list .result)
+    (y .read-list .ensures)
+    (z .read-list2 .last .1 .1 .1 .1 .0) (z .read-list2 .result) (z .read-list2 .ensures)
+    (h .bring-hits .last .1 .1 .0) (h .bring-hits .result) (h .bring-hits .ensures) in
     omega (arith, i, t .good .1 .1 .1 .1 .1 .1 .0 .1)
 
 bring-hits-requires-2 : tie.Need-bring-hits-requires-2
@@ -47,8 +54,10 @@ bring-hits-requires-2 c κs =
     let y = z .before .before .before .before .before in
     let t = y .before .before .before .before .before .before .before .before in
     let a = t .args in
-    inner-ready (a .spec) (a .g) (cells (a .spans .now) (a .links .now) (a .heads .now)) (a .log .now) (a .work .now) (a .ray) (a .s) (t .pre) (y .read-list .last .1 .1 .1 .1 .0) (y .read-list .result) (y .read-list .ensures)
-    (z .read-list2 .last .1 .1 .1 .1 .0) (z .read-list2 .result) (z .read-list2 .ensures) (h .bring-hits .last .1 .1 .0) (h .bring-hits .result) (h .bring-hits .ensures)
+    inner-ready (a .spec) (a .g) (cells (a .spans .now) (a .links .now) (a .heads .now)) (a .log .now) (a .work .now)
+    (a .ray) (a .s) (t .pre) (y .read-list .last .1 .1 .1 .1 .0) (y .read-list .result) (y .read-list .ensures)
+    (z .read-list2 .last .1 .1 .1 .1 .0) (z .read-list2 .result) (z .read-list2 .ensures)
+    (h .bring-hits .last .1 .1 .0) (h .bring-hits .result) (h .bring-hits .ensures)
 
 returns : tie.Need-returns
 returns c =
@@ -58,8 +67,10 @@ returns c =
     let y = z .before .before .before .before .before in
     let t = y .before .before .before .before .before .before .before .before in
     let a = t .args in
-    all-brought (a .spec) (a .g) (cells (a .spans .now) (a .links .now) (a .heads .now)) (a .log .now) (a .work .now) (a .ray) (a .s) (t .pre) (y .read-list .last .1 .1 .1 .1 .0) (y .read-list .result) (y .read-list .ensures)
-    (z .read-list2 .last .1 .1 .1 .1 .0) (z .read-list2 .result) (z .read-list2 .ensures) (h .bring-hits .last .1 .1 .0) (h .bring-hits .result) (h .bring-hits .ensures)
+    all-brought (a .spec) (a .g) (cells (a .spans .now) (a .links .now) (a .heads .now)) (a .log .now) (a .work .now)
+    (a .ray) (a .s) (t .pre) (y .read-list .last .1 .1 .1 .1 .0) (y .read-list .result) (y .read-list .ensures)
+    (z .read-list2 .last .1 .1 .1 .1 .0) (z .read-list2 .result) (z .read-list2 .ensures)
+    (h .bring-hits .last .1 .1 .0) (h .bring-hits .result) (h .bring-hits .ensures)
     (k .bring-hits2 .last .1 .1 .0) (k .bring-hits2 .result) (k .bring-hits2 .ensures)
 
 pub bring-spec : {M : Type 1} → statement M

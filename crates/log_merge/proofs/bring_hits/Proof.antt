@@ -18,7 +18,8 @@ part-long y =
     let s = y .before .before .before .before in
     let a = s .args in
     let w = y .gather-hits .last .1 .1 .0 in
-    let size = copied-size (hitsOnRay (a .g) (entries (a .log .now)) (a .ray) (hitKindOf (a .inner))) (a .work .now) (a .at) w (y .gather-hits .result) (s .pre .3) (y .gather-hits .ensures) in
+    let size = copied-size (hitsOnRay (a .g) (entries (a .log .now)) (a .ray) (hitKindOf (a .inner))) (a .work .now)
+    (a .at) w (y .gather-hits .result) (s .pre .3) (y .gather-hits .ensures) in
     omega (arith, size, length-drop (a .at) w, length-take-le (length w - a .at) (drop (a .at) w) (omega (arith, length-drop (a .at) w)))
 
 normalize-front-requires : tie.Need-normalize-front-requires
@@ -26,8 +27,10 @@ normalize-front-requires c κs =
     let y = c .before .before .before in
     let s = y .before .before .before .before in
     let a = s .args in
-    let e = y .gather-hits .ensures in
-    (omega (arith, e .past, named-even (a .g) (a .ray) (hitKindOf (a .inner)) (entries (a .log .now))), omega (arith, e .past, s .pre .3, part-long y))
+    let e = y .gather-hits .ensures in (
+      omega (arith, e .past, named-even (a .g) (a .ray) (hitKindOf (a .inner)) (entries (a .log .now))),
+      omega (arith, e .past, s .pre .3, part-long y),
+    )
 
 returns : tie.Need-returns
 returns c =
@@ -35,7 +38,9 @@ returns c =
     let y = z .before .before .before .before in
     let s = y .before .before .before .before in
     let a = s .args in
-    hits-brought (hitsOnRay (a .g) (entries (a .log .now)) (a .ray) (hitKindOf (a .inner))) (a .work .now) (y .gather-hits .last .1 .1 .0) (z .normalize-front .last .0) (a .at) (y .gather-hits .result) (z .normalize-front .result)
+    hits-brought (hitsOnRay (a .g) (entries (a .log .now)) (a .ray) (hitKindOf (a .inner))) (a .work .now)
+    (y .gather-hits .last .1 .1 .0) (z .normalize-front .last .0) (a .at) (y .gather-hits .result)
+    (z .normalize-front .result)
     (s .pre .3) (y .gather-hits .ensures) (z .normalize-front .kept .0) (z .normalize-front .ensures)
 
 pub bring-hits-spec : {M : Type 1} → statement M

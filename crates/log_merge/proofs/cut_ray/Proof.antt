@@ -22,7 +22,8 @@ subtract-both-requires c κs =
     let y = c .before .before .before in
     let s = y .before .before .before .before .before .before in
     let a = s .args in
-    second-ready (a .at) (a .np) (a .nc) (a .no) (a .ni) (a .w .now) (y .subtract-at .last .0) (y .subtract-at .last .0) (y .subtract-at .result) 0 (s .pre) (y .subtract-at .ensures)
+    second-ready (a .at) (a .np) (a .nc) (a .no) (a .ni) (a .w .now) (y .subtract-at .last .0)
+    (y .subtract-at .last .0) (y .subtract-at .result) 0 (s .pre) (y .subtract-at .ensures)
 
 returns-2 : tie.Need-returns-2
 returns-2 c =
@@ -32,7 +33,8 @@ returns-2 c =
     let h = i .before .is-changed in
     let s = i .before .before .before .before in
     let a = s .args in
-    both-cut (a .at) (a .np) (a .nc) (a .no) (a .ni) (a .w .now) (y .subtract-at .last .0) (z .subtract-both .last .0) (y .subtract-at .result) (z .subtract-both .result) (s .pre) (y .subtract-at .ensures)
+    both-cut (a .at) (a .np) (a .nc) (a .no) (a .ni) (a .w .now) (y .subtract-at .last .0) (z .subtract-both .last .0)
+    (y .subtract-at .result) (z .subtract-both .result) (s .pre) (y .subtract-at .ensures)
     (sym (not-false (h .result) (i .if1 .left)) ∙ h .ensures) (z .subtract-both .ensures)
 
 pub cut-ray-spec : {M : Type 1} → statement M

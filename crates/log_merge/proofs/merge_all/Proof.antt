@@ -9,7 +9,8 @@ use Rattle.store.specs.Store.{cells}
 use Rattle.log_merge.proofs.merge_all.Tie as tie
 
 abbrev Inv-loop : tie.InvT-loop
-Inv-loop spec g spans links heads log work₀ rays e n sizes q₀ s changed₀ ray₀ work q changed ray = Merging spec g (cells spans links heads) log work₀ work ray q changed
+Inv-loop spec g spans links heads log work₀ rays e n sizes q₀ s changed₀ ray₀ work q changed ray =
+    Merging spec g (cells spans links heads) log work₀ work ray q changed
 
 abbrev μ-loop : tie.MeasureT-loop
 μ-loop spec g spans links heads log work₀ rays e n sizes q₀ s changed₀ ray₀ work q changed ray = rays - ray
@@ -22,7 +23,8 @@ loop-holds : tie.Need-loop-holds Inv-loop μ-loop
 loop-holds c =
     let b = c .before .before .before .before .before .before in
     let a = b .args in
-    starts (a .spec) (a .g) (cells (a .spans .now) (a .links .now) (a .heads .now)) (a .log .now) (a .work .now) (b .pre) (c .total-rays .result) (c .total-rays .ensures)
+    starts (a .spec) (a .g) (cells (a .spans .now) (a .links .now) (a .heads .now)) (a .log .now) (a .work .now)
+    (b .pre) (c .total-rays .result) (c .total-rays .ensures)
 
 merge-ray-requires : tie.Need-merge-ray-requires Inv-loop μ-loop
 merge-ray-requires c κs =
@@ -30,7 +32,9 @@ merge-ray-requires c κs =
     let t = l .before in
     let b = t .before .before .before .before .before .before in
     let a = b .args in
-    ray-ready (a .spec) (a .g) (cells (a .spans .now) (a .links .now) (a .heads .now)) (a .log .now) (a .work .now) (b .pre) (t .total-rays .result) (t .total-rays .ensures) (l .loop .work) (l .loop .ray) (l .loop .q) (l .loop .changed) (l .loop .inv) (c .before .loop-test .taken)
+    ray-ready (a .spec) (a .g) (cells (a .spans .now) (a .links .now) (a .heads .now)) (a .log .now) (a .work .now)
+    (b .pre) (t .total-rays .result) (t .total-rays .ensures) (l .loop .work) (l .loop .ray) (l .loop .q)
+    (l .loop .changed) (l .loop .inv) (c .before .loop-test .taken)
 
 add-put-sizes : tie.Need-add-put-sizes Inv-loop μ-loop
 add-put-sizes c =
@@ -38,7 +42,9 @@ add-put-sizes c =
     let t = l .before in
     let b = t .before .before .before .before .before .before in
     let a = b .args in
-    let f = fits (a .spec) (a .g) (cells (a .spans .now) (a .links .now) (a .heads .now)) (a .log .now) (a .work .now) (b .pre) (t .total-rays .result) (t .total-rays .ensures) (l .loop .work) (l .loop .ray) (l .loop .q) (l .loop .changed) (l .loop .inv) in
+    let f = fits (a .spec) (a .g) (cells (a .spans .now) (a .links .now) (a .heads .now)) (a .log .now) (a .work .now)
+    (b .pre) (t .total-rays .result) (t .total-rays .ensures) (l .loop .work) (l .loop .ray) (l .loop .q)
+    (l .loop .changed) (l .loop .inv) in
     omega (arith, c .before .before .before .before .before .loop-test .taken, f .low, f .high, f .all, b .good .1 .1 .1 .1 .1 .1 .0 .1)
 
 put-sizes-requires : tie.Need-put-sizes-requires Inv-loop μ-loop
@@ -47,9 +53,21 @@ put-sizes-requires c κs =
     let t = l .before in
     let b = t .before .before .before .before .before .before in
     let a = b .args in
-    let f = fits (a .spec) (a .g) (cells (a .spans .now) (a .links .now) (a .heads .now)) (a .log .now) (a .work .now) (b .pre) (t .total-rays .result) (t .total-rays .ensures) (l .loop .work) (l .loop .ray) (l .loop .q) (l .loop .changed) (l .loop .inv) in
-    let m = c .before .before .before .merge-ray .ensures .cut in
-    (omega (arith, c .before .before .before .before .before .loop-test .taken, f .low, f .high, f .all, f .long, m .size), omega (arith, f .high, f .all, m .most, b .good .1 .1 .1 .1 .1 .1 .0 .1))
+    let f = fits (a .spec) (a .g) (cells (a .spans .now) (a .links .now) (a .heads .now)) (a .log .now) (a .work .now)
+    (b .pre) (t .total-rays .result) (t .total-rays .ensures) (l .loop .work) (l .loop .ray) (l .loop .q)
+    (l .loop .changed) (l .loop .inv) in
+    let m = c .before .before .before .merge-ray .ensures .cut in (
+      omega (
+        arith,
+        c .before .before .before .before .before .loop-test .taken,
+        f .low,
+        f .high,
+        f .all,
+        f .long,
+        m .size,
+      ),
+      omega (arith, f .high, f .all, m .most, b .good .1 .1 .1 .1 .1 .1 .0 .1),
+    )
 
 mul-q-2 : tie.Need-mul-q-2 Inv-loop μ-loop
 mul-q-2 c =
@@ -57,8 +75,16 @@ mul-q-2 c =
     let t = l .before in
     let b = t .before .before .before .before .before .before in
     let a = b .args in
-    let f = fits (a .spec) (a .g) (cells (a .spans .now) (a .links .now) (a .heads .now)) (a .log .now) (a .work .now) (b .pre) (t .total-rays .result) (t .total-rays .ensures) (l .loop .work) (l .loop .ray) (l .loop .q) (l .loop .changed) (l .loop .inv) in
-    omega (arith, f .high, f .all, c .before .before .before .before .before .before .before .merge-ray .ensures .cut .most, b .good .1 .1 .1 .1 .1 .1 .0 .1)
+    let f = fits (a .spec) (a .g) (cells (a .spans .now) (a .links .now) (a .heads .now)) (a .log .now) (a .work .now)
+    (b .pre) (t .total-rays .result) (t .total-rays .ensures) (l .loop .work) (l .loop .ray) (l .loop .q)
+    (l .loop .changed) (l .loop .inv) in
+    omega (
+      arith,
+      f .high,
+      f .all,
+      c .before .before .before .before .before .before .before .merge-ray .ensures .cut .most,
+      b .good .1 .1 .1 .1 .1 .1 .0 .1,
+    )
 
 mul-q-3 : tie.Need-mul-q-3 Inv-loop μ-loop
 mul-q-3 c =
@@ -66,8 +92,16 @@ mul-q-3 c =
     let t = l .before in
     let b = t .before .before .before .before .before .before in
     let a = b .args in
-    let f = fits (a .spec) (a .g) (cells (a .spans .now) (a .links .now) (a .heads .now)) (a .log .now) (a .work .now) (b .pre) (t .total-rays .result) (t .total-rays .ensures) (l .loop .work) (l .loop .ray) (l .loop .q) (l .loop .changed) (l .loop .inv) in
-    omega (arith, f .high, f .all, c .before .before .before .before .before .before .before .before .merge-ray .ensures .cut .most, b .good .1 .1 .1 .1 .1 .1 .0 .1)
+    let f = fits (a .spec) (a .g) (cells (a .spans .now) (a .links .now) (a .heads .now)) (a .log .now) (a .work .now)
+    (b .pre) (t .total-rays .result) (t .total-rays .ensures) (l .loop .work) (l .loop .ray) (l .loop .q)
+    (l .loop .changed) (l .loop .inv) in
+    omega (
+      arith,
+      f .high,
+      f .all,
+      c .before .before .before .before .before .before .before .before .merge-ray .ensures .cut .most,
+      b .good .1 .1 .1 .1 .1 .1 .0 .1,
+    )
 
 add-q-2 : tie.Need-add-q-2 Inv-loop μ-loop
 add-q-2 c =
@@ -75,8 +109,16 @@ add-q-2 c =
     let t = l .before in
     let b = t .before .before .before .before .before .before in
     let a = b .args in
-    let f = fits (a .spec) (a .g) (cells (a .spans .now) (a .links .now) (a .heads .now)) (a .log .now) (a .work .now) (b .pre) (t .total-rays .result) (t .total-rays .ensures) (l .loop .work) (l .loop .ray) (l .loop .q) (l .loop .changed) (l .loop .inv) in
-    omega (arith, f .high, f .all, c .before .before .before .before .before .before .before .before .merge-ray .ensures .cut .most, b .good .1 .1 .1 .1 .1 .1 .0 .1)
+    let f = fits (a .spec) (a .g) (cells (a .spans .now) (a .links .now) (a .heads .now)) (a .log .now) (a .work .now)
+    (b .pre) (t .total-rays .result) (t .total-rays .ensures) (l .loop .work) (l .loop .ray) (l .loop .q)
+    (l .loop .changed) (l .loop .inv) in
+    omega (
+      arith,
+      f .high,
+      f .all,
+      c .before .before .before .before .before .before .before .before .merge-ray .ensures .cut .most,
+      b .good .1 .1 .1 .1 .1 .1 .0 .1,
+    )
 
 add-q-3 : tie.Need-add-q-3 Inv-loop μ-loop
 add-q-3 c =
@@ -84,8 +126,16 @@ add-q-3 c =
     let t = l .before in
     let b = t .before .before .before .before .before .before in
     let a = b .args in
-    let f = fits (a .spec) (a .g) (cells (a .spans .now) (a .links .now) (a .heads .now)) (a .log .now) (a .work .now) (b .pre) (t .total-rays .result) (t .total-rays .ensures) (l .loop .work) (l .loop .ray) (l .loop .q) (l .loop .changed) (l .loop .inv) in
-    omega (arith, f .high, f .all, c .before .before .before .before .before .before .before .before .merge-ray .ensures .cut .most, b .good .1 .1 .1 .1 .1 .1 .0 .1)
+    let f = fits (a .spec) (a .g) (cells (a .spans .now) (a .links .now) (a .heads .now)) (a .log .now) (a .work .now)
+    (b .pre) (t .total-rays .result) (t .total-rays .ensures) (l .loop .work) (l .loop .ray) (l .loop .q)
+    (l .loop .changed) (l .loop .inv) in
+    omega (
+      arith,
+      f .high,
+      f .all,
+      c .before .before .before .before .before .before .before .before .merge-ray .ensures .cut .most,
+      b .good .1 .1 .1 .1 .1 .1 .0 .1,
+    )
 
 add-changed : tie.Need-add-changed Inv-loop μ-loop
 add-changed c =
@@ -93,8 +143,18 @@ add-changed c =
     let t = l .before in
     let b = t .before .before .before .before .before .before in
     let a = b .args in
-    let f = fits (a .spec) (a .g) (cells (a .spans .now) (a .links .now) (a .heads .now)) (a .log .now) (a .work .now) (b .pre) (t .total-rays .result) (t .total-rays .ensures) (l .loop .work) (l .loop .ray) (l .loop .q) (l .loop .changed) (l .loop .inv) in
-    omega (arith, f .few, c .before .before .before .before .before .before .before .before .before .before .before .loop-test .taken, count-most (c .before .before .before .before .before .before .before .before .before .merge-ray .result .changed), c .count .ensures)
+    let f = fits (a .spec) (a .g) (cells (a .spans .now) (a .links .now) (a .heads .now)) (a .log .now) (a .work .now)
+    (b .pre) (t .total-rays .result) (t .total-rays .ensures) (l .loop .work) (l .loop .ray) (l .loop .q)
+    (l .loop .changed) (l .loop .inv) in
+    omega (
+      arith,
+      f .few,
+      c .before .before .before .before .before .before .before .before .before .before .before
+          .loop-test .taken,
+      count-most (c .before .before .before .before .before .before .before .before .before
+          .merge-ray .result .changed),
+      c .count .ensures,
+    )
 
 loop-less : tie.Need-loop-less Inv-loop μ-loop
 loop-less c = omega (arith, c .before .before .before .before .before .before .before .before .before .before .before .loop-test .taken)
@@ -105,10 +165,17 @@ loop-again c =
     let t = l .before in
     let b = t .before .before .before .before .before .before in
     let a = b .args in
-    steps (a .spec) (a .g) (cells (a .spans .now) (a .links .now) (a .heads .now)) (a .log .now) (a .work .now) (b .pre) (t .total-rays .result) (t .total-rays .ensures) (l .loop .work) (l .loop .ray) (l .loop .q) (l .loop .changed) (l .loop .inv)
+    steps (a .spec) (a .g) (cells (a .spans .now) (a .links .now) (a .heads .now)) (a .log .now) (a .work .now)
+    (b .pre) (t .total-rays .result) (t .total-rays .ensures) (l .loop .work) (l .loop .ray) (l .loop .q)
+    (l .loop .changed) (l .loop .inv)
     (t .before .before .before .before .before .shared-slice-known .given) (t .before .before .shared-slice-known4 .given)
-    (c .before .before .before .before .before .before .before .before .before .before .before .loop-test .taken) (omega (arith, b .good .1 .1 .1 .1 .1 .1 .0 .1)) (c .before .before .before .before .before .before .before .before .before .merge-ray .last .1 .1 .1 .1 .1 .1 .0) (c .before .before .before .before .before .put-sizes .last .0) (c .before .before .before .before .before .before .before .before .before .merge-ray .result) (c .count .result)
-    (c .before .before .before .before .before .before .before .before .before .merge-ray .ensures) (c .before .before .before .before .before .put-sizes .ensures) (c .count .ensures)
+    (c .before .before .before .before .before .before .before .before .before .before .before .loop-test .taken)
+    (omega (arith, b .good .1 .1 .1 .1 .1 .1 .0 .1))
+    (c .before .before .before .before .before .before .before .before .before .merge-ray .last .1 .1 .1 .1 .1 .1
+    .0) (c .before .before .before .before .before .put-sizes .last .0)
+    (c .before .before .before .before .before .before .before .before .before .merge-ray .result) (c .count .result)
+    (c .before .before .before .before .before .before .before .before .before .merge-ray .ensures)
+    (c .before .before .before .before .before .put-sizes .ensures) (c .count .ensures)
 
 same-length : tie.Need-same-length Inv-loop μ-loop
 same-length c = c .before .loop .inv .size
@@ -119,7 +186,9 @@ returns c =
     let t = l .before in
     let b = t .before .before .before .before .before .before in
     let a = b .args in
-    done (a .spec) (a .g) (cells (a .spans .now) (a .links .now) (a .heads .now)) (a .log .now) (a .work .now) (b .pre) (t .total-rays .result) (t .total-rays .ensures) (l .loop .work) (l .loop .ray) (l .loop .q) (l .loop .changed) (l .loop .inv) (c .loop-test .left)
+    done (a .spec) (a .g) (cells (a .spans .now) (a .links .now) (a .heads .now)) (a .log .now) (a .work .now)
+    (b .pre) (t .total-rays .result) (t .total-rays .ensures) (l .loop .work) (l .loop .ray) (l .loop .q)
+    (l .loop .changed) (l .loop .inv) (c .loop-test .left)
 
 pub merge-all-spec : {M : Type 1} → statement M
 merge-all-spec =

@@ -12,7 +12,8 @@ returns : tie.Need-returns
 returns c =
     let t = c .before .before .before .before .before .before .before .before in
     let a = t .args in
-    ray-same (a .spec) (a .g) (cells (a .spans .now) (a .links .now) (a .heads .now)) (a .log .now) (a .work .now) (a .ray) (a .q) (a .s) (t .pre .0) (t .pre .1) (sym (c .before .number-at .ensures) ∙ c .if1 .taken)
+    ray-same (a .spec) (a .g) (cells (a .spans .now) (a .links .now) (a .heads .now)) (a .log .now) (a .work .now)
+    (a .ray) (a .q) (a .s) (t .pre .0) (t .pre .1) (sym (c .before .number-at .ensures) ∙ c .if1 .taken)
 
 mul-cut-ray : tie.Need-mul-cut-ray
 mul-cut-ray c =
@@ -24,7 +25,9 @@ cut-ray-requires c κs =
     let y = c .before .before .before in
     let t = y .before .before .before .before .before .before .before .before .before .before in
     let a = t .args in
-    cut-ready (a .spec) (a .g) (cells (a .spans .now) (a .links .now) (a .heads .now)) (a .log .now) (a .work .now) (a .ray) (a .q) (a .s) (t .pre .0) (t .pre .1) (y .bring .last .1 .1 .1 .1 .1 .1 .0) (y .bring .result) (y .bring .ensures)
+    cut-ready (a .spec) (a .g) (cells (a .spans .now) (a .links .now) (a .heads .now)) (a .log .now) (a .work .now)
+    (a .ray) (a .q) (a .s) (t .pre .0) (t .pre .1) (y .bring .last .1 .1 .1 .1 .1 .1 .0) (y .bring .result)
+    (y .bring .ensures)
 
 returns-2 : tie.Need-returns-2
 returns-2 c =
@@ -32,7 +35,9 @@ returns-2 c =
     let y = z .before .before .before .before in
     let t = y .before .before .before .before .before .before .before .before .before .before in
     let a = t .args in
-    ray-merged (a .spec) (a .g) (cells (a .spans .now) (a .links .now) (a .heads .now)) (a .log .now) (a .work .now) (a .ray) (a .q) (a .s) (t .pre .0) (t .pre .1) (y .bring .last .1 .1 .1 .1 .1 .1 .0) (y .bring .result) (y .bring .ensures)
+    ray-merged (a .spec) (a .g) (cells (a .spans .now) (a .links .now) (a .heads .now)) (a .log .now) (a .work .now)
+    (a .ray) (a .q) (a .s) (t .pre .0) (t .pre .1) (y .bring .last .1 .1 .1 .1 .1 .1 .0) (y .bring .result)
+    (y .bring .ensures)
     (z .cut-ray .last .0) (z .cut-ray .result) (z .cut-ray .kept .0) (z .cut-ray .ensures)
 
 pub merge-ray-spec : {M : Type 1} → statement M

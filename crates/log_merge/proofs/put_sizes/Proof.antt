@@ -17,7 +17,8 @@ returns c =
     let f = y .before .before in
     let a = f .before .before .args in
     z .put-number2 .ensures
-    ∙ ap (λ (l : List Float). set l (a .at + 1) (numberCell (a .m .certain))) (y .put-number .ensures ∙ ap (λ (n : ℕ). set (a .work .now) (a .at) (numberCell n)) (f .first-size .ensures))
+    ∙ ap (λ (l : List Float). set l (a .at + 1) (numberCell (a .m .certain)))
+    (y .put-number .ensures ∙ ap (λ (n : ℕ). set (a .work .now) (a .at) (numberCell n)) (f .first-size .ensures))
 
 pub put-sizes-spec : {M : Type 1} → statement M
 put-sizes-spec =

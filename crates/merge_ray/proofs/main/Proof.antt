@@ -14,7 +14,12 @@ fits : (c : tie.After-run) → c .run .result ≤ length (c .run .last .1 .0)
 fits c =
     let r = c .run in
     let e = r .ensures in
-    omega (arith, e .put .room, same-size (c .before .before .before .large-buffer .result) 0 (e .text) (r .last .1 .0) (r .result) (e .put))
+    omega (
+      arith,
+      e .put .room,
+      same-size (c .before .before .before .large-buffer .result) 0 (e .text)
+          (r .last .1 .0) (r .result) (e .put),
+    )
 
 array-share-prefix-out : tie.Need-array-share-prefix-out
 array-share-prefix-out c = fits c

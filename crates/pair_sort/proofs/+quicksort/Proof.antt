@@ -86,7 +86,10 @@ quicksort-same-length-3 t c = search needs
 
 quicksort-returns-3 : (t : ℕ) → quicksort-lts.Need-returns-3 (claims t) (quicksort-at t) quicksort.Post
 quicksort-returns-3 t c =
-    after (after (after (c .before .before .before .before .before .before .before .before .before .before .before .before .before .before .split .ensures .0) (c .before .before .before .before .before .before .before .before .before .before .quicksort .ensures)) (c .before .before .before .before .before .before .past-equal .ensures .0)) (c .before .before .quicksort2 .ensures)
+    after (after (after (c .before .before .before .before .before .before .before .before .before .before .before
+    .before .before .before .split .ensures .0)
+    (c .before .before .before .before .before .before .before .before .before .before .quicksort .ensures))
+    (c .before .before .before .before .before .before .past-equal .ensures .0)) (c .before .before .quicksort2 .ensures)
 
 pub +quicksort-spec : {M : Type 1} → statement M
 +quicksort-spec = close μ-quicksort λ t. quicksort-lts.spec (claims t)

@@ -17,7 +17,11 @@ loop-holds : tie.Need-loop-holds Inv-loop μ-loop
 loop-holds c = (unchanged _, omega arith)
 
 loop-again : tie.Need-loop-again Inv-loop μ-loop
-loop-again c = (after (after (c .before .before .before .before .before .before .before .before .before .loop .inv .0) (c .before .before .before .before .before .before .swap-pairs .ensures)) (c .before .before .sift .ensures), omega arith)
+loop-again c = (
+  after (after (c .before .before .before .before .before .before .before .before .before .loop .inv .0)
+      (c .before .before .before .before .before .before .swap-pairs .ensures)) (c .before .before .sift .ensures),
+  omega arith,
+)
 
 returns : tie.Need-returns Inv-loop μ-loop
 returns c = after (c .before .before .before .before .make-heap .ensures) (c .before .loop .inv .0)

@@ -19,7 +19,8 @@ loop-holds c = (unchanged _, omega arith, omega arith, omega arith)
 
 loop-again : tie.Need-loop-again Inv-loop μ-loop
 loop-again c =
-    let p = after (c .before .before .before .before .before .before .before .before .loop .inv .0) (c .before .before .before .before .swap-pairs .ensures) in
+    let p = after (c .before .before .before .before .before .before .before .before .loop .inv .0)
+    (c .before .before .before .before .swap-pairs .ensures) in
     ⊎-elim (λ w. (p, omega arith, omega arith, omega arith)) (λ w. (p, omega arith, omega arith, omega arith)) (c .if1 .came)
 
 pub partition-spec : {M : Type 1} → statement M

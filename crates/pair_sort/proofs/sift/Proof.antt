@@ -16,7 +16,8 @@ loop-holds : tie.Need-loop-holds Inv-loop μ-loop
 loop-holds c = unchanged _
 
 loop-again : tie.Need-loop-again Inv-loop μ-loop
-loop-again c = after (c .before .before .before .before .before .before .before .before .before .before .loop .inv) (c .before .before .swap-pairs .ensures)
+loop-again c = after (c .before .before .before .before .before .before .before .before .before .before .loop .inv)
+    (c .before .before .swap-pairs .ensures)
 
 pub sift-spec : {M : Type 1} → statement M
 sift-spec =

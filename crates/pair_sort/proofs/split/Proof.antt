@@ -6,7 +6,13 @@ use Rattle.pair_sort.proofs.split.Statement.{statement}
 use Rattle.pair_sort.proofs.split.Tie as tie
 
 returns : tie.Need-returns
-returns c = (after (after (c .before .before .before .before .before .before .before .before .before .before .before .swap-pairs .ensures) (c .before .before .before .before .before .before .partition .ensures .0)) (c .before .before .swap-pairs2 .ensures), omega arith, omega arith)
+returns c = (
+  after (after (c .before .before .before .before .before .before .before .before .before .before .before
+      .swap-pairs .ensures) (c .before .before .before .before .before .before .partition .ensures .0))
+      (c .before .before .swap-pairs2 .ensures),
+  omega arith,
+  omega arith,
+)
 
 pub split-spec : {M : Type 1} → statement M
 split-spec =

@@ -21,14 +21,18 @@ loop-holds c = (omega arith, each-none _)
 loop-again : tie.Need-loop-again Inv-loop μ-loop
 loop-again c =
     let l = c .before .before .before in
-    let a = l .before .before .args in
-    (omega arith, each-more (λ k. isLine (a .s .now) (36 * k)) (l .loop .k) (l .loop .inv .1) (sym (c .before .is-line .ensures) ∙ c .if1 .taken))
+    let a = l .before .before .args in (
+      omega arith,
+      each-more (λ k. isLine (a .s .now) (36 * k)) (l .loop .k) (l .loop .inv .1)
+          (sym (c .before .is-line .ensures) ∙ c .if1 .taken),
+    )
 
 returns : tie.Need-returns Inv-loop μ-loop
 returns c =
     let l = c .before .before .before in
     let a = l .before .before .args in
-    sym (each-stop (λ k. isLine (a .s .now) (36 * k)) (l .loop .k) (a .n) (c .before .before .loop-test .taken) (sym (c .before .is-line .ensures) ∙ c .if1 .left))
+    sym (each-stop (λ k. isLine (a .s .now) (36 * k)) (l .loop .k) (a .n) (c .before .before .loop-test .taken)
+    (sym (c .before .is-line .ensures) ∙ c .if1 .left))
 
 returns-2 : tie.Need-returns-2 Inv-loop μ-loop
 returns-2 c =

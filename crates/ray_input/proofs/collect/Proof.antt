@@ -20,8 +20,11 @@ abbrev μ-loop : tie.MeasureT-loop
 
 loop-holds : tie.Need-loop-holds Inv-loop μ-loop
 loop-holds c =
-    let a = c .before .before .args in
-    (omega arith, subst (λ (l : List Float). Appended (a .out .now) 0 l (a .out .now) 0) (pairs-none (a .c) (a .s .now)) (put-none (a .out .now) 0 (omega arith)))
+    let a = c .before .before .args in (
+      omega arith,
+      subst (λ (l : List Float). Appended (a .out .now) 0 l (a .out .now) 0)
+          (pairs-none (a .c) (a .s .now)) (put-none (a .out .now) 0 (omega arith)),
+    )
 
 put-line-of-requires : tie.Need-put-line-of-requires Inv-loop μ-loop
 put-line-of-requires c κs =
@@ -33,7 +36,15 @@ put-line-of-requires c κs =
     let more = l .loop .inv .1 .next in (
       omega (arith, s .pre .0),
       omega (arith, size, l .loop .inv .1 .room),
-      λ h. omega (arith, size, put, more, s .pre .1, count-hit (a .c) (a .s .now) (l .loop .k) h, count-mono (a .c) (a .s .now) (l .loop .k + 1) (a .n) (omega arith)),
+      λ h. omega (
+        arith,
+        size,
+        put,
+        more,
+        s .pre .1,
+        count-hit (a .c) (a .s .now) (l .loop .k) h,
+        count-mono (a .c) (a .s .now) (l .loop .k + 1) (a .n) (omega arith),
+      ),
     )
 
 loop-again : tie.Need-loop-again Inv-loop μ-loop
@@ -42,9 +53,11 @@ loop-again c =
     let l = p .before .before .before in
     let a = l .before .before .before .args in (
       omega arith,
-      subst (λ (x : List Float). Appended (a .out .now) 0 x (p .put-line-of .last .1 .1 .1 .0) (p .put-line-of .result)) (pairs-more (a .c) (a .s .now) (l .loop .k))
+      subst (λ (x : List Float). Appended (a .out .now) 0 x (p .put-line-of .last .1 .1 .1 .0)
+          (p .put-line-of .result)) (pairs-more (a .c) (a .s .now) (l .loop .k))
           (put-then (a .out .now) 0 (textPairs (a .c) (a .s .now) (l .loop .k)) (l .loop .out) (l .loop .m) (l .loop .inv .1)
-          (pairAt (a .c) (a .s .now) (36 * l .loop .k)) (p .put-line-of .last .1 .1 .1 .0) (p .put-line-of .result) (p .put-line-of .ensures)),
+          (pairAt (a .c) (a .s .now) (36 * l .loop .k)) (p .put-line-of .last .1 .1 .1 .0) (p .put-line-of .result)
+          (p .put-line-of .ensures)),
     )
 
 same-length : tie.Need-same-length Inv-loop μ-loop

@@ -8,10 +8,14 @@ use Rattle.ray_input.proofs.double_at.Statement.{statement}
 use Rattle.ray_input.proofs.double_at.Tie as tie
 
 returns : tie.Need-returns
-returns c = c .of-bits .ensures ∙ ap (λ (w : Word). ofBits binary64 (valueOf w)) (sym (c .before .before .v .given .1) ∙ c .before .before .before .before .word-at .ensures)
+returns c = c .of-bits .ensures
+    ∙ ap (λ (w : Word). ofBits binary64 (valueOf w))
+    (sym (c .before .before .v .given .1) ∙ c .before .before .before .before .word-at .ensures)
 
 returns-2 : tie.Need-returns-2
-returns-2 c = c .of-bits2 .ensures ∙ ap (λ (w : Word). ofBits binary64 (valueOf w)) (sym (c .before .enum-told .given .1) ∙ c .before .before .before .word-at .ensures)
+returns-2 c = c .of-bits2 .ensures
+    ∙ ap (λ (w : Word). ofBits binary64 (valueOf w))
+    (sym (c .before .enum-told .given .1) ∙ c .before .before .before .word-at .ensures)
 
 pub double-at-spec : {M : Type 1} → statement M
 double-at-spec =

@@ -33,7 +33,8 @@ returns-4 c =
     let o = c .before in
     let d = o .before .before in
     let a = c .before .before .before .before .before .before .before .before .args in
-    rw (c .count-of4 .ensures) (last-count (a .s .now) (a .n) (p-few (d .before .before)) (c-few d) (rw (← o .before .count-of3 .ensures) (o .if3 .left)))
+    rw (c .count-of4 .ensures) (last-count (a .s .now) (a .n) (p-few (d .before .before)) (c-few d)
+    (rw (← o .before .count-of3 .ensures) (o .if3 .left)))
 
 pub few-lines-spec : {M : Type 1} → statement M
 few-lines-spec =

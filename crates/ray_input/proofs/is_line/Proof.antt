@@ -14,10 +14,13 @@ use Rattle.ray_input.proofs.is_line.Tie as tie
 letter : (c : tie.Else1) → let a = c .before .before .before .before .args in isLetter (getD (a .s .now) (a .at) 0) ≡ true
 letter c = found (c .before .is-letter .result) _ (c .before .is-letter .ensures) (c .if1 .left)
 
-lo : (c : tie.Else3) → let a = c .before .before .before .before .before .before .before .before .args in isNumber (a .s .now) (a .at + 2) ≡ true
+lo : (c : tie.Else3) → let a = c .before .before .before .before .before .before .before .before .args in
+    isNumber (a .s .now) (a .at + 2) ≡ true
 lo c = found (c .before .is-number .result) _ (c .before .is-number .ensures) (c .if3 .left)
 
-hi : (c : tie.Else5) → let a = c .before .before .before .before .before .before .before .before .before .before .before .before .args in isNumber (a .s .now) (a .at + 19) ≡ true
+hi : (c : tie.Else5) → let a =
+    c .before .before .before .before .before .before .before .before .before .before .before .before .args in
+    isNumber (a .s .now) (a .at + 19) ≡ true
 hi c = found (c .before .is-number2 .result) _ (c .before .is-number2 .ensures) (c .if5 .left)
 
 returns : tie.Need-returns

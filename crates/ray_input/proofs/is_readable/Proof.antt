@@ -23,7 +23,8 @@ returns-2 c =
 returns-3 : tie.Need-returns-3
 returns-3 c =
     let s = c .before .before .before .before .before .args .s .now in
-    no-first s (c .before .before .before .if1 .left) (good (c .before)) (λ h. empty-first s (omega (arith, c .if3 .taken, c .before .before .before .if1 .left)) h)
+    no-first s (c .before .before .before .if1 .left) (good (c .before))
+    (λ h. empty-first s (omega (arith, c .if3 .taken, c .before .before .before .if1 .left)) h)
 
 returns-4 : tie.Need-returns-4
 returns-4 c =
@@ -33,12 +34,16 @@ returns-4 c =
 returns-5 : tie.Need-returns-5
 returns-5 c =
     let s = c .before .before .before .before .before .before .before .before .before .args .s .now in
-    not-once s (c .before .before .before .before .before .before .before .if1 .left) (good (c .before .before .before .before .before)) (c .before .before .if4 .left) (λ h. c .if5 .taken (c .before .count-of .ensures ∙ h))
+    not-once s (c .before .before .before .before .before .before .before .if1 .left)
+    (good (c .before .before .before .before .before)) (c .before .before .if4 .left)
+    (λ h. c .if5 .taken (c .before .count-of .ensures ∙ h))
 
 returns-6 : tie.Need-returns-6
 returns-6 c =
     let s = c .before .before .before .before .before .before .before .before .before .before .args .s .now in
-    c .few-lines .ensures ∙ last-test s (c .before .before .before .before .before .before .before .before .if1 .left) (good (c .before .before .before .before .before .before)) (c .before .before .before .if4 .left) (sym (c .before .before .count-of .ensures) ∙ c .before .if5 .left)
+    c .few-lines .ensures ∙ last-test s (c .before .before .before .before .before .before .before .before .if1 .left)
+    (good (c .before .before .before .before .before .before)) (c .before .before .before .if4 .left)
+    (sym (c .before .before .count-of .ensures) ∙ c .before .if5 .left)
 
 pub is-readable-spec : {M : Type 1} → statement M
 is-readable-spec =

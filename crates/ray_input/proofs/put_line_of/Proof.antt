@@ -24,7 +24,9 @@ returns-2 c =
     let p = c .before .before in
     let a = c .before .before .before .before .before .before .before .before .before .before .args in
     subst (λ (l : List Float). Appended (a .out .now) (a .m) l (p .put-pair .last .0) (p .put-pair .result))
-    (pair-hit (a .s .now) (a .at) (a .c) (p .before .before .before .double-at .result) (p .before .before .double-at2 .result) (p .before .before .before .before .if1 .left) (p .before .before .before .double-at .ensures) (p .before .before .double-at2 .ensures))
+    (pair-hit (a .s .now) (a .at) (a .c) (p .before .before .before .double-at .result)
+    (p .before .before .double-at2 .result) (p .before .before .before .before .if1 .left)
+    (p .before .before .before .double-at .ensures) (p .before .before .double-at2 .ensures))
     (p .put-pair .ensures)
 
 pub put-line-of-spec : {M : Type 1} → statement M

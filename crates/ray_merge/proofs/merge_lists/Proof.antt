@@ -15,8 +15,10 @@ merge-within-requires c κs =
     let p = q .before .before .before .before in
     let s = p .before .before .before .before .before .before .before in
     let a = s .args in
-    ready (a .possible .now) (a .certain .now) (a .outer .now) (a .inner .now) (a .work .now) (p .place .last .1 .0) (q .place2 .last .1 .0) (o .place-normalized .last .1 .0) (i .place-normalized2 .last .1 .0)
-    (length (a .possible .now) + length (a .certain .now) + length (a .outer .now) + 2 * length (a .inner .now)) (o .place-normalized .result) (i .place-normalized2 .result) (s .pre) refl
+    ready (a .possible .now) (a .certain .now) (a .outer .now) (a .inner .now) (a .work .now) (p .place .last .1 .0)
+    (q .place2 .last .1 .0) (o .place-normalized .last .1 .0) (i .place-normalized2 .last .1 .0)
+    (length (a .possible .now) + length (a .certain .now) + length (a .outer .now) + 2 * length (a .inner .now))
+    (o .place-normalized .result) (i .place-normalized2 .result) (s .pre) refl
     (p .place .ensures) (q .place2 .ensures) (o .place-normalized .ensures) (i .place-normalized2 .ensures)
 
 returns : tie.Need-returns
@@ -28,9 +30,12 @@ returns c =
     let p = q .before .before .before .before in
     let s = p .before .before .before .before .before .before .before in
     let a = s .args in
-    lists (a .possible .now) (a .certain .now) (a .outer .now) (a .inner .now) (a .work .now) (p .place .last .1 .0) (q .place2 .last .1 .0) (o .place-normalized .last .1 .0) (i .place-normalized2 .last .1 .0)
-    (length (a .possible .now) + length (a .certain .now) + length (a .outer .now) + 2 * length (a .inner .now)) (o .place-normalized .result) (i .place-normalized2 .result) (s .pre) refl
-    (p .place .ensures) (q .place2 .ensures) (o .place-normalized .ensures) (i .place-normalized2 .ensures) (m .merge-within .last .0) (m .merge-within .result) (m .merge-within .ensures)
+    lists (a .possible .now) (a .certain .now) (a .outer .now) (a .inner .now) (a .work .now) (p .place .last .1 .0)
+    (q .place2 .last .1 .0) (o .place-normalized .last .1 .0) (i .place-normalized2 .last .1 .0)
+    (length (a .possible .now) + length (a .certain .now) + length (a .outer .now) + 2 * length (a .inner .now))
+    (o .place-normalized .result) (i .place-normalized2 .result) (s .pre) refl
+    (p .place .ensures) (q .place2 .ensures) (o .place-normalized .ensures) (i .place-normalized2 .ensures)
+    (m .merge-within .last .0) (m .merge-within .result) (m .merge-within .ensures)
 
 pub merge-lists-spec : {M : Type 1} → statement M
 merge-lists-spec =

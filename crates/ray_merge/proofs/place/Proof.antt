@@ -10,7 +10,8 @@ returns c =
     let y = c .before .before in
     let s = c .before .before .before .before .before .before in
     let a = s .args in
-    placed (a .at) (a .w .now) (y .copy-to .last .1 .0) (omega (arith, s .pre)) (y .copy-to .ensures .size) (a .s .now) (s .pre) (y .copy-to .ensures)
+    placed (a .at) (a .w .now) (y .copy-to .last .1 .0) (omega (arith, s .pre)) (y .copy-to .ensures .size)
+    (a .s .now) (s .pre) (y .copy-to .ensures)
 
 pub place-spec : {M : Type 1} → statement M
 place-spec =

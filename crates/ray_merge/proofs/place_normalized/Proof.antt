@@ -10,7 +10,8 @@ returns c =
     let y = c .before .before in
     let s = c .before .before .before .before .before .before in
     let a = s .args in
-    normal (a .at) (a .w .now) (y .normalize-into .last .1 .0) (omega (arith, s .pre .1)) (y .normalize-into .ensures .size) (a .s .now) (y .normalize-into .result) (y .normalize-into .ensures)
+    normal (a .at) (a .w .now) (y .normalize-into .last .1 .0) (omega (arith, s .pre .1))
+    (y .normalize-into .ensures .size) (a .s .now) (y .normalize-into .result) (y .normalize-into .ensures)
 
 pub place-normalized-spec : {M : Type 1} → statement M
 place-normalized-spec =

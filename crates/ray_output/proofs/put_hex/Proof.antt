@@ -32,7 +32,8 @@ loop-again c =
     let s = l .before .before in
     let a = s .args in
     let back : l .loop .k ≡ l .loop .k - 1 + 1 = omega (arith, c .before .loop-test .taken) in
-    subst (λ (g : ℕ). Hexing (a .out .now) (a .at) (a .v) (l .loop .k - 1) (l .loop .rest / 16) (set (l .loop .out) (a .at + (l .loop .k - 1)) g)) (sym (c .glyph-of .ensures))
+    subst (λ (g : ℕ). Hexing (a .out .now) (a .at) (a .v) (l .loop .k - 1) (l .loop .rest / 16)
+    (set (l .loop .out) (a .at + (l .loop .k - 1)) g)) (sym (c .glyph-of .ensures))
     (hex-step (a .out .now) (a .at) (a .v) (s .pre) (l .loop .k - 1) (l .loop .rest) (l .loop .out)
     (subst (λ (n : ℕ). Hexing (a .out .now) (a .at) (a .v) n (l .loop .rest) (l .loop .out)) back (l .loop .inv)))
 

@@ -14,7 +14,15 @@ put-field-requires-2 c κs =
     let f = c .before .before .before in
     let p = f .before .before .before .before in
     let s = p .before .before .before in
-    omega (arith, field-length (s .args .lo), f .put-field .ensures .next, f .put-field .kept .0, p .put-byte .ensures .next, p .put-byte .kept .0, s .pre)
+    omega (
+      arith,
+      field-length (s .args .lo),
+      f .put-field .ensures .next,
+      f .put-field .kept .0,
+      p .put-byte .ensures .next,
+      p .put-byte .kept .0,
+      s .pre,
+    )
 
 put-byte-requires-2 : tie.Need-put-byte-requires-2
 put-byte-requires-2 c κs =
@@ -46,9 +54,11 @@ returns c =
     let last = e .put-byte2 in
     put-then (a .out .now) (a .at) (a .c ∷ []) (p .put-byte .last .0) (p .put-byte .result) (p .put-byte .ensures)
     (fieldText (a .lo) ++ (fieldText (a .hi) ++ (newline ∷ []))) (last .last .0) (last .result)
-    (put-then (p .put-byte .last .0) (p .put-byte .result) (fieldText (a .lo)) (f .put-field .last .0) (f .put-field .result) (f .put-field .ensures)
+    (put-then (p .put-byte .last .0) (p .put-byte .result) (fieldText (a .lo)) (f .put-field .last .0)
+    (f .put-field .result) (f .put-field .ensures)
     (fieldText (a .hi) ++ (newline ∷ [])) (last .last .0) (last .result)
-    (put-then (f .put-field .last .0) (f .put-field .result) (fieldText (a .hi)) (g .put-field2 .last .0) (g .put-field2 .result) (g .put-field2 .ensures)
+    (put-then (f .put-field .last .0) (f .put-field .result) (fieldText (a .hi)) (g .put-field2 .last .0)
+    (g .put-field2 .result) (g .put-field2 .ensures)
     (newline ∷ []) (last .last .0) (last .result) (last .ensures)))
 
 pub put-line-spec : {M : Type 1} → statement M

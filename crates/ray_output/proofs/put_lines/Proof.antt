@@ -19,13 +19,24 @@ size : (l : tie.At-loop Inv-loop μ-loop) → length (l .loop .out) ≡ length (
 size l = lining-size (l .loop .inv)
 
 loop-holds : tie.Need-loop-holds Inv-loop μ-loop
-loop-holds c = let s = c .before .before in lining-start (s .args .out .now) (s .args .at) (s .args .c) (s .args .list .now) (omega (arith, s .pre .1))
+loop-holds c = let s = c .before .before in
+    lining-start (s .args .out .now) (s .args .at) (s .args .c) (s .args .list .now) (omega (arith, s .pre .1))
 
 shared-slice-read-put-line-2 : tie.Need-shared-slice-read-put-line-2 Inv-loop μ-loop
-shared-slice-read-put-line-2 c = let l = c .before .before .before .before in omega (arith, l .loop .inv .even, l .before .before .before .pre .0, c .before .before .before .loop-test .taken)
+shared-slice-read-put-line-2 c = let l = c .before .before .before .before in
+    omega (arith, l .loop .inv .even, l .before .before .before .pre .0, c .before .before .before .loop-test .taken)
 
 put-line-requires : tie.Need-put-line-requires Inv-loop μ-loop
-put-line-requires c κs = let l = c .before .before .before .before in let s = l .before .before .before in omega (arith, size l, lining-next (l .loop .inv), l .loop .inv .even, s .pre .0, s .pre .1, c .before .before .before .loop-test .taken)
+put-line-requires c κs = let l = c .before .before .before .before in let s = l .before .before .before in
+    omega (
+      arith,
+      size l,
+      lining-next (l .loop .inv),
+      l .loop .inv .even,
+      s .pre .0,
+      s .pre .1,
+      c .before .before .before .loop-test .taken,
+    )
 
 loop-again : tie.Need-loop-again Inv-loop μ-loop
 loop-again c =
@@ -33,7 +44,9 @@ loop-again c =
     let l = p .before .before .before .before .before in
     let s = l .before .before .before in
     let a = s .args in
-    lining-step (a .out .now) (a .at) (a .c) (a .list .now) (l .loop .k) (l .loop .out) (l .loop .n) (p .put-line .last .0) (p .put-line .result) (s .pre .0) (p .before .before .before .before .loop-test .taken) (l .loop .inv)
+    lining-step (a .out .now) (a .at) (a .c) (a .list .now) (l .loop .k) (l .loop .out) (l .loop .n)
+    (p .put-line .last .0) (p .put-line .result) (s .pre .0) (p .before .before .before .before .loop-test .taken)
+    (l .loop .inv)
     (p .put-line .ensures)
 
 same-length : tie.Need-same-length Inv-loop μ-loop

@@ -22,9 +22,12 @@ returns c =
     let d = 48 + a .k / 10 in
     let u = 48 + a .k % 10 in
     let last = z .put-byte3 in
-    put-then (a .out .now) 0 (refused) (t .put-text .last .0) (t .put-text .result) (t .put-text .ensures) (d ∷ u ∷ newline ∷ []) (last .last .0) (last .result)
-    (put-then (t .put-text .last .0) (t .put-text .result) (d ∷ []) (x .put-byte .last .0) (x .put-byte .result) (x .put-byte .ensures) (u ∷ newline ∷ []) (last .last .0) (last .result)
-    (put-then (x .put-byte .last .0) (x .put-byte .result) (u ∷ []) (y .put-byte2 .last .0) (y .put-byte2 .result) (y .put-byte2 .ensures) (newline ∷ []) (last .last .0) (last .result) (last .ensures)))
+    put-then (a .out .now) 0 (refused) (t .put-text .last .0) (t .put-text .result) (t .put-text .ensures)
+    (d ∷ u ∷ newline ∷ []) (last .last .0) (last .result)
+    (put-then (t .put-text .last .0) (t .put-text .result) (d ∷ []) (x .put-byte .last .0) (x .put-byte .result)
+    (x .put-byte .ensures) (u ∷ newline ∷ []) (last .last .0) (last .result)
+    (put-then (x .put-byte .last .0) (x .put-byte .result) (u ∷ []) (y .put-byte2 .last .0) (y .put-byte2 .result)
+    (y .put-byte2 .ensures) (newline ∷ []) (last .last .0) (last .result) (last .ensures)))
 
 pub put-refused-spec : {M : Type 1} → statement M
 put-refused-spec =

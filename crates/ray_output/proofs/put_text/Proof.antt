@@ -33,7 +33,8 @@ loop-holds : tie.Need-loop-holds Inv-loop μ-loop
 loop-holds c = let s = c .before .before in (omega arith, put-none (s .args .out .now) (s .args .at) (omega (arith, s .pre)))
 
 put-byte-requires : tie.Need-put-byte-requires Inv-loop μ-loop
-put-byte-requires c κs = let l = c .before .before .before in let s = l .before .before .before in omega (arith, size l, l .loop .inv .1 .next, taken l, s .pre, c .before .before .loop-test .taken)
+put-byte-requires c κs = let l = c .before .before .before in let s = l .before .before .before in
+    omega (arith, size l, l .loop .inv .1 .next, taken l, s .pre, c .before .before .loop-test .taken)
 
 loop-again : tie.Need-loop-again Inv-loop μ-loop
 loop-again c =
@@ -41,7 +42,8 @@ loop-again c =
     let l = p .before .before .before .before in
     let a = l .before .before .before .args in (
       omega arith,
-      subst (λ (x : List ℕ). Appended (a .out .now) (a .at) x (p .put-byte .last .0) (p .put-byte .result)) (next (a .text .now) (l .loop .k) (p .before .before .before .loop-test .taken))
+      subst (λ (x : List ℕ). Appended (a .out .now) (a .at) x (p .put-byte .last .0) (p .put-byte .result))
+          (next (a .text .now) (l .loop .k) (p .before .before .before .loop-test .taken))
           (put-then (a .out .now) (a .at) (take (l .loop .k) (a .text .now)) (l .loop .out) (l .loop .n) (l .loop .inv .1)
           (getD (a .text .now) (l .loop .k) 0 ∷ []) (p .put-byte .last .0) (p .put-byte .result) (p .put-byte .ensures)),
     )

@@ -15,7 +15,8 @@ returns c =
     let z = c .before .before in
     let y = z .before .before .before .before in
     let s = y .before .before .before in
-    both-written (s .args .to) (s .pre .0) (s .pre .1) (s .pre .2) (s .pre .3) (s .pre .4) (y .subtract-to .ensures) (z .subtract-to2 .ensures)
+    both-written (s .args .to) (s .pre .0) (s .pre .1) (s .pre .2) (s .pre .3) (s .pre .4) (y .subtract-to .ensures)
+    (z .subtract-to2 .ensures)
 
 pub subtract-both-spec : {M : Type 1} → statement M
 subtract-both-spec =

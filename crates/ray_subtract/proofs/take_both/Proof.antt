@@ -19,7 +19,8 @@ returns c =
     let a = s .args in
     let h = c .before .is-hit in
     reduced-still (s .pre .0 .isSound) (hits-sound s) (h .result) (h .ensures) (c .if1 .taken)
-    (part-length (a .c) (a .nc) (a .w .now) (s .pre .0 .room)) (both-still _ _ _ (s .pre .0 .isSound) (s .pre .1 .isSound) (s .pre .2 .isSound))
+    (part-length (a .c) (a .nc) (a .w .now) (s .pre .0 .room))
+    (both-still _ _ _ (s .pre .0 .isSound) (s .pre .1 .isSound) (s .pre .2 .isSound))
 
 returns-2 : tie.Need-returns-2
 returns-2 c =

@@ -12,7 +12,8 @@ use native.Mathlib.Omega.{arith}
 use Rattle.ray_subtract.proofs.take_inner.Statement.{statement}
 use Rattle.ray_subtract.proofs.take_inner.Tie as tie
 
-inner-sound : (s : tie.Start) → let a = s .args in sound (lessOf (cellsFrom (a .a) (a .n) (a .w .now)) (cellsFrom (a .b) (a .m) (a .w .now))) ≡ true
+inner-sound : (s : tie.Start) → let a = s .args in
+    sound (lessOf (cellsFrom (a .a) (a .n) (a .w .now)) (cellsFrom (a .b) (a .m) (a .w .now))) ≡ true
 inner-sound s = less-list _ _ (s .pre .0 .isSound) (s .pre .1 .isSound) .isSound
 
 returns : tie.Need-returns

@@ -18,7 +18,10 @@ use Rattle.ray_text.proofs.print_merged.Statement.{statement}
 use Rattle.ray_text.proofs.print_merged.Tie as tie
 
 -- the answer where the merge refused
-due : (c : tie.After-known-told) → let a = c .before .before .before .before .before .before .before .before .before .before .before .args in Due (mergeCauses (a .lo) (a .hi) (a .possible .now) (a .certain .now) (a .outer .now) (a .inner .now) 3072) (c .before .answer .given .0 .0)
+due : (c : tie.After-known-told)
+    → let a = c .before .before .before .before .before .before .before .before .before .before .before .args in
+    Due (mergeCauses (a .lo) (a .hi) (a .possible .now) (a .certain .now) (a .outer .now) (a .inner .now) 3072)
+    (c .before .answer .given .0 .0)
 due c = (rw (c .before .answer .given .1) at (c .before .before .before .before .merge .ensures)) .0
 
 -- the two lists, and the buffer, where it did not
@@ -31,35 +34,59 @@ second c = c .before .answer2 .given .0 .1 .0
 abbrev buffer : tie.After-known-told2 → List Float
 buffer c = c .before .before .before .before .merge .last .1 .1 .1 .1 .1 .1 .0
 
-lists : (c : tie.After-known-told2) → let a = c .before .before .before .before .before .before .before .before .before .before .before .args in NoneDue (mergeCauses (a .lo) (a .hi) (a .possible .now) (a .certain .now) (a .outer .now) (a .inner .now) 3072) × MergeEffect (a .lo) (a .hi) (a .possible .now) (a .certain .now) (a .outer .now) (a .inner .now) (first c) (second c) (buffer c)
+lists : (c : tie.After-known-told2)
+    → let a = c .before .before .before .before .before .before .before .before .before .before .before .args in
+    NoneDue (mergeCauses (a .lo) (a .hi) (a .possible .now) (a .certain .now) (a .outer .now) (a .inner .now) 3072)
+    × MergeEffect (a .lo) (a .hi) (a .possible .now) (a .certain .now) (a .outer .now) (a .inner .now) (first c)
+    (second c) (buffer c)
 lists c = rw (c .before .answer2 .given .1) at (c .before .before .before .before .merge .ensures)
 
 size : (c : tie.After-known-told2) → length (buffer c) ≡ 3072
 size c = c .before .before .before .before .merge .kept .1 .1 .1 .1 .1 .1 .0
 
-possible-is : (c : tie.After-possible-of) → let k = c .before .before .before in now (c .possible-of .result) ≡ handedBack (first k) (k .before .before .before .before .before .before .before .before .before .before .before .args .possible .now) (buffer k) 0
+possible-is : (c : tie.After-possible-of) → let k = c .before .before .before in
+    now (c .possible-of .result) ≡ handedBack (first k)
+    (k .before .before .before .before .before .before .before .before .before .before .before .args .possible .now)
+    (buffer k) 0
 possible-is c = c .possible-of .ensures .0
 
-certain-is : (c : tie.After-certain-of) → let k = c .before .before .before .before .before .before .before .before .before in now (c .certain-of .result) ≡ handedBack (second k) (k .before .before .before .before .before .before .before .before .before .before .before .args .certain .now) (buffer k) (newCells (first k))
+certain-is : (c : tie.After-certain-of)
+    → let k = c .before .before .before .before .before .before .before .before .before in
+    now (c .certain-of .result) ≡ handedBack (second k)
+    (k .before .before .before .before .before .before .before .before .before .before .before .args .certain .now)
+    (buffer k) (newCells (first k))
 certain-is c = c .certain-of .ensures .0
 
 -- what was printed is the text of the list
-printed : (o : tie.After-put-lines) → let k = o .before .before .before .before in length (linesText letterP (now (o .before .possible-of .result))) ≡ length (linesText letterP (handedBack (first k) (k .before .before .before .before .before .before .before .before .before .before .before .args .possible .now) (buffer k) 0))
+printed : (o : tie.After-put-lines) → let k = o .before .before .before .before in
+    length (linesText letterP (now (o .before .possible-of .result)))
+    ≡ length (linesText letterP (handedBack (first k)
+    (k .before .before .before .before .before .before .before .before .before .before .before .args .possible .now)
+    (buffer k) 0))
 printed o = ap (λ (l : List Float). length (linesText letterP l)) (possible-is (o .before))
 
 printed-2 : (d : tie.After-put-lines2) → let k = d .before .before .before .before .before .before .before .before .before .before in
-    length (linesText letterC (now (d .before .certain-of .result))) ≡ length (linesText letterC (handedBack (second k) (k .before .before .before .before .before .before .before .before .before .before .before .args .certain .now) (buffer k) (newCells (first k))))
+    length (linesText letterC (now (d .before .certain-of .result)))
+    ≡ length (linesText letterC (handedBack (second k)
+    (k .before .before .before .before .before .before .before .before .before .before .before .args .certain
+    .now) (buffer k) (newCells (first k))))
 printed-2 d = ap (λ (l : List Float). length (linesText letterC l)) (certain-is (d .before))
 
 put-refused-requires : tie.Need-put-refused-requires
-put-refused-requires c κs = let s = c .before .before .before .before .before .before .before .before .before .before .before .before in (omega (arith, s .pre .1), due-ray (s .args .lo) (s .args .hi) (s .args .possible .now) (s .args .certain .now) (s .args .outer .now) (s .args .inner .now) (s .pre .0) (c .before .before .answer .given .0 .0) (due (c .before)) .0)
+put-refused-requires c κs = let s =
+    c .before .before .before .before .before .before .before .before .before .before .before .before in (
+      omega (arith, s .pre .1),
+      due-ray (s .args .lo) (s .args .hi) (s .args .possible .now) (s .args .certain .now)
+          (s .args .outer .now) (s .args .inner .now) (s .pre .0) (c .before .before .answer .given .0 .0) (due (c .before)) .0,
+    )
 
 put-lines-requires : tie.Need-put-lines-requires
 put-lines-requires c κs =
     let k = c .before .before .before in
     let s = k .before .before .before .before .before .before .before .before .before .before .before in
     let a = s .args in
-    let e = even-lists (a .lo) (a .hi) (a .possible .now) (a .certain .now) (a .outer .now) (a .inner .now) (s .pre .0) (first k) (second k) (buffer k) (size k) (lists k .1) in
+    let e = even-lists (a .lo) (a .hi) (a .possible .now) (a .certain .now) (a .outer .now) (a .inner .now)
+    (s .pre .0) (first k) (second k) (buffer k) (size k) (lists k .1) in
     let i = ap length (possible-is c) in
     (rw i (e .0), omega (arith, i, e .2, s .pre .1))
 
@@ -69,10 +96,23 @@ put-lines-requires-2 c κs =
     let k = c .before .before .before .before .before .before .before .before .before in
     let s = k .before .before .before .before .before .before .before .before .before .before .before in
     let a = s .args in
-    let e = even-lists (a .lo) (a .hi) (a .possible .now) (a .certain .now) (a .outer .now) (a .inner .now) (s .pre .0) (first k) (second k) (buffer k) (size k) (lists k .1) in
-    let l = lines-long (a .lo) (a .hi) (a .possible .now) (a .certain .now) (a .outer .now) (a .inner .now) (s .pre .0) (first k) (second k) (buffer k) (size k) (lists k .1) in
-    let i = ap length (certain-is c) in
-    (rw i (e .1), omega (arith, i, e .2, s .pre .1, o .kept .0, o .ensures .next, printed (c .before .before .before .before .before), l .0))
+    let e = even-lists (a .lo) (a .hi) (a .possible .now) (a .certain .now) (a .outer .now) (a .inner .now)
+    (s .pre .0) (first k) (second k) (buffer k) (size k) (lists k .1) in
+    let l = lines-long (a .lo) (a .hi) (a .possible .now) (a .certain .now) (a .outer .now) (a .inner .now)
+    (s .pre .0) (first k) (second k) (buffer k) (size k) (lists k .1) in
+    let i = ap length (certain-is c) in (
+      rw i (e .1),
+      omega (
+        arith,
+        i,
+        e .2,
+        s .pre .1,
+        o .kept .0,
+        o .ensures .next,
+        printed (c .before .before .before .before .before),
+        l .0,
+      ),
+    )
 
 put-end-requires : tie.Need-put-end-requires
 put-end-requires c κs =
@@ -81,9 +121,23 @@ put-end-requires c κs =
     let k = c .before .before .before .before .before .before .before .before .before .before .before .before .before in
     let s = k .before .before .before .before .before .before .before .before .before .before .before in
     let a = s .args in
-    let e = even-lists (a .lo) (a .hi) (a .possible .now) (a .certain .now) (a .outer .now) (a .inner .now) (s .pre .0) (first k) (second k) (buffer k) (size k) (lists k .1) in
-    let l = lines-long (a .lo) (a .hi) (a .possible .now) (a .certain .now) (a .outer .now) (a .inner .now) (s .pre .0) (first k) (second k) (buffer k) (size k) (lists k .1) in
-    omega (arith, e .2, s .pre .1, o .kept .0, d .put-lines2 .kept .0, o .ensures .next, printed (c .before .before .before .before .before .before .before .before .before), l .0, d .put-lines2 .ensures .next, printed-2 d, l .1)
+    let e = even-lists (a .lo) (a .hi) (a .possible .now) (a .certain .now) (a .outer .now) (a .inner .now)
+    (s .pre .0) (first k) (second k) (buffer k) (size k) (lists k .1) in
+    let l = lines-long (a .lo) (a .hi) (a .possible .now) (a .certain .now) (a .outer .now) (a .inner .now)
+    (s .pre .0) (first k) (second k) (buffer k) (size k) (lists k .1) in
+    omega (
+      arith,
+      e .2,
+      s .pre .1,
+      o .kept .0,
+      d .put-lines2 .kept .0,
+      o .ensures .next,
+      printed (c .before .before .before .before .before .before .before .before .before),
+      l .0,
+      d .put-lines2 .ensures .next,
+      printed-2 d,
+      l .1,
+    )
 
 returns : tie.Need-returns
 returns c =
@@ -91,7 +145,9 @@ returns c =
     let k = p .before .before in
     let s = k .before .before .before .before .before .before .before .before .before .before .before in
     let a = s .args in
-    refuses (a .lo) (a .hi) (a .possible .now) (a .certain .now) (a .outer .now) (a .inner .now) (s .pre .0) (a .out .now) (p .put-refused .last .0) (p .put-refused .result) (k .before .answer .given .0 .0) (due k) (p .put-refused .ensures)
+    refuses (a .lo) (a .hi) (a .possible .now) (a .certain .now) (a .outer .now) (a .inner .now) (s .pre .0)
+    (a .out .now) (p .put-refused .last .0) (p .put-refused .result) (k .before .answer .given .0 .0) (due k)
+    (p .put-refused .ensures)
 
 returns-2 : tie.Need-returns-2
 returns-2 c =
@@ -101,10 +157,14 @@ returns-2 c =
     let k = o .before .before .before .before in
     let s = k .before .before .before .before .before .before .before .before .before .before .before in
     let a = s .args in
-    writes (a .lo) (a .hi) (a .possible .now) (a .certain .now) (a .outer .now) (a .inner .now) (s .pre .0) (first k) (second k) (buffer k) (size k) (lists k .1)
-    (a .out .now) (o .put-lines .last .0) (d .put-lines2 .last .0) (z .put-end .last .0) (o .put-lines .result) (d .put-lines2 .result) (z .put-end .result) (lists k .0)
-    (subst (λ (l : List Float). Appended (a .out .now) 0 (linesText letterP l) (o .put-lines .last .0) (o .put-lines .result)) (possible-is (o .before)) (o .put-lines .ensures))
-    (subst (λ (l : List Float). Appended (o .put-lines .last .0) (o .put-lines .result) (linesText letterC l) (d .put-lines2 .last .0) (d .put-lines2 .result)) (certain-is (d .before)) (d .put-lines2 .ensures))
+    writes (a .lo) (a .hi) (a .possible .now) (a .certain .now) (a .outer .now) (a .inner .now) (s .pre .0) (first k)
+    (second k) (buffer k) (size k) (lists k .1)
+    (a .out .now) (o .put-lines .last .0) (d .put-lines2 .last .0) (z .put-end .last .0) (o .put-lines .result)
+    (d .put-lines2 .result) (z .put-end .result) (lists k .0)
+    (subst (λ (l : List Float). Appended (a .out .now) 0 (linesText letterP l) (o .put-lines .last .0)
+    (o .put-lines .result)) (possible-is (o .before)) (o .put-lines .ensures))
+    (subst (λ (l : List Float). Appended (o .put-lines .last .0) (o .put-lines .result) (linesText letterC l)
+    (d .put-lines2 .last .0) (d .put-lines2 .result)) (certain-is (d .before)) (d .put-lines2 .ensures))
     (z .put-end .ensures)
 
 pub print-merged-spec : {M : Type 1} → statement M

@@ -15,7 +15,9 @@ returns : tie.Need-returns
 returns c =
     let d = c .before .before .before in
     let s = d .before .before in
-    run-refused (s .args .s .now) (s .args .out .now) (c .put-refused .last .0) (c .put-refused .result) (found-not (d .is-readable .result) _ (d .is-readable .ensures) (c .before .before .if1 .taken)) (c .put-refused .ensures)
+    run-refused (s .args .s .now) (s .args .out .now) (c .put-refused .last .0) (c .put-refused .result)
+    (found-not (d .is-readable .result) _ (d .is-readable .ensures) (c .before .before .if1 .taken))
+    (c .put-refused .ensures)
 
 run-readable-requires : tie.Need-run-readable-requires
 run-readable-requires c κs =

@@ -32,7 +32,9 @@ is-sound-requires c κs = search needs
 returns-2 : tie.Need-returns-2
 returns-2 c =
     let s = c .before .before .before .before .before in
-    checked-bad (Short s) (Bad s) (λ h. omega (arith, c .before .before .if1 .left)) (bad-first (c .before .is-sound .result) (sound (s .args .a .now)) (sound (s .args .b .now)) (c .before .is-sound .ensures) (c .if2 .taken))
+    checked-bad (Short s) (Bad s) (λ h. omega (arith, c .before .before .if1 .left))
+    (bad-first (c .before .is-sound .result) (sound (s .args .a .now)) (sound (s .args .b .now))
+    (c .before .is-sound .ensures) (c .if2 .taken))
 
 is-sound-requires-2 : tie.Need-is-sound-requires-2
 is-sound-requires-2 c κs = search needs
@@ -40,14 +42,17 @@ is-sound-requires-2 c κs = search needs
 returns-3 : tie.Need-returns-3
 returns-3 c =
     let s = c .before .before .before .before .before .before .before in
-    checked-bad (Short s) (Bad s) (λ h. omega (arith, c .before .before .before .before .if1 .left)) (bad-second (c .before .is-sound2 .result) (sound (s .args .a .now)) (sound (s .args .b .now)) (c .before .is-sound2 .ensures) (c .if3 .taken))
+    checked-bad (Short s) (Bad s) (λ h. omega (arith, c .before .before .before .before .if1 .left))
+    (bad-second (c .before .is-sound2 .result) (sound (s .args .a .now)) (sound (s .args .b .now))
+    (c .before .is-sound2 .ensures) (c .if3 .taken))
 
 returns-4 : tie.Need-returns-4
 returns-4 c =
     let s = c .before .before .before .before .before .before .before in
     checked-none (Short s) (Bad s) (λ h. omega (arith, c .before .before .before .before .if1 .left))
     (good-both (sound (s .args .a .now)) (sound (s .args .b .now))
-    (found (c .before .before .before .is-sound .result) (sound (s .args .a .now)) (c .before .before .before .is-sound .ensures) (c .before .before .if2 .left))
+    (found (c .before .before .before .is-sound .result) (sound (s .args .a .now))
+    (c .before .before .before .is-sound .ensures) (c .before .before .if2 .left))
     (found (c .before .is-sound2 .result) (sound (s .args .b .now)) (c .before .is-sound2 .ensures) (c .if3 .left)))
 
 pub checked-spec : {M : Type 1} → statement M

@@ -13,24 +13,39 @@ returns c =
 returns-2 : tie.Need-returns-2
 returns-2 c =
     let a = c .before .before .before .before .before .before .args in
-    refuse-second (a .outer .now) (a .inner .now) (Contains (a .outer .now) (a .inner .now)) _ (c .before .before .before .is-sound .ensures) _ (c .before .is-sound2 .ensures) (c .if2 .taken)
+    refuse-second (a .outer .now) (a .inner .now) (Contains (a .outer .now) (a .inner .now)) _
+    (c .before .before .before .is-sound .ensures) _ (c .before .is-sound2 .ensures) (c .if2 .taken)
 
 covers-requires : tie.Need-covers-requires
 covers-requires c κs =
     let a = c .before .before .before .before .before .before .args in
-    both-sound (a .outer .now) (a .inner .now) (Contains (a .outer .now) (a .inner .now)) _ (c .before .before .before .is-sound .ensures) _ (c .before .is-sound2 .ensures) (c .before .before .if1 .left) (c .if2 .left)
+    both-sound (a .outer .now) (a .inner .now) (Contains (a .outer .now) (a .inner .now)) _
+    (c .before .before .before .is-sound .ensures) _ (c .before .is-sound2 .ensures)
+    (c .before .before .if1 .left) (c .if2 .left)
 
 returns-3 : tie.Need-returns-3
 returns-3 c =
     let d = c .before .before in
     let a = d .before .before .before .before .before .before .args in
-    say-yes (a .outer .now) (a .inner .now) (Contains (a .outer .now) (a .inner .now)) _ (d .before .before .before .is-sound .ensures) _ (d .before .is-sound2 .ensures) (d .before .before .if1 .left) (d .if2 .left) _ (c .if3 .taken) (contains-by (a .outer .now) (a .inner .now) (d .before .before .before .before .before .shared-slice-known .given) (d .before .before .before .before .shared-slice-known2 .given) (c .before .covers .result) (c .before .covers .ensures))
+    say-yes (a .outer .now) (a .inner .now) (Contains (a .outer .now) (a .inner .now)) _
+    (d .before .before .before .is-sound .ensures) _ (d .before .is-sound2 .ensures)
+    (d .before .before .if1 .left) (d .if2 .left) _ (c .if3 .taken)
+    (contains-by (a .outer .now) (a .inner .now)
+    (d .before .before .before .before .before .shared-slice-known .given)
+    (d .before .before .before .before .shared-slice-known2 .given) (c .before .covers .result)
+    (c .before .covers .ensures))
 
 returns-4 : tie.Need-returns-4
 returns-4 c =
     let d = c .before .before in
     let a = d .before .before .before .before .before .before .args in
-    say-no (a .outer .now) (a .inner .now) (Contains (a .outer .now) (a .inner .now)) _ (d .before .before .before .is-sound .ensures) _ (d .before .is-sound2 .ensures) (d .before .before .if1 .left) (d .if2 .left) _ (c .if3 .left) (contains-by (a .outer .now) (a .inner .now) (d .before .before .before .before .before .shared-slice-known .given) (d .before .before .before .before .shared-slice-known2 .given) (c .before .covers .result) (c .before .covers .ensures))
+    say-no (a .outer .now) (a .inner .now) (Contains (a .outer .now) (a .inner .now)) _
+    (d .before .before .before .is-sound .ensures) _ (d .before .is-sound2 .ensures)
+    (d .before .before .if1 .left) (d .if2 .left) _ (c .if3 .left)
+    (contains-by (a .outer .now) (a .inner .now)
+    (d .before .before .before .before .before .shared-slice-known .given)
+    (d .before .before .before .before .shared-slice-known2 .given) (c .before .covers .result)
+    (c .before .covers .ensures))
 
 pub contains-spec : {M : Type 1} → statement M
 contains-spec =

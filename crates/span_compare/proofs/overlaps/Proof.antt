@@ -13,24 +13,36 @@ returns c =
 returns-2 : tie.Need-returns-2
 returns-2 c =
     let a = c .before .before .before .before .before .before .args in
-    refuse-second (a .a .now) (a .b .now) (Overlaps (a .a .now) (a .b .now)) _ (c .before .before .before .is-sound .ensures) _ (c .before .is-sound2 .ensures) (c .if2 .taken)
+    refuse-second (a .a .now) (a .b .now) (Overlaps (a .a .now) (a .b .now)) _
+    (c .before .before .before .is-sound .ensures) _ (c .before .is-sound2 .ensures) (c .if2 .taken)
 
 meets-requires : tie.Need-meets-requires
 meets-requires c κs =
     let a = c .before .before .before .before .before .before .args in
-    both-sound (a .a .now) (a .b .now) (Overlaps (a .a .now) (a .b .now)) _ (c .before .before .before .is-sound .ensures) _ (c .before .is-sound2 .ensures) (c .before .before .if1 .left) (c .if2 .left)
+    both-sound (a .a .now) (a .b .now) (Overlaps (a .a .now) (a .b .now)) _
+    (c .before .before .before .is-sound .ensures) _ (c .before .is-sound2 .ensures)
+    (c .before .before .if1 .left) (c .if2 .left)
 
 returns-3 : tie.Need-returns-3
 returns-3 c =
     let d = c .before .before in
     let a = d .before .before .before .before .before .before .args in
-    say-yes (a .a .now) (a .b .now) (Overlaps (a .a .now) (a .b .now)) _ (d .before .before .before .is-sound .ensures) _ (d .before .is-sound2 .ensures) (d .before .before .if1 .left) (d .if2 .left) _ (c .if3 .taken) (overlaps-by (a .a .now) (a .b .now) (d .before .before .before .before .before .shared-slice-known .given) (d .before .before .before .before .shared-slice-known2 .given) (c .before .meets .result) (c .before .meets .ensures))
+    say-yes (a .a .now) (a .b .now) (Overlaps (a .a .now) (a .b .now)) _
+    (d .before .before .before .is-sound .ensures) _ (d .before .is-sound2 .ensures)
+    (d .before .before .if1 .left) (d .if2 .left) _ (c .if3 .taken)
+    (overlaps-by (a .a .now) (a .b .now) (d .before .before .before .before .before .shared-slice-known .given)
+    (d .before .before .before .before .shared-slice-known2 .given) (c .before .meets .result)
+    (c .before .meets .ensures))
 
 returns-4 : tie.Need-returns-4
 returns-4 c =
     let d = c .before .before in
     let a = d .before .before .before .before .before .before .args in
-    say-no (a .a .now) (a .b .now) (Overlaps (a .a .now) (a .b .now)) _ (d .before .before .before .is-sound .ensures) _ (d .before .is-sound2 .ensures) (d .before .before .if1 .left) (d .if2 .left) _ (c .if3 .left) (overlaps-by (a .a .now) (a .b .now) (d .before .before .before .before .before .shared-slice-known .given) (d .before .before .before .before .shared-slice-known2 .given) (c .before .meets .result) (c .before .meets .ensures))
+    say-no (a .a .now) (a .b .now) (Overlaps (a .a .now) (a .b .now)) _ (d .before .before .before .is-sound .ensures)
+    _ (d .before .is-sound2 .ensures) (d .before .before .if1 .left) (d .if2 .left) _ (c .if3 .left)
+    (overlaps-by (a .a .now) (a .b .now) (d .before .before .before .before .before .shared-slice-known .given)
+    (d .before .before .before .before .shared-slice-known2 .given) (c .before .meets .result)
+    (c .before .meets .ensures))
 
 pub overlaps-spec : {M : Type 1} → statement M
 overlaps-spec =

@@ -20,7 +20,8 @@ loop-holds c = cover-start _ _
 returns : tie.Need-returns Inv-loop μ-loop
 returns c =
     let l = c .before .before in
-    escapes _ _ _ _ (l .before .pre .0) (l .before .pre .1) (l .loop .inv) (c .before .loop-test .taken) (λ g. absurd (omega (arith, c .if1 .taken)))
+    escapes _ _ _ _ (l .before .pre .0) (l .before .pre .1) (l .loop .inv) (c .before .loop-test .taken)
+    (λ g. absurd (omega (arith, c .if1 .taken)))
 
 shared-slice-read-if2 : tie.Need-shared-slice-read-if2 Inv-loop μ-loop
 shared-slice-read-if2 c =
@@ -35,23 +36,34 @@ shared-slice-read-if2-2 c =
 loop-again : tie.Need-loop-again Inv-loop μ-loop
 loop-again c =
     let l = c .before .before .before .before .before in
-    cover-on _ _ _ _ (l .before .pre .0) (l .before .pre .1) (l .loop .inv) (c .before .before .before .before .loop-test .taken) (omega (arith, c .before .before .before .if1 .left)) (c .if2 .taken)
+    cover-on _ _ _ _ (l .before .pre .0) (l .before .pre .1) (l .loop .inv)
+    (c .before .before .before .before .loop-test .taken) (omega (arith, c .before .before .before .if1 .left))
+    (c .if2 .taken)
 
 returns-2 : tie.Need-returns-2 Inv-loop μ-loop
 returns-2 c =
     let l = c .before .before .before .before .before .before .before .before in
-    escapes _ _ _ _ (l .before .pre .0) (l .before .pre .1) (l .loop .inv) (c .before .before .before .before .before .before .before .loop-test .taken) (λ g. c .if3 .taken)
+    escapes _ _ _ _ (l .before .pre .0) (l .before .pre .1) (l .loop .inv)
+    (c .before .before .before .before .before .before .before .loop-test .taken) (λ g. c .if3 .taken)
 
 returns-3 : tie.Need-returns-3 Inv-loop μ-loop
 returns-3 c =
     let q = c .before in
     let l = q .before .before .before .before .before .before .before .before in
-    cover-done _ _ _ _ (cover-pair _ _ _ _ (l .before .pre .0) (l .before .pre .1) (l .loop .inv) (q .before .before .before .before .before .before .before .loop-test .taken) (omega (arith, q .before .before .before .before .before .before .if1 .left)) (q .before .before .before .if2 .left) (q .if3 .left)) (c .if4 .taken)
+    cover-done _ _ _ _ (cover-pair _ _ _ _ (l .before .pre .0) (l .before .pre .1) (l .loop .inv)
+    (q .before .before .before .before .before .before .before .loop-test .taken)
+    (omega (arith, q .before .before .before .before .before .before .if1 .left))
+    (q .before .before .before .if2 .left) (q .if3 .left)) (c .if4 .taken)
 
 shared-slice-read-if5 : tie.Need-shared-slice-read-if5 Inv-loop μ-loop
 shared-slice-read-if5 c =
     let l = c .before .before .before .before .before .before .before .before .before .before in
-    omega (arith, sound-mod (l .before .args .outer .now) (l .before .pre .0), l .loop .inv .jWhole, c .before .before .before .before .before .before .before .before .if1 .left)
+    omega (
+      arith,
+      sound-mod (l .before .args .outer .now) (l .before .pre .0),
+      l .loop .inv .jWhole,
+      c .before .before .before .before .before .before .before .before .if1 .left,
+    )
 
 shared-slice-read-if5-2 : tie.Need-shared-slice-read-if5-2 Inv-loop μ-loop
 shared-slice-read-if5-2 c =
@@ -65,14 +77,20 @@ loop-again-2 c =
     let q = p .before in
     let l = q .before .before .before .before .before .before .before .before in
     cover-on _ _ _ _ (l .before .pre .0) (l .before .pre .1)
-    (cover-pair _ _ _ _ (l .before .pre .0) (l .before .pre .1) (l .loop .inv) (q .before .before .before .before .before .before .before .loop-test .taken) (omega (arith, q .before .before .before .before .before .before .if1 .left)) (q .before .before .before .if2 .left) (q .if3 .left))
+    (cover-pair _ _ _ _ (l .before .pre .0) (l .before .pre .1) (l .loop .inv)
+    (q .before .before .before .before .before .before .before .loop-test .taken)
+    (omega (arith, q .before .before .before .before .before .before .if1 .left))
+    (q .before .before .before .if2 .left) (q .if3 .left))
     (omega (arith, p .if4 .left)) (omega (arith, q .before .before .before .before .before .before .if1 .left)) (c .if5 .taken)
 
 loop-again-3 : tie.Need-loop-again-3 Inv-loop μ-loop
 loop-again-3 c =
     let q = c .before .before .before .before in
     let l = q .before .before .before .before .before .before .before .before in
-    cover-pair _ _ _ _ (l .before .pre .0) (l .before .pre .1) (l .loop .inv) (q .before .before .before .before .before .before .before .loop-test .taken) (omega (arith, q .before .before .before .before .before .before .if1 .left)) (q .before .before .before .if2 .left) (q .if3 .left)
+    cover-pair _ _ _ _ (l .before .pre .0) (l .before .pre .1) (l .loop .inv)
+    (q .before .before .before .before .before .before .before .loop-test .taken)
+    (omega (arith, q .before .before .before .before .before .before .if1 .left))
+    (q .before .before .before .if2 .left) (q .if3 .left)
 
 returns-4 : tie.Need-returns-4 Inv-loop μ-loop
 returns-4 c = cover-done _ _ _ _ (c .before .loop .inv) (c .loop-test .left)

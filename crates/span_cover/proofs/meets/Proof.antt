@@ -29,7 +29,9 @@ shared-slice-read-if2 c =
 loop-again : tie.Need-loop-again Inv-loop μ-loop
 loop-again c =
     let l = c .before .before .before .before .before in
-    avoid-a _ _ _ _ (l .before .pre .0) (l .before .pre .1) (l .loop .inv) (c .before .before .before .before .loop-test .taken) (omega (arith, c .before .before .before .if1 .left)) (c .if2 .taken)
+    avoid-a _ _ _ _ (l .before .pre .0) (l .before .pre .1) (l .loop .inv)
+    (c .before .before .before .before .loop-test .taken) (omega (arith, c .before .before .before .if1 .left))
+    (c .if2 .taken)
 
 shared-slice-read-if3-2 : tie.Need-shared-slice-read-if3-2 Inv-loop μ-loop
 shared-slice-read-if3-2 c =
@@ -39,12 +41,17 @@ shared-slice-read-if3-2 c =
 returns-2 : tie.Need-returns-2 Inv-loop μ-loop
 returns-2 c =
     let l = c .before .before .before .before .before .before .before .before in
-    share-point _ _ _ _ (l .before .pre .0) (l .before .pre .1) (l .loop .inv) (c .before .before .before .before .before .before .before .loop-test .taken) (omega (arith, c .before .before .before .before .before .before .if1 .left)) (c .before .before .before .if2 .left) (c .if3 .taken)
+    share-point _ _ _ _ (l .before .pre .0) (l .before .pre .1) (l .loop .inv)
+    (c .before .before .before .before .before .before .before .loop-test .taken)
+    (omega (arith, c .before .before .before .before .before .before .if1 .left))
+    (c .before .before .before .if2 .left) (c .if3 .taken)
 
 loop-again-2 : tie.Need-loop-again-2 Inv-loop μ-loop
 loop-again-2 c =
     let l = c .before .before .before .before .before .before .before .before in
-    avoid-b _ _ _ _ (l .before .pre .0) (l .before .pre .1) (l .loop .inv) (c .before .before .before .before .before .before .before .loop-test .taken) (omega (arith, c .before .before .before .before .before .before .if1 .left)) (c .if3 .left)
+    avoid-b _ _ _ _ (l .before .pre .0) (l .before .pre .1) (l .loop .inv)
+    (c .before .before .before .before .before .before .before .loop-test .taken)
+    (omega (arith, c .before .before .before .before .before .before .if1 .left)) (c .if3 .left)
 
 returns-3 : tie.Need-returns-3 Inv-loop μ-loop
 returns-3 c = avoid-done _ _ _ _ (c .before .loop .inv) (inl (c .loop-test .left))

@@ -1,5 +1,5 @@
--- `span_hits::hit_from` meets its contract. The loop's invariant: what is asked of the place now is what was asked of the first place. The measure is what is left.
--- Assumes nothing.
+-- `span_hits::hit_from` meets its contract. The loop's invariant: what is asked of the place now is what was asked of
+-- the first place. The measure is what is left. Assumes nothing.
 use Prim.Native.Nat.{_<_, _-_}
 use mathlib.Core.Path.{_≡_, refl, sym, _∙_}
 use native.Mathlib.Omega.{arith}
@@ -20,11 +20,13 @@ loop-holds : tie.Need-loop-holds Inv-loop μ-loop
 loop-holds c = refl
 
 returns : tie.Need-returns Inv-loop μ-loop
-returns c = let h : 1 < length (c .before .before .before .before .before .before .before .args .hits .now) - c .before .before .before .before .before .loop .at = omega arith in
+returns c = let h : 1 < length (c .before .before .before .before .before .before .before .args .hits .now)
+    - c .before .before .before .before .before .loop .at = omega arith in
     sym (c .before .before .before .before .before .loop .inv ∙ hit-step _ _ h ∙ simp (c .if2 .taken))
 
 loop-again : tie.Need-loop-again Inv-loop μ-loop
-loop-again c = let h : 1 < length (c .before .before .before .before .before .before .before .args .hits .now) - c .before .before .before .before .before .loop .at = omega arith in
+loop-again c = let h : 1 < length (c .before .before .before .before .before .before .before .args .hits .now)
+    - c .before .before .before .before .before .loop .at = omega arith in
     c .before .before .before .before .before .loop .inv ∙ hit-step _ _ h ∙ simp (c .if2 .left)
 
 returns-2 : tie.Need-returns-2 Inv-loop μ-loop

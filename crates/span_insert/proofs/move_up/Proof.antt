@@ -24,7 +24,8 @@ returns : tie.Need-returns Inv-loop μ-loop
 returns c =
     let at-loop = c .before in
     let a = at-loop .before .args in
-    up-done (a .b .now) (a .from) (a .to) (a .count) (at-loop .loop .k) (at-loop .loop .b) (c .loop-test .left) (at-loop .before .pre .0) (at-loop .loop .inv)
+    up-done (a .b .now) (a .from) (a .to) (a .count) (at-loop .loop .k) (at-loop .loop .b) (c .loop-test .left)
+    (at-loop .before .pre .0) (at-loop .loop .inv)
 
 pub move-up-spec : {M : Type 1} → statement M
 move-up-spec =

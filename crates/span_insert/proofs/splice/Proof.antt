@@ -18,7 +18,8 @@ returns : tie.Need-returns
 returns c =
     let s = c .before .before .before .before .before .before .before in
     let a = s .args in
-    rw (add-one (a .i)) (splice-done (a .b .now) (c .before .before .relocate .last .0) (a .n) (a .i) (a .j) (a .i + 2) (a .lo) (a .hi) true true (s .pre .0) (s .pre .1) (s .pre .2)
+    rw (add-one (a .i)) (splice-done (a .b .now) (c .before .before .relocate .last .0) (a .n) (a .i) (a .j)
+    (a .i + 2) (a .lo) (a .hi) true true (s .pre .0) (s .pre .1) (s .pre .2)
     (eq-eqb (a .i % 2) 0 (c .before .before .before .before .before .if1 .taken))
     (eq-eqb (a .j % 2) 0 (c .before .before .before .before .if2 .taken))
     (omega arith) (omega arith) (c .before .before .relocate .ensures))
@@ -27,7 +28,8 @@ returns-2 : tie.Need-returns-2
 returns-2 c =
     let s = c .before .before .before .before .before .before .before in
     let a = s .args in
-    splice-done (a .b .now) (c .before .before .relocate2 .last .0) (a .n) (a .i) (a .j) (a .i + 1) (a .lo) (a .hi) true false (s .pre .0) (s .pre .1) (s .pre .2)
+    splice-done (a .b .now) (c .before .before .relocate2 .last .0) (a .n) (a .i) (a .j) (a .i + 1) (a .lo) (a .hi)
+    true false (s .pre .0) (s .pre .1) (s .pre .2)
     (eq-eqb (a .i % 2) 0 (c .before .before .before .before .before .if1 .taken))
     (ne-eqb (a .j % 2) 0 (c .before .before .before .before .if2 .left))
     (omega arith) (omega arith) (c .before .before .relocate2 .ensures)
@@ -36,7 +38,8 @@ returns-3 : tie.Need-returns-3
 returns-3 c =
     let s = c .before .before .before .before .before .before .before in
     let a = s .args in
-    splice-done (a .b .now) (c .before .before .relocate3 .last .0) (a .n) (a .i) (a .j) (a .i + 1) (a .lo) (a .hi) false true (s .pre .0) (s .pre .1) (s .pre .2)
+    splice-done (a .b .now) (c .before .before .relocate3 .last .0) (a .n) (a .i) (a .j) (a .i + 1) (a .lo) (a .hi)
+    false true (s .pre .0) (s .pre .1) (s .pre .2)
     (ne-eqb (a .i % 2) 0 (c .before .before .before .before .before .if1 .left))
     (eq-eqb (a .j % 2) 0 (c .before .before .before .before .if3 .taken))
     (omega arith) (omega arith) (c .before .before .relocate3 .ensures)
@@ -45,7 +48,8 @@ returns-4 : tie.Need-returns-4
 returns-4 c =
     let s = c .before .before .before .before .before .before .before in
     let a = s .args in
-    splice-done (a .b .now) (c .before .before .relocate4 .last .0) (a .n) (a .i) (a .j) (a .i) (a .lo) (a .hi) false false (s .pre .0) (s .pre .1) (s .pre .2)
+    splice-done (a .b .now) (c .before .before .relocate4 .last .0) (a .n) (a .i) (a .j) (a .i) (a .lo) (a .hi)
+    false false (s .pre .0) (s .pre .1) (s .pre .2)
     (ne-eqb (a .i % 2) 0 (c .before .before .before .before .before .if1 .left))
     (ne-eqb (a .j % 2) 0 (c .before .before .before .before .if3 .left))
     (omega arith) (omega arith) (c .before .before .relocate4 .ensures)

@@ -16,7 +16,11 @@ loop-holds : tie.Need-loop-holds Inv-loop μ-loop
 loop-holds c = (joining-start _, omega arith)
 
 loop-again : tie.Need-loop-again Inv-loop μ-loop
-loop-again c = (joining-step _ _ _ _ _ _ (omega arith) (c .before .before .before .before .before .before .before .loop .inv .0) (c .before .before .insert .ensures), omega arith)
+loop-again c = (
+  joining-step _ _ _ _ _ _ (omega arith)
+      (c .before .before .before .before .before .before .before .loop .inv .0) (c .before .before .insert .ensures),
+  omega arith,
+)
 
 returns : tie.Need-returns Inv-loop μ-loop
 returns c = joining-done _ _ _ _ _ (omega arith) (omega arith) (c .before .loop .inv .0)

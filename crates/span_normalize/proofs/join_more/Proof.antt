@@ -18,7 +18,8 @@ front-fits g = omega (arith, start g .pre .2)
 
 count : (g : tie.After-gather) → g .gather .result ≡ start g .args .n + length (retained (start g .args .spans .now))
 unfolding start
-count g = gathered-count (start g .args .spans .now) (start g .args .out .now) (g .gather .last .1 .0) (start g .args .n) (g .gather .result) (front-fits g) (g .gather .ensures)
+count g = gathered-count (start g .args .spans .now) (start g .args .out .now) (g .gather .last .1 .0)
+    (start g .args .n) (g .gather .result) (front-fits g) (g .gather .ensures)
 
 gather-requires : tie.Need-gather-requires
 gather-requires c κs = search needs
@@ -39,7 +40,8 @@ unfolding start
 returns c =
     let f = c .before .before in
     let g = f .before .before .before .before in
-    joined-more (start g .args .spans .now) (start g .args .out .now) (g .gather .last .1 .0) (f .normalize-front .last .0) (start g .args .n) (g .gather .result) (f .normalize-front .result)
+    joined-more (start g .args .spans .now) (start g .args .out .now) (g .gather .last .1 .0)
+    (f .normalize-front .last .0) (start g .args .n) (g .gather .result) (f .normalize-front .result)
     (start g .pre .1) (front-fits g) (g .gather .ensures) (f .normalize-front .ensures)
 
 pub join-more-spec : {M : Type 1} → statement M

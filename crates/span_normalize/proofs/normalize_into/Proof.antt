@@ -19,7 +19,8 @@ join-more-requires c κs =
     let i = c .before .before .before .before .before .before .before .join-rising .ensures in
     let k = c .before .before .before .before .before .before .before .join-rising .result .passed in
     let rest : length (take (length (a .args .spans .now) - k) (drop k (a .args .spans .now))) ≡ length (a .args .spans .now) - k =
-    length-take-le (length (a .args .spans .now) - k) (drop k (a .args .spans .now)) (omega (arith, length-drop k (a .args .spans .now))) in (
+    length-take-le (length (a .args .spans .now) - k) (drop k (a .args .spans .now))
+    (omega (arith, length-drop k (a .args .spans .now))) in (
       omega (arith, rest, a .pre .0, i .passedMost, i .passedEven),
       filled-even _ _ _ _ _ (omega (arith, i .passedMost, a .pre .1)) (i .filled),
       omega (arith, rest, i .filled .size, i .filled .most, i .passedMost, a .pre .1),
@@ -29,8 +30,10 @@ returns-2 : tie.Need-returns-2
 returns-2 c =
     let a = c .before .before .before .before .before .before .before .before .before .before .before .before .before .before in
     let k = c .before .before .before .before .before .before .before .before .before .before .join-rising .result .passed in
-    begun-more _ _ _ _ _ _ _ _ (take-all (length (a .args .spans .now) - k) (drop k (a .args .spans .now)) (omega (arith, length-drop k (a .args .spans .now))))
-    (c .before .before .before .before .before .before .before .before .before .before .join-rising .ensures) (c .before .before .join-more .ensures)
+    begun-more _ _ _ _ _ _ _ _ (take-all (length (a .args .spans .now) - k) (drop k (a .args .spans .now))
+    (omega (arith, length-drop k (a .args .spans .now))))
+    (c .before .before .before .before .before .before .before .before .before .before .join-rising .ensures)
+    (c .before .before .join-more .ensures)
 
 returns-3 : tie.Need-returns-3
 returns-3 c =
@@ -43,10 +46,12 @@ slice-aggregate-join-more c = sym (length-take-le _ _ (c .before .before .before
 
 join-more-requires-2 : tie.Need-join-more-requires-2
 join-more-requires-2 c κs =
-    let a = c .before .before .before .before .before .before .before .before .before .before .before .before .before .before .before .before in
+    let a = c .before .before .before .before .before .before .before .before .before .before .before .before .before
+    .before .before .before in
     let u = c .before .before .before .before .before .before .before .before .before .before .before .before .join-rising .ensures in
     let i = c .before .before .before .before .before .join-falling .ensures in
-    let part = length-take-le (c .before .before .before .before .before .join-falling .result .passed) (a .args .spans .now) (i .passedMost) in (
+    let part = length-take-le (c .before .before .before .before .before .join-falling .result .passed)
+    (a .args .spans .now) (i .passedMost) in (
       omega (arith, part, i .passedEven),
       filled-even _ _ _ _ _ (omega (arith, u .filled .size, a .pre .1)) (i .filled),
       omega (arith, part, u .filled .size, i .filled .size, i .filled .most, i .passedMost, a .pre .1),

@@ -27,12 +27,18 @@ shared-slice-read-y c =
 returns : tie.Need-returns Inv-loop μ-loop
 returns c =
     let l = c .before .before .before .before .before .before .before .before .before in
-    cut-end _ _ _ _ _ _ _ _ _ _ _ (l .before .before .before .pre) (l .loop .inv) (c .before .before .before .before .before .before .before .before .loop-test .taken) (c .before .before .before .before .before .before .if1 .left) (c .before .before .before .put-pair .ensures) (c .if2 .taken)
+    cut-end _ _ _ _ _ _ _ _ _ _ _ (l .before .before .before .pre) (l .loop .inv)
+    (c .before .before .before .before .before .before .before .before .loop-test .taken)
+    (c .before .before .before .before .before .before .if1 .left) (c .before .before .before .put-pair .ensures)
+    (c .if2 .taken)
 
 loop-again : tie.Need-loop-again Inv-loop μ-loop
 loop-again c =
     let l = c .before .before .before .before .before .before .before .before .before .before in
-    rw (c .higher .ensures) (cut-step _ _ _ _ _ _ _ _ _ _ _ (l .before .before .before .pre) (l .loop .inv) (c .before .before .before .before .before .before .before .before .before .loop-test .taken) (c .before .before .before .before .before .before .before .if1 .left) (c .before .before .before .before .put-pair .ensures) (c .before .if2 .left))
+    rw (c .higher .ensures) (cut-step _ _ _ _ _ _ _ _ _ _ _ (l .before .before .before .pre) (l .loop .inv)
+    (c .before .before .before .before .before .before .before .before .before .loop-test .taken)
+    (c .before .before .before .before .before .before .before .if1 .left)
+    (c .before .before .before .before .put-pair .ensures) (c .before .if2 .left))
 
 returns-2 : tie.Need-returns-2 Inv-loop μ-loop
 returns-2 c =

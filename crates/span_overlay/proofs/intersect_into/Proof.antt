@@ -34,13 +34,32 @@ loop-again : tie.Need-loop-again Inv-loop μ-loop
 loop-again c =
     let l = c .before .before .before .before .before .before .before .before .before .before .before .before .before in
     let s = l .before .before .before .before in
-    share-a _ _ _ _ _ _ _ _ _ (s .pre .0) (s .pre .1) (l .loop .inv) (c .before .before .before .before .before .before .before .before .before .before .before .before .loop-test .taken) (omega (arith, c .before .before .before .before .before .before .before .before .before .before .before .if1 .left)) (rw (c .before .before .before .before .before .before .before .before .larger .ensures, c .before .before .before .before .smaller .ensures) at (c .before .before .before .put-pair .ensures)) (c .if2 .taken)
+    share-a _ _ _ _ _ _ _ _ _ (s .pre .0) (s .pre .1) (l .loop .inv)
+    (c .before .before .before .before .before .before .before .before .before .before .before .before .loop-test
+    .taken) (omega (
+      arith,
+      c .before .before .before .before .before .before .before .before .before .before
+          .before .if1 .left,
+    )) (rw (
+      c .before .before .before .before .before .before .before .before .larger .ensures,
+      c .before .before .before .before .smaller .ensures,
+    ) at (c .before .before .before .put-pair .ensures))
+    (c .if2 .taken)
 
 loop-again-2 : tie.Need-loop-again-2 Inv-loop μ-loop
 loop-again-2 c =
     let l = c .before .before .before .before .before .before .before .before .before .before .before .before .before in
     let s = l .before .before .before .before in
-    share-b _ _ _ _ _ _ _ _ _ (s .pre .0) (s .pre .1) (l .loop .inv) (c .before .before .before .before .before .before .before .before .before .before .before .before .loop-test .taken) (omega (arith, c .before .before .before .before .before .before .before .before .before .before .before .if1 .left)) (rw (c .before .before .before .before .before .before .before .before .larger .ensures, c .before .before .before .before .smaller .ensures) at (c .before .before .before .put-pair .ensures)) (c .if2 .left)
+    share-b _ _ _ _ _ _ _ _ _ (s .pre .0) (s .pre .1) (l .loop .inv)
+    (c .before .before .before .before .before .before .before .before .before .before .before .before .loop-test
+    .taken) (omega (
+      arith,
+      c .before .before .before .before .before .before .before .before .before .before
+          .before .if1 .left,
+    )) (rw (
+      c .before .before .before .before .before .before .before .before .larger .ensures,
+      c .before .before .before .before .smaller .ensures,
+    ) at (c .before .before .before .put-pair .ensures)) (c .if2 .left)
 
 returns : tie.Need-returns Inv-loop μ-loop
 returns c =

@@ -36,13 +36,16 @@ cut-pair-requires : tie.Need-cut-pair-requires Inv-loop μ-loop
 cut-pair-requires c κs =
     let l = c .before .before .before .before .before in
     let s = l .before .before .before .before in
-    rw (part l) (less-ready _ _ _ _ _ _ _ (s .pre .0) (s .pre .1) (s .pre .2) (l .loop .inv) (c .before .before .before .before .loop-test .taken))
+    rw (part l) (less-ready _ _ _ _ _ _ _ (s .pre .0) (s .pre .1) (s .pre .2) (l .loop .inv)
+    (c .before .before .before .before .loop-test .taken))
 
 loop-again : tie.Need-loop-again Inv-loop μ-loop
 loop-again c =
     let l = c .before .before .before .before .before .before .before .before .before in
     let s = l .before .before .before .before in
-    less-step _ _ _ _ _ _ _ (s .pre .0) (s .pre .1) (s .pre .2) (l .loop .inv) (c .before .before .before .before .before .before .before .before .loop-test .taken) _ _ (rw (part l) at (c .before .before .before .cut-pair .ensures))
+    less-step _ _ _ _ _ _ _ (s .pre .0) (s .pre .1) (s .pre .2) (l .loop .inv)
+    (c .before .before .before .before .before .before .before .before .loop-test .taken) _ _
+    (rw (part l) at (c .before .before .before .cut-pair .ensures))
 
 returns : tie.Need-returns Inv-loop μ-loop
 returns c = less-done _ _ _ _ _ _ _ (c .loop-test .left) (c .before .loop .inv)

@@ -24,13 +24,25 @@ check-ray-requires : tie.Need-check-ray-requires Inv-loop μ-loop
 check-ray-requires c κs = (c .before .before .before .before .before .before .pre, omega (arith, c .before .before .total-rays .ensures))
 
 returns : tie.Need-returns Inv-loop μ-loop
-returns c = let a = c .before .before .before .before .before .before .before .before in let s = cells (a .args .spans .now) (a .args .links .now) (a .args .heads .now) in ray-bad (a .args .spec) (a .args .g) s (c .before .before .before .loop .ray) (rayCount (a .args .g)) (c .before .check-ray .result) (omega (arith, c .before .before .before .before .total-rays .ensures)) (c .before .check-ray .ensures) (c .if1 .taken)
+returns c = let a = c .before .before .before .before .before .before .before .before in
+    let s = cells (a .args .spans .now) (a .args .links .now) (a .args .heads .now) in
+    ray-bad (a .args .spec) (a .args .g) s (c .before .before .before .loop .ray) (rayCount (a .args .g))
+    (c .before .check-ray .result) (omega (arith, c .before .before .before .before .total-rays .ensures))
+    (c .before .check-ray .ensures) (c .if1 .taken)
 
 loop-again : tie.Need-loop-again Inv-loop μ-loop
-loop-again c = let a = c .before .before .before .before .before .before .before .before in let s = cells (a .args .spans .now) (a .args .links .now) (a .args .heads .now) in (omega arith, ray-good (a .args .spec) (a .args .g) s (c .before .before .before .loop .ray) (c .before .check-ray .result) (c .before .check-ray .ensures) (c .if1 .left) (c .before .before .before .loop .inv .1))
+loop-again c = let a = c .before .before .before .before .before .before .before .before in
+    let s = cells (a .args .spans .now) (a .args .links .now) (a .args .heads .now) in (
+      omega arith,
+      ray-good (a .args .spec) (a .args .g) s (c .before .before .before .loop .ray)
+          (c .before .check-ray .result) (c .before .check-ray .ensures) (c .if1 .left) (c .before .before .before .loop .inv .1),
+    )
 
 returns-2 : tie.Need-returns-2 Inv-loop μ-loop
-returns-2 c = let a = c .before .before .before .before .before .before in let s = cells (a .args .spans .now) (a .args .links .now) (a .args .heads .now) in rays-good (a .args .spec) (a .args .g) s (c .before .loop .ray) (rayCount (a .args .g)) (omega (arith, c .before .before .total-rays .ensures)) (c .before .loop .inv .1)
+returns-2 c = let a = c .before .before .before .before .before .before in
+    let s = cells (a .args .spans .now) (a .args .links .now) (a .args .heads .now) in
+    rays-good (a .args .spec) (a .args .g) s (c .before .loop .ray) (rayCount (a .args .g))
+    (omega (arith, c .before .before .total-rays .ensures)) (c .before .loop .inv .1)
 
 pub check-rays-spec : {M : Type 1} → statement M
 check-rays-spec =

@@ -6,10 +6,17 @@ use Rattle.store.specs.Store.{cells}
 use Rattle.stock.proofs.is_chained.Tie as tie
 
 check-store-requires : tie.Need-check-store-requires
-check-store-requires c κs = (c .before .before .before .before .pre .in-spans, c .before .before .before .before .pre .in-links, omega (arith, c .before .before .before .before .pre .in-heads, c .total-rays .ensures))
+check-store-requires c κs = (
+  c .before .before .before .before .pre .in-spans,
+  c .before .before .before .before .pre .in-links,
+  omega (arith, c .before .before .before .before .pre .in-heads, c .total-rays .ensures),
+)
 
 returns : tie.Need-returns
-returns c = let a = c .before .before .before .before .before in let s = cells (a .args .spans .now) (a .args .links .now) (a .args .heads .now) in lists-counted (a .args .spec) (a .args .g) s (a .args .intervals) (c .before .total-rays .result) (c .check-store .result) (c .before .total-rays .ensures) (c .check-store .ensures)
+returns c = let a = c .before .before .before .before .before in
+    let s = cells (a .args .spans .now) (a .args .links .now) (a .args .heads .now) in
+    lists-counted (a .args .spec) (a .args .g) s (a .args .intervals) (c .before .total-rays .result)
+    (c .check-store .result) (c .before .total-rays .ensures) (c .check-store .ensures)
 
 pub is-chained-spec : {M : Type 1} → statement M
 is-chained-spec =

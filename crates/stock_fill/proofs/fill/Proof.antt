@@ -13,12 +13,20 @@ fill-grid-requires c κs =
 
 returns : tie.Need-returns
 returns c =
-    let a = c .before .before .before .before .before .before .before .before .before .before .before .before .before .before .before .before .before .before in
+    let a = c .before .before .before .before .before .before .before .before .before .before .before .before .before
+    .before .before .before .before .before in
     let s = cells (a .args .spans .now) (a .args .links .now) (a .args .heads .now) in
-    fill-accepted (a .args .spec) (a .args .units .now) s _ _ (c .before .before .before .before .before .before .fill-grid .result) (sym (c .before .before .before .before .before .before .before .before .before .before .before .before .before .grid .ensures .is) ∙ c .before .before .before .before .before .before .before .before .before .before .before .g .given .1) (c .before .before .before .before .before .before .fill-grid .ensures)
+    fill-accepted (a .args .spec) (a .args .units .now) s _ _
+    (c .before .before .before .before .before .before .fill-grid .result)
+    (sym (c .before .before .before .before .before .before .before .before .before .before .before .before
+    .before .grid .ensures .is) ∙ c .before .before .before .before .before .before .before .before .before
+    .before .before .g .given .1) (c .before .before .before .before .before .before .fill-grid .ensures)
 
 returns-2 : tie.Need-returns-2
-returns-2 c = let a = c .before .before .before .before .before .before .before .before in let s = cells (a .args .spans .now) (a .args .links .now) (a .args .heads .now) in fill-refused (a .args .spec) (a .args .units .now) s _ (sym (c .before .before .before .grid .ensures .is) ∙ c .before .k .given .1)
+returns-2 c = let a = c .before .before .before .before .before .before .before .before in
+    let s = cells (a .args .spans .now) (a .args .links .now) (a .args .heads .now) in
+    fill-refused (a .args .spec) (a .args .units .now) s _
+    (sym (c .before .before .before .grid .ensures .is) ∙ c .before .k .given .1)
 
 pub fill-spec : {M : Type 1} → statement M
 fill-spec =

@@ -20,12 +20,29 @@ uncut-record-requires : tie.Need-uncut-record-requires Inv-loop μ-loop
 uncut-record-requires c κs = c .before .before .before .before .pre .0
 
 put-record-requires : tie.Need-put-record-requires Inv-loop μ-loop
-put-record-requires c κs = (omega (arith, spans-size _ _ _ _ _ (c .before .before .before .before .loop .inv .1), c .before .before .before .before .before .before .before .pre), omega (arith, links-size _ _ _ _ _ (c .before .before .before .before .loop .inv .2), c .before .before .before .before .before .before .before .pre))
+put-record-requires c κs = (
+  omega (
+    arith,
+    spans-size _ _ _ _ _ (c .before .before .before .before .loop .inv .1),
+    c .before .before .before .before .before .before .before .pre,
+  ),
+  omega (
+    arith,
+    links-size _ _ _ _ _ (c .before .before .before .before .loop .inv .2),
+    c .before .before .before .before .before .before .before .pre,
+  ),
+)
 
 loop-again : tie.Need-loop-again Inv-loop μ-loop
 loop-again c =
-    let inv = c .before .before .before .before .before .before .before .before .before .loop .inv in
-    (omega arith, spans-next _ _ _ _ _ _ _ (c .before .before .before .before .before .before .before .uncut-record .ensures) (inv .1) (c .before .before .before .before .put-record .ensures .0), links-next _ _ _ _ _ _ _ (c .before .before .before .before .before .before .before .uncut-record .ensures) (inv .2) (c .before .before .before .before .put-record .ensures .1))
+    let inv = c .before .before .before .before .before .before .before .before .before .loop .inv in (
+      omega arith,
+      spans-next _ _ _ _ _ _ _
+          (c .before .before .before .before .before .before .before .uncut-record .ensures) (inv .1)
+          (c .before .before .before .before .put-record .ensures .0),
+      links-next _ _ _ _ _ _ _ (c .before .before .before .before .before .before .before .uncut-record .ensures)
+          (inv .2) (c .before .before .before .before .put-record .ensures .1),
+    )
 
 same-length : tie.Need-same-length Inv-loop μ-loop
 same-length c = spans-size _ _ _ _ _ (c .before .loop .inv .1)
@@ -34,7 +51,8 @@ same-length-2 : tie.Need-same-length-2 Inv-loop μ-loop
 same-length-2 c = links-size _ _ _ _ _ (c .before .loop .inv .2)
 
 returns : tie.Need-returns Inv-loop μ-loop
-returns c = let e : c .before .loop .i ≡ c .before .before .before .before .args .n = omega arith in (spans-end _ _ _ _ _ _ e (c .before .loop .inv .1), links-end _ _ _ _ _ _ e (c .before .loop .inv .2))
+returns c = let e : c .before .loop .i ≡ c .before .before .before .before .args .n = omega arith in
+    (spans-end _ _ _ _ _ _ e (c .before .loop .inv .1), links-end _ _ _ _ _ _ e (c .before .loop .inv .2))
 
 pub fill-records-spec : {M : Type 1} → statement M
 fill-records-spec =

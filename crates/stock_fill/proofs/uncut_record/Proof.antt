@@ -11,7 +11,8 @@ add-t9 : tie.Need-add-t9
 add-t9 c = search needs
 
 returns : tie.Need-returns
-returns c = record-listed (c .before .before .args .spec) (c .before .before .args .g) (c .before .before .args .i) (c .ray-bounds .result) (omega (arith, c .before .if1 .taken, c .before .before .pre)) (c .ray-bounds .ensures)
+returns c = record-listed (c .before .before .args .spec) (c .before .before .args .g) (c .before .before .args .i)
+    (c .ray-bounds .result) (omega (arith, c .before .if1 .taken, c .before .before .pre)) (c .ray-bounds .ensures)
 
 returns-2 : tie.Need-returns-2
 returns-2 c = record-free (c .before .args .spec) (c .before .args .g) (c .before .args .i) (omega (arith, c .if1 .left, c .before .pre))

@@ -19,10 +19,16 @@ enum-known-k : tie.Need-enum-known-k
 enum-known-k c = search needs
 
 returns : tie.Need-returns
-returns c = let a = c .before .before .before .before .before .before .before .before .before in let s = cells (a .args .spans .now) (a .args .links .now) (a .args .heads .now) in volume-accepted (a .args .spec) (a .args .units .now) s (a .args .intervals) _ (c .measure .result) (sym (c .before .before .before .before .grid .ensures .is) ∙ c .before .before .g .given .1) (c .measure .ensures)
+returns c = let a = c .before .before .before .before .before .before .before .before .before in
+    let s = cells (a .args .spans .now) (a .args .links .now) (a .args .heads .now) in
+    volume-accepted (a .args .spec) (a .args .units .now) s (a .args .intervals) _ (c .measure .result)
+    (sym (c .before .before .before .before .grid .ensures .is) ∙ c .before .before .g .given .1) (c .measure .ensures)
 
 returns-2 : tie.Need-returns-2
-returns-2 c = let a = c .before .before .before .before .before .before .before .before in let s = cells (a .args .spans .now) (a .args .links .now) (a .args .heads .now) in volume-refused (a .args .spec) (a .args .units .now) s (a .args .intervals) _ (sym (c .before .before .before .grid .ensures .is) ∙ c .before .k .given .1)
+returns-2 c = let a = c .before .before .before .before .before .before .before .before in
+    let s = cells (a .args .spans .now) (a .args .links .now) (a .args .heads .now) in
+    volume-refused (a .args .spec) (a .args .units .now) s (a .args .intervals) _
+    (sym (c .before .before .before .grid .ensures .is) ∙ c .before .k .given .1)
 
 pub volume-spec : {M : Type 1} → statement M
 volume-spec =

@@ -8,10 +8,13 @@ returns : tie.Need-returns
 returns c = differs _ _ _ _ _ _ _ (c .before .count-used .ensures) (c .if1 .taken)
 
 returns-2 : tie.Need-returns-2
-returns-2 c = ended _ _ _ _ _ _ _ _ (c .before .before .before .before .before .count-used .ensures) (c .before .before .before .before .if1 .left) (sym (c .before .before .before .walk-all .ensures) ∙ c .before .c .given .1)
+returns-2 c = ended _ _ _ _ _ _ _ _ (c .before .before .before .before .before .count-used .ensures)
+    (c .before .before .before .before .if1 .left)
+    (sym (c .before .before .before .walk-all .ensures) ∙ c .before .c .given .1)
 
 returns-3 : tie.Need-returns-3
-returns-3 c = broke _ _ _ _ _ _ _ (c .before .before .before .if1 .left) (sym (c .before .before .walk-all .ensures) ∙ c .enum-told .given .1)
+returns-3 c = broke _ _ _ _ _ _ _ (c .before .before .before .if1 .left)
+    (sym (c .before .before .walk-all .ensures) ∙ c .enum-told .given .1)
 
 pub check-store-spec : {M : Type 1} → statement M
 check-store-spec =

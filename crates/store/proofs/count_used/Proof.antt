@@ -35,12 +35,23 @@ loop-less c = search needs
 
 loop-again : tie.Need-loop-again Inv-loop μ-loop
 loop-again c = ⊎-elim
-    (λ w. (omega arith, omega (arith, w .1), count-next _ _ _ _ true (c .before .before .before .loop .inv .2) (sym (c .before .used .ensures) ∙ w .0 .taken) (w .1)))
-    (λ w. (omega arith, omega (arith, w .1), count-next _ _ _ _ false (c .before .before .before .loop .inv .2) (sym (c .before .used .ensures) ∙ w .0 .left) (w .1 ∙ sym (add-zero _))))
+    (λ w. (
+      omega arith,
+      omega (arith, w .1),
+      count-next _ _ _ _ true (c .before .before .before .loop .inv .2)
+          (sym (c .before .used .ensures) ∙ w .0 .taken) (w .1),
+    ))
+    (λ w. (
+      omega arith,
+      omega (arith, w .1),
+      count-next _ _ _ _ false (c .before .before .before .loop .inv .2)
+          (sym (c .before .used .ensures) ∙ w .0 .left) (w .1 ∙ sym (add-zero _)),
+    ))
     (c .if1 .came)
 
 returns : tie.Need-returns Inv-loop μ-loop
-returns c = let e : c .before .loop .i ≡ c .before .before .before .before .args .n = omega arith in c .before .loop .inv .2 ∙ ap (countTo _) e
+returns c = let e : c .before .loop .i ≡ c .before .before .before .before .args .n = omega arith in
+    c .before .loop .inv .2 ∙ ap (countTo _) e
 
 pub count-used-spec : {M : Type 1} → statement M
 count-used-spec =

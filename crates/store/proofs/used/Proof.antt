@@ -16,7 +16,10 @@ returns-3 : tie.Need-returns-3
 returns-3 c = sym (used-lo _ _ _ (sym (c .before .plus-zero .ensures) ∙ not-true _ (c .if3 .taken)))
 
 returns-4 : tie.Need-returns-4
-returns-4 c = ap not (c .plus-zero2 .ensures) ∙ sym (used-hi _ _ _ (c .before .before .before .before .before .before .before .if1 .left) (c .before .before .before .before .before .if2 .left) (sym (c .before .before .before .plus-zero .ensures) ∙ not-false _ (c .before .before .if3 .left)))
+returns-4 c = ap not (c .plus-zero2 .ensures)
+    ∙ sym (used-hi _ _ _ (c .before .before .before .before .before .before .before .if1 .left)
+    (c .before .before .before .before .before .if2 .left)
+    (sym (c .before .before .before .plus-zero .ensures) ∙ not-false _ (c .before .before .if3 .left)))
 
 pub used-spec : {M : Type 1} → statement M
 used-spec =

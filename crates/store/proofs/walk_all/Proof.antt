@@ -18,10 +18,15 @@ loop-holds : tie.Need-loop-holds Inv-loop μ-loop
 loop-holds c = (omega arith, simp sub-zero)
 
 returns : tie.Need-returns Inv-loop μ-loop
-returns c = sym (c .before .before .before .before .before .loop .inv .1 ∙ all-broken _ _ _ _ _ _ _ (omega arith) (sym (c .before .before .walk-chain .ensures) ∙ c .enum-told .given .1))
+returns c = sym (c .before .before .before .before .before .loop .inv .1
+    ∙ all-broken _ _ _ _ _ _ _ (omega arith) (sym (c .before .before .walk-chain .ensures) ∙ c .enum-told .given .1))
 
 loop-again : tie.Need-loop-again Inv-loop μ-loop
-loop-again c = (omega arith, c .before .before .before .before .before .before .loop .inv .1 ∙ all-next _ _ _ _ _ _ _ _ (omega arith) (sym (c .before .before .before .walk-chain .ensures) ∙ c .before .e .given .1))
+loop-again c = (
+  omega arith,
+  c .before .before .before .before .before .before .loop .inv .1
+      ∙ all-next _ _ _ _ _ _ _ _ (omega arith) (sym (c .before .before .before .walk-chain .ensures) ∙ c .before .e .given .1),
+)
 
 returns-2 : tie.Need-returns-2 Inv-loop μ-loop
 returns-2 c = sym (c .before .loop .inv .1 ∙ all-end _ _ _ _ _ _ _ (omega arith))

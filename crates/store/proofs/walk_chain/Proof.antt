@@ -20,13 +20,20 @@ returns : tie.Need-returns Inv-loop μ-loop
 returns c = sym (c .before .before .loop .inv ∙ walk-full _ _ _ _ _ _ (c .if1 .taken) (c .before .loop-test .taken))
 
 returns-2 : tie.Need-returns-2 Inv-loop μ-loop
-returns-2 c = sym (c .before .before .before .loop .inv ∙ walk-step _ _ _ _ _ _ (c .before .if1 .left) (c .before .before .loop-test .taken) ∙ simp (le-ltb _ _ (c .if2 .taken)))
+returns-2 c = sym (c .before .before .before .loop .inv
+    ∙ walk-step _ _ _ _ _ _ (c .before .if1 .left) (c .before .before .loop-test .taken) ∙ simp (le-ltb _ _ (c .if2 .taken)))
 
 returns-3 : tie.Need-returns-3 Inv-loop μ-loop
-returns-3 c = sym (c .before .before .before .before .before .loop .inv ∙ walk-step _ _ _ _ _ _ (c .before .before .before .if1 .left) (c .before .before .before .before .loop-test .taken) ∙ simp (lt-ltb _ _ (c .before .before .if2 .left), ne-eqb _ _ (c .if3 .taken)))
+returns-3 c = sym (c .before .before .before .before .before .loop .inv
+    ∙ walk-step _ _ _ _ _ _ (c .before .before .before .if1 .left)
+    (c .before .before .before .before .loop-test .taken)
+    ∙ simp (lt-ltb _ _ (c .before .before .if2 .left), ne-eqb _ _ (c .if3 .taken)))
 
 loop-again : tie.Need-loop-again Inv-loop μ-loop
-loop-again c = c .before .before .before .before .before .before .loop .inv ∙ walk-step _ _ _ _ _ _ (c .before .before .before .before .if1 .left) (c .before .before .before .before .before .loop-test .taken) ∙ simp (lt-ltb _ _ (c .before .before .before .if2 .left), eq-eqb _ _ (c .before .if3 .left))
+loop-again c = c .before .before .before .before .before .before .loop .inv
+    ∙ walk-step _ _ _ _ _ _ (c .before .before .before .before .if1 .left)
+    (c .before .before .before .before .before .loop-test .taken)
+    ∙ simp (lt-ltb _ _ (c .before .before .before .if2 .left), eq-eqb _ _ (c .before .if3 .left))
 
 returns-4 : tie.Need-returns-4 Inv-loop μ-loop
 returns-4 c = sym (c .before .loop .inv ∙ walk-end _ _ _ 0 _ _ _ (c .loop-test .left))

@@ -35,7 +35,12 @@ shared-slice-read-if1 : tie.Need-shared-slice-read-if1 Inv-loop μ-loop
 shared-slice-read-if1 c = let h = step (c .before .before .loop .inv .0) (c .before .loop-test .taken) .counted in search needs
 
 returns : tie.Need-returns Inv-loop μ-loop
-returns c = record { rest = reach-here _ (step (c .before .before .before .loop .inv .0) (c .before .before .loop-test .taken)) (not-true _ (c .if1 .taken)) ∙ sym (c .before .before .before .loop .inv .1); readable = c .before .before .before .loop .inv .0 }
+returns c = record {
+  rest = reach-here _
+      (step (c .before .before .before .loop .inv .0) (c .before .before .loop-test .taken))
+      (not-true _ (c .if1 .taken)) ∙ sym (c .before .before .before .loop .inv .1);
+  readable = c .before .before .before .loop .inv .0;
+}
 
 mul-k : tie.Need-mul-k Inv-loop μ-loop
 mul-k c = let h = step (c .before .before .before .loop .inv .0) (c .before .before .loop-test .taken) .counted in search needs
@@ -44,16 +49,23 @@ mul-k-2 : tie.Need-mul-k-2 Inv-loop μ-loop
 mul-k-2 c = let h = step (c .before .before .before .loop .inv .0) (c .before .before .loop-test .taken) .counted in search needs
 
 shared-slice-read-k : tie.Need-shared-slice-read-k Inv-loop μ-loop
-shared-slice-read-k c = let h = step (c .before .before .before .before .loop .inv .0) (c .before .before .before .loop-test .taken) .counted in search needs
+shared-slice-read-k c = let h =
+    step (c .before .before .before .before .loop .inv .0) (c .before .before .before .loop-test .taken) .counted in
+    search needs
 
 loop-less : tie.Need-loop-less Inv-loop μ-loop
 loop-less c = step (c .before .before .before .before .loop .inv .0) (c .before .before .before .loop-test .taken) .less
 
 loop-again : tie.Need-loop-again Inv-loop μ-loop
-loop-again c = let s = step (c .before .before .before .before .loop .inv .0) (c .before .before .before .loop-test .taken) in (s .next, c .before .before .before .before .loop .inv .1 ∙ reach-later _ s (not-false _ (c .before .if1 .left)))
+loop-again c = let s = step (c .before .before .before .before .loop .inv .0)
+    (c .before .before .before .loop-test .taken) in
+    (s .next, c .before .before .before .before .loop .inv .1 ∙ reach-later _ s (not-false _ (c .before .if1 .left)))
 
 returns-2 : tie.Need-returns-2 Inv-loop μ-loop
-returns-2 c = record { rest = reach-none _ _ _ _ _ (c .loop-test .left) ∙ sym (c .before .loop .inv .1); readable = c .before .loop .inv .0 }
+returns-2 c = record {
+  rest = reach-none _ _ _ _ _ (c .loop-test .left) ∙ sym (c .before .loop .inv .1);
+  readable = c .before .loop .inv .0;
+}
 
 pub first-reaching-spec : {M : Type 1} → statement M
 first-reaching-spec =

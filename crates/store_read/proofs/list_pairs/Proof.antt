@@ -32,16 +32,28 @@ shared-slice-read-k : tie.Need-shared-slice-read-k Inv-loop μ-loop
 shared-slice-read-k c = let h = link-step (c .before .before .loop .inv .0) (c .before .loop-test .taken) .counted in search needs
 
 add-c : tie.Need-add-c Inv-loop μ-loop
-add-c c = omega (arith, c .before .before .loop .inv .1, link-step (c .before .before .loop .inv .0) (c .before .loop-test .taken) .less, places-within (c .before .before .before .args .links .now) (c .before .before .before .args .n) (c .before .before .before .args .head), c .before .before .loop .inv .0 .in-links)
+add-c c = omega (
+  arith,
+  c .before .before .loop .inv .1,
+  link-step (c .before .before .loop .inv .0) (c .before .loop-test .taken) .less,
+  places-within (c .before .before .before .args .links .now) (c .before .before .before .args .n)
+      (c .before .before .before .args .head),
+  c .before .before .loop .inv .0 .in-links,
+)
 
 loop-less : tie.Need-loop-less Inv-loop μ-loop
 loop-less c = link-step (c .before .before .loop .inv .0) (c .before .loop-test .taken) .less
 
 loop-again : tie.Need-loop-again Inv-loop μ-loop
-loop-again c = let s = link-step (c .before .before .loop .inv .0) (c .before .loop-test .taken) in (s .next, omega (arith, c .before .before .loop .inv .1, ap length (s .more)))
+loop-again c = let s = link-step (c .before .before .loop .inv .0) (c .before .loop-test .taken) in
+    (s .next, omega (arith, c .before .before .loop .inv .1, ap length (s .more)))
 
 returns : tie.Need-returns Inv-loop μ-loop
-returns c = omega (arith, c .before .loop .inv .1, ap length (places-zero (c .before .before .args .links .now) (c .before .before .args .n) _ (c .loop-test .left)))
+returns c = omega (
+  arith,
+  c .before .loop .inv .1,
+  ap length (places-zero (c .before .before .args .links .now) (c .before .before .args .n) _ (c .loop-test .left)),
+)
 
 pub list-pairs-spec : {M : Type 1} → statement M
 list-pairs-spec =

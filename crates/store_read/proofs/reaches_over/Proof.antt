@@ -38,22 +38,30 @@ mul-result-2 : tie.Need-mul-result-2
 mul-result-2 c = let h = step (c .before .before .before .before .pre .0) (c .before .before .before .if1 .left) .counted in search needs
 
 shared-slice-read-result : tie.Need-shared-slice-read-result
-shared-slice-read-result c = let h = step (c .before .before .before .before .before .pre .0) (c .before .before .before .before .if1 .left) .counted in search needs
+shared-slice-read-result c = let h =
+    step (c .before .before .before .before .before .pre .0) (c .before .before .before .before .if1 .left) .counted
+    in search needs
 
 mul-result-3 : tie.Need-mul-result-3
-mul-result-3 c = let h = step (c .before .before .before .before .before .pre .0) (c .before .before .before .before .if1 .left) .counted in search needs
+mul-result-3 c = let h = step (c .before .before .before .before .before .pre .0)
+    (c .before .before .before .before .if1 .left) .counted in search needs
 
 add-result-2 : tie.Need-add-result-2
-add-result-2 c = let h = step (c .before .before .before .before .before .pre .0) (c .before .before .before .before .if1 .left) .counted in search needs
+add-result-2 c = let h = step (c .before .before .before .before .before .pre .0)
+    (c .before .before .before .before .if1 .left) .counted in search needs
 
 mul-result-4 : tie.Need-mul-result-4
-mul-result-4 c = let h = step (c .before .before .before .before .before .pre .0) (c .before .before .before .before .if1 .left) .counted in search needs
+mul-result-4 c = let h = step (c .before .before .before .before .before .pre .0)
+    (c .before .before .before .before .if1 .left) .counted in search needs
 
 shared-slice-read-result-2 : tie.Need-shared-slice-read-result-2
-shared-slice-read-result-2 c = let h = step (c .before .before .before .before .before .before .pre .0) (c .before .before .before .before .before .if1 .left) .counted in search needs
+shared-slice-read-result-2 c = let h =
+    step (c .before .before .before .before .before .before .pre .0)
+    (c .before .before .before .before .before .if1 .left) .counted in search needs
 
 returns-2 : tie.Need-returns-2
-returns-2 c = over-both (step (c .before .before .before .before .before .before .pre .0) (c .before .before .before .before .before .if1 .left)) _ _ (c .before .before .if2 .taken)
+returns-2 c = over-both (step (c .before .before .before .before .before .before .pre .0)
+    (c .before .before .before .before .before .if1 .left)) _ _ (c .before .before .if2 .taken)
 
 returns-3 : tie.Need-returns-3
 returns-3 c = over-begin (step (c .before .before .before .before .pre .0) (c .before .before .before .if1 .left)) _ _ (c .if2 .left)

@@ -3,7 +3,17 @@ use mathlib.Core.Path.{_∙_}
 use borrow.Author.Needs.{needs}
 use lib.ListN.{take}
 use Rattle.store.specs.Store.{freeFrom}
-use Rattle.store_write.proofs.Filling.{Filling, fill-some, fill-start, fill-turn, fill-end, fill-onward, refill, first-head, cursor-same}
+use Rattle.store_write.proofs.Filling.{
+  Filling,
+  fill-some,
+  fill-start,
+  fill-turn,
+  fill-end,
+  fill-onward,
+  refill,
+  first-head,
+  cursor-same,
+}
 use Rattle.store_write.proofs.fill_list.Statement.{statement}
 use Rattle.store_write.proofs.fill_list.Tie as tie
 
@@ -23,16 +33,28 @@ loop-holds c = fill-start _ _ _ _ _ _ _ _ (c .before .before .before .before .be
 loop-again : tie.Need-loop-again Inv-loop μ-loop
 loop-again c =
     refill (c .before .before .before .before .put-record .ensures .0) (c .before .before .before .before .put-record .ensures .1)
-    (fill-turn _ _ _ _ _ _ _ _ _ _ _ (c .before .before .before .before .before .before .before .before .before .before .before .before .before .loop .inv) _ (c .before .before .before .before .before .before .before .before .before .before .before .before .loop-test .taken) (c .before .before .before .before .before .before .before .before .before .next-free2 .ensures))
+    (fill-turn _ _ _ _ _ _ _ _ _ _ _
+    (c .before .before .before .before .before .before .before .before .before .before .before .before .before
+    .loop .inv) _ (c .before .before .before .before .before .before .before .before .before .before .before
+    .before .loop-test .taken) (c .before .before .before .before .before .before .before .before .before
+    .next-free2 .ensures))
 
 returns : tie.Need-returns Inv-loop μ-loop
 returns c =
-    let e = fill-end _ _ _ _ _ _ _ _ _ _ _ (c .before .before .before .before .before .before .before .before .before .before .loop .inv) (c .before .before .before .before .before .before .before .before .before .loop-test .left) in
+    let e = fill-end _ _ _ _ _ _ _ _ _ _ _
+    (c .before .before .before .before .before .before .before .before .before .before .loop .inv)
+    (c .before .before .before .before .before .before .before .before .before .loop-test .left) in
     record {
-      at = first-head _ _ _ _ _ _ _ _ (c .before .before .before .before .before .before .before .before .before .before .before .before .before .before .before .before .before .pre) (c .before .before .before .before .before .before .before .before .before .before .before .next-free .ensures);
+      at = first-head _ _ _ _ _ _ _ _
+          (c .before .before .before .before .before .before .before .before .before .before .before .before .before
+          .before .before .before .before .pre)
+          (c .before .before .before .before .before .before .before .before .before .before .before .next-free .ensures);
       spans-left = c .before .before .before .before .put-record2 .ensures .0 ∙ e .0;
       links-left = c .before .before .before .before .put-record2 .ensures .1 ∙ e .1;
-      onward = cursor-same (c .before .before .before .before .put-record2 .ensures .0) (c .before .before .before .before .put-record2 .ensures .1) (fill-onward _ _ _ _ _ _ _ _ _ _ _ (c .before .before .before .before .before .before .before .before .before .before .loop .inv));
+      onward = cursor-same (c .before .before .before .before .put-record2 .ensures .0)
+          (c .before .before .before .before .put-record2 .ensures .1)
+          (fill-onward _ _ _ _ _ _ _ _ _ _ _
+          (c .before .before .before .before .before .before .before .before .before .before .loop .inv));
     }
 
 pub fill-list-spec : {M : Type 1} → statement M

@@ -13,16 +13,20 @@ use Rattle.store_write.proofs.free_chain.Lts as lts
 abbrev Inv-loop : tie.InvT-loop
 Inv-loop spans₀ links₀ n owner head k₀ spans links k =
     (length spans ≡ length spans₀) × (length links ≡ length links₀) × RecordChain links n owner k (places links n k)
-    × (freedSpans spans₀ (places links₀ n head) ≡ freedSpans spans (places links n k)) × (freedLinks links₀ (places links₀ n head) ≡ freedLinks links (places links n k))
+    × (freedSpans spans₀ (places links₀ n head) ≡ freedSpans spans (places links n k))
+    × (freedLinks links₀ (places links₀ n head) ≡ freedLinks links (places links n k))
 
 abbrev μ-loop : tie.MeasureT-loop
 μ-loop spans₀ links₀ n owner head k₀ spans links k = length (places links n k)
 
 -- the record that the loop comes to
-here : (c : lts.In-loop reads.Pre reads.Post Inv-loop μ-loop) → Step (c .before .loop .links) (c .before .before .args .n) (c .before .before .args .owner) (c .before .loop .k)
+here : (c : lts.In-loop reads.Pre reads.Post Inv-loop μ-loop)
+    → Step (c .before .loop .links) (c .before .before .args .n) (c .before .before .args .owner) (c .before .loop .k)
 here c = chain-step _ _ _ _ (c .before .loop .inv .2) (c .loop-test .taken)
 
-freeing : (c : lts.In-loop reads.Pre reads.Post Inv-loop μ-loop) → Turn (c .before .loop .spans) (c .before .loop .links) (c .before .before .args .n) (c .before .before .args .owner) (c .before .loop .k)
+freeing : (c : lts.In-loop reads.Pre reads.Post Inv-loop μ-loop)
+    → Turn (c .before .loop .spans) (c .before .loop .links) (c .before .before .args .n)
+    (c .before .before .args .owner) (c .before .loop .k)
 freeing c = turn _ _ _ _ _ (c .before .loop .inv .2) (c .loop-test .taken)
 
 loop-holds : tie.Need-loop-holds Inv-loop μ-loop
@@ -87,11 +91,17 @@ loop-less c = freeing (c .before) .less
 
 loop-again : tie.Need-loop-again Inv-loop μ-loop
 loop-again c =
-    let t = freeing (c .before) in
-    (simp length-set (c .before .before .loop .inv .0), simp length-set (c .before .before .loop .inv .1), t .chain, c .before .before .loop .inv .3 ∙ t .spans-left, c .before .before .loop .inv .4 ∙ t .links-left)
+    let t = freeing (c .before) in (
+      simp length-set (c .before .before .loop .inv .0),
+      simp length-set (c .before .before .loop .inv .1),
+      t .chain,
+      c .before .before .loop .inv .3 ∙ t .spans-left,
+      c .before .before .loop .inv .4 ∙ t .links-left,
+    )
 
 returns : tie.Need-returns Inv-loop μ-loop
-returns c = let e = freed-end (c .before .loop .spans) (c .before .loop .links) (c .before .before .args .n) (c .before .loop .k) (c .loop-test .left) in
+returns c = let e = freed-end (c .before .loop .spans) (c .before .loop .links) (c .before .before .args .n)
+    (c .before .loop .k) (c .loop-test .left) in
     (sym (c .before .loop .inv .3 ∙ e .0), sym (c .before .loop .inv .4 ∙ e .1))
 
 pub free-chain-spec : {M : Type 1} → statement M

@@ -7,7 +7,8 @@ free-chain-requires : tie.Need-free-chain-requires
 free-chain-requires c κs = (search needs, search needs, free-chain-of (c .before .before .before .before .before .before .pre))
 
 returns : tie.Need-returns
-returns c = freed-cells _ _ _ _ _ _ _ (c .before .before .before .before .free-chain .ensures .0) (c .before .before .before .before .free-chain .ensures .1)
+returns c = freed-cells _ _ _ _ _ _ _ (c .before .before .before .before .free-chain .ensures .0)
+    (c .before .before .before .before .free-chain .ensures .1)
 
 pub free-list-spec : {M : Type 1} → statement M
 free-list-spec =

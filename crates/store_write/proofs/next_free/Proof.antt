@@ -28,11 +28,17 @@ loop-less c = search needs
 
 loop-again : tie.Need-loop-again Inv-loop μ-loop
 loop-again c =
-    let e = c .before .before .loop .inv .2 ∙ free-skip _ _ _ _ (c .before .before .loop .inv .1) (sym (c .before .used .ensures) ∙ c .if1 .taken) in
+    let e = c .before .before .loop .inv .2
+    ∙ free-skip _ _ _ _ (c .before .before .loop .inv .1) (sym (c .before .used .ensures) ∙ c .if1 .taken) in
     (omega arith, free-some _ _ _ _ (subst (λ l. 0 < length l) e (c .before .before .before .before .before .pre .2)), e)
 
 returns : tie.Need-returns Inv-loop μ-loop
-returns c = record { from = c .before .before .loop .inv .0; counted = c .before .before .loop .inv .1; first = c .before .before .loop .inv .2 ∙ free-here _ _ _ _ (c .before .before .loop .inv .1) (sym (c .before .used .ensures) ∙ c .if1 .left) }
+returns c = record {
+  from = c .before .before .loop .inv .0;
+  counted = c .before .before .loop .inv .1;
+  first = c .before .before .loop .inv .2
+      ∙ free-here _ _ _ _ (c .before .before .loop .inv .1) (sym (c .before .used .ensures) ∙ c .if1 .left);
+}
 
 pub next-free-spec : {M : Type 1} → statement M
 next-free-spec =

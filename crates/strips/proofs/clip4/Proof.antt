@@ -7,7 +7,23 @@ use Rattle.strips.proofs.clip4.Tie as tie
 
 returns : tie.Need-returns
 unfolding clip edges
-returns c = (simp (append-assoc, append-nil, c .push-edge4 .ensures .0, c .before .push-edge3 .ensures .0, c .before .before .push-edge2 .ensures .0, c .before .before .before .push-edge .ensures .0), omega (arith, c .push-edge4 .ensures .1, c .before .push-edge3 .ensures .1, c .before .before .push-edge2 .ensures .1, c .before .before .before .push-edge .ensures .1))
+returns c = (
+  simp (
+    append-assoc,
+    append-nil,
+    c .push-edge4 .ensures .0,
+    c .before .push-edge3 .ensures .0,
+    c .before .before .push-edge2 .ensures .0,
+    c .before .before .before .push-edge .ensures .0,
+  ),
+  omega (
+    arith,
+    c .push-edge4 .ensures .1,
+    c .before .push-edge3 .ensures .1,
+    c .before .before .push-edge2 .ensures .1,
+    c .before .before .before .push-edge .ensures .1,
+  ),
+)
 
 pub clip4-spec : {M : Type 1} → statement M
 clip4-spec =

@@ -13,16 +13,36 @@ returns c =
     let at-b = c .before .before .before .before .before .before .before .before .before .before .band-distance2 in
     let same : at-b .result ≡ at-a .result =
     same-bits _ _ (at-b .ok) (at-a .ok)
-    (sym (c .before .before .before .before .bits-of2 .ensures) ∙ sym (c .before .before .before .if2 .taken) ∙ c .before .before .before .before .before .bits-of .ensures) in
-    simp (c .hull-of .ensures, ← at-b .ensures, ← at-a .ensures, same, c .before .before .before .before .before .before .before .before .before .if1 .taken, ← c .before .before .before .before .before .before .before .before .half-chord .ensures)
+    (sym (c .before .before .before .before .bits-of2 .ensures) ∙ sym (c .before .before .before .if2 .taken)
+    ∙ c .before .before .before .before .before .bits-of .ensures) in
+    simp (
+      c .hull-of .ensures,
+      ← at-b .ensures,
+      ← at-a .ensures,
+      same,
+      c .before .before .before .before .before .before .before .before .before .if1 .taken,
+      ← c .before .before .before .before .before .before .before .before .half-chord .ensures,
+    )
 
 returns-2 : tie.Need-returns-2
 unfolding diskStrip chordStrip hull
-returns-2 c = simp (← c .hull-of2 .ensures, ← c .before .chord-strip .ensures, ← c .before .before .before .before .before .before .before .half-chord .ensures, c .before .before .before .before .before .before .before .before .if1 .taken, ← c .before .before .before .before .before .before .before .before .before .band-distance2 .ensures, ← c .before .before .before .before .before .before .before .before .before .before .band-distance .ensures)
+returns-2 c = simp (
+  ← c .hull-of2 .ensures,
+  ← c .before .chord-strip .ensures,
+  ← c .before .before .before .before .before .before .before .half-chord .ensures,
+  c .before .before .before .before .before .before .before .before .if1 .taken,
+  ← c .before .before .before .before .before .before .before .before .before .band-distance2 .ensures,
+  ← c .before .before .before .before .before .before .before .before .before .before .band-distance .ensures,
+)
 
 returns-3 : tie.Need-returns-3
 unfolding diskStrip chordStrip hull
-returns-3 c = simp (← c .chord-strip2 .ensures, c .before .if1 .left, ← c .before .before .band-distance2 .ensures, ← c .before .before .before .band-distance .ensures)
+returns-3 c = simp (
+  ← c .chord-strip2 .ensures,
+  c .before .if1 .left,
+  ← c .before .before .band-distance2 .ensures,
+  ← c .before .before .before .band-distance .ensures,
+)
 
 pub ends-strip-spec : {M : Type 1} → statement M
 ends-strip-spec =

@@ -13,7 +13,12 @@ returns-2 c = simp (c .enum-told2 .given .1, c .before .before .before .a .given
 
 returns-3 : tie.Need-returns-3
 unfolding hull
-returns-3 c = simp (← c .larger .ensures, ← c .before .smaller .ensures, c .before .before .before .b .given .1, c .before .before .before .before .before .before .a .given .1)
+returns-3 c = simp (
+  ← c .larger .ensures,
+  ← c .before .smaller .ensures,
+  c .before .before .before .b .given .1,
+  c .before .before .before .before .before .before .a .given .1,
+)
 
 pub hull-of-spec : {M : Type 1} → statement M
 hull-of-spec =

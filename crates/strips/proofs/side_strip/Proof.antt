@@ -8,7 +8,10 @@ polygon-strip-requires c κs = search needs
 
 returns : tie.Need-returns
 unfolding sideStrip
-returns c = simp (← c .polygon-strip .ensures, c .before .before .before .before .before .before .before .before .before .before .before .before .before .if1 .taken)
+returns c = simp (
+  ← c .polygon-strip .ensures,
+  c .before .before .before .before .before .before .before .before .before .before .before .before .before .if1 .taken,
+)
 
 returns-2 : tie.Need-returns-2
 unfolding sideStrip

@@ -30,7 +30,8 @@ loop-again c =
     let i = c .before .before .before .before .loop .i in
     let h : i < a .t3 .n = omega arith in
     let q : c .before .if1 .q ≡ headOr (getD (a .t3 .at) 0 (record { x = nan; y = nan })) (drop (i + 1) (take (a .t3 .n) (a .t3 .at))) =
-    ⊎-elim (λ w. w .2 ∙ sym (next-in _ _ _ _ _ (w .0 .taken) k)) (λ w. w .1 ∙ sym (next-out _ _ _ _ (w .0 .left) k)) (c .before .if1 .came) in
+    ⊎-elim (λ w. w .2 ∙ sym (next-in _ _ _ _ _ (w .0 .taken) k)) (λ w. w .1 ∙ sym (next-out _ _ _ _ (w .0 .left) k))
+    (c .before .if1 .came) in
     (omega arith, rw (c .widen-edge .ensures) (step _ _ _ _ _ _ _ i _ h k q ∙ c .before .before .before .before .loop .inv .1))
 
 returns : tie.Need-returns Inv-loop μ-loop

@@ -11,7 +11,8 @@ clear-from-requires-2 : tie.Need-clear-from-requires-2
 clear-from-requires-2 c κs = logged-at _ _ _ (c .before .before .x2 .given .1) (c .before .before .before .before .before .pre)
 
 returns-2 : tie.Need-returns-2
-returns-2 c = end-is _ _ _ _ _ (c .before .before .before .before .before .before .x2 .given .1) refl (c .before .before .before .clear-from2 .ensures)
+returns-2 c = end-is _ _ _ _ _ (c .before .before .before .before .before .before .x2 .given .1) refl
+    (c .before .before .before .clear-from2 .ensures)
 
 pub end-log-spec : {M : Type 1} → statement M
 end-log-spec =

@@ -15,7 +15,8 @@ returns c =
     let s = cells (a .args .spans .now) (a .args .links .now) (a .args .heads .now) in
     let k : Kernel = record { frame = frameOf (a .args .axis); guard = a .args .guard } in
     let p = profileOf (a .args .shape) (a .args .cutter) in
-    sweep-refused (a .args .spec) (a .args .units .now) k p s (a .args .intervals) (a .args .chords .now) (a .args .budget) (a .args .log .now) _ (sym (c .before .before .before .grid .ensures .is) ∙ c .before .n .given .1)
+    sweep-refused (a .args .spec) (a .args .units .now) k p s (a .args .intervals) (a .args .chords .now)
+    (a .args .budget) (a .args .log .now) _ (sym (c .before .before .before .grid .ensures .is) ∙ c .before .n .given .1)
 
 sweep-grid-requires : tie.Need-sweep-grid-requires
 sweep-grid-requires c κs =
@@ -24,14 +25,21 @@ sweep-grid-requires c κs =
 
 returns-2 : tie.Need-returns-2
 returns-2 c =
-    let a = c .before .before .before .before .before .before .before .before .before .before .before .before .before .before .before .before in
+    let a = c .before .before .before .before .before .before .before .before .before .before .before .before .before
+    .before .before .before in
     let s = cells (a .args .spans .now) (a .args .links .now) (a .args .heads .now) in
     let f = c .before .before .before .before .before .frame .result in
     let p = c .before .before .before .before .profile-of .result in
     let k : Kernel = record { frame = f; guard = a .args .guard } in
-    let h = sym (c .before .before .before .before .before .before .before .before .before .grid .ensures .is) ∙ c .before .before .before .before .before .before .before .g .given .1 in
-    same-tool (a .args .spec) (a .args .units .now) s (a .args .intervals) (a .args .guard) (a .args .chords .now) (a .args .budget) (a .args .log .now) _ (c .before .before .sweep-grid .result) f (frameOf (a .args .axis)) p (profileOf (a .args .shape) (a .args .cutter)) (c .before .before .before .before .before .frame .ensures) (c .before .before .before .before .profile-of .ensures)
-    (sweep-accepted (a .args .spec) (a .args .units .now) k p s (a .args .intervals) (a .args .chords .now) (a .args .budget) (a .args .log .now) _ _ (c .before .before .sweep-grid .result) h (c .before .before .sweep-grid .ensures))
+    let h = sym (c .before .before .before .before .before .before .before .before .before .grid .ensures .is)
+    ∙ c .before .before .before .before .before .before .before .g .given .1 in
+    same-tool (a .args .spec) (a .args .units .now) s (a .args .intervals) (a .args .guard) (a .args .chords .now)
+    (a .args .budget) (a .args .log .now) _ (c .before .before .sweep-grid .result) f (frameOf (a .args .axis)) p
+    (profileOf (a .args .shape) (a .args .cutter)) (c .before .before .before .before .before .frame .ensures)
+    (c .before .before .before .before .profile-of .ensures)
+    (sweep-accepted (a .args .spec) (a .args .units .now) k p s (a .args .intervals) (a .args .chords .now)
+    (a .args .budget) (a .args .log .now) _ _ (c .before .before .sweep-grid .result) h
+    (c .before .before .sweep-grid .ensures))
 
 pub sweep-spec : {M : Type 1} → statement M
 sweep-spec =

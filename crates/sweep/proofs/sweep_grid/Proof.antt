@@ -6,19 +6,37 @@ use Rattle.store.specs.Store.{cells}
 use Rattle.sweep.proofs.sweep_grid.Tie as tie
 
 returns : tie.Need-returns
-returns c = let a = c .before .before .before .before .before .before .before .before .before in let s = setting (a .args .spec) (a .args .g) (a .args .k) (a .args .p) (cells (a .args .spans .now) (a .args .links .now) (a .args .heads .now)) in grid-declined s (a .args .intervals) (a .args .chords .now) (a .args .budget) (a .args .log .now) (c .before .before .before .check-sweep .result) _ (c .before .before .before .check-sweep .ensures) (c .before .ready .given .1)
+returns c = let a = c .before .before .before .before .before .before .before .before .before in
+    let s = setting (a .args .spec) (a .args .g) (a .args .k) (a .args .p)
+    (cells (a .args .spans .now) (a .args .links .now) (a .args .heads .now)) in
+    grid-declined s (a .args .intervals) (a .args .chords .now) (a .args .budget) (a .args .log .now)
+    (c .before .before .before .check-sweep .result) _ (c .before .before .before .check-sweep .ensures)
+    (c .before .ready .given .1)
 
 sweep-chords-requires : tie.Need-sweep-chords-requires
-sweep-chords-requires c κs = let a = c .before .before .before .before .before .before .before .before .before in let s = setting (a .args .spec) (a .args .g) (a .args .k) (a .args .p) (cells (a .args .spans .now) (a .args .links .now) (a .args .heads .now)) in admitted s (a .args .intervals) (a .args .chords .now) (a .args .budget) (a .args .log .now) (c .before .before .before .check-sweep .result) (c .before .before .before .check-sweep .ensures) (c .before .enum-told .given .1) .1
+sweep-chords-requires c κs = let a = c .before .before .before .before .before .before .before .before .before in
+    let s = setting (a .args .spec) (a .args .g) (a .args .k) (a .args .p)
+    (cells (a .args .spans .now) (a .args .links .now) (a .args .heads .now)) in
+    admitted s (a .args .intervals) (a .args .chords .now) (a .args .budget) (a .args .log .now)
+    (c .before .before .before .check-sweep .result) (c .before .before .before .check-sweep .ensures)
+    (c .before .enum-told .given .1) .1
 
 end-log-requires : tie.Need-end-log-requires
-end-log-requires c κs = logged-room _ _ _ _ _ (c .before .before .before .sweep-chords .result) (c .before .before .before .sweep-chords .ensures)
+end-log-requires c κs = logged-room _ _ _ _ _ (c .before .before .before .sweep-chords .result)
+    (c .before .before .before .sweep-chords .ensures)
 
 returns-2 : tie.Need-returns-2
 returns-2 c =
-    let a = c .before .before .before .before .before .before .before .before .before .before .before .before .before .before .before .before in
-    let s = setting (a .args .spec) (a .args .g) (a .args .k) (a .args .p) (cells (a .args .spans .now) (a .args .links .now) (a .args .heads .now)) in
-    grid-swept s (a .args .intervals) (a .args .chords .now) (a .args .budget) (a .args .log .now) (c .before .before .before .before .before .before .before .before .before .before .check-sweep .result) (c .before .before .before .before .before .before .sweep-chords .result) _ _ _ (c .before .before .before .before .before .before .before .before .before .before .check-sweep .ensures) (c .before .before .before .before .before .before .before .before .enum-told .given .1) (c .before .before .before .before .before .before .sweep-chords .ensures) (c .before .before .end-log .ensures)
+    let a = c .before .before .before .before .before .before .before .before .before .before .before .before .before
+    .before .before .before in
+    let s = setting (a .args .spec) (a .args .g) (a .args .k) (a .args .p)
+    (cells (a .args .spans .now) (a .args .links .now) (a .args .heads .now)) in
+    grid-swept s (a .args .intervals) (a .args .chords .now) (a .args .budget) (a .args .log .now)
+    (c .before .before .before .before .before .before .before .before .before .before .check-sweep .result)
+    (c .before .before .before .before .before .before .sweep-chords .result) _ _ _
+    (c .before .before .before .before .before .before .before .before .before .before .check-sweep .ensures)
+    (c .before .before .before .before .before .before .before .before .enum-told .given .1)
+    (c .before .before .before .before .before .before .sweep-chords .ensures) (c .before .before .end-log .ensures)
 
 pub sweep-grid-spec : {M : Type 1} → statement M
 sweep-grid-spec =

@@ -17,7 +17,12 @@ cells-met-requires c κs = search needs
 
 returns : tie.Need-returns
 unfolding cellsAcross
-returns c = simp (← c .cells-met .ensures, ← c .before .world .ensures, ← c .before .before .span-over .ensures, ← c .before .before .before .local-axis .ensures)
+returns c = simp (
+  ← c .cells-met .ensures,
+  ← c .before .world .ensures,
+  ← c .before .before .span-over .ensures,
+  ← c .before .before .before .local-axis .ensures,
+)
 
 pub cells-across-spec : {M : Type 1} → statement M
 cells-across-spec =

@@ -17,7 +17,12 @@ step-along-requires c κs = search needs
 
 returns : tie.Need-returns
 unfolding sideOf
-returns c = simp (← c .step-along .ensures, ← c .before .along .ensures, ← c .before .before .sign-along .ensures, ← c .before .before .before .local-axis .ensures)
+returns c = simp (
+  ← c .step-along .ensures,
+  ← c .before .along .ensures,
+  ← c .before .before .sign-along .ensures,
+  ← c .before .before .before .local-axis .ensures,
+)
 
 pub side-of-spec : {M : Type 1} → statement M
 side-of-spec =

@@ -5,7 +5,14 @@ use Rattle.sweep_ray.proofs.inner_from.Tie as tie
 
 returns : tie.Need-returns
 unfolding innerFrom
-returns c = simp (← c .world .ensures, c .before .if1 .taken, ← c .before .before .before .before .smaller .ensures, ← c .before .before .before .before .before .before .larger .ensures, c .before .before .before .before .before .before .before .before .t .given .1, c .before .before .before .before .before .before .before .before .before .before .before .s .given .1)
+returns c = simp (
+  ← c .world .ensures,
+  c .before .if1 .taken,
+  ← c .before .before .before .before .smaller .ensures,
+  ← c .before .before .before .before .before .before .larger .ensures,
+  c .before .before .before .before .before .before .before .before .t .given .1,
+  c .before .before .before .before .before .before .before .before .before .before .before .s .given .1,
+)
 
 returns-2 : tie.Need-returns-2
 unfolding innerFrom
@@ -17,7 +24,13 @@ returns-3 c = simp (c .enum-told2 .given .1, c .before .before .before .s .given
 
 returns-4 : tie.Need-returns-4
 unfolding innerFrom
-returns-4 c = simp (c .if1 .left, ← c .before .before .before .smaller .ensures, ← c .before .before .before .before .before .larger .ensures, c .before .before .before .before .before .before .before .t .given .1, c .before .before .before .before .before .before .before .before .before .before .s .given .1)
+returns-4 c = simp (
+  c .if1 .left,
+  ← c .before .before .before .smaller .ensures,
+  ← c .before .before .before .before .before .larger .ensures,
+  c .before .before .before .before .before .before .before .t .given .1,
+  c .before .before .before .before .before .before .before .before .before .before .s .given .1,
+)
 
 pub inner-from-spec : {M : Type 1} → statement M
 inner-from-spec =

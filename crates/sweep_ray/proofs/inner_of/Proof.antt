@@ -5,7 +5,14 @@ use Rattle.sweep_ray.proofs.inner_of.Tie as tie
 
 returns : tie.Need-returns
 unfolding innerOf
-returns c = simp (← c .inner-from .ensures, ← c .before .stadium-strip2 .ensures, ← c .before .before .stadium-strip .ensures, c .before .before .before .if1 .taken, c .before .before .before .before .before .before .least .given .1, ← c .before .before .before .before .before .before .before .before .cut-min .ensures)
+returns c = simp (
+  ← c .inner-from .ensures,
+  ← c .before .stadium-strip2 .ensures,
+  ← c .before .before .stadium-strip .ensures,
+  c .before .before .before .if1 .taken,
+  c .before .before .before .before .before .before .least .given .1,
+  ← c .before .before .before .before .before .before .before .before .cut-min .ensures,
+)
 
 returns-2 : tie.Need-returns-2
 unfolding innerOf

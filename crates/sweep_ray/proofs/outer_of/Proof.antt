@@ -9,7 +9,12 @@ returns c = simp (c .enum-told .given .1, ← c .before .before .cut-max .ensure
 
 returns-2 : tie.Need-returns-2
 unfolding outerOf
-returns-2 c = simp (← c .outer-from .ensures, ← c .before .stadium-strip .ensures, c .before .before .before .before .most .given .1, ← c .before .before .before .before .before .before .cut-max .ensures)
+returns-2 c = simp (
+  ← c .outer-from .ensures,
+  ← c .before .stadium-strip .ensures,
+  c .before .before .before .before .most .given .1,
+  ← c .before .before .before .before .before .before .cut-max .ensures,
+)
 
 pub outer-of-spec : {M : Type 1} → statement M
 outer-of-spec =

@@ -21,10 +21,14 @@ shared-slice-read-if2 : tie.Need-shared-slice-read-if2
 shared-slice-read-if2 c = let h = step (c .before .before .before .before .pre .0) (c .before .if1 .left) .counted in search needs
 
 returns-2 : tie.Need-returns-2
-returns-2 c = c .some-above .ensures ∙ sym (meet-some _ (c .before .before .before .before .before .before .before .pre .0) (c .before .before .before .before .if1 .left) (c .before .before .before .before .before .before .before .pre .1) (c .before .if2 .taken))
+returns-2 c = c .some-above .ensures
+    ∙ sym (meet-some _ (c .before .before .before .before .before .before .before .pre .0)
+    (c .before .before .before .before .if1 .left) (c .before .before .before .before .before .before .before .pre .1)
+    (c .before .if2 .taken))
 
 returns-3 : tie.Need-returns-3
-returns-3 c = sym (meet-above _ (c .before .before .before .before .before .before .pre .0) (c .before .before .before .if1 .left) (c .if2 .left))
+returns-3 c = sym (meet-above _ (c .before .before .before .before .before .before .pre .0)
+    (c .before .before .before .if1 .left) (c .if2 .left))
 
 pub spans-meet-spec : {M : Type 1} → statement M
 spans-meet-spec =

@@ -8,7 +8,8 @@ use Rattle.sweep_visits.proofs.sweep_rect.Statement.{statement}
 use Rattle.sweep_visits.proofs.sweep_rect.Tie as tie
 
 abbrev Inv-loop : tie.InvT-loop
-Inv-loop n t r p l budget spans links heads log₀ c₀ v₀ log c v = Sweeping budget (rowEntries (rayEntry n t p l spans links heads) r) (r .v0) (r .v1 + 1) c₀ log₀ c log v
+Inv-loop n t r p l budget spans links heads log₀ c₀ v₀ log c v =
+    Sweeping budget (rowEntries (rayEntry n t p l spans links heads) r) (r .v0) (r .v1 + 1) c₀ log₀ c log v
 
 abbrev μ-loop : tie.MeasureT-loop
 μ-loop n t r p l budget spans links heads log₀ c₀ v₀ log c v = r .v1 + 1 - v
@@ -17,23 +18,38 @@ loop-holds : tie.Need-loop-holds Inv-loop μ-loop
 loop-holds c = sweeping-start _ _ _ (c .before .before .before .before .pre .3)
 
 sweep-row-requires : tie.Need-sweep-row-requires Inv-loop μ-loop
-sweep-row-requires c κs = (c .before .before .before .before .before .before .before .before .pre .0, c .before .before .before .before .before .before .before .before .pre .1, omega (arith, c .before .if1 .taken, c .before .before .before .before .before .before .before .before .pre .2), c .before .before .before .loop .inv .went .room)
+sweep-row-requires c κs = (
+  c .before .before .before .before .before .before .before .before .pre .0,
+  c .before .before .before .before .before .before .before .before .pre .1,
+  omega (arith, c .before .if1 .taken, c .before .before .before .before .before .before .before .before .pre .2),
+  c .before .before .before .loop .inv .went .room,
+)
 
 same-length : tie.Need-same-length Inv-loop μ-loop
-same-length c = halted-of _ _ (c .before .x .given .1) (c .before .before .before .before .before .sweep-row .ensures) .same ∙ c .before .before .before .before .before .before .before .before .before .loop .inv .went .same
+same-length c = halted-of _ _ (c .before .x .given .1) (c .before .before .before .before .before .sweep-row .ensures)
+    .same ∙ c .before .before .before .before .before .before .before .before .before .loop .inv .went .same
 
 returns : tie.Need-returns Inv-loop μ-loop
 unfolding rectEntries
-returns c = sweeping-halt _ _ _ _ (c .before .before .before .before .before .before .before .before .before .loop .inv) (omega (arith, c .before .before .before .before .before .before .before .if1 .taken)) (halted-of _ _ (c .before .x .given .1) (c .before .before .before .before .before .sweep-row .ensures))
+returns c = sweeping-halt _ _ _ _
+    (c .before .before .before .before .before .before .before .before .before .loop .inv)
+    (omega (arith, c .before .before .before .before .before .before .before .if1 .taken))
+    (halted-of _ _ (c .before .x .given .1) (c .before .before .before .before .before .sweep-row .ensures))
 
 add-v : tie.Need-add-v Inv-loop μ-loop
-add-v c = let h = c .before .before .before .before .before .before .before .if1 .taken in let k = c .before .before .before .before .before .before .before .before .before .before .before .before .before .before .pre .2 in let w = c .before .before .before .before .before .before .before .before .before .before .before .before .before .before .pre .0 .tall in search needs
+add-v c = let h = c .before .before .before .before .before .before .before .if1 .taken in
+    let k = c .before .before .before .before .before .before .before .before .before .before .before .before .before
+    .before .pre .2 in let w = c .before .before .before .before .before .before .before .before .before .before
+    .before .before .before .before .pre .0 .tall in search needs
 
 loop-less : tie.Need-loop-less Inv-loop μ-loop
 loop-less c = omega (arith, c .before .before .before .before .before .before .before .if1 .taken)
 
 loop-again : tie.Need-loop-again Inv-loop μ-loop
-loop-again c = sweeping-next _ _ _ _ (c .before .before .before .before .before .before .before .before .before .loop .inv) (omega (arith, c .before .before .before .before .before .before .before .if1 .taken)) (went-of _ _ (c .before .x2 .given .1) (c .before .before .before .before .before .sweep-row .ensures))
+loop-again c = sweeping-next _ _ _ _
+    (c .before .before .before .before .before .before .before .before .before .loop .inv)
+    (omega (arith, c .before .before .before .before .before .before .before .if1 .taken))
+    (went-of _ _ (c .before .x2 .given .1) (c .before .before .before .before .before .sweep-row .ensures))
 
 same-length-2 : tie.Need-same-length-2 Inv-loop μ-loop
 same-length-2 c = c .before .before .loop .inv .went .same

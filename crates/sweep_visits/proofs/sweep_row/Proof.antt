@@ -1,4 +1,13 @@
-use Rattle.sweep_visits.proofs.Walks.{Sweeping, sweeping-start, sweeping-next, sweeping-halt, sweeping-all, ray-ready, halted-of, went-of}
+use Rattle.sweep_visits.proofs.Walks.{
+  Sweeping,
+  sweeping-start,
+  sweeping-next,
+  sweeping-halt,
+  sweeping-all,
+  ray-ready,
+  halted-of,
+  went-of,
+}
 use borrow.Author.Needs.{needs}
 use native.Mathlib.Omega.{arith}
 use mathlib.Core.Path.{_∙_}
@@ -9,7 +18,8 @@ use Rattle.sweep_visits.proofs.sweep_row.Statement.{statement}
 use Rattle.sweep_visits.proofs.sweep_row.Tie as tie
 
 abbrev Inv-loop : tie.InvT-loop
-Inv-loop n t r v p l budget spans links heads log₀ c₀ u₀ log c u = Sweeping budget (λ (w : ℕ). rayEntry n t p l spans links heads w v ∷ []) (r .u0) (r .u1 + 1) c₀ log₀ c log u
+Inv-loop n t r v p l budget spans links heads log₀ c₀ u₀ log c u =
+    Sweeping budget (λ (w : ℕ). rayEntry n t p l spans links heads w v ∷ []) (r .u0) (r .u1 + 1) c₀ log₀ c log u
 
 abbrev μ-loop : tie.MeasureT-loop
 μ-loop n t r v p l budget spans links heads log₀ c₀ u₀ log c u = r .u1 + 1 - u
@@ -18,23 +28,38 @@ loop-holds : tie.Need-loop-holds Inv-loop μ-loop
 loop-holds c = sweeping-start _ _ _ (c .before .before .before .before .pre .3)
 
 visit-ray-requires : tie.Need-visit-ray-requires Inv-loop μ-loop
-visit-ray-requires c κs = (ray-ready (c .before .before .before .before .before .before .before .before .pre .0) _ _ (omega (arith, c .before .if1 .taken, c .before .before .before .before .before .before .before .before .pre .1)) (c .before .before .before .before .before .before .before .before .pre .2), c .before .before .before .loop .inv .went .room)
+visit-ray-requires c κs = (
+  ray-ready (c .before .before .before .before .before .before .before .before .pre .0) _ _
+      (omega (arith, c .before .if1 .taken, c .before .before .before .before .before .before .before .before .pre .1))
+      (c .before .before .before .before .before .before .before .before .pre .2),
+  c .before .before .before .loop .inv .went .room,
+)
 
 same-length : tie.Need-same-length Inv-loop μ-loop
-same-length c = halted-of _ _ (c .before .x .given .1) (c .before .before .before .before .before .visit-ray .ensures) .same ∙ c .before .before .before .before .before .before .before .before .before .loop .inv .went .same
+same-length c = halted-of _ _ (c .before .x .given .1) (c .before .before .before .before .before .visit-ray .ensures)
+    .same ∙ c .before .before .before .before .before .before .before .before .before .loop .inv .went .same
 
 returns : tie.Need-returns Inv-loop μ-loop
 unfolding rowEntries
-returns c = sweeping-halt _ _ _ _ (c .before .before .before .before .before .before .before .before .before .loop .inv) (omega (arith, c .before .before .before .before .before .before .before .if1 .taken)) (halted-of _ _ (c .before .x .given .1) (c .before .before .before .before .before .visit-ray .ensures))
+returns c = sweeping-halt _ _ _ _
+    (c .before .before .before .before .before .before .before .before .before .loop .inv)
+    (omega (arith, c .before .before .before .before .before .before .before .if1 .taken))
+    (halted-of _ _ (c .before .x .given .1) (c .before .before .before .before .before .visit-ray .ensures))
 
 add-u : tie.Need-add-u Inv-loop μ-loop
-add-u c = let h = c .before .before .before .before .before .before .before .if1 .taken in let k = c .before .before .before .before .before .before .before .before .before .before .before .before .before .before .pre .1 in let w = c .before .before .before .before .before .before .before .before .before .before .before .before .before .before .pre .0 .wide in search needs
+add-u c = let h = c .before .before .before .before .before .before .before .if1 .taken in
+    let k = c .before .before .before .before .before .before .before .before .before .before .before .before .before
+    .before .pre .1 in let w = c .before .before .before .before .before .before .before .before .before .before
+    .before .before .before .before .pre .0 .wide in search needs
 
 loop-less : tie.Need-loop-less Inv-loop μ-loop
 loop-less c = omega (arith, c .before .before .before .before .before .before .before .if1 .taken)
 
 loop-again : tie.Need-loop-again Inv-loop μ-loop
-loop-again c = sweeping-next _ _ _ _ (c .before .before .before .before .before .before .before .before .before .loop .inv) (omega (arith, c .before .before .before .before .before .before .before .if1 .taken)) (went-of _ _ (c .before .x2 .given .1) (c .before .before .before .before .before .visit-ray .ensures))
+loop-again c = sweeping-next _ _ _ _
+    (c .before .before .before .before .before .before .before .before .before .loop .inv)
+    (omega (arith, c .before .before .before .before .before .before .before .if1 .taken))
+    (went-of _ _ (c .before .x2 .given .1) (c .before .before .before .before .before .visit-ray .ensures))
 
 same-length-2 : tie.Need-same-length-2 Inv-loop μ-loop
 same-length-2 c = c .before .before .loop .inv .went .same

@@ -31,21 +31,43 @@ shared-slice-read-head : tie.Need-shared-slice-read-head
 shared-slice-read-head c = c .before .before .before .before .before .before .before .before .before .before .pre .0 .ray .in-heads
 
 ray-hit-requires : tie.Need-ray-hit-requires
-ray-hit-requires c κs = (c .before .before .before .before .before .before .before .before .before .before .pre .0 .ray .readable, c .before .before .before .before .before .before .before .before .before .before .pre .0 .ray .isSound)
+ray-hit-requires c κs = (
+  c .before .before .before .before .before .before .before .before .before .before .pre .0
+      .ray .readable,
+  c .before .before .before .before .before .before .before .before .before .before .pre .0 .ray .isSound,
+)
 
 returns-2 : tie.Need-returns-2
-returns-2 c = went-off (c .before .before .before .before .before .before .before .before .before .before .before .before .before .pre .1) (entry-off _ _ _ _ _ _ _ _ _ (sym (c .before .before .ray-hit .ensures) ∙ c .enum-told .given .1)) (c .before .before .before .before .before .before .before .if1 .left)
+returns-2 c = went-off (c .before .before .before .before .before .before .before .before .before .before .before
+    .before .before .pre .1) (entry-off _ _ _ _ _ _ _ _ _
+    (sym (c .before .before .ray-hit .ensures) ∙ c .enum-told .given .1))
+    (c .before .before .before .before .before .before .before .if1 .left)
 
 returns-3 : tie.Need-returns-3
-returns-3 c = halt-full (c .before .before .before .before .before .before .before .before .before .before .before .before .before .before .before .before .pre .1) _ (entry-on _ _ _ _ _ _ _ _ _ _ (sym (c .before .before .before .before .before .ray-hit .ensures) ∙ c .before .before .before .h .given .1)) (entry-length _ _ _) (c .before .before .before .before .before .before .before .before .before .before .if1 .left) (c .if2 .taken)
+returns-3 c = halt-full (c .before .before .before .before .before .before .before .before .before .before .before
+    .before .before .before .before .before .pre .1) _
+    (entry-on _ _ _ _ _ _ _ _ _ _ (sym (c .before .before .before .before .before .ray-hit .ensures)
+    ∙ c .before .before .before .h .given .1)) (entry-length _ _ _)
+    (c .before .before .before .before .before .before .before .before .before .before .if1 .left) (c .if2 .taken)
 
 add-end : tie.Need-add-end
-add-end c = let g = c .before .before .before .before .before .before .before .before .before .before .before .before .before .before .before .before .before .good .1 .1 .1 .1 .1 .1 .1 .1 .1 .1 .1 .0 .1 in let h = c .before .if2 .left in let a = c .before .before .before .before .before .before .before .before .before .before .before .before .before .before .before .before .before .pre .1 in search needs
+add-end c = let g = c .before .before .before .before .before .before .before .before .before .before .before .before
+    .before .before .before .before .before .good .1 .1 .1 .1 .1 .1 .1 .1 .1 .1 .1 .0 .1 in
+    let h = c .before .if2 .left in
+    let a = c .before .before .before .before .before .before .before .before .before .before .before .before .before
+    .before .before .before .before .pre .1 in search needs
 
 returns-4 : tie.Need-returns-4
 returns-4 c =
-    let pre = c .before .before .before .before .before .before .before .before .before .before .before .before .before .before .before .before .before .before .before .before .before .pre in
-    let e = entry-on _ _ _ _ _ _ _ _ _ _ (sym (c .before .before .before .before .before .before .before .before .before .before .ray-hit .ensures) ∙ c .before .before .before .before .before .before .before .before .h .given .1) in went-on (pre .1) 6 (ap length e ∙ entry-length _ _ _) _ (c .before .before .before .before .before .before .before .before .before .before .before .before .before .before .before .if1 .left) (omega (arith, pre .1, c .before .before .before .before .before .if2 .left)) (rw e (c .before .before .put .ensures))
+    let pre = c .before .before .before .before .before .before .before .before .before .before .before .before
+    .before .before .before .before .before .before .before .before .before .pre in
+    let e = entry-on _ _ _ _ _ _ _ _ _ _
+    (sym (c .before .before .before .before .before .before .before .before .before .before .ray-hit .ensures)
+    ∙ c .before .before .before .before .before .before .before .before .h .given .1) in
+    went-on (pre .1) 6 (ap length e ∙ entry-length _ _ _) _
+    (c .before .before .before .before .before .before .before .before .before .before .before .before .before
+    .before .before .if1 .left) (omega (arith, pre .1, c .before .before .before .before .before .if2 .left))
+    (rw e (c .before .before .put .ensures))
 
 pub visit-ray-spec : {M : Type 1} → statement M
 visit-ray-spec =

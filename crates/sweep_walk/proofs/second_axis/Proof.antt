@@ -7,10 +7,12 @@ returns : tie.Need-returns
 returns c = second-0 _ (c .before .before .world-axis .result) (c .before .before .world-axis .ensures) (c .if1 .taken)
 
 returns-2 : tie.Need-returns-2
-returns-2 c = second-1 _ (c .before .before .before .before .world-axis .result) (c .before .before .before .before .world-axis .ensures) (c .if2 .taken)
+returns-2 c = second-1 _ (c .before .before .before .before .world-axis .result)
+    (c .before .before .before .before .world-axis .ensures) (c .if2 .taken)
 
 returns-3 : tie.Need-returns-3
-returns-3 c = second-more _ (c .before .before .before .before .world-axis .result) (c .before .before .before .before .world-axis .ensures) (c .before .before .if1 .left) (c .if2 .left)
+returns-3 c = second-more _ (c .before .before .before .before .world-axis .result)
+    (c .before .before .before .before .world-axis .ensures) (c .before .before .if1 .left) (c .if2 .left)
 
 pub second-axis-spec : {M : Type 1} → statement M
 second-axis-spec =

@@ -7,7 +7,9 @@ use Rattle.store.specs.Store.{cells}
 use Rattle.sweep_walk.proofs.sweep_axis.Tie as tie
 
 track-of-requires : tie.Need-track-of-requires
-track-of-requires c κs = let a = c .before .before .before .before .before in few-rays (a .args .spec) (a .args .g) (cells (a .args .spans .now) (a .args .links .now) (a .args .heads .now)) (a .pre .0)
+track-of-requires c κs = let a = c .before .before .before .before .before in
+    few-rays (a .args .spec) (a .args .g) (cells (a .args .spans .now) (a .args .links .now) (a .args .heads .now))
+    (a .pre .0)
 
 rectangle-of-requires : tie.Need-rectangle-of-requires
 rectangle-of-requires c κs = c .before .before .before .before .before .before .pre .0 .facts
@@ -15,13 +17,22 @@ rectangle-of-requires c κs = c .before .before .before .before .before .before 
 returns : tie.Need-returns
 returns c =
     let a = c .before .before .before .before .before .before .before .before .before in
-    let s = setting (a .args .spec) (a .args .g) (a .args .k) (a .args .p) (cells (a .args .spans .now) (a .args .links .now) (a .args .heads .now)) in
-    axis-none s (a .args .chord) (a .args .axis) (c .before .before .before .before .lane-of .result) (c .before .before .rectangle-of .result) (c .before .before .before .before .lane-of .ensures) (c .before .before .rectangle-of .ensures) (c .enum-told .given .1) (a .pre .1)
+    let s = setting (a .args .spec) (a .args .g) (a .args .k) (a .args .p)
+    (cells (a .args .spans .now) (a .args .links .now) (a .args .heads .now)) in
+    axis-none s (a .args .chord) (a .args .axis) (c .before .before .before .before .lane-of .result)
+    (c .before .before .rectangle-of .result) (c .before .before .before .before .lane-of .ensures)
+    (c .before .before .rectangle-of .ensures) (c .enum-told .given .1) (a .pre .1)
 
 sweep-rect-requires : tie.Need-sweep-rect-requires
 sweep-rect-requires c κs =
     let a = c .before .before .before .before .before .before .before .before .before .before .before in
-    let q = rect-ready (a .args .spec) (a .args .g) (cells (a .args .spans .now) (a .args .links .now) (a .args .heads .now)) (a .pre .0) (a .args .p) (c .before .before .before .before .before .before .lane-of .result) (a .args .axis) (c .before .before .before .before .before .track-of .result) (c .before .before .before .before .rectangle-of .result) _ (c .before .before .before .before .before .track-of .ensures) (c .before .before .before .before .rectangle-of .ensures) (c .before .before .rect .given .1) in
+    let q = rect-ready (a .args .spec) (a .args .g)
+    (cells (a .args .spans .now) (a .args .links .now) (a .args .heads .now)) (a .pre .0) (a .args .p)
+    (c .before .before .before .before .before .before .lane-of .result) (a .args .axis)
+    (c .before .before .before .before .before .track-of .result)
+    (c .before .before .before .before .rectangle-of .result) _
+    (c .before .before .before .before .before .track-of .ensures)
+    (c .before .before .before .before .rectangle-of .ensures) (c .before .before .rect .given .1) in
     (q .rays, q .row, q .rows, a .pre .1)
 
 same-length : tie.Need-same-length
@@ -30,8 +41,16 @@ same-length c = logged-same _ _ _ _ _ (c .before .before .sweep-rect .result) (c
 returns-2 : tie.Need-returns-2
 returns-2 c =
     let a = c .before .before .before .before .before .before .before .before .before .before .before .before .before .before in
-    let s = setting (a .args .spec) (a .args .g) (a .args .k) (a .args .p) (cells (a .args .spans .now) (a .args .links .now) (a .args .heads .now)) in
-    axis-some s (a .args .chord) (a .args .axis) _ _ _ _ (c .before .before .sweep-rect .result) (c .before .before .before .before .before .before .before .before .before .lane-of .result) (c .before .before .before .before .before .before .before .before .track-of .result) (c .before .before .before .before .before .before .before .rectangle-of .result) _ (c .before .before .before .before .before .before .before .before .before .lane-of .ensures) (c .before .before .before .before .before .before .before .before .track-of .ensures) (c .before .before .before .before .before .before .before .rectangle-of .ensures) (c .before .before .before .before .before .rect .given .1) (c .before .before .sweep-rect .ensures)
+    let s = setting (a .args .spec) (a .args .g) (a .args .k) (a .args .p)
+    (cells (a .args .spans .now) (a .args .links .now) (a .args .heads .now)) in
+    axis-some s (a .args .chord) (a .args .axis) _ _ _ _ (c .before .before .sweep-rect .result)
+    (c .before .before .before .before .before .before .before .before .before .lane-of .result)
+    (c .before .before .before .before .before .before .before .before .track-of .result)
+    (c .before .before .before .before .before .before .before .rectangle-of .result) _
+    (c .before .before .before .before .before .before .before .before .before .lane-of .ensures)
+    (c .before .before .before .before .before .before .before .before .track-of .ensures)
+    (c .before .before .before .before .before .before .before .rectangle-of .ensures)
+    (c .before .before .before .before .before .rect .given .1) (c .before .before .sweep-rect .ensures)
 
 pub sweep-axis-spec : {M : Type 1} → statement M
 sweep-axis-spec =

@@ -4,7 +4,10 @@ use Rattle.sweep_walk.proofs.track_of.Statement.{statement}
 use Rattle.sweep_walk.proofs.track_of.Tie as tie
 
 returns : tie.Need-returns
-returns c = track-is (c .before .before .before .before .args .g) (c .before .before .before .before .args .axis) (c .before .before .before .cross .result) (c .before .before .ray-offset .result) (c .before .cells-along .result) (c .cells-along2 .result) (c .before .before .before .cross .ensures) (c .before .before .ray-offset .ensures) (c .before .cells-along .ensures) (c .cells-along2 .ensures)
+returns c = track-is (c .before .before .before .before .args .g) (c .before .before .before .before .args .axis)
+    (c .before .before .before .cross .result) (c .before .before .ray-offset .result)
+    (c .before .cells-along .result) (c .cells-along2 .result) (c .before .before .before .cross .ensures)
+    (c .before .before .ray-offset .ensures) (c .before .cells-along .ensures) (c .cells-along2 .ensures)
 
 pub track-of-spec : {M : Type 1} → statement M
 track-of-spec =

@@ -12,7 +12,8 @@ hand-told-requires c κs = search needs
 
 returns : tie.Need-returns
 returns c =
-    answered _ _ _ (c .before .before .contains .result) _ _ _ (λ k p. compare-above _ _ k p) (c .before .before .contains .ensures) (c .hand-told .ensures)
+    answered _ _ _ (c .before .before .contains .result) _ _ _ (λ k p. compare-above _ _ k p)
+    (c .before .before .contains .ensures) (c .hand-told .ensures)
 
 pub tridexel-contains-spec : {M : Type 1} → statement M
 tridexel-contains-spec = tie.close (tie.spec contains-requires hand-told-requires returns)

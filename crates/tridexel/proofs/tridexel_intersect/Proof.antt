@@ -15,7 +15,8 @@ same-length c = search needs
 
 returns : tie.Need-returns
 returns c =
-    answered _ _ _ (c .before .before .before .before .intersect .result) _ _ _ (λ k p. list-above _ _ k (p .0)) (c .before .before .before .before .intersect .ensures) (c .hand-listed .ensures)
+    answered _ _ _ (c .before .before .before .before .intersect .result) _ _ _ (λ k p. list-above _ _ k (p .0))
+    (c .before .before .before .before .intersect .ensures) (c .hand-listed .ensures)
 
 pub tridexel-intersect-spec : {M : Type 1} → statement M
 tridexel-intersect-spec =

@@ -15,7 +15,8 @@ same-length c = search needs
 
 returns : tie.Need-returns
 returns c =
-    answered _ _ _ (c .before .before .before .before .before .merge .result) _ _ _ (λ k p. list-above _ _ k (p .0)) (c .before .before .before .before .before .merge .ensures) (c .hand-merged .ensures)
+    answered _ _ _ (c .before .before .before .before .before .merge .result) _ _ _ (λ k p. list-above _ _ k (p .0))
+    (c .before .before .before .before .before .merge .ensures) (c .hand-merged .ensures)
 
 pub tridexel-merge-spec : {M : Type 1} → statement M
 tridexel-merge-spec = tie.close (tie.spec merge-requires hand-merged-requires same-length returns)

@@ -12,7 +12,8 @@ hand-told-requires c κs = search needs
 
 returns : tie.Need-returns
 returns c =
-    answered _ _ _ (c .before .before .overlaps .result) _ _ _ (λ k p. compare-above _ _ k p) (c .before .before .overlaps .ensures) (c .hand-told .ensures)
+    answered _ _ _ (c .before .before .overlaps .result) _ _ _ (λ k p. compare-above _ _ k p)
+    (c .before .before .overlaps .ensures) (c .hand-told .ensures)
 
 pub tridexel-overlaps-spec : {M : Type 1} → statement M
 tridexel-overlaps-spec = tie.close (tie.spec overlaps-requires hand-told-requires returns)

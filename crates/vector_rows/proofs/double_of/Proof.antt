@@ -9,4 +9,5 @@ use Rattle.vector_rows.proofs.double_of.Tie as tie
 pub double-of-spec : {M : Type 1} → statement M
 unfolding doubleOf
 double-of-spec =
-    tie.close (tie.spec (λ c κs. search needs) (λ c κs. search needs) (λ c. c .of-bits .ensures ∙ ap (ofBits binary64) (c .before .word-of .ensures)))
+    tie.close (tie.spec (λ c κs. search needs) (λ c κs. search needs)
+    (λ c. c .of-bits .ensures ∙ ap (ofBits binary64) (c .before .word-of .ensures)))

@@ -7,4 +7,5 @@ use Rattle.vector_rows.proofs.first_bytes.Statement.{statement}
 use Rattle.vector_rows.proofs.first_bytes.Tie as tie
 
 pub first-bytes-spec : {M : Type 1} → statement M
-first-bytes-spec = tie.close (tie.spec (λ c. sym (length-take-le _ _ (omega arith))) (λ c. search needs) (λ c. sym (take-all _ _ (c .if1 .left))))
+first-bytes-spec = tie.close (tie.spec (λ c. sym (length-take-le _ _ (omega arith))) (λ c. search needs)
+    (λ c. sym (take-all _ _ (c .if1 .left))))

@@ -7,4 +7,5 @@ use Rattle.vector_rows.proofs.first_bytes_mut.Statement.{statement}
 use Rattle.vector_rows.proofs.first_bytes_mut.Tie as tie
 
 pub first-bytes-mut-spec : {M : Type 1} → statement M
-first-bytes-mut-spec = tie.close (tie.spec (λ c. sym (take-all _ _ (c .if1 .taken))) (λ c. sym (length-take-le _ _ (omega arith))) (λ c. search needs))
+first-bytes-mut-spec = tie.close
+    (tie.spec (λ c. sym (take-all _ _ (c .if1 .taken))) (λ c. sym (length-take-le _ _ (omega arith))) (λ c. search needs))

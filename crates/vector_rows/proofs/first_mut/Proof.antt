@@ -7,4 +7,5 @@ use Rattle.vector_rows.proofs.first_mut.Statement.{statement}
 use Rattle.vector_rows.proofs.first_mut.Tie as tie
 
 pub first-mut-spec : {M : Type 1} → statement M
-first-mut-spec = tie.close (tie.spec (λ c. sym (take-all _ _ (c .if1 .taken))) (λ c. sym (length-take-le _ _ (omega arith))) (λ c. search needs))
+first-mut-spec = tie.close (tie.spec (λ c. sym (take-all _ _ (c .if1 .taken)))
+    (λ c. sym (length-take-le _ _ (omega arith))) (λ c. search needs))

@@ -7,4 +7,5 @@ use Rattle.vector_rows.proofs.first_numbers.Statement.{statement}
 use Rattle.vector_rows.proofs.first_numbers.Tie as tie
 
 pub first-numbers-spec : {M : Type 1} → statement M
-first-numbers-spec = tie.close (tie.spec (λ c. sym (length-take-le _ _ (omega arith))) (λ c. search needs) (λ c. sym (take-all _ _ (c .if1 .left))))
+first-numbers-spec = tie.close
+    (tie.spec (λ c. sym (length-take-le _ _ (omega arith))) (λ c. search needs) (λ c. sym (take-all _ _ (c .if1 .left))))

@@ -20,10 +20,13 @@ same-length : tie.Need-same-length Inv-loop μ-loop
 same-length c = c .before .before .before .before .loop .inv .same
 
 returns : tie.Need-returns Inv-loop μ-loop
-returns c = read-stops _ _ _ _ _ (c .before .before .before .loop-test .taken) (c .before .before .word-at .ensures) (sym (c .before .is-missing .ensures) ∙ c .if1 .taken)
+returns c = read-stops _ _ _ _ _ (c .before .before .before .loop-test .taken) (c .before .before .word-at .ensures)
+    (sym (c .before .is-missing .ensures) ∙ c .if1 .taken)
 
 loop-again : tie.Need-loop-again Inv-loop μ-loop
-loop-again c = one-read _ _ _ _ _ _ _ (c .before .before .before .before .before .loop .inv) (c .before .before .before .before .loop-test .taken) (c .before .before .before .word-at .ensures) (sym (c .before .before .is-missing .ensures) ∙ c .before .if1 .left) (c .value-or .ensures)
+loop-again c = one-read _ _ _ _ _ _ _ (c .before .before .before .before .before .loop .inv)
+    (c .before .before .before .before .loop-test .taken) (c .before .before .before .word-at .ensures)
+    (sym (c .before .before .is-missing .ensures) ∙ c .before .if1 .left) (c .value-or .ensures)
 
 same-length-2 : tie.Need-same-length-2 Inv-loop μ-loop
 same-length-2 c = c .before .loop .inv .same

@@ -22,8 +22,15 @@ same-length-3 c = search needs
 
 returns : tie.Need-returns
 returns c =
-    let a = c .before .before .before .before .before .before .before .before .before .before .before .before .before .before .before .before .before .before .before .before .args in
-    answered _ _ _ (c .before .before .before .before .before .before .before .before .commit-changes-on .result .answer) _ _ _ (λ k p. changes-above (a .spec) (a .units .now) (a .base) (stock (a .spans .now) (a .links .now) (a .heads .now) (a .generation .now) (a .intervals .now)) (a .changes .now) (a .pairs .now) k (p .0)) (c .before .before .before .before .before .before .before .before .commit-changes-on .ensures) (c .hand-committed .ensures)
+    let a = c .before .before .before .before .before .before .before .before .before .before .before .before .before
+    .before .before .before .before .before .before .before .args in
+    answered _ _ _ (c .before .before .before .before .before .before .before .before .commit-changes-on .result
+    .answer) _ _ _ (λ k p. changes-above (a .spec) (a .units .now) (a .base)
+    (stock (a .spans .now) (a .links .now) (a .heads .now) (a .generation .now) (a .intervals .now))
+    (a .changes .now) (a .pairs .now) k (p .0))
+    (c .before .before .before .before .before .before .before .before .commit-changes-on .ensures)
+    (c .hand-committed .ensures)
 
 pub tridexel-commit-changes-spec : {M : Type 1} → statement M
-tridexel-commit-changes-spec = tie.close (tie.spec commit-changes-on-requires hand-committed-requires same-length same-length-2 same-length-3 returns)
+tridexel-commit-changes-spec =
+    tie.close (tie.spec commit-changes-on-requires hand-committed-requires same-length same-length-2 same-length-3 returns)

@@ -24,7 +24,11 @@ same-length-4 c = search needs
 
 returns : tie.Need-returns
 returns c =
-    answered _ _ _ (c .before .before .before .before .before .before .before .before .before .before .commit-log-on .result .answer) _ _ _ (λ k p. commit-above _ _ _ _ _ _ _ _ k p) (c .before .before .before .before .before .before .before .before .before .before .commit-log-on .ensures) (c .hand-committed .ensures)
+    answered _ _ _ (c .before .before .before .before .before .before .before .before .before .before .commit-log-on
+    .result .answer) _ _ _ (λ k p. commit-above _ _ _ _ _ _ _ _ k p)
+    (c .before .before .before .before .before .before .before .before .before .before .commit-log-on .ensures)
+    (c .hand-committed .ensures)
 
 pub tridexel-commit-log-spec : {M : Type 1} → statement M
-tridexel-commit-log-spec = tie.close (tie.spec commit-log-on-requires hand-committed-requires same-length same-length-2 same-length-3 same-length-4 returns)
+tridexel-commit-log-spec = tie.close
+    (tie.spec commit-log-on-requires hand-committed-requires same-length same-length-2 same-length-3 same-length-4 returns)

@@ -21,7 +21,9 @@ same-length-3 c = search needs
 
 returns : tie.Need-returns
 returns c =
-    answered _ _ _ (c .before .before .before .before .before .before .before .before .before .fill .result) _ _ _ (λ k p. fill-above _ _ _ k (p .0)) (c .before .before .before .before .before .before .before .before .before .fill .ensures) (c .hand-filled .ensures)
+    answered _ _ _ (c .before .before .before .before .before .before .before .before .before .fill .result) _ _ _
+    (λ k p. fill-above _ _ _ k (p .0))
+    (c .before .before .before .before .before .before .before .before .before .fill .ensures) (c .hand-filled .ensures)
 
 pub tridexel-fill-spec : {M : Type 1} → statement M
 tridexel-fill-spec =

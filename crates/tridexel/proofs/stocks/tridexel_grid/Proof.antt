@@ -12,7 +12,8 @@ hand-grid-requires c κs = search needs
 
 returns : tie.Need-returns
 returns c =
-    answered _ _ _ (c .before .before .before .grid .result) _ _ _ (λ k p. grid-above _ _ k (p .by)) (c .before .before .before .grid .ensures) (c .hand-grid .ensures)
+    answered _ _ _ (c .before .before .before .grid .result) _ _ _ (λ k p. grid-above _ _ k (p .by))
+    (c .before .before .before .grid .ensures) (c .hand-grid .ensures)
 
 pub tridexel-grid-spec : {M : Type 1} → statement M
 tridexel-grid-spec = tie.close (tie.spec grid-requires hand-grid-requires returns)

@@ -12,7 +12,8 @@ hand-measured-requires c κs = search needs
 
 returns : tie.Need-returns
 returns c =
-    answered _ _ _ (c .before .before .volume .result) _ _ _ (λ k p. volume-above _ _ _ _ k p) (c .before .before .volume .ensures) (c .hand-measured .ensures)
+    answered _ _ _ (c .before .before .volume .result) _ _ _ (λ k p. volume-above _ _ _ _ k p)
+    (c .before .before .volume .ensures) (c .hand-measured .ensures)
 
 pub tridexel-volume-spec : {M : Type 1} → statement M
 tridexel-volume-spec = tie.close (tie.spec volume-requires hand-measured-requires returns)

@@ -23,7 +23,15 @@ same-length c = search needs
 returns : tie.Need-returns
 returns c =
     let a = c .before .before .before .before .before .before .before .before .before .before .before .before .before .before .before in
-    swept-by (a .args .spec) (a .args .units .now) (cells (a .args .spans .now) (a .args .links .now) (a .args .heads .now)) (a .args .intervals) (a .args .cutter) (a .args .guard) (a .args .chords .now) (a .args .budget) (a .args .log .now) _ (c .before .before .before .before .before .before .before .before .axis-of .result) _ (c .before .before .before .before .before .before .before .shape-of .result) _ (c .before .before .before .before .before .sweep .result) _ _ _ (c .before .before .before .before .before .before .before .before .axis-of .ensures) (c .before .before .before .before .before .before .before .shape-of .ensures) (c .before .before .before .before .before .sweep .ensures) (c .hand-swept .ensures)
+    swept-by (a .args .spec) (a .args .units .now)
+    (cells (a .args .spans .now) (a .args .links .now) (a .args .heads .now)) (a .args .intervals)
+    (a .args .cutter) (a .args .guard) (a .args .chords .now) (a .args .budget) (a .args .log .now) _
+    (c .before .before .before .before .before .before .before .before .axis-of .result) _
+    (c .before .before .before .before .before .before .before .shape-of .result) _
+    (c .before .before .before .before .before .sweep .result) _ _ _
+    (c .before .before .before .before .before .before .before .before .axis-of .ensures)
+    (c .before .before .before .before .before .before .before .shape-of .ensures)
+    (c .before .before .before .before .before .sweep .ensures) (c .hand-swept .ensures)
 
 pub tridexel-sweep-spec : {M : Type 1} → statement M
 tridexel-sweep-spec = tie.close (tie.spec axis-of-requires shape-of-requires sweep-requires hand-swept-requires same-length returns)
