@@ -7,6 +7,7 @@ use lib.ListN.{length, getD}
 use lib.Ieee.{Float}
 use Rattle.grid.specs.declared.DexelGrid.{DexelGrid}
 use Rattle.log_model.specs.Logs.{entryAt, entryCount, entryRay}
+use Rattle.log_keys.specs.KeysKept.{KeysBefore}
 use Rattle.log_batches.specs.declared.Batch.{Batch}
 
 -- the key of the entry at place i of n, which is on the ray, in a batch from the ray `first` on
@@ -15,11 +16,9 @@ batchKeyOf first ray n i = (ray - first) * n + i
 
 -- The first m keys are those of the entries before place `passed` whose ray is one of the `width` rays from `first` on. `rays` gives the
 -- ray of each of the n entries.
-pub record Batched (rays : ℕ → ℕ) (n first passed width : ℕ) (keys : List ℕ) (m : ℕ) : Type 0 where
-  pub each : (t : ℕ) → t < m
-      → (i : ℕ) × (i < passed) × (first ≤ rays i) × (rays i < first + width) × (getD keys t 0 ≡ batchKeyOf first (rays i) n i)
-  pub all : (i : ℕ) → i < passed → first ≤ rays i → rays i < first + width
-      → (t : ℕ) × (t < m) × (getD keys t 0 ≡ batchKeyOf first (rays i) n i)
+abbrev pub Batched : (rays : ℕ → ℕ) (n first passed width : ℕ) (keys : List ℕ) (m : ℕ) → Type 0
+Batched rays n first passed width keys m =
+    KeysBefore (λ i. batchKeyOf first (rays i) n i) (λ i. (first ≤ rays i) × (rays i < first + width)) passed keys m
 
 -- a batch whose keys fit the machine's numbers and the buffer
 pub record AddPre (n : ℕ) (keys : List ℕ) (w : Batch) : Type 0 where
@@ -28,33 +27,40 @@ pub record AddPre (n : ℕ) (keys : List ℕ) (w : Batch) : Type 0 where
   pub fits : w .width * n < 2 ^ 64
   pub room : w .count ≤ length keys
 
--- unless it is full, the batch has room for a key more, and what is gathered stays gathered as far as it goes now; of a full one's keys
--- nothing is promised
-pub record BatchRoomPost (n : ℕ) (before : List ℕ) (w : Batch) (after : List ℕ) (r : Batch) : Type 0 where
-  pub size : length after ≡ length before
-  pub some : 0 < r .width
-  pub most : r .width ≤ w .width
-  pub room : r .full ≡ false → r .count < length after
-  pub batched : (rays : ℕ → ℕ) (first passed : ℕ) → r .full ≡ false → passed ≤ n → Batched rays n first passed (w .width) before (w .count)
-      → Batched rays n first passed (r .width) after (r .count)
-
--- the entry at place i is gathered too
-pub record AddPost (first ray n i : ℕ) (before : List ℕ) (w : Batch) (after : List ℕ) (r : Batch) : Type 0 where
-  pub size : length after ≡ length before
-  pub some : 0 < r .width
-  pub most : r .width ≤ w .width
-  pub room : r .full ≡ false → r .count ≤ length after
-  pub batched : (rays : ℕ → ℕ) → r .full ≡ false → rays i ≡ ray → Batched rays n first i (w .width) before (w .count)
-      → Batched rays n first (i + 1) (r .width) after (r .count)
-
--- the entries of a batch of rays are gathered
-pub record GatherRaysPost (g : DexelGrid) (log : List Float) (first width : ℕ) (before after : List ℕ) (r : Batch) : Type 0 where
+-- a batch of at most `width` rays: unless it is full its keys fit the buffer, and what is told of them holds; of a full one's keys nothing is
+-- promised
+pub record BatchTold (width : ℕ) (before after : List ℕ) (r : Batch) (told : Type 0) : Type 0 where
   pub size : length after ≡ length before
   pub some : 0 < r .width
   pub most : r .width ≤ width
   pub room : r .full ≡ false → r .count ≤ length after
-  pub batched : r .full ≡ false
-      → Batched (λ i. entryRay g (entryAt log i)) (entryCount log) first (entryCount log) (r .width) after (r .count)
+  pub batched : r .full ≡ false → told
+
+-- what is gathered stays gathered as far as the batch goes now
+pub record StaysBatched (n : ℕ) (before : List ℕ) (w : Batch) (after : List ℕ) (r : Batch) : Type 0 where
+  pub stays : (rays : ℕ → ℕ) (first passed : ℕ) → passed ≤ n → Batched rays n first passed (w .width) before (w .count)
+      → Batched rays n first passed (r .width) after (r .count)
+
+-- so it does, and the batch has room for a key more
+abbrev pub BatchRoomPost : (n : ℕ) (before : List ℕ) (w : Batch) (after : List ℕ) (r : Batch) → Type 0
+BatchRoomPost n before w after r =
+    BatchTold (w .width) before after r ((r .count < length after) × StaysBatched n before w after r)
+
+-- the entry at place i is gathered too
+abbrev pub AddPost : (first ray n i : ℕ) (before : List ℕ) (w : Batch) (after : List ℕ) (r : Batch) → Type 0
+AddPost first ray n i before w after r = BatchTold (w .width) before after r
+    ((rays : ℕ → ℕ) → rays i ≡ ray → Batched rays n first i (w .width) before (w .count)
+    → Batched rays n first (i + 1) (r .width) after (r .count))
+
+-- the entries of a batch of rays before place `passed` are gathered
+abbrev pub RaysGathered : (g : DexelGrid) (log : List Float) (first width : ℕ) (before : List ℕ) (passed : ℕ) (after : List ℕ) (r : Batch)
+    → Type 0
+RaysGathered g log first width before passed after r = BatchTold width before after r
+    (Batched (λ i. entryRay g (entryAt log i)) (entryCount log) first passed (r .width) after (r .count))
+
+-- all are
+abbrev pub GatherRaysPost : (g : DexelGrid) (log : List Float) (first width : ℕ) (before after : List ℕ) (r : Batch) → Type 0
+GatherRaysPost g log first width before after r = RaysGathered g log first width before (entryCount log) after r
 
 -- the first m keys are the same, in some order and however often
 pub record SameKeys (m : ℕ) (before after : List ℕ) : Type 0 where

@@ -7,21 +7,16 @@ use native.Mathlib.Omega.{arith}
 use lib.Ieee.{Float}
 use Rattle.grid.specs.Rays.{rayCount}
 use Rattle.grid.specs.declared.DexelGrid.{DexelGrid}
-use Rattle.log_batches.specs.Batches.{Batched, GatherRaysPost, SameKeys, KeysAscend}
+use Rattle.log_keys.specs.KeysKept.{KeysBefore}
+use Rattle.log_batches.specs.Batches.{GatherRaysPost, SameKeys, KeysAscend}
 use Rattle.log_batches.specs.declared.Batch.{Batch}
 use Rattle.log_budget.specs.Steps.{BatchKeys}
 
-batched-sorted : (rays : ℕ → ℕ) (n first passed width : ℕ) (before after : List ℕ) (m : ℕ) → SameKeys m before after
-    → Batched rays n first passed width before m → Batched rays n first passed width after m
-batched-sorted rays n first passed width before after m s b = record {
-  each = λ t h.
-      let (q, l, e) = s .each t h in
-      let (i, x, y, z, w) = b .each q l in
-      (i, x, y, z, e ∙ w);
-  all = λ i x y z.
-      let (q, l, w) = b .all i x y z in
-      let (t, h, e) = s .all q l in
-      (t, h, e ∙ w);
+keys-sorted : {key : ℕ → ℕ} {wanted : ℕ → Type 0} {passed : ℕ} {before after : List ℕ} {m : ℕ} → SameKeys m before after
+    → KeysBefore key wanted passed before m → KeysBefore key wanted passed after m
+keys-sorted s b = record {
+  each = λ t h. let (q, l, e) = s .each t h in let (i, x, w, k) = b .each q l in (i, x, w, e ∙ k);
+  all = λ i x w. let (q, l, k) = b .all i x w in let (t, h, e) = s .all q l in (t, h, e ∙ k);
 }
 
 -- THE LAW: keys that are gathered, sorted and found to ascend
@@ -32,6 +27,6 @@ pub sorted-batch : (g : DexelGrid) (log : List Float) (first width : ℕ) (befor
 sorted-batch g log first width before between after r f l h s a = record {
   room = omega (arith, h .room f, s .size);
   inside = omega (arith, h .most);
-  batched = batched-sorted _ _ _ _ _ _ _ _ s (h .batched f);
+  batched = keys-sorted s (h .batched f);
   ascending = a refl;
 }

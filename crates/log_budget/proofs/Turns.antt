@@ -11,7 +11,7 @@ use Rattle.grid.specs.declared.DexelStockSpec.{DexelStockSpec}
 use Rattle.grid.specs.declared.DexelGrid.{DexelGrid}
 use Rattle.log_model.specs.Logs.{entryAt, entryCount, entryRay}
 use Rattle.log_keys.specs.Keys.{entryOfKey}
-use Rattle.log_gather.specs.Gathering.{Shaped}
+use Rattle.log_gather.proofs.Entries.{same-shape}
 use Rattle.log_batches.specs.Batches.{batchKeyOf}
 use Rattle.log_count.specs.Steps.{CountPre, KeysOf}
 use Rattle.log_count.specs.Totals.{Prefixed}
@@ -36,10 +36,6 @@ pub record CountedBelow (spec : DexelStockSpec) (g : DexelGrid) (c : Cells) (log
   pub ahead : (s : ℕ) → i ≤ s → s < m → upto ≤ rayAt log first keys s
   pub prefixed : Prefixed spec g c log upto t
 
--- a buffer of the same size is of the same shape
-pub same-shape : (a b : List Float) → length a ≡ length b → Shaped b → Shaped a
-same-shape a b size s = record { quarters = rw size (s .quarters); least = rw size (s .least) }
-
 module _ {spec : DexelStockSpec} {g : DexelGrid} {c : Cells} {log : List Float} {first width : ℕ} {keys : List ℕ}
     {m : ℕ} {before : RayTotals}
     {buffer : List Float} (a : CountPre spec g c log first before buffer) (b : BatchKeys g log first width keys m) where
@@ -57,7 +53,7 @@ module _ {spec : DexelStockSpec} {g : DexelGrid} {c : Cells} {log : List Float} 
       × (rayAt log first keys t < first + width)
   unfolding entryOfKey
   key-ray t h =
-      let (i, l, x, y, e) = b .batched .each t h in
+      let (i, l, (x, y), e) = b .batched .each t h in
       let (r, p) = key-parts t i l x e in
       (ap (λ (k : ℕ). entryRay g (entryAt log k)) p ∙ sym r, omega arith)
 
@@ -68,7 +64,7 @@ module _ {spec : DexelStockSpec} {g : DexelGrid} {c : Cells} {log : List Float} 
   entry-key : (i : ℕ) → i < entryCount log → first ≤ entryRay g (entryAt log i) → entryRay g (entryAt log i) < first + width
       → (t : ℕ) × (t < m) × (rayAt log first keys t ≡ entryRay g (entryAt log i)) × (getD keys t 0 % entryCount log ≡ i)
   entry-key i h x y =
-      let (t, l, e) = b .batched .all i h x y in
+      let (t, l, e) = b .batched .all i h (x, y) in
       let (r, p) = key-parts t i h x e in
       (t, l, r, p)
 
@@ -118,7 +114,7 @@ module _ {spec : DexelStockSpec} {g : DexelGrid} {c : Cells} {log : List Float} 
       some = a .some;
       inside = omega (arith, key-ray i fit .1, b .inside);
       prefixed = before-ray;
-      shaped = same-shape cells buffer size (a .shaped);
+      shaped = same-shape buffer cells size (a .shaped);
     }
 
     module _ {j : ℕ} (e : RunEnd keys m i (entryCount log) j) where

@@ -1,4 +1,5 @@
 -- The laws of `log_keys`.
 pub mod Keeping
+pub mod Wanting
 pub mod Past
 pub mod Hits

@@ -1,4 +1,4 @@
--- Keys that pass a test, moved to the front of their buffer.
+-- Keys that pass a test, moved to the front of their buffer, and the keys of the entries that are wanted.
 use mathlib.Core.Path.{_≡_}
 use mathlib.Core.Bool.{Bool, true, false, cond}
 use mathlib.Core.List.{List}
@@ -19,3 +19,8 @@ pub record KeysKept (test : ℕ → Bool) (before : List ℕ) (i : ℕ) (after :
   pub all : (s : ℕ) → s < i → test (getD before s 0) ≡ true → (t : ℕ) × (t < k) × (getD after t 0 ≡ getD before s 0)
   pub fewer : (s : ℕ) → s < i → test (getD before s 0) ≡ false → k < i
   pub rest : (q : ℕ) → i ≤ q → getD after q 0 ≡ getD before q 0
+
+-- the first m keys are those of the entries before place `passed` that are wanted; `key` gives the key of the entry at a place
+pub record KeysBefore (key : ℕ → ℕ) (wanted : ℕ → Type 0) (passed : ℕ) (keys : List ℕ) (m : ℕ) : Type 0 where
+  pub each : (t : ℕ) → t < m → (i : ℕ) × (i < passed) × wanted i × (getD keys t 0 ≡ key i)
+  pub all : (i : ℕ) → i < passed → wanted i → (t : ℕ) × (t < m) × (getD keys t 0 ≡ key i)

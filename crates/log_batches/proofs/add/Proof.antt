@@ -42,7 +42,7 @@ mul-keys : tie.Need-mul-keys
 mul-keys c = omega (arith, add-keys c)
 
 slice-write-keys : tie.Need-slice-write-keys
-slice-write-keys c = c .before .before .before .before .before .make-room .ensures .room (c .before .before .if2 .left)
+slice-write-keys c = c .before .before .before .before .before .make-room .ensures .batched (c .before .before .if2 .left) .0
 
 mul-keys-2 : tie.Need-mul-keys-2
 mul-keys-2 c = omega (arith, slice-write-keys c)

@@ -1,5 +1,5 @@
 -- `log_batches::gather_rays` meets its contract: each turn adds one entry more.
-use Prim.Native.Nat.{_-_}
+use Prim.Native.Nat.{_-_, _≤_}
 use native.Mathlib.Omega.{arith}
 use borrow.Author.Needs.{needs}
 use Rattle.log_entries.specs.Named.{EachNamed}
@@ -15,13 +15,13 @@ use Rattle.log_batches.proofs.gather_rays.Statement.{statement}
 use Rattle.log_batches.proofs.gather_rays.Tie as tie
 
 abbrev Inv-loop : tie.InvT-loop
-Inv-loop g log first width keys₀ n w₀ i₀ keys w i = GatherRaysLoop g log first width keys₀ i keys w
+Inv-loop g log first width keys₀ n w₀ i₀ keys w i = (i ≤ n) × GatherRaysLoop g log first width keys₀ i keys w
 
 abbrev μ-loop : tie.MeasureT-loop
 μ-loop g log first width keys₀ n w₀ i₀ keys w i = n - i
 
 loop-holds : tie.Need-loop-holds Inv-loop μ-loop
-loop-holds c = gathering-start _ _ _ _ (c .before .before .pre .2)
+loop-holds c = (omega arith, gathering-start _ _ _ _ (c .before .before .pre .2))
 
 ray-at-requires : tie.Need-ray-at-requires Inv-loop μ-loop
 unfolding EachNamed
@@ -31,24 +31,29 @@ ray-at-requires c κs =
 
 add-requires : tie.Need-add-requires Inv-loop μ-loop
 add-requires c κs =
-    let pre = c .before .before .before .before .before .before .pre in
-    let inv = c .before .before .before .loop .inv in
-    (gathering-widthed inv (omega (arith, pre .3)) (pre .4), c .before .before .loop-test .taken, omega (arith, inv .most, pre .3))
+    let loop = c .before .before .before .loop in
+    let start = c .before .before .before .before .before .before in
+    let given = start .args in
+    let widthed = gathering-widthed (given .g) (given .log .now) (given .first) (loop .i) (loop .w) (loop .inv .1) in (
+      widthed (omega (arith, start .pre .3)) (start .pre .4),
+      c .before .before .loop-test .taken,
+      omega (arith, loop .inv .1 .most, start .pre .3),
+    )
 
 loop-again : tie.Need-loop-again Inv-loop μ-loop
 loop-again c =
-    let turn = c .before .before .before .before .before .before in
+    let loop = c .before .before .before .before .before .before .before .loop in
     let named = c .before .before .before .before .before .ray-at .ensures in
-    gathering-turn (turn .before .loop .inv) named (c .before .before .before .add .ensures) (turn .loop-test .taken) (c .if1 .left)
+    (search needs, gathering-turn _ _ _ (loop .i) (loop .w) (loop .inv .1) named (c .before .before .before .add .ensures) (c .if1 .left))
 
 returns : tie.Need-returns Inv-loop μ-loop
-returns c = gathering-done (c .before .loop .inv) (c .loop-test .left)
+returns c = let loop = c .before .loop in gathering-done _ _ _ (loop .i) (loop .w) (loop .inv .1) (loop .inv .0) (c .loop-test .left)
 
 returns-2 : tie.Need-returns-2 Inv-loop μ-loop
 returns-2 c =
-    let turn = c .before .before .before .before .before .before in
+    let loop = c .before .before .before .before .before .before .before .loop in
     let named = c .before .before .before .before .before .ray-at .ensures in
-    gathering-full (turn .before .loop .inv) named (c .before .before .before .add .ensures) (c .if1 .taken)
+    gathering-full _ _ _ (loop .i) (loop .w) (loop .inv .1) named (c .before .before .before .add .ensures) (c .if1 .taken)
 
 pub gather-rays-spec : {M : Type 1} → statement M
 gather-rays-spec =

@@ -1,5 +1,6 @@
 -- `log_batches::make_room` meets its contract: each turn leaves a narrower batch.
 use Prim.Native.Nat.{_+_, _-_, _/_, _≤_}
+use mathlib.Core.Path.{refl}
 use native.Mathlib.Omega.{arith}
 use native.Mathlib.Nat.{mul-le-mul-right}
 use borrow.Author.Needs.{needs}
@@ -32,7 +33,7 @@ loop-again c =
     narrowing-turn (loop .inv) (search needs) (search needs) (c .before .before .narrow .ensures)
 
 returns-2 : tie.Need-returns-2 Inv-loop μ-loop
-returns-2 c = narrowing-done (c .before .before .loop .inv) (search needs)
+returns-2 c = let inv = c .before .before .loop .inv in narrowing-done inv (omega (arith, inv .room refl))
 
 pub make-room-spec : {M : Type 1} → statement M
 make-room-spec =
