@@ -10,10 +10,10 @@ use lib.Seq.{take-set-le, getD-set-same, getD-set-other}
 use lib.Ieee.{Float, nan, lt, le}
 use Rattle.spans.specs.Spans.{within, holds}
 use Rattle.spans.proofs.Points.{empty-pair, holds-more}
-use Rattle.logic.proofs.Bools.{and-left, and-right, both, or-cases, or-left, or-right, clash}
-use Rattle.doubles.proofs.Order.{lt-number, le-number, le-trans, le-lt-trans, lt-trans, lt-le-trans, not-lt→le, not-le→lt}
+use Rattle.logic.proofs.Bools.{and-left, and-right, or-cases, or-left, or-right, clash}
+use Rattle.doubles.proofs.Order.{lt-number, le-lt-trans, lt-trans, lt-le-trans, not-le→lt}
 use Rattle.log_keys.specs.Keys.{pairsPast}
-use Rattle.log_keys.proofs.Past.{past-first, past-more}
+use Rattle.log_keys.proofs.Past.{begun-within, past-first, past-more}
 use Rattle.log_gather.specs.declared.HeldHits.{HeldHits}
 use Rattle.log_gather.specs.Gathering.{WholePairs, Gathers, MakeRoomPost, PutPost}
 
@@ -79,11 +79,7 @@ module _ (b u f lo hi : Float) (hits cells : List Float) (h : HeldHits) (g : Gat
   moved rises far early = record {
     roomy = g .roomy;
     higher = λ x k. further x (g .higher x k);
-    fronts = λ x w.
-        let up = and-left (le b x) (lt x hi) w in
-        let start = not-lt→le b lo (le-number b x up .0) (lt-number lo hi rises .0) early in
-        inr (or-left (within lo hi x) (holds hits x)
-        (both (le lo x) (lt x hi) (le-trans lo b x start up) (and-right (le b x) (lt x hi) w)));
+    fronts = λ x w. inr (or-left (within lo hi x) (holds hits x) (begun-within b lo hi x rises early w));
     past = past-still;
     all = λ x w k. elim (pair-cases x k) [
       | inl l ↦ inl (and-right (le lo x) (lt x hi) l)

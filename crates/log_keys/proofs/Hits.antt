@@ -33,7 +33,7 @@ use Rattle.log_model.specs.Logs.{
 use Rattle.log_entries.specs.Named.{EachNamed}
 use Rattle.log_entries.proofs.Places.{AllFrom, all-first, all-rest}
 use Rattle.log_entries.proofs.Sizes.{named-even}
-use Rattle.log_keys.specs.Keys.{entryOfKey, withEntry, hitsTo, pairsPast}
+use Rattle.log_keys.specs.Keys.{entryOfKey, withEntry, hitsTo, losesOf, pairsPast}
 use Rattle.log_keys.proofs.Past.{past-first, past-more}
 
 -- the point lies in the entry's hit of this kind
@@ -133,11 +133,6 @@ module _ {lo hi : Float} where
   pair-past from x (later {a} {b} {l} p) k h = past-more from a b l x (pair-past from x p k h)
 
 -- ---- by places
-
--- what the ray's possible list loses, or its certain list
-abbrev pub losesOf : DexelGrid → List Float → (ray : ℕ) → (certain : Bool) → List Float
-losesOf g log ray true = hitsOnRay g (entries log) ray outer ++ hitsOnRay g (entries log) ray inner
-losesOf g log ray false = hitsOnRay g (entries log) ray inner
 
 -- the point lies in a hit of an entry on the ray that the list loses
 pub record Lost (g : DexelGrid) (log : List Float) (ray : ℕ) (certain : Bool) (x : Float) : Type 0 where

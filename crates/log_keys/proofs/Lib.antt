@@ -2,4 +2,5 @@
 pub mod Keeping
 pub mod Wanting
 pub mod Past
+pub mod Infinity
 pub mod Hits

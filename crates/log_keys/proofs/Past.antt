@@ -8,9 +8,16 @@ use native.Mathlib.Omega.{arith}
 use lib.ListN.{length}
 use lib.Ieee.{Float, lt, le}
 use Rattle.spans.specs.Spans.{within, holds}
-use Rattle.logic.proofs.Bools.{and-left, or-cases, or-left, or-right, by-cases, clash}
-use Rattle.doubles.proofs.Order.{le→not-lt, le-lt-trans, lt-le-trans}
+use Rattle.logic.proofs.Bools.{and-left, and-right, both, or-cases, or-left, or-right, by-cases, clash}
+use Rattle.doubles.proofs.Order.{lt-number, le-number, le→not-lt, not-lt→le, le-trans, le-lt-trans, lt-le-trans}
 use Rattle.log_keys.specs.Keys.{pairsPast}
+
+-- a pair that begins at or before b and reaches past it holds what lies between b and its end
+pub begun-within : (b lo hi x : Float) → lt lo hi ≡ true → lt b lo ≡ false → within b hi x ≡ true → within lo hi x ≡ true
+begun-within b lo hi x rises early w =
+    let up = and-left (le b x) (lt x hi) w in
+    let start = not-lt→le b lo (le-number b x up .0) (lt-number lo hi rises .0) early in
+    both (le lo x) (lt x hi) (le-trans lo b x start up) (and-right (le b x) (lt x hi) w)
 
 -- ---- one pair more, which begins past b or does not
 module _ (b lo hi : Float) (l : List Float) where

@@ -1,13 +1,14 @@
 -- The entries of a log that keys stand for, their hits, and what of these counts in a stretch of numbers.
 use mathlib.Core.Path.{_≡_}
 use mathlib.Core.Bool.{Bool, true, false, cond}
-use mathlib.Core.List.{List, [], _∷_}
+use mathlib.Core.List.{List, [], _∷_, _++_}
 use mathlib.Core.Logic.{_⊎_}
 use Prim.Native.Nat.{ℕ, zero, suc, _%_}
 use lib.ListN.{getD}
-use lib.Ieee.{Float, lt}
+use lib.Ieee.{Float, lt, div, ofBits, binary64}
+use Rattle.grid.specs.declared.DexelGrid.{DexelGrid}
 use Rattle.spans.specs.Spans.{within, holds}
-use Rattle.log_model.specs.Logs.{Entry, entryAt, entryCount, outer, inner, hitLo, hitHi}
+use Rattle.log_model.specs.Logs.{Entry, entryAt, entryCount, entries, outer, inner, hitLo, hitHi, hitsOnRay}
 
 -- the entry that a key stands for: what the key leaves when it is divided by the number of entries is its place
 unfoldable pub entryOfKey : List Float → ℕ → Entry
@@ -25,6 +26,15 @@ unfoldable pub hitsTo : List Float → List ℕ → (certain : Bool) → ℕ →
 unfolding entryOfKey withEntry
 hitsTo log keys certain zero = []
 hitsTo log keys certain (suc i) = withEntry (entryOfKey log (getD keys i 0)) certain (hitsTo log keys certain i)
+
+-- what a ray's possible list loses, or its certain list
+abbrev pub losesOf : DexelGrid → List Float → (ray : ℕ) → (certain : Bool) → List Float
+losesOf g log ray true = hitsOnRay g (entries log) ray outer ++ hitsOnRay g (entries log) ray inner
+losesOf g log ray false = hitsOnRay g (entries log) ray inner
+
+-- plus infinity, which no hit reaches past
+abbrev pub top : Float
+top = div binary64 (ofBits binary64 0x3ff0_0000_0000_0000) (ofBits binary64 0)
 
 -- the pairs that begin past b
 unfoldable pub pairsPast : Float → List Float → List Float

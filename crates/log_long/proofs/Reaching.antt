@@ -6,12 +6,15 @@ use mathlib.Core.List.{List}
 use Prim.Native.Nat.{ℕ, _+_}
 use native.Mathlib.Omega.{arith}
 use native.Mathlib.Decide.{decLt}
-use lib.Ieee.{Float, lt, le}
+use lib.Ieee.{Float, lt, le, neg}
 use Rattle.doubles.specs.Doubles.{Number}
-use Rattle.logic.proofs.Bools.{and-left, and-right, both, clash}
-use Rattle.doubles.proofs.Order.{lt-number, le-number, not-lt→le, le-trans, lt-trans, lt-le-trans}
+use Rattle.logic.proofs.Bools.{and-right, clash}
+use Rattle.doubles.proofs.Order.{lt-number, not-lt→le, lt-trans, lt-le-trans}
 use Rattle.spans.specs.Spans.{within}
 use Rattle.log_model.specs.Logs.{entryAt, HitKind, hitLo, hitHi}
+use Rattle.log_keys.specs.Keys.{top}
+use Rattle.log_keys.proofs.Infinity.{bottom-number, none-below}
+use Rattle.log_keys.proofs.Past.{begun-within}
 use Rattle.log_long.specs.Long.{furtherOf, FrontReach}
 
 -- ---- one hit
@@ -37,10 +40,7 @@ further-is front b lo hi n = chosen (Further front b lo hi) (lt lo hi) (lt b lo)
       number = lt-number front hi l .1;
       keeps = λ x h. lt-trans x front hi h l;
       reaches = λ p q x h. h;
-      only = λ x h.
-          let from = and-left (le b x) (lt x hi) h in
-          let lower = not-lt→le b lo (le-number b x from .0) (lt-number lo hi proper .0) begun in
-          inr (both (le lo x) (lt x hi) (le-trans lo b x lower from) (and-right (le b x) (lt x hi) h));
+      only = λ x h. inr (begun-within b lo hi x proper begun h);
     })
     (λ stays. record {
       number = n;
@@ -52,11 +52,11 @@ further-is front b lo hi n = chosen (Further front b lo hi) (lt lo hi) (lt b lo)
 -- ---- the entries of a log
 
 module _ (rays : ℕ → ℕ) (log : List Float) (ray : ℕ) (b : Float) (w : HitKind) where
-  pub reaches-start : (front : Float) → ((x : Float) → lt x front ≡ false) → Number front → FrontReach rays log ray b 0 w front
-  reaches-start front least n = record {
-    number = n;
+  pub reaches-start : FrontReach rays log ray b 0 w (neg top)
+  reaches-start = record {
+    number = bottom-number;
     all = λ i h. absurd (omega arith);
-    only = λ x h. absurd (clash (lt x front) (and-right (le b x) (lt x front) h) (least x));
+    only = λ x h. absurd (clash _ (and-right (le b x) (lt x (neg top)) h) (none-below x));
   }
 
   -- the entry at place i is not on the ray

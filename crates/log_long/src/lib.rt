@@ -9,23 +9,27 @@ ghost use Rattle.grid.specs.Rays.{rayCount};
 ghost use Rattle.log_model.specs.Logs.{entryAt, entryCount};
 ghost use Rattle.log_entries.specs.Named.{EachNamed};
 ghost use Rattle.log_keys.specs.KeysKept.{KeysKept};
-ghost use Rattle.log_long.specs.Long.{beginPast, leastPast, furtherOf, InLog, LongRoomPost};
-ghost use Rattle.log_long.specs.Long.{AddKeyPost, AddFrontsPost, GathersTo, GatherRayPost};
+ghost use Rattle.log_long.specs.Long.{beginPast, leastPast, furtherOf, InLog, LongRoomPost, AddKeyPost, AddFrontsPost, GathersTo};
 use grid::DexelGrid;
 
-// How many keys there are, where the stretch ends, and how far the outer and the inner hits reach
-// that begin at or before its start.
-pub struct LongPart {
+// How many keys there are, and where the stretch ends.
+pub struct HeldKeys {
     pub count: usize,
     pub end: f64,
+}
+
+// The keys, and how far the outer and the inner hits reach that begin at or before the start of the stretch.
+pub struct LongPart {
+    pub keys: HeldKeys,
     pub outer: f64,
     pub inner: f64,
 }
 
-// Where the hit begins, if that is past b, or else `top`.
-fn begin_past(top: f64, b: f64, lo: f64, hi: f64) -> f64
-    ensures { λ r. ⌜ r ≡ beginPast top b lo hi ⌝ }
+// Where the hit begins, if that is past b, or else plus infinity.
+fn begin_past(b: f64, lo: f64, hi: f64) -> f64
+    ensures { λ r. ⌜ r ≡ beginPast b lo hi ⌝ }
 {
+    let top = 1.0 / 0.0;
     if lo < hi {
         if b < lo {
             return lo;
@@ -34,14 +38,14 @@ fn begin_past(top: f64, b: f64, lo: f64, hi: f64) -> f64
     top
 }
 
-// Where the first of the entry's hits begins that begins past b, or `top` where none does.
-fn least_past(top: f64, b: f64, log: &[f64], place: usize) -> f64
+// Where the first of the entry's hits begins that begins past b, or plus infinity where none does.
+fn least_past(b: f64, log: &[f64], place: usize) -> f64
     requires { ⌜ 6 * place + 5 < length (now log) ⌝ }
-    ensures { λ r. ⌜ r ≡ leastPast top b (entryAt (now (log .entry)) place) ⌝ }
+    ensures { λ r. ⌜ r ≡ leastPast b (entryAt (now (log .entry)) place) ⌝ }
 {
     let at = 6 * place;
-    let x = begin_past(top, b, log[at + 2], log[at + 3]);
-    let y = begin_past(top, b, log[at + 4], log[at + 5]);
+    let x = begin_past(b, log[at + 2], log[at + 3]);
+    let y = begin_past(b, log[at + 4], log[at + 5]);
     if y < x {
         return y;
     }
@@ -85,15 +89,15 @@ fn middle(x: f64, y: f64, z: f64) -> f64
 }
 
 // Keeps those of the first m keys whose entries have a hit that begins between b and u.
-fn keep_below(top: f64, b: f64, log: &[f64], keys: &mut [u64], m: usize, u: f64) -> usize
+fn keep_below(b: f64, log: &[f64], keys: &mut [u64], m: usize, u: f64) -> usize
     requires { ⌜ InLog (now log) (now keys) m ⌝ }
-    ensures { λ r. ⌜ KeysKept (λ key. lt (leastPast top b (entryAt (now (log .entry)) key)) u) (now (keys .entry)) m
+    ensures { λ r. ⌜ KeysKept (λ key. lt (leastPast b (entryAt (now (log .entry)) key)) u) (now (keys .entry)) m
         (now (keys .exit)) r ⌝ }
 {
     let mut k: usize = 0;
     let mut i: usize = 0;
     while i < m {
-        let kept = least_past(top, b, log, keys[i] as usize) < u;
+        let kept = least_past(b, log, keys[i] as usize) < u;
         k = log_keys::keep(keys, k, i, kept);
         i += 1;
     }
@@ -101,67 +105,59 @@ fn keep_below(top: f64, b: f64, log: &[f64], keys: &mut [u64], m: usize, u: f64)
 }
 
 // Ends the stretch earlier, where the middle one of three of its entries begins, so that there is room for a key more.
-fn shorten(top: f64, b: f64, log: &[f64], keys: &mut [u64], w: LongPart) -> LongPart
+fn shorten(b: f64, log: &[f64], keys: &mut [u64], w: HeldKeys) -> HeldKeys
     requires { ⌜ InLog (now log) (now keys) (w .count) × (0 < w .count) ⌝ }
-    ensures { λ r. ⌜ LongRoomPost top b (now (log .entry)) (now (keys .entry)) w (now (keys .exit)) r × (r .count < w .count) ⌝ }
+    ensures { λ r. ⌜ LongRoomPost b (now (log .entry)) (now (keys .entry)) w (now (keys .exit)) r ⌝ }
 {
     let m = w.count;
-    let x = least_past(top, b, log, keys[0] as usize);
-    let y = least_past(top, b, log, keys[m / 2] as usize);
-    let z = least_past(top, b, log, keys[m - 1] as usize);
+    let x = least_past(b, log, keys[0] as usize);
+    let y = least_past(b, log, keys[m / 2] as usize);
+    let z = least_past(b, log, keys[m - 1] as usize);
     let end = middle(x, y, z);
-    let count = keep_below(top, b, log, keys, m, end);
-    LongPart {
-        count,
-        end,
-        outer: w.outer,
-        inner: w.inner,
-    }
+    let count = keep_below(b, log, keys, m, end);
+    HeldKeys { count, end }
 }
 
 // Makes room for a key more, if there is none.
-fn roomy(top: f64, b: f64, log: &[f64], keys: &mut [u64], w: LongPart) -> LongPart
+fn roomy(b: f64, log: &[f64], keys: &mut [u64], w: HeldKeys) -> HeldKeys
     requires { ⌜ InLog (now log) (now keys) (w .count) × (0 < length (now keys)) ⌝ }
-    ensures { λ r. ⌜ LongRoomPost top b (now (log .entry)) (now (keys .entry)) w (now (keys .exit)) r ⌝ }
+    ensures { λ r. ⌜ LongRoomPost b (now (log .entry)) (now (keys .entry)) w (now (keys .exit)) r ⌝ }
 {
     if w.count < keys.len() {
         return w;
     }
-    shorten(top, b, log, keys, w)
+    shorten(b, log, keys, w)
 }
 
 // The key of the entry at place i, if one of its hits begins in the stretch.
-fn add_key(top: f64, b: f64, log: &[f64], keys: &mut [u64], w: LongPart, i: usize) -> LongPart
+fn add_key(b: f64, log: &[f64], keys: &mut [u64], w: HeldKeys, i: usize) -> HeldKeys
     requires { ⌜ InLog (now log) (now keys) (w .count) × (0 < length (now keys)) × (6 * i + 5 < length (now log)) ⌝ }
-    ensures { λ r. ⌜ AddKeyPost top b i (now (log .entry)) (now (keys .entry)) w (now (keys .exit)) r ⌝ }
+    ensures { λ r. ⌜ AddKeyPost b i (now (log .entry)) (now (keys .entry)) w (now (keys .exit)) r ⌝ }
 {
-    let k = least_past(top, b, log, i);
+    let k = least_past(b, log, i);
     if !(k < w.end) {
         return w;
     }
-    let t = roomy(top, b, log, keys, w);
+    let t = roomy(b, log, keys, w);
     if !(k < t.end) {
         return t;
     }
     let at = t.count;
     keys[at] = i as u64;
-    LongPart {
+    HeldKeys {
         count: at + 1,
         end: t.end,
-        outer: t.outer,
-        inner: t.inner,
     }
 }
 
-// The part with how far the hits of the entry at place i reach, if they begin at or before b.
-fn add_fronts(b: f64, log: &[f64], w: LongPart, i: usize) -> LongPart
+// The part with these keys, and with how far the hits of the entry at place i reach, if they begin at or before b.
+fn add_fronts(b: f64, log: &[f64], w: LongPart, keys: HeldKeys, i: usize) -> LongPart
     requires { ⌜ 6 * i + 5 < length (now log) ⌝ }
-    ensures { λ r. ⌜ AddFrontsPost b (entryAt (now (log .entry)) i) w r ⌝ }
+    ensures { λ r. ⌜ AddFrontsPost b (entryAt (now (log .entry)) i) w keys r ⌝ }
 {
     let at = 6 * i;
     LongPart {
-        count: w.count,
-        end: w.end,
+        keys,
         outer: further(w.outer, b, log[at + 2], log[at + 3]),
         inner: further(w.inner, b, log[at + 4], log[at + 5]),
     }
@@ -172,45 +168,41 @@ fn add_entry(
     g: DexelGrid,
     log: &[f64],
     ray: usize,
-    top: f64,
     b: f64,
     keys: &mut [u64],
     w: LongPart,
     i: usize,
 ) -> LongPart
     requires { ⌜ (rayCount g ≤ 2 ^ 53) × EachNamed g (now log) × (0 < length (now keys)) × (i < entryCount (now log))
-        × GathersTo g (now log) ray top b i (now keys) (now keys) w ⌝ }
-    ensures { λ r. ⌜ GathersTo g (now (log .entry)) ray top b (i + 1) (now (keys .entry)) (now (keys .exit)) r ⌝ }
+        × GathersTo g (now log) ray b i (now keys) w ⌝ }
+    ensures { λ r. ⌜ (length (now (keys .exit)) ≡ length (now (keys .entry)))
+        × GathersTo g (now (log .entry)) ray b (i + 1) (now (keys .exit)) r ⌝ }
 {
     if log_entries::ray_at(g, log, i) == ray {
-        let t = add_fronts(b, log, w, i);
-        return add_key(top, b, log, keys, t, i);
+        let held = w.keys;
+        let t = add_key(b, log, keys, held, i);
+        return add_fronts(b, log, w, t, i);
     }
     w
 }
 
-// Gathers the entries of the ray for the stretch from b on, which reaches to `top` where all of them fit.
-pub fn gather_ray(
-    g: DexelGrid,
-    log: &[f64],
-    ray: usize,
-    top: f64,
-    b: f64,
-    keys: &mut [u64],
-) -> LongPart
+// Gathers the entries of the ray for the stretch from b on, which reaches to plus infinity where all of them fit.
+pub fn gather_ray(g: DexelGrid, log: &[f64], ray: usize, b: f64, keys: &mut [u64]) -> LongPart
     requires { ⌜ (rayCount g ≤ 2 ^ 53) × EachNamed g (now log) × (0 < length (now keys)) ⌝ }
-    ensures { λ r. ⌜ GatherRayPost g (now (log .entry)) ray top b (now (keys .entry)) (now (keys .exit)) r ⌝ }
+    ensures { λ r. ⌜ (length (now (keys .exit)) ≡ length (now (keys .entry)))
+        × GathersTo g (now (log .entry)) ray b (entryCount (now (log .entry))) (now (keys .exit)) r ⌝ }
 {
     let n = log.len() / 6;
+    let top = 1.0 / 0.0;
+    let held = HeldKeys { count: 0, end: top };
     let mut w = LongPart {
-        count: 0,
-        end: top,
+        keys: held,
         outer: -top,
         inner: -top,
     };
     let mut i: usize = 0;
     while i < n {
-        w = add_entry(g, log, ray, top, b, keys, w, i);
+        w = add_entry(g, log, ray, b, keys, w, i);
         i += 1;
     }
     w

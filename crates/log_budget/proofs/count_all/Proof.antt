@@ -8,7 +8,7 @@ use Rattle.log_count.specs.Totals.{Prefixed}
 use Rattle.log_count.proofs.Bounds.{few-rays}
 use Rattle.log_budget.proofs.Answers.{too-many-rays, too-many-intervals, both-kept}
 use Rattle.log_budget.proofs.Passing.{start, changed-so-far, all-counted}
-use Rattle.log_budget.proofs.Turns.{same-shape}
+use Rattle.log_gather.proofs.Entries.{same-shape}
 use Rattle.log_budget.proofs.count_all.Statement.{statement}
 use Rattle.store.specs.Store.{cells}
 use Rattle.log_budget.proofs.count_all.Tie as tie

@@ -1,7 +1,7 @@
 -- `log_long::add_entry` meets its contract.
 use borrow.Author.Needs.{needs}
 use native.Mathlib.Omega.{arith}
-use mathlib.Core.Path.{sym, _∙_}
+use mathlib.Core.Path.{refl, sym, _∙_}
 use Rattle.log_entries.specs.Named.{EachNamed}
 use Rattle.log_long.proofs.Gathering.{gathers-passed, gathers-added}
 use Rattle.log_long.proofs.add_entry.Statement.{statement}
@@ -16,27 +16,29 @@ ray-at-requires c κs =
 add-key-requires : tie.Need-add-key-requires
 add-key-requires c κs =
     let start = c .before .before .before .before .before .before in
-    (rw (c .before .add-fronts .ensures .count-is) (start .pre .4 .inLog), start .pre .2, omega (arith, start .pre .3))
+    (start .pre .4 .inLog, start .pre .2, omega (arith, start .pre .3))
 
 returns : tie.Need-returns
 returns c =
-    let on = c .before .before .before .before .before in
+    let added = c .before .before .before in
+    let on = added .before .before .before in
     let start = on .before .before .before .before in
-    gathers-added _ _ _ _ _ _ _ (start .args .w) (start .pre .4) _ _ _ (sym (on .before .ray-at .ensures) ∙ on .if1 .taken)
-    (c .before .before .before .before .add-fronts .ensures) (c .before .before .add-key .ensures)
+    let named = sym (on .before .ray-at .ensures) ∙ on .if1 .taken in
+    let key = added .add-key .ensures in
+    (key .size, gathers-added _ _ _ _ _ _ (start .args .w) (start .pre .4) _ _ _ named key (c .add-fronts .ensures))
 
 returns-2 : tie.Need-returns-2
 returns-2 c =
     let start = c .before .before .before .before in
-    gathers-passed _ _ _ _ _ _ _ (start .args .w) (start .pre .4) (λ on. c .if1 .left (c .before .ray-at .ensures ∙ on))
+    (refl, gathers-passed _ _ _ _ _ _ (start .args .w) (start .pre .4) (λ on. c .if1 .left (c .before .ray-at .ensures ∙ on)))
 
 pub add-entry-spec : {M : Type 1} → statement M
 add-entry-spec =
     tie.close
     (tie.spec
     ray-at-requires
-    (λ c κs. search needs)
     add-key-requires
+    (λ c κs. search needs)
     (λ c. search needs)
     returns
     returns-2)

@@ -1,17 +1,15 @@
 -- `log_long::add_fronts` meets its contract.
 use borrow.Author.Needs.{needs}
 use mathlib.Core.Path.{refl}
-use Rattle.log_model.specs.Logs.{entryAt, hitLo, hitHi}
+use Rattle.log_model.specs.Logs.{entryAt, outer, inner, hitLo, hitHi}
 use Rattle.log_long.proofs.add_fronts.Statement.{statement}
 use Rattle.log_long.proofs.add_fronts.Tie as tie
 
 returns : tie.Need-returns
 unfolding entryAt hitLo hitHi
 returns c = record {
-  count-is = refl;
-  end-is = refl;
-  outer-is = c .before .before .before .further .ensures;
-  inner-is = c .further2 .ensures;
+  keys-is = refl;
+  front-is = λ k. elim k [ outer ↦ c .before .before .before .further .ensures | inner ↦ c .further2 .ensures ];
 }
 
 pub add-fronts-spec : {M : Type 1} → statement M

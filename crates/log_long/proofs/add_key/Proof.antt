@@ -1,26 +1,28 @@
 -- `log_long::add_key` meets its contract.
 use borrow.Author.Needs.{needs}
-use Rattle.log_long.proofs.Stretching.{entry-out, entry-left, entry-added}
+use mathlib.Core.Path.{refl}
+use Rattle.log_long.proofs.Stretching.{entry-out, entry-added}
 use Rattle.log_long.proofs.add_key.Statement.{statement}
 use Rattle.log_long.proofs.add_key.Tie as tie
 
 returns : tie.Need-returns
 returns c =
     let start = c .before .before .before .before .before in
-    entry-out _ _ _ _ _ (start .args .w) _ (c .before .before .least-past .ensures) (start .pre .0) (c .if1 .taken)
+    entry-out _ (c .before .before .least-past .ensures) refl (start .pre .0) (λ rays ray passed l. l) (c .if1 .taken)
 
 returns-2 : tie.Need-returns-2
 returns-2 c =
     let room = c .before .before .before .before in
     let first = room .before .before .before .before in
-    entry-left _ _ _ _ _ (first .before .before .before .args .w) _ (first .least-past .ensures) _ _ (room .roomy .ensures) (c .if2 .taken)
+    let made = room .roomy .ensures in
+    entry-out _ (first .least-past .ensures) (made .size) (made .inLog) (made .longKeys) (c .if2 .taken)
 
 returns-3 : tie.Need-returns-3
 returns-3 c =
     let room = c .before .before .before .before in
     let first = room .before .before .before .before in
     let start = first .before .before .before in
-    entry-added _ _ _ _ _ (start .args .w) _ (first .least-past .ensures) _ _ (room .roomy .ensures) (start .pre .2) (c .if2 .left)
+    entry-added _ (first .least-past .ensures) (room .roomy .ensures) (start .pre .2) (c .if2 .left)
 
 pub add-key-spec : {M : Type 1} → statement M
 add-key-spec =

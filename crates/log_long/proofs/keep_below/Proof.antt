@@ -13,10 +13,10 @@ use Rattle.log_long.proofs.keep_below.Statement.{statement}
 use Rattle.log_long.proofs.keep_below.Tie as tie
 
 abbrev Inv-loop : tie.InvT-loop
-Inv-loop top b log keys₀ m u k₀ i₀ keys k i = KeysKept (λ key. lt (leastPast top b (entryAt log key)) u) keys₀ i keys k × (i ≤ m)
+Inv-loop b log keys₀ m u k₀ i₀ keys k i = KeysKept (λ key. lt (leastPast b (entryAt log key)) u) keys₀ i keys k × (i ≤ m)
 
 abbrev μ-loop : tie.MeasureT-loop
-μ-loop top b log keys₀ m u k₀ i₀ keys k i = m - i
+μ-loop b log keys₀ m u k₀ i₀ keys k i = m - i
 
 loop-holds : tie.Need-loop-holds Inv-loop μ-loop
 loop-holds c = (kept-start _ _, omega arith)

@@ -30,8 +30,8 @@ returns c =
     let y = three .before .before .least-past2 .ensures in
     let z = three .least-past3 .ensures in
     let u = c .before .before .before .before .middle .ensures in
-    let begins = middle-begins (at .top) (at .b) (at .log .now) (at .keys .now) (at .w .count) (start .pre .1) _ _ _ _ x y z u in
-    kept-roomy _ _ _ _ _ (at .w) _ _ (c .before .before .keep-below .ensures) begins (start .pre .0)
+    let begins = middle-begins (at .b) (at .log .now) (at .keys .now) (at .w .count) (start .pre .1) _ _ _ _ x y z u in
+    kept-roomy _ _ _ _ (at .w) _ _ (c .before .before .keep-below .ensures) begins (start .pre .0)
 
 pub shorten-spec : {M : Type 1} → statement M
 shorten-spec =

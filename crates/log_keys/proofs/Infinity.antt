@@ -3,35 +3,35 @@ use mathlib.Core.Path.{_≡_, refl}
 use mathlib.Core.Bool.{true, false, false≢true}
 use mathlib.Core.List.{List, [], _∷_}
 use mathlib.Core.Logic.{inl, inr}
-use lib.Ieee.{Float, lt, le, neg, ofBits, isNan}
+use lib.Ieee.{Float, lt, le, neg, div, ofBits, isNan}
 use Rattle.doubles.specs.Doubles.{Number}
 use Rattle.logic.proofs.Bools.{and-right, or-cases, by-cases, clash}
 use Rattle.doubles.proofs.Order.{lt-number, le-bottom, le-top, le→not-lt, lt-le-trans}
 use Rattle.spans.specs.Spans.{within, holds}
-use Rattle.log_count.specs.Steps.{top}
+use Rattle.log_keys.specs.Keys.{top}
 
 pub top-number : Number top
-unfolding ofBits isNan
+unfolding div ofBits isNan
 top-number = refl
 
 pub bottom-number : Number (neg top)
-unfolding ofBits neg isNan
+unfolding div ofBits neg isNan
 bottom-number = refl
 
 pub none-below : (x : Float) → lt x (neg top) ≡ false
-unfolding ofBits neg
+unfolding div ofBits neg
 none-below x = elim (by-cases (lt x (neg top))) [
   | inl h ↦ absurd (clash (lt x (neg top)) h (le→not-lt (neg top) x (le-bottom x (lt-number x (neg top) h .0))))
   | inr h ↦ h
 ]
 
 pub bottom-top : le (neg top) top ≡ true
-unfolding ofBits neg
+unfolding div ofBits neg
 bottom-top = le-bottom top top-number
 
 -- what a list holds is below plus infinity
 pub held-below : (l : List Float) (x : Float) → holds l x ≡ true → lt x top ≡ true
-unfolding ofBits holds
+unfolding div ofBits holds
 held-below [] x k = absurd (false≢true k)
 held-below (lo ∷ []) x k = absurd (false≢true k)
 held-below (lo ∷ hi ∷ l) x k = elim (or-cases (within lo hi x) (holds l x) k) [
