@@ -1,6 +1,6 @@
 -- The walk's steps: what is decided and what is not are together the same list after a pair is closed, and lose a hit's points when it is
 -- taken.
-use mathlib.Core.Path.{_≡_, refl, sym, _∙_, ap, ap₂, subst}
+use mathlib.Core.Path.{_≡_, refl, sym, _∙_, ap, ap₂, subst, fun-ext}
 use mathlib.Core.Logic.{_⊎_, inl, inr}
 use mathlib.Core.Bool.{Bool, true, false, not, cond, _&&_, _||_, true≢false}
 use mathlib.Core.List.{List, [], _∷_, _++_, append-assoc}
@@ -78,18 +78,9 @@ module _ {n : ℕ} {spans : List Float} {links : List ℕ} where
   walked-pair {l} {s} r k ne w = subst (λ (m : List Float). ListOf s (w .done ++ m)) (rest-pair r k ne) (w .list)
 
   -- ---- the same walk, told otherwise
-  pub walked-same : {l : List Float} (s s′ : Float → Bool) {last : Float} {r : Rest} → ((p : Float) → s p ≡ s′ p)
+  pub walked-same : {l : List Float} {s s′ : Float → Bool} {last : Float} {r : Rest} → ((p : Float) → s p ≡ s′ p)
       → ListWalked n spans links l s last r → ListWalked n spans links l s′ last r
-  walked-same s s′ f w = record {
-    done = w .done;
-    list = record { isSound = w .list .isSound; points = λ p. w .list .points p ∙ f p };
-    whole = w .whole;
-    count = w .count;
-    passed = w .passed;
-    inside = λ p h. w .inside p (f p ∙ h);
-    stays = λ m p. sym (f p) ∙ w .stays m p;
-    moves = λ m. let (p, h, k) = w .moves m in (p, h, sym (f p) ∙ k);
-  }
+  walked-same {l} {last = last} {r = r} f w = subst (λ (s : Float → Bool). ListWalked n spans links l s last r) (fun-ext f) w
 
   pub walked-later : {l : List Float} {s : Float → Bool} (last last′ : Float) {r : Rest} → le last last′ ≡ true
       → ListWalked n spans links l s last r → ListWalked n spans links l s last′ r
@@ -126,7 +117,7 @@ module _ {n : ℕ} {spans : List Float} {links : List ℕ} where
 
   -- ---- one pair is closed
   pub closes : {l : List Float} {s : Float → Bool} (lo : Float) (r t : Rest) → Readable n spans links (r .at) → (r .at ≡ 0 → ⊥)
-      → le (endOf spans r) lo ≡ true → ClosePairPost n spans links r t → ListWalked n spans links l s lo r
+      → le (endOf spans r) lo ≡ true → ClosePairPost spans links r t → ListWalked n spans links l s lo r
       → ListWalked n spans links l s lo t
   closes {l} {s} lo r t k ne below b w = record {
     done = w .done ++ pair;
@@ -274,7 +265,7 @@ module _ {n : ℕ} {spans : List Float} {links : List ℕ} where
 
   pub taking-ends : {l : List Float} {s : Float → Bool} (lo hi : Float) (t : Rest) → Readable n spans links (t .at) → lt lo hi ≡ true
       → (t .at ≡ 0) ⊎ (lt (t .from) hi ≡ false) → Taking n spans links l s lo hi t → ListWalked n spans links l (withoutPair s lo hi) lo t
-  taking-ends {l} {s} lo hi t k up end w = walked-same (w .now) (withoutPair s lo hi) (λ p. none p ∙ w .same p) (w .walked)
+  taking-ends {l} {s} lo hi t k up end w = walked-same (λ p. none p ∙ w .same p) (w .walked)
     where
       done : List Float
       done = w .walked .done

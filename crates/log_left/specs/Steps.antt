@@ -26,8 +26,8 @@ pub record StartPost (n : ℕ) (spans : List Float) (links : List ℕ) (head : �
       → ListWalked n spans links (listFrom n spans links head) (holds (listFrom n spans links head)) last r
 
 -- one pair is closed: the walk stands behind it
-abbrev pub ClosePairPost : (n : ℕ) → List Float → List ℕ → Rest → Rest → Type 0
-ClosePairPost n spans links r t = BeginPost spans (nextAt links (r .at - 1)) (r .moved) ((r .left + 1) % 2 ^ 64) t
+abbrev pub ClosePairPost : List Float → List ℕ → Rest → Rest → Type 0
+ClosePairPost spans links r t = BeginPost spans (nextAt links (r .at - 1)) (r .moved) ((r .left + 1) % 2 ^ 64) t
 
 -- the pairs that end at or before lo are closed
 pub record PassPost (n : ℕ) (spans : List Float) (links : List ℕ) (lo : Float) (r t : Rest) : Type 0 where

@@ -55,7 +55,7 @@ pub fn start(spans: &[f64], links: &[u64], n: usize, head: u64) -> Rest
 // The present pair stays as it stands, and the walk goes on behind it. The count may wrap: whoever uses it knows a bound of it.
 fn close_pair(spans: &[f64], links: &[u64], n: usize, r: Rest) -> Rest
     requires { ⌜ Readable n (now spans) (now links) (r .at) × (r .at ≡ 0 → ⊥) ⌝ }
-    ensures { λ t. ⌜ ClosePairPost n (now (spans .entry)) (now (links .entry)) r t ⌝ }
+    ensures { λ t. ⌜ ClosePairPost (now (spans .entry)) (now (links .entry)) r t ⌝ }
 {
     let k = r.at;
     let i = (k - 1) as usize;

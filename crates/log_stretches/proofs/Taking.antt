@@ -18,19 +18,10 @@ use Rattle.spans.proofs.Points.{or-false, empty-pair, holds-more, front-only, i
 use Rattle.store_read.specs.Reading.{Readable}
 use Rattle.log_keys.specs.Keys.{Stretch}
 use Rattle.log_gather.specs.Gathering.{WholePairs}
-use Rattle.log_left.specs.ListLeft.{ListWalked, withoutPair}
 use Rattle.log_left.specs.Steps.{TakePost}
 use Rattle.log_left.specs.declared.Rest.{Rest}
 use Rattle.log_left.proofs.Walking.{walked-same, walked-later}
-use Rattle.log_stretches.specs.Stretches.{Taken, TakeHeldPost}
-
--- of the points f those that `must` be are taken from the list l, and perhaps others, but none that is not of f; no hit began past `last`
-pub record Gone (n : ℕ) (spans : List Float) (links : List ℕ) (l : List Float) (f must : Float → Bool) (last : Float)
-    (r : Rest) : Type 0 where
-  pub gone : Float → Bool
-  pub walked : ListWalked n spans links l (λ p. holds l p && not (gone p)) last r
-  pub only : (p : Float) → gone p ≡ true → f p ≡ true
-  pub all : (p : Float) → must p ≡ true → f p ≡ true → gone p ≡ true
+use Rattle.log_stretches.specs.Stretches.{Gone, Taken, TakeHeldPost}
 
 -- what take_held is asked for, of the points f
 pub record TakeHeldPre (b end front : Float) (held : List Float) (f : Float → Bool) : Type 0 where
@@ -91,8 +82,7 @@ module _ {n : ℕ} {spans : List Float} {links : List ℕ} where
         → Gone n spans links l f (λ p. must p || within lo hi p) lo t
     gone-take lo hi last r t later up mine k g = record {
       gone = λ p. g .gone p || within lo hi p;
-      walked = walked-same (withoutPair left lo hi) (λ p. holds l p && not (g .gone p || within lo hi p))
-          (λ p. and-not-or (holds l p) (g .gone p) (within lo hi p)) (k .walked l left last later up (g .walked));
+      walked = walked-same (λ p. and-not-or (holds l p) (g .gone p) (within lo hi p)) (k .walked l _ last later up (g .walked));
       only = λ p h. elim (or-cases (g .gone p) (within lo hi p) h) [
         | inl a ↦ g .only p a
         | inr a ↦ mine p a
@@ -102,9 +92,6 @@ module _ {n : ℕ} {spans : List Float} {links : List ℕ} where
         | inr a ↦ or-right (g .gone p) (within lo hi p) a
       ];
     }
-      where
-        left : Float → Bool
-        left p = holds l p && not (g .gone p)
 
     -- the same hits, told otherwise
     gone-told : (must′ : Float → Bool) (last last′ : Float) (r : Rest) → le last last′ ≡ true
@@ -116,10 +103,6 @@ module _ {n : ℕ} {spans : List Float} {links : List ℕ} where
       only = g .only;
       all = λ p h m. g .all p (so p h m) m;
     }
-
-  gone-start : {l : List Float} {f : Float → Bool} (b : Float) (r : Rest) → Taken n spans links l f b r
-      → Gone n spans links l f (λ p. lt p b) b r
-  gone-start b r k = record { gone = k .gone; walked = k .walked; only = k .only; all = k .all }
 
   module _ (b end front : Float) (held : List Float) where
     -- ---- no pair is taken yet
@@ -140,13 +123,13 @@ module _ {n : ℕ} {spans : List Float} {links : List ℕ} where
           (λ p h. elim (or-cases (lt p b) (within b front p) h) [
             | inl a ↦ a
             | inr a ↦ absurd (clash (within b front p) a (empty-pair b front p none))
-          ]) (gone-start b r k)
+          ]) k
 
       start-front : (r t : Rest) → lt b front ≡ true → TakePost n spans links b front r t → Taken n spans links l f b r
           → Partly n spans links b end front held l f 0 t
       start-front r t up takes k =
           partly-start (λ p. lt p b || within b front p) t (λ p h. h)
-          (gone-take b front b r t (starts due) up (due .stretch .only-front) takes (gone-start b r k))
+          (gone-take b front b r t (starts due) up (due .stretch .only-front) takes k)
 
       -- ---- a pair more
       module _ (i : ℕ) (e : i % 2 ≡ 0) where
@@ -180,9 +163,7 @@ module _ {n : ℕ} {spans : List Float} {links : List ℕ} where
         -- ---- the rest begins past the end
         partly-all : (t : Rest) → i ≤ length held → (i < length held → lt (getD held i nan) end ≡ false)
             → Partly n spans links b end front held l f i t → Taken n spans links l f end t
-        partly-all t fit stop k =
-            let g = gone-told (λ p. lt p end) (k .last) end t (k .within-end) covered (k .taken) in
-            record { gone = g .gone; walked = g .walked; only = g .only; all = g .all }
+        partly-all t fit stop k = gone-told (λ p. lt p end) (k .last) end t (k .within-end) covered (k .taken)
           where
             in-front : (p : Float) → lt p end ≡ true → i < length held → lt p (getD held i nan) ≡ true
             in-front p h j = lt-le-trans p end (getD held i nan) h

@@ -11,12 +11,17 @@ use Rattle.log_keys.specs.Keys.{Stretch}
 use Rattle.log_left.specs.ListLeft.{ListWalked}
 use Rattle.log_left.specs.declared.Rest.{Rest}
 
--- of the points f those below b are taken from the list l, and perhaps others, but none that is not of f
-pub record Taken (n : ℕ) (spans : List Float) (links : List ℕ) (l : List Float) (f : Float → Bool) (b : Float) (r : Rest) : Type 0 where
+-- of the points f those that `must` be are taken from the list l, and perhaps others, but none that is not of f; no hit began past `last`
+pub record Gone (n : ℕ) (spans : List Float) (links : List ℕ) (l : List Float) (f must : Float → Bool) (last : Float)
+    (r : Rest) : Type 0 where
   pub gone : Float → Bool
-  pub walked : ListWalked n spans links l (λ p. holds l p && not (gone p)) b r
+  pub walked : ListWalked n spans links l (λ p. holds l p && not (gone p)) last r
   pub only : (p : Float) → gone p ≡ true → f p ≡ true
-  pub all : (p : Float) → lt p b ≡ true → f p ≡ true → gone p ≡ true
+  pub all : (p : Float) → must p ≡ true → f p ≡ true → gone p ≡ true
+
+-- those below b must be
+abbrev pub Taken : (n : ℕ) (spans : List Float) (links : List ℕ) (l : List Float) (f : Float → Bool) (b : Float) (r : Rest) → Type 0
+Taken n spans links l f b r = Gone n spans links l f (λ p. lt p b) b r
 
 -- a stretch is taken
 pub record TakeHeldPost (n : ℕ) (spans : List Float) (links : List ℕ) (b end front : Float) (held : List Float) (r t : Rest) : Type 0 where
