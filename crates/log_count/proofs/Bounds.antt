@@ -82,7 +82,7 @@ no-hits l = refl
 none-taken : (l : List Float) → sound l ≡ true → startsLeft l [] ≡ length l / 2
 none-taken l s = sym (pairs-left l [] l s (record { isSound = s; points = λ p. sym (unfold holds in and-true (holds l p)) }))
 
-module _ (spec : DexelStockSpec) (g : DexelGrid) (c : Cells) (intervals : ℕ) (log : List Float)
+module _ {spec : DexelStockSpec} {g : DexelGrid} {c : Cells} {intervals : ℕ} {log : List Float}
     (ok : Countable spec g c intervals log) where
   stock : Stock
   stock = record { cells = c; generation = 0; intervals = intervals }

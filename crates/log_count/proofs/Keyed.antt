@@ -11,8 +11,8 @@ use Rattle.grid.specs.declared.DexelGrid.{DexelGrid}
 use Rattle.spans.specs.Spans.{holds}
 use Rattle.log_model.specs.Logs.{entryCount}
 use Rattle.log_entries.specs.Named.{EachNamed}
-use Rattle.log_keys.specs.Keys.{entryOfKey, hitsTo}
-use Rattle.log_keys.proofs.Hits.{hits-struck, struck-hits, losesOf, lost-holds, holds-lost}
+use Rattle.log_keys.specs.Keys.{entryOfKey, hitsTo, losesOf}
+use Rattle.log_keys.proofs.Hits.{hits-struck, struck-hits, lost-holds, holds-lost}
 use Rattle.log_count.specs.Steps.{KeysOf}
 
 pub keyed-points : (g : DexelGrid) (log : List Float) (ray : ℕ) (keys : List ℕ) (certain : Bool) → 0 < entryCount log → EachNamed g log

@@ -4,7 +4,6 @@ pub mod Starts
 pub mod Bounds
 pub mod Keyed
 pub mod Fronts
-pub mod Infinity
 pub mod Stretched
 pub mod Wholes
 pub mod Prefixes

@@ -1,20 +1,20 @@
 -- What the steps of counting one ray ask and promise.
 use mathlib.Core.Path.{_≡_}
-use mathlib.Core.Bool.{true, cond, _||_}
-use mathlib.Core.List.{List, _++_}
+use mathlib.Core.Bool.{Bool, true, false, cond, _||_}
+use mathlib.Core.List.{List}
 use mathlib.Core.Logic.{_⊎_}
 use Prim.Native.Nat.{ℕ, _+_, _-_, _/_, _%_, _^_, _≤_, _<_}
 use lib.ListN.{length, getD}
-use lib.Ieee.{Float, lt, le, binary64, ofBits}
+use lib.Ieee.{Float, lt, le}
 use Rattle.spans.specs.Spans.{holds, sound, less}
 use Rattle.grid.specs.Rays.{rayCount}
 use Rattle.grid.specs.declared.DexelStockSpec.{DexelStockSpec}
 use Rattle.grid.specs.declared.DexelGrid.{DexelGrid}
 use Rattle.store_read.specs.Reading.{Readable}
-use Rattle.log_model.specs.Logs.{entries, entryAt, entryCount, entryRay, outer, inner, hitsOnRay}
+use Rattle.log_model.specs.Logs.{entryAt, entryCount, entryRay}
 use Rattle.log_model.specs.Counts.{isHitBy, startsLeft}
 use Rattle.log_entries.specs.Named.{EachNamed}
-use Rattle.log_keys.specs.Keys.{entryOfKey, pairsPast}
+use Rattle.log_keys.specs.Keys.{entryOfKey, losesOf, top, pairsPast}
 use Rattle.log_left.specs.ListLeft.{ListWalked}
 use Rattle.log_left.specs.declared.Rest.{Rest}
 use Rattle.log_gather.specs.Gathering.{Shaped}
@@ -24,10 +24,6 @@ use Rattle.log_count.specs.declared.ListCount.{ListCount}
 use Rattle.log_count.specs.declared.RayTotals.{RayTotals}
 use Rattle.log_count.specs.declared.RayWalks.{RayWalks}
 use Rattle.store.specs.Store.{listFrom, Cells}
-
--- plus infinity, which no hit reaches past
-abbrev pub top : Float
-top = ofBits binary64 0x7ff0_0000_0000_0000
 
 -- whether a list changes when the hits are taken from it, its pairs, and the pairs it then has
 pub record ListCounted (l hits : List Float) (t : ListCount) : Type 0 where
@@ -75,36 +71,29 @@ pub record KeysOf (g : DexelGrid) (log : List Float) (ray : ℕ) (keys : List �
   pub all : (i : ℕ) → i < entryCount log → entryRay g (entryAt log i) ≡ ray
       → (t : ℕ) × (t < length keys) × (getD keys t 0 % entryCount log ≡ i)
 
--- what the ray's possible list loses, and its certain list
-abbrev pub possibleLoses : DexelGrid → List Float → ℕ → List Float
-possibleLoses g log ray = hitsOnRay g (entries log) ray inner
-
-abbrev pub certainLoses : DexelGrid → List Float → ℕ → List Float
-certainLoses g log ray = hitsOnRay g (entries log) ray outer ++ hitsOnRay g (entries log) ray inner
+-- the walk of one of a ray's lists
+abbrev pub walkIn : (certain : Bool) → RayWalks → Rest
+walkIn true w = w .certain
+walkIn false w = w .possible
 
 -- what is asked to take a stretch of a ray's hits from both its lists
 pub record TakePartPre (g : DexelGrid) (n : ℕ) (spans : List Float) (links : List ℕ) (log : List Float) (keys : List ℕ)
-    (buffer : List Float)
-    (p c : Rest) : Type 0 where
+    (buffer : List Float) (w : RayWalks) : Type 0 where
   pub few : rayCount g ≤ 2 ^ 53
   pub named : EachNamed g log
   pub some : 0 < entryCount log
   pub keys-some : 0 < length keys
   pub shaped : Shaped buffer
-  pub possible-readable : Readable n spans links (p .at)
-  pub certain-readable : Readable n spans links (c .at)
+  pub readable : (certain : Bool) → Readable n spans links (walkIn certain w .at)
 
--- a stretch from b on is taken; it ends at plus infinity, or before it in a hit that begins past b
-pub record TakePartPost (g : DexelGrid) (n : ℕ) (spans : List Float) (links : List ℕ) (log : List Float) (ray : ℕ) (last b : Float)
-    (p c : Rest) (keysBefore keysAfter : List ℕ)
-    (before after : List Float) (r : RayWalks) : Type 0 where
+-- a stretch is taken; it ends at plus infinity, or before it in a hit that begins past its start
+pub record TakePartPost (g : DexelGrid) (n : ℕ) (spans : List Float) (links : List ℕ) (log : List Float) (ray : ℕ) (w : RayWalks)
+    (keysBefore keysAfter : List ℕ) (before after : List Float) (r : RayWalks) : Type 0 where
   pub keys-size : length keysAfter ≡ length keysBefore
   pub size : length after ≡ length before
-  pub possible-readable : Readable n spans links (r .possible .at)
-  pub certain-readable : Readable n spans links (r .certain .at)
-  pub onward : last ≡ top → le b last ≡ true → le b (r .end) ≡ true
-  pub ends : (r .end ≡ last) ⊎ ((lt (r .end) last ≡ true) × (holds (pairsPast b (certainLoses g log ray)) (r .end) ≡ true))
-  pub possible : (l : List Float) → last ≡ top → le b last ≡ true → Taken n spans links l (holds (possibleLoses g log ray)) b p
-      → Taken n spans links l (holds (possibleLoses g log ray)) (r .end) (r .possible)
-  pub certain : (l : List Float) → last ≡ top → le b last ≡ true → Taken n spans links l (holds (certainLoses g log ray)) b c
-      → Taken n spans links l (holds (certainLoses g log ray)) (r .end) (r .certain)
+  pub readable : (certain : Bool) → Readable n spans links (walkIn certain r .at)
+  pub onward : le (w .end) top ≡ true → le (w .end) (r .end) ≡ true
+  pub ends : (r .end ≡ top) ⊎ ((lt (r .end) top ≡ true) × (holds (pairsPast (w .end) (losesOf g log ray true)) (r .end) ≡ true))
+  pub taken : (certain : Bool) (l : List Float) → le (w .end) top ≡ true
+      → Taken n spans links l (holds (losesOf g log ray certain)) (w .end) (walkIn certain w)
+      → Taken n spans links l (holds (losesOf g log ray certain)) (r .end) (walkIn certain r)

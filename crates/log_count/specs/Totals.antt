@@ -1,7 +1,7 @@
 -- The count of changed rays and of pairs, one ray at a time.
 use mathlib.Core.Path.{_≡_}
-use mathlib.Core.Bool.{Bool, cond, _||_}
-use mathlib.Core.List.{List, _++_}
+use mathlib.Core.Bool.{Bool, true, false, cond, _||_}
+use mathlib.Core.List.{List}
 use Prim.Native.Nat.{ℕ, zero, suc, _+_, _*_, _/_}
 use lib.ListN.{length}
 use lib.Ieee.{Float}
@@ -9,9 +9,10 @@ use Rattle.grid.specs.Rays.{rayCount}
 use Rattle.grid.specs.declared.DexelStockSpec.{DexelStockSpec}
 use Rattle.grid.specs.declared.DexelGrid.{DexelGrid}
 use Rattle.stock.specs.Stock.{SoundCells, rayList, Possible, Certain}
-use Rattle.log_model.specs.Logs.{entries, outer, inner, hitsOnRay}
+use Rattle.log_model.specs.Logs.{entries, hitsOnRay}
 use Rattle.log_model.specs.Counts.{isHitBy, startsLeft}
 use Rattle.log_entries.specs.Named.{EachNamed}
+use Rattle.log_keys.specs.Keys.{losesOf}
 use Rattle.log_count.specs.declared.RayTotals.{RayTotals}
 use Rattle.grid.specs.Facts.{GridFacts}
 use Rattle.store.specs.Steps.{Room}
@@ -44,15 +45,13 @@ pairsOf spec c ray = length (rayList spec c ray Possible) / 2 + length (rayList 
 unfoldable pub leftOf : DexelStockSpec → DexelGrid → Cells → List Float → ℕ → ℕ
 unfolding startsLeft hitsOnRay entries
 leftOf spec g c log ray =
-    startsLeft (rayList spec c ray Possible) (hitsOnRay g (entries log) ray inner)
-    + startsLeft (rayList spec c ray Certain) (hitsOnRay g (entries log) ray outer ++ hitsOnRay g (entries log) ray inner)
+    startsLeft (rayList spec c ray Possible) (losesOf g log ray false) + startsLeft (rayList spec c ray Certain) (losesOf g log ray true)
 
 -- the ray would change
 unfoldable pub rayChangeCount : DexelStockSpec → DexelGrid → Cells → List Float → ℕ → Bool
 unfolding isHitBy hitsOnRay entries
 rayChangeCount spec g c log ray =
-    isHitBy (rayList spec c ray Possible) (hitsOnRay g (entries log) ray inner)
-    || isHitBy (rayList spec c ray Certain) (hitsOnRay g (entries log) ray outer ++ hitsOnRay g (entries log) ray inner)
+    isHitBy (rayList spec c ray Possible) (losesOf g log ray false) || isHitBy (rayList spec c ray Certain) (losesOf g log ray true)
 
 -- ---- all rays
 

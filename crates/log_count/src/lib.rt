@@ -63,7 +63,7 @@ fn count_list(
         (hitsTo (now (log .entry)) (now (keys .entry)) certain (length (now (keys .entry))))
         (now (buffer .entry)) (now (buffer .exit)) r ⌝ }
 {
-    let top = doubles_bits::of_bits(0x7ff0_0000_0000_0000);
+    let top = 1.0 / 0.0;
     let r = log_left::start(spans, links, n, head);
     let t = log_stretches::take_hits(
         spans,
@@ -129,7 +129,7 @@ pub fn count_ray(
     add_ray(t, p, c)
 }
 
-// Takes one stretch of a long ray's hits, from b on, from both its lists.
+// Takes one stretch of a long ray's hits from both its lists, from where they are taken already.
 fn take_part(
     g: DexelGrid,
     spans: &[f64],
@@ -139,48 +139,47 @@ fn take_part(
     ray: usize,
     keys: &mut [u64],
     buffer: &mut [f64],
-    top: f64,
-    b: f64,
-    p: Rest,
-    c: Rest,
+    from: RayWalks,
 ) -> RayWalks
-    requires { ⌜ TakePartPre g n (now spans) (now links) (now log) (now keys) (now buffer) p c ⌝ }
-    ensures { λ r. ⌜ TakePartPost g n (now (spans .entry)) (now (links .entry)) (now (log .entry)) ray top b p c
+    requires { ⌜ TakePartPre g n (now spans) (now links) (now log) (now keys) (now buffer) from ⌝ }
+    ensures { λ r. ⌜ TakePartPost g n (now (spans .entry)) (now (links .entry)) (now (log .entry)) ray from
         (now (keys .entry)) (now (keys .exit)) (now (buffer .entry)) (now (buffer .exit)) r ⌝ }
 {
-    let w = log_long::gather_ray(g, log, ray, top, b, keys);
-    let m = w.count;
+    let b = from.end;
+    let w = log_long::gather_ray(g, log, ray, b, keys);
+    let held = w.keys;
+    let m = held.count;
     let both = span_overlay::higher(w.outer, w.inner);
     let possible = log_stretches::take_hits(
         spans,
         links,
         n,
-        p,
+        from.possible,
         log,
         &keys[..m],
         false,
         buffer,
         b,
-        w.end,
+        held.end,
         w.inner,
     );
     let certain = log_stretches::take_hits(
         spans,
         links,
         n,
-        c,
+        from.certain,
         log,
         &keys[..m],
         true,
         buffer,
         b,
-        w.end,
+        held.end,
         both,
     );
     RayWalks {
         possible,
         certain,
-        end: w.end,
+        end: held.end,
     }
 }
 
@@ -203,24 +202,25 @@ pub fn count_long(
         (now (buffer .entry)) (now (buffer .exit)) r ⌝ }
 {
     let n = spec.max_intervals as usize;
-    let top = doubles_bits::of_bits(0x7ff0_0000_0000_0000);
+    let top = 1.0 / 0.0;
     let h = heads[2 * ray];
     let k = heads[2 * ray + 1];
-    let mut p = log_left::start(spans, links, n, h);
-    let mut c = log_left::start(spans, links, n, k);
-    let mut b = -top;
+    let p = log_left::start(spans, links, n, h);
+    let c = log_left::start(spans, links, n, k);
+    let mut w = RayWalks {
+        possible: p,
+        certain: c,
+        end: -top,
+    };
     loop {
-        let w = take_part(g, spans, links, n, log, ray, keys, buffer, top, b, p, c);
-        p = w.possible;
-        c = w.certain;
+        w = take_part(g, spans, links, n, log, ray, keys, buffer, w);
         if !(w.end < top) {
             break;
         }
-        b = w.end;
     }
     add_ray(
         t,
-        end_list(spans, links, n, h, p),
-        end_list(spans, links, n, k, c),
+        end_list(spans, links, n, h, w.possible),
+        end_list(spans, links, n, k, w.certain),
     )
 }

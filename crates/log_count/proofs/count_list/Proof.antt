@@ -1,7 +1,7 @@
 -- `log_count::count_list` meets its contract: all points lie between the infinities, so that the one stretch between them is the
 -- whole list.
 use borrow.Author.Needs.{needs}
-use Rattle.log_count.specs.Steps.{top}
+use Rattle.log_keys.specs.Keys.{top}
 use Rattle.log_count.proofs.Wholes.{whole-walked}
 use Rattle.log_count.proofs.count_list.Statement.{statement}
 use Rattle.log_count.proofs.count_list.Tie as tie
@@ -9,18 +9,16 @@ use Rattle.log_count.proofs.count_list.Tie as tie
 returns : tie.Need-returns
 returns c =
     let taken = c .before .before .before in
-    let begun = taken .before .before in
     record {
       size = search needs;
-      counted = λ hits s e. c .end-list .ensures hits top s (whole-walked hits (begun .start .ensures)
-          (rw (begun .before .of-bits .ensures) at (taken .take-hits .ensures)) s e);
+      counted = λ hits s e.
+          c .end-list .ensures hits top s (whole-walked hits (taken .before .before .start .ensures) (taken .take-hits .ensures) s e);
     }
 
 pub count-list-spec : {M : Type 1} → statement M
 count-list-spec =
     tie.close
     (tie.spec
-    (λ c κs. search needs)
     (λ c κs. search needs)
     (λ c κs. search needs)
     (λ c κs. search needs)

@@ -1,128 +1,98 @@
 -- `log_count::count_long` meets its contract. The loop goes from stretch to stretch, and each but the last leaves fewer hits that begin
 -- past it.
 use mathlib.Core.Path.{_∙_}
+use mathlib.Core.Bool.{true, false}
 use borrow.Author.Needs.{needs}
 use native.Mathlib.Omega.{arith}
 use lib.ListN.{length}
 use Rattle.logic.proofs.Bools.{not-true, not-false}
-use Rattle.log_keys.specs.Keys.{pairsPast}
+use Rattle.log_keys.specs.Keys.{losesOf, pairsPast}
 use Rattle.log_gather.proofs.Entries.{same-shape}
-use Rattle.log_count.specs.Steps.{certainLoses}
 use Rattle.log_count.proofs.Bounds.{few-rays}
-use Rattle.log_count.proofs.Asking.{possible-readable, certain-readable, possible-sound, certain-sound, asked-addable, asked-added}
-use Rattle.log_count.proofs.Onward.{TakenTo, onward-start, onward-next, onward-falls, onward-possible, onward-certain}
+use Rattle.log_count.proofs.Asking.{list-readable, list-sound}
+use Rattle.log_count.proofs.Prefixes.{ray-addable, ray-added}
+use Rattle.log_count.proofs.Onward.{TakenTo, onward-start, onward-next, onward-falls, onward-counted}
 use Rattle.log_count.proofs.count_long.Statement.{statement}
-use Rattle.store.specs.Store.{cells}
 use Rattle.log_count.proofs.count_long.Tie as tie
 
 abbrev Inv-loop : tie.InvT-loop
-Inv-loop g spans links heads log ray keys₀ buffer₀ t n top h k p₀ c₀ b₀ keys buffer p c b =
-    TakenTo g n spans links log ray h k keys₀ keys buffer₀ buffer top b p c
+Inv-loop g spans links heads log ray keys₀ buffer₀ t n top h k w₀ keys buffer w =
+    TakenTo g n spans links log ray h k keys₀ keys buffer₀ buffer w
 
 abbrev μ-loop : tie.MeasureT-loop
-μ-loop g spans links heads log ray keys₀ buffer₀ t n top h k p₀ c₀ b₀ keys buffer p c b = length (pairsPast b (certainLoses g log ray))
-
-start-requires : tie.Need-start-requires Inv-loop μ-loop
-start-requires c κs = possible-readable (c .before .before .before .before .before .before .before .before .before .pre .0)
-
-start-requires-2 : tie.Need-start-requires-2 Inv-loop μ-loop
-start-requires-2 c κs = certain-readable (c .before .before .before .before .before .before .before .before .before .before .pre .0)
+μ-loop g spans links heads log ray keys₀ buffer₀ t n top h k w₀ keys buffer w = length (pairsPast (w .end) (losesOf g log ray true))
 
 loop-holds : tie.Need-loop-holds Inv-loop μ-loop
 loop-holds c =
-    let bits = c .before .before .before .before in
-    let asked = bits .before .before .before .before .before .before .before .pre .0 in
-    onward-start (bits .of-bits .ensures) (possible-sound asked) (certain-sound asked) (c .before .start .ensures) (c .start2 .ensures)
+    let asked = c .before .before .before .before .before .before .before .before .before .before .pre .0 in
+    onward-start (list-sound asked false) (list-sound asked true) (c .before .start .ensures) (c .start2 .ensures)
 
 take-part-requires : tie.Need-take-part-requires Inv-loop μ-loop
 take-part-requires c κs =
     let inv = c .before .before .loop .inv in
-    let bits = c .before .before .before .before .before .before .before in
-    let start = bits .before .before .before .before .before .before .before in
-    let given = start .args in
+    let start = c .before .before .before .before .before .before .before .before .before .before .before .before .before in
     let asked = start .pre .0 in
     record {
-      few = few-rays (given .spec) (given .g) (cells (given .spans .now) (given .links .now) (given .heads .now))
-          (asked .counting .intervals) (given .log .now)
-          (asked .counting .countable);
+      few = few-rays (asked .counting .countable);
       named = asked .counting .countable .named;
       some = asked .some;
       keys-some = omega (arith, start .pre .1, inv .keys-size);
       shaped = same-shape _ _ (inv .size) (asked .shaped);
-      possible-readable = inv .possible-readable;
-      certain-readable = inv .certain-readable;
+      readable = inv .readable;
     }
 
 loop-less : tie.Need-loop-less Inv-loop μ-loop
 loop-less c =
-    let part = c .before .before .before .before .before .before .before .before in
-    let loop = part .before .before .before in
-    let bits = loop .before .before .before .before .before in
-    onward-falls (bits .of-bits .ensures) (loop .loop .inv) (part .take-part .ensures) (not-false _ (c .if1 .left))
+    let part = c .before .before .before .before .before .before in
+    onward-falls (part .before .before .before .loop .inv) (part .take-part .ensures) (not-false _ (c .if1 .left))
 
 loop-again : tie.Need-loop-again Inv-loop μ-loop
 loop-again c =
-    let part = c .before .before .before .before .before .before .before .before in
-    let loop = part .before .before .before in
-    let bits = loop .before .before .before .before .before in
-    onward-next (bits .of-bits .ensures) (loop .loop .inv) (part .take-part .ensures)
+    let part = c .before .before .before .before .before .before in
+    onward-next (part .before .before .before .loop .inv) (part .take-part .ensures)
 
 end-list-requires : tie.Need-end-list-requires Inv-loop μ-loop
 end-list-requires c κs =
-    let part = c .before .before .before .before .before .before .before .before in
-    let bits = part .before .before .before .before .before .before .before .before in
-    let asked = bits .before .before .before .before .before .before .before .pre .0 in
-    (possible-readable asked, part .take-part .ensures .possible-readable)
+    let part = c .before .before .before .before .before .before in
+    (list-readable (part .before .before .before .before .before .before .before .before .before .before .before .before .before .before .pre .0) false, part .take-part .ensures .readable false)
 
 end-list-requires-2 : tie.Need-end-list-requires-2 Inv-loop μ-loop
 end-list-requires-2 c κs =
-    let part = c .before .before .before .before .before .before .before .before .before in
-    let bits = part .before .before .before .before .before .before .before .before in
-    let asked = bits .before .before .before .before .before .before .before .pre .0 in
-    (certain-readable asked, part .take-part .ensures .certain-readable)
+    let part = c .before .before .before .before .before .before .before in
+    (list-readable (part .before .before .before .before .before .before .before .before .before .before .before .before .before .before .pre .0) true, part .take-part .ensures .readable true)
 
 add-ray-requires : tie.Need-add-ray-requires Inv-loop μ-loop
 add-ray-requires c κs =
-    let last = not-true _ (c .before .before .if1 .taken) in
-    let part = c .before .before .before .before .before .before .before .before .before .before in
-    let loop = part .before .before .before in
-    let bits = loop .before .before .before .before .before in
-    let start = bits .before .before .before .before .before .before .before in
+    let part = c .before .before .before .before .before .before .before .before in
+    let start = part .before .before .before .before .before .before .before .before .before .before .before .before .before .before in
     let asked = start .pre .0 in
-    asked-addable asked (omega (arith, asked .counting .countable .room .in-spans, start .good, start .fits))
-    (onward-possible (bits .of-bits .ensures) (loop .loop .inv) (part .take-part .ensures) last (possible-sound asked)
-    (c .before .end-list .ensures))
-    (onward-certain (bits .of-bits .ensures) (loop .loop .inv) (part .take-part .ensures) last (certain-sound asked)
-    (c .end-list2 .ensures))
+    let told = onward-counted (part .before .before .before .loop .inv) (part .take-part .ensures) (not-true _ (c .before .before .if1 .taken)) in
+    ray-addable asked (omega (arith, asked .counting .countable .room .in-spans, start .good, start .fits))
+    (told false _ (list-sound asked false) (c .before .end-list .ensures)) (told true _ (list-sound asked true) (c .end-list2 .ensures))
 
 same-length : tie.Need-same-length Inv-loop μ-loop
 same-length c =
-    let part = c .before .before .before .before .before .before .before .before .before .before .before in
+    let part = c .before .before .before .before .before .before .before .before .before in
     part .take-part .ensures .keys-size ∙ part .before .before .before .loop .inv .keys-size
 
 same-length-2 : tie.Need-same-length-2 Inv-loop μ-loop
 same-length-2 c =
-    let part = c .before .before .before .before .before .before .before .before .before .before .before in
+    let part = c .before .before .before .before .before .before .before .before .before in
     part .take-part .ensures .size ∙ part .before .before .before .loop .inv .size
 
 returns : tie.Need-returns Inv-loop μ-loop
 returns c =
-    let last = not-true _ (c .before .before .before .if1 .taken) in
-    let part = c .before .before .before .before .before .before .before .before .before .before .before in
-    let loop = part .before .before .before in
-    let bits = loop .before .before .before .before .before in
-    let start = bits .before .before .before .before .before .before .before in
+    let part = c .before .before .before .before .before .before .before .before .before in
+    let start = part .before .before .before .before .before .before .before .before .before .before .before .before .before .before in
     let asked = start .pre .0 in
-    let taken = onward-next (bits .of-bits .ensures) (loop .loop .inv) (part .take-part .ensures) in (
-      taken .keys-size,
+    let inv = part .before .before .before .loop .inv in
+    let told = onward-counted inv (part .take-part .ensures) (not-true _ (c .before .before .before .if1 .taken)) in (
+      same-length c,
       record {
-        size = taken .size;
-        prefixed = asked-added asked (omega (arith, asked .counting .countable .room .in-spans, start .good, start .fits))
-            (onward-possible (bits .of-bits .ensures) (loop .loop .inv) (part .take-part .ensures) last (possible-sound asked)
-            (c .before .before .end-list .ensures))
-            (onward-certain (bits .of-bits .ensures) (loop .loop .inv) (part .take-part .ensures) last (certain-sound asked)
-            (c .before .end-list2 .ensures))
-            _ (c .add-ray .ensures);
+        size = same-length-2 c;
+        prefixed = ray-added asked (omega (arith, asked .counting .countable .room .in-spans, start .good, start .fits))
+            (told false _ (list-sound asked false) (c .before .before .end-list .ensures))
+            (told true _ (list-sound asked true) (c .before .end-list2 .ensures)) _ (c .add-ray .ensures);
       },
     )
 
@@ -132,7 +102,6 @@ count-long-spec =
     (tie.spec
     Inv-loop
     μ-loop
-    (λ c κs. search needs)
     (λ c. search needs)
     (λ c. search needs)
     (λ c. search needs)
@@ -140,8 +109,8 @@ count-long-spec =
     (λ c. search needs)
     (λ c. search needs)
     (λ c. search needs)
-    start-requires
-    start-requires-2
+    (λ c κs. list-readable (c .before .before .before .before .before .before .before .before .pre .0) false)
+    (λ c κs. list-readable (c .before .before .before .before .before .before .before .before .before .pre .0) true)
     loop-holds
     take-part-requires
     loop-less

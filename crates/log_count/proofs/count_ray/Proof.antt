@@ -1,21 +1,23 @@
 -- `log_count::count_ray` meets its contract.
+use mathlib.Core.Bool.{true, false}
 use borrow.Author.Needs.{needs}
 use native.Mathlib.Omega.{arith}
 use Rattle.log_gather.proofs.Entries.{same-shape}
-use Rattle.log_count.proofs.Asking.{possible-readable, certain-readable, keyed-possible, keyed-certain, asked-addable, asked-added}
+use Rattle.log_count.proofs.Asking.{list-readable, keyed}
+use Rattle.log_count.proofs.Prefixes.{ray-addable, ray-added}
 use Rattle.log_count.proofs.count_ray.Statement.{statement}
 use Rattle.log_count.proofs.count_ray.Tie as tie
 
 count-list-requires : tie.Need-count-list-requires
 count-list-requires c κs =
     let asked = c .before .before .before .before .before .before .before .before .pre .0 in
-    (possible-readable asked, asked .shaped, asked .some)
+    (list-readable asked false, asked .shaped, asked .some)
 
 count-list-requires-2 : tie.Need-count-list-requires-2
 count-list-requires-2 c κs =
     let first = c .before .before .before .before in
     let asked = first .before .before .before .before .before .before .before .before .before .pre .0 in
-    (certain-readable asked, same-shape _ _ (first .count-list .ensures .size) (asked .shaped), asked .some)
+    (list-readable asked true, same-shape _ _ (first .count-list .ensures .size) (asked .shaped), asked .some)
 
 add-ray-requires : tie.Need-add-ray-requires
 add-ray-requires c κs =
@@ -23,9 +25,9 @@ add-ray-requires c κs =
     let first = second .before .before .before .before .before in
     let start = first .before .before .before .before .before .before .before .before .before in
     let asked = start .pre .0 in
-    asked-addable asked (omega (arith, asked .counting .countable .room .in-spans, start .good, start .fits))
-    (keyed-possible asked (start .pre .1) (first .count-list .ensures))
-    (keyed-certain asked (start .pre .1) (second .count-list2 .ensures))
+    ray-addable asked (omega (arith, asked .counting .countable .room .in-spans, start .good, start .fits))
+    (keyed asked false (start .pre .1) (first .count-list .ensures))
+    (keyed asked true (start .pre .1) (second .count-list2 .ensures))
 
 returns : tie.Need-returns
 returns c =
@@ -35,9 +37,9 @@ returns c =
     let asked = start .pre .0 in
     record {
       size = search needs;
-      prefixed = asked-added asked (omega (arith, asked .counting .countable .room .in-spans, start .good, start .fits))
-          (keyed-possible asked (start .pre .1) (first .count-list .ensures))
-          (keyed-certain asked (start .pre .1) (second .count-list2 .ensures)) _ (c .add-ray .ensures);
+      prefixed = ray-added asked (omega (arith, asked .counting .countable .room .in-spans, start .good, start .fits))
+          (keyed asked false (start .pre .1) (first .count-list .ensures))
+          (keyed asked true (start .pre .1) (second .count-list2 .ensures)) _ (c .add-ray .ensures);
     }
 
 pub count-ray-spec : {M : Type 1} → statement M
