@@ -35,7 +35,7 @@ none-from g log ray i (suc k) f =
 abbrev pub NoEntry : DexelGrid → List Float → (r e : ℕ) → Type 0
 NoEntry g log r e = (i : ℕ) → i < entryCount log → r ≤ entryRay g (entryAt log i) → entryRay g (entryAt log i) < e → ⊥
 
-module _ (spec : DexelStockSpec) (g : DexelGrid) (c : Cells) (intervals : ℕ) (log : List Float)
+module _ {spec : DexelStockSpec} {g : DexelGrid} {c : Cells} {intervals : ℕ} {log : List Float}
     (ok : Countable spec g c intervals log) where
   -- ---- rays with no entry
 
@@ -48,10 +48,10 @@ module _ (spec : DexelStockSpec) (g : DexelGrid) (c : Cells) (intervals : ℕ) (
       let u : namedFrom g log ray 0 (entryCount log) ≡ [] =
       none-from g log ray 0 (entryCount log) (λ j _ l. ne-eqb (entryRay g (entryAt log j)) ray (other j (omega (arith, l)))) in
       let x : _≡_ {A = ℕ} (cond (rayChangeCount spec g c log ray) 1 0) 0 =
-      ap (λ (b : Bool). cond b 1 0) (unchanged spec g c intervals log ok ray h u) in
+      ap (λ (b : Bool). cond b 1 0) (unchanged ok ray h u) in
       record {
         changed = omega (arith, p .changed);
-        pairs = omega (arith, p .pairs, untouched spec g c intervals log ok ray h u);
+        pairs = omega (arith, p .pairs, untouched ok ray h u);
       }
 
   -- THE LAW: the totals stay over rays with no entry
@@ -69,17 +69,17 @@ module _ (spec : DexelStockSpec) (g : DexelGrid) (c : Cells) (intervals : ℕ) (
 
   pub start : (t : RayTotals) → t .changed ≡ 0 → t .pairs ≡ intervals → Prefixed spec g c log 0 t
   unfolding sumBelow
-  start t a b = record { changed = a; pairs = omega (arith, total-is spec g c intervals log ok) }
+  start t a b = record { changed = a; pairs = omega (arith, total-is ok) }
 
   pub changed-so-far : (t : RayTotals) (ray : ℕ) → ray ≤ rayCount g → Prefixed spec g c log ray t
       → t .changed ≤ changedRayCount g (rayLists spec g c) (entries log)
   changed-so-far t ray h p =
       let f : ℕ → ℕ = λ r. cond (rayChangeCount spec g c log r) 1 0 in
-      omega (arith, sum-prefix f (rayCount g) ray h, p .changed, changed-is spec g c intervals log ok)
+      omega (arith, sum-prefix f (rayCount g) ray h, p .changed, changed-is ok)
 
   pub all-counted : (t : RayTotals) (ray : ℕ) → ray ≤ rayCount g → rayCount g ≤ ray → Prefixed spec g c log ray t
       → (t .changed ≡ changedRayCount g (rayLists spec g c) (entries log)) × (t .pairs ≡ pairsAfter g (rayLists spec g c) (entries log))
   all-counted t ray x y q =
       let e : ray ≡ rayCount g = omega arith in
       let p : Prefixed spec g c log (rayCount g) t = rw e at q in
-      (p .changed ∙ sym (changed-is spec g c intervals log ok), omega (arith, p .pairs, left-is spec g c intervals log ok))
+      (p .changed ∙ sym (changed-is ok), omega (arith, p .pairs, left-is ok))

@@ -58,7 +58,7 @@ module _ {spec : DexelStockSpec} {g : DexelGrid} {c : Cells} {log : List Float} 
       (ap (λ (k : ℕ). entryRay g (entryAt log k)) p ∙ sym r, omega arith)
 
   pub ray-fits : (t : ℕ) → t < m → rayAt log first keys t < 2 ^ 53
-  ray-fits t h = omega (arith, key-ray t h .1, b .inside, few-rays spec g c (a .counting .intervals) log (a .counting .countable))
+  ray-fits t h = omega (arith, key-ray t h .1, b .inside, few-rays (a .counting .countable))
 
   -- each entry on such a ray has one
   entry-key : (i : ℕ) → i < entryCount log → first ≤ entryRay g (entryAt log i) → entryRay g (entryAt log i) < first + width
@@ -97,7 +97,7 @@ module _ {spec : DexelStockSpec} {g : DexelGrid} {c : Cells} {log : List Float} 
     -- no entry lies between what is counted and the next key's ray
     before-ray : Prefixed spec g c log (rayAt log first keys i) t
     before-ray =
-        pass-rays spec g c (a .counting .intervals) log (a .counting .countable) t (s .upto) (rayAt log first keys i)
+        pass-rays (a .counting .countable) t (s .upto) (rayAt log first keys i)
         (s .ahead i (omega arith) fit) (omega (arith, key-ray i fit .1, b .inside)) none (s .prefixed)
       where
         none : NoEntry g log (s .upto) (rayAt log first keys i)
@@ -163,7 +163,7 @@ module _ {spec : DexelStockSpec} {g : DexelGrid} {c : Cells} {log : List Float} 
   pub reached-end : {i : ℕ} {t : RayTotals} → m ≤ i → CountedBelow spec g c log first width keys m i t
       → Prefixed spec g c log (first + width) t
   reached-end {i} {t} l s =
-      pass-rays spec g c (a .counting .intervals) log (a .counting .countable) t (s .upto) (first + width)
+      pass-rays (a .counting .countable) t (s .upto) (first + width)
       (s .most) (b .inside) none (s .prefixed)
     where
       none : NoEntry g log (s .upto) (first + width)

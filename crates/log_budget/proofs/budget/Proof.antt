@@ -9,19 +9,19 @@ use Rattle.log_budget.proofs.budget.Tie as tie
 add-if2 : tie.Need-add-if2
 add-if2 c =
     let pre = c .before .before .before .before .before .before .pre in
-    omega (arith, total-fits _ _ _ _ _ pre, pre .room .in-spans)
+    omega (arith, total-fits pre, pre .room .in-spans)
 
 returns : tie.Need-returns
 returns c =
     let pre = c .before .before .before .before .before .before .before .before .pre in
-    both-kept _ _ _ _ (rays-allowed _ _ _ _ _ pre (c .before .before .before .allows-all .ensures (c .before .before .if1 .taken)))
-    (omega (arith, pairs-le _ _ _ _ _ pre, c .if2 .taken))
+    both-kept _ _ _ _ (rays-allowed pre (c .before .before .before .allows-all .ensures (c .before .before .if1 .taken)))
+    (omega (arith, pairs-le pre, c .if2 .taken))
 
 returns-2 : tie.Need-returns-2
 returns-2 c =
     let pre = c .before .before .before .before .before .before .before .pre in
-    both-kept _ _ _ _ (rays-allowed _ _ _ _ _ pre (inl (omega (arith, c .if3 .taken))))
-    (omega (arith, pairs-le _ _ _ _ _ pre, total-fits _ _ _ _ _ pre, c .if3 .taken))
+    both-kept _ _ _ _ (rays-allowed pre (inl (omega (arith, c .if3 .taken))))
+    (omega (arith, pairs-le pre, total-fits pre, c .if3 .taken))
 
 pub budget-spec : {M : Type 1} → statement M
 budget-spec =

@@ -23,12 +23,12 @@ abbrev μ-loop : tie.MeasureT-loop
     rayCount g - first
 
 total-rays-requires : tie.Need-total-rays-requires Inv-loop μ-loop
-total-rays-requires c κs = omega (arith, few-rays _ _ _ _ _ (c .before .before .before .before .before .before .pre .0))
+total-rays-requires c κs = omega (arith, few-rays (c .before .before .before .before .before .before .pre .0))
 
 loop-holds : tie.Need-loop-holds Inv-loop μ-loop
 loop-holds c =
     let pre = c .before .before .before .before .before .before .before .pre in
-    (omega arith, omega arith, refl, refl, start _ _ _ _ _ (pre .0) _ refl refl)
+    (omega arith, omega arith, refl, refl, start (pre .0) _ refl refl)
 
 fit-width-requires : tie.Need-fit-width-requires Inv-loop μ-loop
 fit-width-requires c κs =
@@ -64,7 +64,7 @@ returns c =
     let step = c .before .before .before .before .before .before .before in
     let s = step .count-next .ensures in
     let pre = step .before .before .before .before .before .before .before .before .before .before .before .before .before .pre in
-    too-many-rays _ _ _ _ (omega (arith, c .if1 .taken, changed-so-far _ _ _ _ _ (pre .0) _ _ (s .most) (s .prefixed)))
+    too-many-rays _ _ _ _ (omega (arith, c .if1 .taken, changed-so-far (pre .0) _ _ (s .most) (s .prefixed)))
 
 loop-less : tie.Need-loop-less Inv-loop μ-loop
 loop-less c =
@@ -82,7 +82,7 @@ returns-2 c =
     let at = c .before .before .before .before in
     let inv = at .loop .inv in
     let pre = at .before .before .before .before .before .before .before .before .pre in
-    let e = all-counted _ _ _ _ _ (pre .0) _ _ (inv .0) (omega (arith, c .before .before .before .loop-test .left)) (inv .4) in
+    let e = all-counted (pre .0) _ _ (inv .0) (omega (arith, c .before .before .before .loop-test .left)) (inv .4) in
     too-many-intervals _ _ _ _ (omega (arith, e .0, inv .1)) (omega (arith, e .1, c .if2 .taken))
 
 returns-3 : tie.Need-returns-3 Inv-loop μ-loop
@@ -90,7 +90,7 @@ returns-3 c =
     let at = c .before .before .before .before in
     let inv = at .loop .inv in
     let pre = at .before .before .before .before .before .before .before .before .pre in
-    let e = all-counted _ _ _ _ _ (pre .0) _ _ (inv .0) (omega (arith, c .before .before .before .loop-test .left)) (inv .4) in
+    let e = all-counted (pre .0) _ _ (inv .0) (omega (arith, c .before .before .before .loop-test .left)) (inv .4) in
     both-kept _ _ _ _ (omega (arith, e .0, inv .1)) (omega (arith, e .1, c .if2 .left))
 
 pub count-all-spec : {M : Type 1} → statement M

@@ -8,7 +8,7 @@ add-t22 : tie.Need-add-t22
 add-t22 c =
     let gathered = c .before .before .before .before .before .before .before .before .before .before in
     let pre = gathered .before .before .before .before .before .before .before .before .pre in
-    omega (arith, pre .0 .inside, few-rays _ _ _ _ _ (pre .0 .counting .countable))
+    omega (arith, pre .0 .inside, few-rays (pre .0 .counting .countable))
 
 count-batch-requires : tie.Need-count-batch-requires
 count-batch-requires c κs =
@@ -20,7 +20,7 @@ add-t27 : tie.Need-add-t27
 add-t27 c =
     let gathered = c .before .before .before .before .before .before .before .before .before in
     let pre = gathered .before .before .before .before .before .before .before .before .pre in
-    omega (arith, gathered .next-batch .ensures .inside, few-rays _ _ _ _ _ (pre .0 .counting .countable))
+    omega (arith, gathered .next-batch .ensures .inside, few-rays (pre .0 .counting .countable))
 
 guess-requires : tie.Need-guess-requires
 guess-requires c κs =
