@@ -23,35 +23,20 @@ sum-over g f h e = sum-to g f h e (rayCount g) (le-refl (rayCount g))
 pub sum-same : (f h : ℕ → ℕ) (n : ℕ) → ((i : ℕ) → i < n → f i ≡ h i) → sumBelow f n ≡ sumBelow h n
 unfolding sumBelow
 sum-same f h zero e = refl
-sum-same f h (suc n) e = ap₂ _+_ (sum-same f h n (λ i l. e i (later i n l))) (e n (last n))
-  where
-    later : (i n : ℕ) → i < n → i < suc n
-    later i n l = omega arith
-
-    last : (n : ℕ) → n < suc n
-    last n = omega arith
+sum-same f h (suc n) e = ap₂ _+_ (sum-same f h n (λ i l. e i (omega arith))) (e n (omega arith))
 
 pub sum-le : (f h : ℕ → ℕ) (n : ℕ) → ((i : ℕ) → i < n → f i ≤ h i) → sumBelow f n ≤ sumBelow h n
 unfolding sumBelow
 sum-le f h zero e = omega arith
-sum-le f h (suc n) e = omega (arith, sum-le f h n (λ i l. e i (later i n l)), e n (last n))
-  where
-    later : (i n : ℕ) → i < n → i < suc n
-    later i n l = omega arith
-
-    last : (n : ℕ) → n < suc n
-    last n = omega arith
+sum-le f h (suc n) e = omega (arith, sum-le f h n (λ i l. e i (omega arith)), e n (omega arith))
 
 pub sum-at : (f : ℕ → ℕ) (n j : ℕ) → j < n → f j ≤ sumBelow f n
 unfolding sumBelow
 sum-at f zero j l = absurd (omega arith)
 sum-at f (suc n) j l = elim (decLt j n) [
   | yes h ↦ omega (arith, sum-at f n j h)
-  | no h ↦ let e : f j ≡ f n = ap f (same j n l h) in omega arith
+  | no h ↦ let q : j ≡ n = omega arith in let e : f j ≡ f n = ap f q in omega arith
 ]
-  where
-    same : (j n : ℕ) → j < suc n → (j < n → ⊥) → j ≡ n
-    same j n l h = omega arith
 
 -- part of a sum
 pub sum-prefix : (f : ℕ → ℕ) (n i : ℕ) → i ≤ n → sumBelow f i ≤ sumBelow f n
@@ -71,22 +56,13 @@ pub sum-one : (f h : ℕ → ℕ) (n j : ℕ) → j < n → ((i : ℕ) → (i �
 unfolding sumBelow
 sum-one f h zero j l e = absurd (omega arith)
 sum-one f h (suc n) j l e = elim (decLt j n) [
-  | yes k ↦ omega (arith, sum-one f h n j k e, e n (other j n k))
-  | no k ↦ let q : j ≡ n = same j n l k in
-      let s : sumBelow h n ≡ sumBelow f n = sum-same h f n (λ i m. e i (below i j n m q)) in
+  | yes k ↦ omega (arith, sum-one f h n j k e, e n (λ q. omega (arith, q)))
+  | no k ↦ let q : j ≡ n = omega arith in
+      let s : sumBelow h n ≡ sumBelow f n = sum-same h f n (λ i m. e i (λ p. omega (arith, p, q))) in
       let a : f j ≡ f n = ap f q in
       let b : h j ≡ h n = ap h q in
       omega arith
 ]
-  where
-    same : (j n : ℕ) → j < suc n → (j < n → ⊥) → j ≡ n
-    same j n l h = omega arith
-
-    other : (j n : ℕ) → j < n → n ≡ j → ⊥
-    other j n k e = omega arith
-
-    below : (i j n : ℕ) → i < n → j ≡ n → i ≡ j → ⊥
-    below i j n m q e = omega arith
 
 pub sum-plus : (f h : ℕ → ℕ) (n : ℕ) → sumBelow (λ i. f i + h i) n ≡ sumBelow f n + sumBelow h n
 unfolding sumBelow

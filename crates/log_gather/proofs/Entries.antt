@@ -1,8 +1,8 @@
 -- The hits of one entry more, and so of one key more.
 use mathlib.Core.Path.{_≡_, refl, _∙_}
 use mathlib.Core.Logic.{inl}
-use mathlib.Core.Bool.{Bool, true, false, false≢true}
-use mathlib.Core.List.{List, _∷_}
+use mathlib.Core.Bool.{Bool, false≢true}
+use mathlib.Core.List.{List}
 use Prim.Native.Nat.{ℕ, _+_, _*_, _%_, _<_}
 use native.Mathlib.Omega.{arith}
 use native.Mathlib.Nat.{mod-lt}
@@ -11,26 +11,20 @@ use lib.ListN.{length, getD}
 use lib.Ieee.{Float, lt, le}
 use Rattle.spans.specs.Spans.{holds}
 use Rattle.logic.proofs.Bools.{and-right}
-use Rattle.log_model.specs.Logs.{Entry, entryAt, entryCount, outer, inner, hitLo, hitHi}
-use Rattle.log_keys.specs.Keys.{entryOfKey, withEntry, hitsTo}
+use Rattle.log_model.specs.Logs.{entryAt, entryCount}
+use Rattle.log_keys.specs.Keys.{entryOfKey, hitsTo}
 use Rattle.log_gather.specs.declared.HeldHits.{HeldHits}
-use Rattle.log_gather.specs.Gathering.{Shaped, PutPost, PutEntryPost, GatherPost}
+use Rattle.log_gather.specs.Gathering.{Shaped, MoreGathered, PutEntryPost, GatherPost}
 
-module _ (b : Float) (e : Entry) (before after : List Float) (h r : HeldHits) where
-  pub puts-inner : (certain : Bool) → certain ≡ false → PutPost b (hitLo inner e) (hitHi inner e) before h after r
-      → PutEntryPost b e certain before h after r
-  unfolding withEntry
-  puts-inner certain c p = record { size = p .size; roomy = p .roomy; gathers = λ u f hits g. rw c (p .gathers u f hits g) }
-
-  pub puts-both : (certain : Bool) (mid : List Float) (w : HeldHits) → certain ≡ true
-      → PutPost b (hitLo outer e) (hitHi outer e) before h mid w
-      → PutPost b (hitLo inner e) (hitHi inner e) mid w after r → PutEntryPost b e certain before h after r
-  unfolding withEntry
-  puts-both certain mid w c p q = record {
-    size = q .size ∙ p .size;
-    roomy = q .roomy;
-    gathers = λ u f hits g. rw c (q .gathers u f (hitLo outer e ∷ hitHi outer e ∷ hits) (p .gathers u f hits g));
-  }
+-- hits put one after the other
+pub puts-both : {b : Float} {first second : List Float → List Float} {before mid after : List Float} {h w r : HeldHits}
+    → MoreGathered b first before h mid w → MoreGathered b second mid w after r
+    → MoreGathered b (λ hits. second (first hits)) before h after r
+puts-both p q = record {
+  size = q .size ∙ p .size;
+  roomy = q .roomy;
+  gathers = λ u f hits g. q .gathers u f _ (p .gathers u f hits g);
+}
 
 -- ---- the keys one after the other
 module _ (b u f : Float) (log : List Float) (keys : List ℕ) (certain : Bool) (before : List Float) where

@@ -121,7 +121,7 @@ module _ (b u f lo hi : Float) (hits cells : List Float) (h : HeldHits) (g : Gat
       more = holds-pair cells (h .count) lo hi (g .roomy .whole) room
 
 -- what `put` leaves
-module _ (b lo hi : Float) (cells : List Float) (h : HeldHits) (roomy : WholePairs cells (h .count)) where
+module _ {b lo hi : Float} {cells : List Float} {h : HeldHits} (roomy : WholePairs cells (h .count)) where
   puts-covered : ((x : Float) → lt x (h .end) ≡ true → within lo hi x ≡ true → lt x (h .front) ≡ true) → PutPost b lo hi cells h cells h
   puts-covered low = record { size = refl; roomy = roomy; gathers = λ u f hits g. covered b u f lo hi hits cells h g low }
 
@@ -142,9 +142,9 @@ module _ (b lo hi : Float) (cells : List Float) (h : HeldHits) (roomy : WholePai
     gathers = λ u f hits g. moved b u f lo hi hits cells h g rises far early;
   }
 
-pub puts-cells : (b lo hi : Float) (before cells : List Float) (h w : HeldHits) → MakeRoomPost before h cells w → lt b lo ≡ true
+pub puts-cells : {b lo hi : Float} {before cells : List Float} {h w : HeldHits} → MakeRoomPost before h cells w → lt b lo ≡ true
     → PutPost b lo hi before h (withPair cells (w .count) lo hi) (record { count = w .count + 2; end = w .end; front = w .front })
-puts-cells b lo hi before cells h w s late = record {
+puts-cells {b} {lo} {hi} {cells = cells} {w = w} s late = record {
   size = size ∙ s .size;
   roomy = record { room = omega (arith, size, s .room); whole = omega (arith, s .whole) };
   gathers = λ u f hits g. stored b u f lo hi hits cells w (s .gathers b u f hits g) late (s .room);

@@ -39,19 +39,21 @@ pub record MakeRoomPost (before : List Float) (h : HeldHits) (after : List Float
   pub whole : r .count % 2 ≡ 0
   pub gathers : (b u f : Float) (hits : List Float) → Gathers b u f hits before h → Gathers b u f hits after r
 
--- one pair more is gathered
-pub record PutPost (b lo hi : Float) (before : List Float) (h : HeldHits) (after : List Float) (r : HeldHits) : Type 0 where
+-- more hits are gathered
+pub record MoreGathered (b : Float) (more : List Float → List Float) (before : List Float) (h : HeldHits) (after : List Float)
+    (r : HeldHits) : Type 0 where
   pub size : length after ≡ length before
   pub roomy : WholePairs after (r .count)
-  pub gathers : (u f : Float) (hits : List Float) → Gathers b u f hits before h → Gathers b u f (lo ∷ hi ∷ hits) after r
+  pub gathers : (u f : Float) (hits : List Float) → Gathers b u f hits before h → Gathers b u f (more hits) after r
 
--- the hits of one entry more are gathered
-pub record PutEntryPost (b : Float) (e : Entry) (certain : Bool) (before : List Float) (h : HeldHits) (after : List Float)
-    (r : HeldHits) : Type 0
-  where
-    pub size : length after ≡ length before
-    pub roomy : WholePairs after (r .count)
-    pub gathers : (u f : Float) (hits : List Float) → Gathers b u f hits before h → Gathers b u f (withEntry e certain hits) after r
+-- those of one pair
+abbrev pub PutPost : (b lo hi : Float) (before : List Float) (h : HeldHits) (after : List Float) (r : HeldHits) → Type 0
+PutPost b lo hi before h after r = MoreGathered b (λ hits. lo ∷ hi ∷ hits) before h after r
+
+-- those of one entry
+abbrev pub PutEntryPost : (b : Float) (e : Entry) (certain : Bool) (before : List Float) (h : HeldHits) (after : List Float)
+    (r : HeldHits) → Type 0
+PutEntryPost b e certain before h after r = MoreGathered b (withEntry e certain) before h after r
 
 -- the hits are gathered
 pub record GatherPost (b u f : Float) (hits before after : List Float) (h : HeldHits) : Type 0 where

@@ -108,9 +108,9 @@ module _ {low u front : Float} {hits cells : List Float} {h : HeldHits} (g : Gat
         from x a = le-trans low (h .end) x (ends-above up) a
 
 -- the sound list that is made of it
-pub roomy-front : (cells after : List Float) (k m : ℕ) → WholePairs cells k
+pub roomy-front : {cells after : List Float} {k m : ℕ} → WholePairs cells k
     → FilledFront (NormalOf (take k cells)) cells k after m → WholePairs after m
-roomy-front cells after k m r w = record {
+roomy-front {after = after} {m = m} r w = record {
   room = fit;
   whole = omega (arith, length-take-le m after fit, sound-mod (take m after) (w .list .list .isSound));
 }
@@ -119,16 +119,16 @@ roomy-front cells after k m r w = record {
     fit = omega (arith, w .most, w .size, r .room)
 
 -- ---- THE LAWS of the loop
-module _ {n : ℕ} {spans : List Float} {links : List ℕ} (b u front : Float) (hits before : List Float) (r : Rest) where
+module _ {n : ℕ} {spans : List Float} {links : List ℕ} {b u front : Float} {hits before : List Float} {r : Rest} where
   pub reaches-start : Readable n spans links (r .at) → StretchLoop n spans links b u front hits before r before b r
   reaches-start k = record { size = refl; readable = k; reached = λ l f up s taken. record { up = up; stretch = s; taken = taken } }
 
-  pub reaches-on : (now cells after : List Float) (low : Float) (h : HeldHits) (m : ℕ) (t t′ : Rest)
+  pub reaches-on : {now cells after : List Float} {low : Float} {h : HeldHits} {m : ℕ} {t t′ : Rest}
       → StretchLoop n spans links b u front hits before r now low t → GatherPost low u front hits now cells h
       → FilledFront (NormalOf (take (h .count) cells)) cells (h .count) after m
       → TakeHeldPost n spans links low (h .end) (h .front) (take m after) t t′
       → StretchLoop n spans links b u front hits before r after (h .end) t′
-  reaches-on now cells after low h m t t′ at g w takes = record {
+  reaches-on {after = after} {low = low} {m = m} at g w takes = record {
     size = w .size ∙ g .size ∙ at .size;
     readable = takes .readable;
     reached = λ l f up s taken.
@@ -142,10 +142,10 @@ module _ {n : ℕ} {spans : List Float} {links : List ℕ} (b u front : Float) (
         };
   }
 
-  pub reaches-end : {cells : List Float} {low : Float} (after : List Float) (h : HeldHits) (t : Rest)
+  pub reaches-end : {cells after : List Float} {low : Float} {h : HeldHits} {t : Rest}
       → StretchLoop n spans links b u front hits before r after (h .end) t → Gathers low u front hits cells h → lt (h .end) u ≡ false
       → TakeHitsPost n spans links b u front hits before after r t
-  reaches-end after h t at g last = record {
+  reaches-end {t = t} at g last = record {
     size = at .size;
     readable = at .readable;
     taken = λ l f up s taken. subst (λ (x : Float). Taken n spans links l f x t) (last-ends g last) (at .reached l f up s taken .taken);

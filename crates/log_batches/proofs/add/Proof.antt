@@ -38,17 +38,8 @@ add-keys c =
           (start .args .i) (start .pre .1) (c .before .before .before .before .before .before .before .if1 .left),
     )
 
-mul-keys : tie.Need-mul-keys
-mul-keys c = omega (arith, add-keys c)
-
 slice-write-keys : tie.Need-slice-write-keys
 slice-write-keys c = c .before .before .before .before .before .make-room .ensures .batched (c .before .before .if2 .left) .0
-
-mul-keys-2 : tie.Need-mul-keys-2
-mul-keys-2 c = omega (arith, slice-write-keys c)
-
-add-count : tie.Need-add-count
-add-count c = omega (arith, slice-write-keys c)
 
 returns-4 : tie.Need-returns-4
 returns-4 c =
@@ -77,10 +68,10 @@ add-spec =
     returns-2
     (λ c. search needs)
     returns-3
-    mul-keys
+    (λ c. omega (arith, add-keys c))
     add-keys
-    mul-keys-2
+    (λ c. omega (arith, slice-write-keys c))
     slice-write-keys
-    add-count
+    (λ c. omega (arith, slice-write-keys c))
     (λ c. search needs)
     returns-4)

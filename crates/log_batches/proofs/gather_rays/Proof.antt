@@ -3,14 +3,8 @@ use Prim.Native.Nat.{_-_, _≤_}
 use native.Mathlib.Omega.{arith}
 use borrow.Author.Needs.{needs}
 use Rattle.log_entries.specs.Named.{EachNamed}
-use Rattle.log_batches.proofs.Gathered.{
-  GatherRaysLoop,
-  gathering-widthed,
-  gathering-start,
-  gathering-turn,
-  gathering-done,
-  gathering-full,
-}
+use Rattle.log_batches.proofs.Gathered.{GatherRaysLoop, gathering-widthed, gathering-start, gathering-turn, gathering-done}
+use Rattle.log_batches.proofs.Gathered.{gathering-full}
 use Rattle.log_batches.proofs.gather_rays.Statement.{statement}
 use Rattle.log_batches.proofs.gather_rays.Tie as tie
 

@@ -6,9 +6,6 @@ use Rattle.log_batches.proofs.Same.{same-exchanged}
 use Rattle.log_batches.proofs.swap.Statement.{statement}
 use Rattle.log_batches.proofs.swap.Tie as tie
 
-slice-write-keys-2 : tie.Need-slice-write-keys-2
-slice-write-keys-2 c = simp length-set (omega arith)
-
 returns : tie.Need-returns
 returns c =
     let given = c .before .before .args in
@@ -26,6 +23,6 @@ swap-spec =
     (λ c. search needs)
     (λ c. search needs)
     (λ c. search needs)
-    slice-write-keys-2
+    (λ c. simp length-set (omega arith))
     (λ c. search needs)
     returns)

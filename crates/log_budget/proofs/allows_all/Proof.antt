@@ -8,9 +8,6 @@ use Rattle.log_budget.proofs.allows_all.Tie as tie
 returns : tie.Need-returns
 returns c e = inl (c .if1 .taken)
 
-total-rays-requires : tie.Need-total-rays-requires
-total-rays-requires c κs = search needs
-
 returns-2 : tie.Need-returns-2
 returns-2 c e = inr (omega (arith, c .if2 .taken, c .before .total-rays .ensures))
 
@@ -18,4 +15,4 @@ returns-3 : tie.Need-returns-3
 returns-3 c e = absurd (false≢true e)
 
 pub allows-all-spec : {M : Type 1} → statement M
-allows-all-spec = tie.close (tie.spec returns total-rays-requires returns-2 returns-3)
+allows-all-spec = tie.close (tie.spec returns (λ c κs. search needs) returns-2 returns-3)

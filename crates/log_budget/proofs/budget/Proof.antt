@@ -6,11 +6,6 @@ use Rattle.log_budget.proofs.Answers.{both-kept}
 use Rattle.log_budget.proofs.budget.Statement.{statement}
 use Rattle.log_budget.proofs.budget.Tie as tie
 
-add-if2 : tie.Need-add-if2
-add-if2 c =
-    let pre = c .before .before .before .before .before .before .pre in
-    omega (arith, total-fits pre, pre .room .in-spans)
-
 returns : tie.Need-returns
 returns c =
     let pre = c .before .before .before .before .before .before .before .before .pre in
@@ -29,7 +24,7 @@ budget-spec =
     (tie.spec
     (λ c κs. search needs)
     (λ c. search needs)
-    add-if2
+    (λ c. let pre = c .before .before .before .before .before .before .pre in omega (arith, total-fits pre, pre .room .in-spans))
     returns
     returns-2
     (λ c. search needs)

@@ -22,9 +22,6 @@ abbrev μ-loop : tie.MeasureT-loop
 μ-loop spec g spans links heads intervals log allowance keys₀ buffer₀ rays n t₀ first₀ wanted₀ keys buffer t first wanted =
     rayCount g - first
 
-total-rays-requires : tie.Need-total-rays-requires Inv-loop μ-loop
-total-rays-requires c κs = omega (arith, few-rays (c .before .before .before .before .before .before .pre .0))
-
 loop-holds : tie.Need-loop-holds Inv-loop μ-loop
 loop-holds c =
     let pre = c .before .before .before .before .before .before .before .pre in
@@ -99,7 +96,7 @@ count-all-spec =
     (tie.spec
     Inv-loop
     μ-loop
-    total-rays-requires
+    (λ c κs. omega (arith, few-rays (c .before .before .before .before .before .before .pre .0)))
     loop-holds
     (λ c. search needs)
     fit-width-requires

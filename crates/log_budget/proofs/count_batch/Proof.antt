@@ -27,11 +27,6 @@ mul-ray c =
     let keys = start .good .1 .1 .1 .1 .1 .1 .1 .1 .0 in
     search needs
 
-shared-slice-read-ray : tie.Need-shared-slice-read-ray Inv-loop μ-loop
-shared-slice-read-ray c =
-    let start = c .before .before .before .before .before .before .before .before .before in
-    omega (arith, start .pre .1 .room)
-
 div-ray : tie.Need-div-ray Inv-loop μ-loop
 div-ray c =
     let start = c .before .before .before .before .before .before .before .before .before in
@@ -56,11 +51,6 @@ mul-count-ray c =
     let keys = start .good .1 .1 .1 .1 .1 .1 .1 .1 .0 in
     let fit = c .before .before .loop-test .taken in
     search needs
-
-part-count-ray-start : tie.Need-part-count-ray-start Inv-loop μ-loop
-part-count-ray-start c =
-    let e = c .end-of-ray .ensures .past in
-    omega arith
 
 part-count-ray-end : tie.Need-part-count-ray-end Inv-loop μ-loop
 part-count-ray-end c =
@@ -99,13 +89,13 @@ count-batch-spec =
     μ-loop
     loop-holds
     mul-ray
-    shared-slice-read-ray
+    (λ c. let start = c .before .before .before .before .before .before .before .before .before in omega (arith, start .pre .1 .room))
     div-ray
     add-ray
     end-of-ray-requires
     mul-count-ray
     (λ c. search needs)
-    part-count-ray-start
+    (λ c. let e = c .end-of-ray .ensures .past in omega arith)
     part-count-ray-end
     count-ray-requires
     (λ c. search needs)

@@ -10,9 +10,6 @@ use Rattle.log_budget.proofs.guess.Tie as tie
 small : (w room : ℕ) → w ≤ 0x100_0000_0000 → room ≤ 2 ^ 16 → w * room ≤ 2 ^ 56
 small w room a b = omega (arith, mul-le-mul a b)
 
-mul-next-2 : tie.Need-mul-next-2
-mul-next-2 c = omega (arith, small (c .before .smaller .result) _ (c .before .smaller .ensures .1) (c .before .before .pre .1))
-
 add-result : tie.Need-add-result
 add-result c =
     let given = c .before .before .before .args in
@@ -28,7 +25,7 @@ guess-spec =
     (λ c κs. search needs)
     (λ c. search needs)
     (λ c. search needs)
-    mul-next-2
+    (λ c. omega (arith, small (c .before .smaller .result) _ (c .before .smaller .ensures .1) (c .before .before .pre .1)))
     (λ c. search needs)
     add-result
     (λ c. search needs))

@@ -17,9 +17,6 @@ returns c =
       keys = λ e. absurd (true≢false (sym (c .if1 .taken) ∙ e));
     }
 
-sort-keys-requires : tie.Need-sort-keys-requires
-sort-keys-requires c κs = c .before .before .before .before .gather-rays .ensures .room (c .before .if1 .left)
-
 ascends-requires : tie.Need-ascends-requires
 ascends-requires c κs =
     let sorted = c .before .before .before in
@@ -61,7 +58,7 @@ next-batch-spec =
     (λ c κs. search needs)
     (λ c. search needs)
     returns
-    sort-keys-requires
+    (λ c κs. c .before .before .before .before .gather-rays .ensures .room (c .before .if1 .left))
     ascends-requires
     (λ c. search needs)
     returns-2

@@ -8,9 +8,6 @@ use Rattle.log_count.proofs.Parts.{part-taken}
 use Rattle.log_count.proofs.take_part.Statement.{statement}
 use Rattle.log_count.proofs.take_part.Tie as tie
 
-slice-aggregate-take-hits : tie.Need-slice-aggregate-take-hits
-slice-aggregate-take-hits c = sym (length-take-le _ _ (c .before .before .before .before .before .gather-ray .ensures .1 .inLog .room))
-
 take-hits-requires : tie.Need-take-hits-requires
 take-hits-requires c κs =
     let pre = c .before .before .before .before .before .before .before .before .before .before .before .before .before .pre in
@@ -43,7 +40,7 @@ take-part-spec =
     (λ c κs. search needs)
     (λ c κs. search needs)
     (λ c. search needs)
-    slice-aggregate-take-hits
+    (λ c. sym (length-take-le _ _ (c .before .before .before .before .before .gather-ray .ensures .1 .inLog .room)))
     take-hits-requires
     (λ c. search needs)
     slice-aggregate-take-hits-2

@@ -8,14 +8,5 @@ use Rattle.log_left.proofs.begin.Tie as tie
 returns : tie.Need-returns
 returns c = record { at-is = refl; from-is = λ ne. absurd (ne (c .if1 .taken)); moved-is = refl; left-is = refl }
 
-mul-t10 : tie.Need-mul-t10
-mul-t10 c = let h = step (c .before .pre) (c .if1 .left) .counted in search needs
-
-mul-t11 : tie.Need-mul-t11
-mul-t11 c = let h = step (c .before .pre) (c .if1 .left) .counted in search needs
-
-shared-slice-read-t13 : tie.Need-shared-slice-read-t13
-shared-slice-read-t13 c = let h = step (c .before .before .pre) (c .before .if1 .left) .counted in search needs
-
 pub begin-spec : {M : Type 1} → statement M
-begin-spec = tie.close (tie.spec returns (λ c. search needs) mul-t10 mul-t11 shared-slice-read-t13 (λ c. search needs))
+begin-spec = tie.close (tie.spec returns (λ c. search needs) (λ c. let h = step (c .before .pre) (c .if1 .left) .counted in search needs) (λ c. let h = step (c .before .pre) (c .if1 .left) .counted in search needs) (λ c. let h = step (c .before .before .pre) (c .before .if1 .left) .counted in search needs) (λ c. search needs))

@@ -7,20 +7,6 @@ use Rattle.store_read.proofs.Steps.{step}
 use Rattle.log_left.proofs.cut_pair.Statement.{statement}
 use Rattle.log_left.proofs.cut_pair.Tie as tie
 
-mul-if2 : tie.Need-mul-if2
-mul-if2 c = let pre = c .before .before .before .before .pre in let h = step (pre .0) (pre .1) .counted in search needs
-
-add-if2 : tie.Need-add-if2
-add-if2 c = let pre = c .before .before .before .before .pre in let h = step (pre .0) (pre .1) .counted in search needs
-
-mul-if2-2 : tie.Need-mul-if2-2
-mul-if2-2 c = let pre = c .before .before .before .before .pre in let h = step (pre .0) (pre .1) .counted in search needs
-
-shared-slice-read-if2 : tie.Need-shared-slice-read-if2
-shared-slice-read-if2 c =
-    let pre = c .before .before .before .before .before .pre in
-    let h = step (pre .0) (pre .1) .counted in search needs
-
 returns : tie.Need-returns
 returns c =
     let joined = c .before .before in
@@ -31,19 +17,10 @@ returns c =
       behind = λ h. absurd (clash _ (c .if2 .taken) h);
     }
 
-mul-begin : tie.Need-mul-begin
-mul-begin c = let pre = c .before .before .before .before .before .before .pre in let h = step (pre .0) (pre .1) .counted in search needs
-
-mul-begin-2 : tie.Need-mul-begin-2
-mul-begin-2 c = let pre = c .before .before .before .before .before .before .pre in let h = step (pre .0) (pre .1) .counted in search needs
-
 shared-slice-read-begin : tie.Need-shared-slice-read-begin
 shared-slice-read-begin c =
     let pre = c .before .before .before .before .before .before .before .pre in
     let h = step (pre .0) (pre .1) .counted in search needs
-
-begin-requires : tie.Need-begin-requires
-begin-requires c κs = let pre = c .before .before .before .before .before .before .before .pre in step (pre .0) (pre .1) .next
 
 returns-2 : tie.Need-returns-2
 returns-2 c =
@@ -62,13 +39,13 @@ cut-pair-spec =
     (tie.spec
     (λ c. search needs)
     (λ c κs. search needs)
-    mul-if2
-    add-if2
-    mul-if2-2
-    shared-slice-read-if2
+    (λ c. let pre = c .before .before .before .before .pre in let h = step (pre .0) (pre .1) .counted in search needs)
+    (λ c. let pre = c .before .before .before .before .pre in let h = step (pre .0) (pre .1) .counted in search needs)
+    (λ c. let pre = c .before .before .before .before .pre in let h = step (pre .0) (pre .1) .counted in search needs)
+    (λ c. let pre = c .before .before .before .before .before .pre in let h = step (pre .0) (pre .1) .counted in search needs)
     returns
-    mul-begin
-    mul-begin-2
+    (λ c. let pre = c .before .before .before .before .before .before .pre in let h = step (pre .0) (pre .1) .counted in search needs)
+    (λ c. let pre = c .before .before .before .before .before .before .pre in let h = step (pre .0) (pre .1) .counted in search needs)
     shared-slice-read-begin
-    begin-requires
+    (λ c κs. let pre = c .before .before .before .before .before .before .before .pre in step (pre .0) (pre .1) .next)
     returns-2)

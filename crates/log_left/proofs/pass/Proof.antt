@@ -25,21 +25,6 @@ abbrev μ-loop : tie.MeasureT-loop
 loop-holds : tie.Need-loop-holds Inv-loop μ-loop
 loop-holds c = (c .before .before .pre, λ l s last. walked-later last (c .before .before .args .lo))
 
-mul-if2 : tie.Need-mul-if2 Inv-loop μ-loop
-mul-if2 c = let h = step (c .before .before .loop .inv .0) (c .if1 .taken) .counted in search needs
-
-add-if2 : tie.Need-add-if2 Inv-loop μ-loop
-add-if2 c = let h = step (c .before .before .loop .inv .0) (c .if1 .taken) .counted in search needs
-
-mul-if2-2 : tie.Need-mul-if2-2 Inv-loop μ-loop
-mul-if2-2 c = let h = step (c .before .before .loop .inv .0) (c .if1 .taken) .counted in search needs
-
-shared-slice-read-if2 : tie.Need-shared-slice-read-if2 Inv-loop μ-loop
-shared-slice-read-if2 c = let h = step (c .before .before .before .loop .inv .0) (c .before .if1 .taken) .counted in search needs
-
-close-pair-requires : tie.Need-close-pair-requires Inv-loop μ-loop
-close-pair-requires c κs = let at-test = c .before .before in (at-test .before .before .loop .inv .0, at-test .if1 .taken)
-
 loop-less : tie.Need-loop-less Inv-loop μ-loop
 loop-less c =
     let at-test = c .before .before .before in
@@ -75,11 +60,11 @@ pass-spec =
     μ-loop
     loop-holds
     (λ c. search needs)
-    mul-if2
-    add-if2
-    mul-if2-2
-    shared-slice-read-if2
-    close-pair-requires
+    (λ c. let h = step (c .before .before .loop .inv .0) (c .if1 .taken) .counted in search needs)
+    (λ c. let h = step (c .before .before .loop .inv .0) (c .if1 .taken) .counted in search needs)
+    (λ c. let h = step (c .before .before .loop .inv .0) (c .if1 .taken) .counted in search needs)
+    (λ c. let h = step (c .before .before .before .loop .inv .0) (c .before .if1 .taken) .counted in search needs)
+    (λ c κs. let at-test = c .before .before in (at-test .before .before .loop .inv .0, at-test .if1 .taken))
     loop-less
     loop-again
     returns

@@ -26,9 +26,6 @@ loop-holds c =
     let e = c .pass .ensures in
     (e .readable, λ l s up. taking-starts (args .lo) (args .hi) (c .pass .result) (e .readable) up (e .beyond))
 
-cut-pair-requires : tie.Need-cut-pair-requires Inv-loop μ-loop
-cut-pair-requires c κs = let at-test = c .before .before in (at-test .before .before .loop .inv .0, at-test .if1 .taken)
-
 loop-less : tie.Need-loop-less Inv-loop μ-loop
 loop-less c =
     let at-test = c .before .before .before in
@@ -83,7 +80,7 @@ take-spec =
     μ-loop
     (λ c κs. search needs)
     loop-holds
-    cut-pair-requires
+    (λ c κs. let at-test = c .before .before in (at-test .before .before .loop .inv .0, at-test .if1 .taken))
     loop-less
     loop-again
     returns

@@ -6,11 +6,6 @@ use Rattle.log_long.proofs.Stretching.{place-fits, middle-begins, kept-
 use Rattle.log_long.proofs.shorten.Statement.{statement}
 use Rattle.log_long.proofs.shorten.Tie as tie
 
-least-past-requires : tie.Need-least-past-requires
-least-past-requires c κs =
-    let start = c .before .before .before in
-    place-fits (start .pre .0) 0 (start .pre .1)
-
 least-past-requires-2 : tie.Need-least-past-requires-2
 least-past-requires-2 c κs =
     let start = c .before .before .before .before .before in
@@ -38,7 +33,7 @@ shorten-spec =
     tie.close
     (tie.spec
     (λ c. search needs)
-    least-past-requires
+    (λ c κs. let start = c .before .before .before in place-fits (start .pre .0) 0 (start .pre .1))
     (λ c. search needs)
     (λ c. search needs)
     least-past-requires-2

@@ -3,8 +3,7 @@ use borrow.Author.Needs.{needs}
 use mathlib.Core.Logic.{inl, inr}
 use Prim.Native.Nat.{_-_}
 use native.Mathlib.Omega.{arith}
-use lib.ListN.{take, getD}
-use lib.Ieee.{nan, lt}
+use lib.ListN.{take}
 use Rattle.logic.proofs.Bools.{not-true, not-false}
 use Rattle.log_stretches.proofs.Taking.{TakesFront, TakesSome, none-reaches, some-reaches, no-pair, pair-more, no-more}
 use Rattle.log_stretches.proofs.take_held.Statement.{statement}
@@ -24,54 +23,32 @@ front-taken : (c : lts.Joined1 (take-reads.Asked, take-reads.Learnt) reads.Pre r
     → let given = c .before .before .before .before .args in
     TakesFront (given .n) (given .spans .now) (given .links .now) (given .b) (given .end) (given .front)
     (take (given .m) (given .cells .now)) (given .r) (c .if1 .t)
-front-taken c =
-    let start = c .before .before .before .before in
-    let given = start .args in
-    let held = take (given .m) (given .cells .now) in
-    elim (c .if1 .came) [
-      | inl w ↦ rw (w .2) (some-reaches (given .b) (given .end) (given .front) held (given .r) (w .1 .result) (w .0 .taken) (w .1 .ensures))
-      | inr w ↦ rw (w .1) (none-reaches (given .b) (given .end) (given .front) held (given .r) (w .0 .left) (start .pre .0))
-    ]
+front-taken c = elim (c .if1 .came) [
+  | inl w ↦ rw (w .2) (some-reaches _ _ _ _ _ _ (w .0 .taken) (w .1 .ensures))
+  | inr w ↦ rw (w .1) (none-reaches _ _ _ _ _ (w .0 .left) (c .before .before .before .before .pre .0))
+]
 
 loop-holds : tie.Need-loop-holds Inv-loop μ-loop
-loop-holds c =
-    let start = c .before .before .before .before in
-    let given = start .args in
-    no-pair (given .b) (given .end) (given .front) (take (given .m) (given .cells .now)) (c .if1 .t) (front-taken c .readable)
+loop-holds c = no-pair _ _ _ _ _ (front-taken c .readable)
 
 loop-again : tie.Need-loop-again Inv-loop μ-loop
 loop-again c =
     let inside = c .before .before .before .before .before in
     let loop = inside .before in
-    let joined = loop .before in
-    let start = joined .before .before .before .before in
-    let given = start .args in
-    let i = loop .loop .i in
-    pair-more (given .b) (given .end) (given .front) (given .cells .now) (given .m) (start .pre .1) (joined .if1 .t)
-    i (loop .loop .t) (c .take2 .result) (inside .loop-test .taken)
-    (not-false (lt (getD (given .cells .now) i nan) (given .end)) (c .before .before .before .if2 .left))
-    (c .take2 .ensures) (loop .loop .inv)
+    pair-more _ _ _ _ _ (loop .before .before .before .before .before .pre .1) _ (loop .loop .i) _ _ (inside .loop-test .taken)
+    (not-false _ (c .before .before .before .if2 .left)) (c .take2 .ensures) (loop .loop .inv)
 
 returns : tie.Need-returns Inv-loop μ-loop
 returns c =
     let loop = c .before in
-    let joined = loop .before in
-    let start = joined .before .before .before .before in
-    let given = start .args in
-    no-more (given .b) (given .end) (given .front) (given .cells .now) (given .m) (start .pre .1) (given .r)
-    (loop .loop .i) (joined .if1 .t) (loop .loop .t) (λ h. absurd (omega (arith, h, c .loop-test .left)))
-    (front-taken joined) (loop .loop .inv)
+    no-more _ _ _ _ _ (loop .before .before .before .before .before .pre .1) _ (loop .loop .i) _ _ (λ h. absurd (omega (arith, h, c .loop-test .left)))
+    (front-taken (loop .before)) (loop .loop .inv)
 
 returns-2 : tie.Need-returns-2 Inv-loop μ-loop
 returns-2 c =
     let loop = c .before .before .before in
-    let joined = loop .before in
-    let start = joined .before .before .before .before in
-    let given = start .args in
-    let i = loop .loop .i in
-    no-more (given .b) (given .end) (given .front) (given .cells .now) (given .m) (start .pre .1) (given .r)
-    i (joined .if1 .t) (loop .loop .t) (λ h. not-true (lt (getD (given .cells .now) i nan) (given .end)) (c .if2 .taken))
-    (front-taken joined) (loop .loop .inv)
+    no-more _ _ _ _ _ (loop .before .before .before .before .before .pre .1) _ (loop .loop .i) _ _ (λ h. not-true _ (c .if2 .taken))
+    (front-taken (loop .before)) (loop .loop .inv)
 
 pub take-held-spec : {M : Type 1} → statement M
 take-held-spec =
