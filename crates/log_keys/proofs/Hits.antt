@@ -138,8 +138,8 @@ module _ (g : DexelGrid) (log : List Float) (ray : ℕ) where
     named-pair i (suc k) j f a b q = elim (decLt i j) [
       | yes h ↦ more (hitLo w (entryAt log i)) (hitHi w (entryAt log i))
           (namesSomeRay g (entryAt log i) && eqb (entryRay g (entryAt log i)) ray)
-          (named-pair (suc i) k j (all-rest i k f) h (next i j k b) q)
-      | no h ↦ let e : j ≡ i = same i j a h in
+          (named-pair (suc i) k j (all-rest i k f) h (omega arith) q)
+      | no h ↦ let e : j ≡ i = omega arith in
           rw (
             e,
             both (namesSomeRay g (entryAt log i)) (eqb (entryRay g (entryAt log i)) ray) (all-first i k f)
@@ -147,12 +147,6 @@ module _ (g : DexelGrid) (log : List Float) (ray : ℕ) where
           ) here
     ]
       where
-        next : (i j k : ℕ) → j < i + suc k → j < suc i + k
-        next i j k b = omega arith
-
-        same : (i j : ℕ) → i ≤ j → (i < j → ⊥) → j ≡ i
-        same i j a h = omega arith
-
         more : {lo hi : Float} {l : List Float} (a c : Float) (b : Bool) → HasPair lo hi l → HasPair lo hi (cond b (a ∷ c ∷ l) l)
         more a c true p = later p
         more a c false p = p

@@ -44,20 +44,17 @@ module _ (test : ℕ → Bool) (before now : List ℕ) (i k : ℕ) (s : KeysKept
       | yes l ↦
           let (t, a, b) = s .all q l p in
           (t, omega (arith, a), getD-set-other now k t (getD now i 0) 0 (λ x. omega (arith, x, a)) ∙ b)
-      | no l ↦ (k, omega arith, same ∙ here ∙ ap (λ (x : ℕ). getD before x 0) (only q h l))
+      | no l ↦ let last : i ≡ q = omega arith in (k, omega arith, same ∙ here ∙ ap (λ (x : ℕ). getD before x 0) last)
     ];
     fewer = λ q h p. elim (decLt q i) [
       | yes l ↦ omega (arith, s .fewer q l p)
-      | no l ↦ absurd (true≢false (sym e ∙ ap (λ (x : ℕ). test (getD before x 0)) (only q h l) ∙ p))
+      | no l ↦ let last : i ≡ q = omega arith in absurd (true≢false (sym e ∙ ap (λ (x : ℕ). test (getD before x 0)) last ∙ p))
     ];
     rest = λ q h. getD-set-other now k q (getD now i 0) 0 (λ x. omega (arith, x, h, s .most)) ∙ s .rest q (omega (arith, h));
   }
     where
       same : getD (set now k (getD now i 0)) k 0 ≡ getD now i 0
       same = getD-set-same now k (getD now i 0) 0 (omega (arith, s .most, s .size, fit))
-
-      only : (q : ℕ) → q < i + 1 → (q < i → ⊥) → i ≡ q
-      only q h l = omega arith
 
   -- it does not
   fails : test (getD before i 0) ≡ false → KeysKept test before (i + 1) now k
@@ -67,14 +64,11 @@ module _ (test : ℕ → Bool) (before now : List ℕ) (i k : ℕ) (s : KeysKept
     each = λ t h. let (q, a, b, d) = s .each t h in (q, omega (arith, a), b, d);
     all = λ q h p. elim (decLt q i) [
       | yes l ↦ s .all q l p
-      | no l ↦ absurd (true≢false (sym p ∙ ap (λ (x : ℕ). test (getD before x 0)) (only q h l) ∙ e))
+      | no l ↦ let last : q ≡ i = omega arith in absurd (true≢false (sym p ∙ ap (λ (x : ℕ). test (getD before x 0)) last ∙ e))
     ];
     fewer = λ q h p. omega (arith, s .most);
     rest = λ q h. s .rest q (omega (arith, h));
   }
-    where
-      only : (q : ℕ) → q < i + 1 → (q < i → ⊥) → q ≡ i
-      only q h l = omega arith
 
   -- THE LAW: `keep` moves it where it passes
   pub kept-turn : (kept : Bool) (after : List ℕ) (r : ℕ) → kept ≡ test (getD now i 0) → KeepPost k i kept now after r

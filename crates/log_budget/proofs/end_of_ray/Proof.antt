@@ -26,11 +26,8 @@ loop-holds c =
     record {
       past = omega arith;
       most = omega arith;
-      same = λ t a b. ap (λ (k : ℕ). getD (given .keys .now) k 0 / given .n) (only t (given .i) a b);
+      same = λ t a b. let only : t ≡ given .i = omega arith in ap (λ (k : ℕ). getD (given .keys .now) k 0 / given .n) only;
     }
-  where
-    only : (t i : ℕ) → i ≤ t → t < i + 1 → t ≡ i
-    only t i a b = omega arith
 
 loop-again : tie.Need-loop-again Inv-loop μ-loop
 loop-again c =
@@ -41,32 +38,19 @@ loop-again c =
       most = search needs;
       same = λ t a b. elim (decLt t (at .j)) [
         | yes l ↦ at .inv .same t a l
-        | no l ↦ ap (λ (k : ℕ). getD (given .keys .now) k 0 / given .n) (only t (at .j) b l) ∙ c .if1 .left
+        | no l ↦ let last : t ≡ at .j = omega arith in ap (λ (k : ℕ). getD (given .keys .now) k 0 / given .n) last ∙ c .if1 .left
       ];
     }
-  where
-    only : (t j : ℕ) → t < j + 1 → (t < j → ⊥) → t ≡ j
-    only t j b l = omega arith
 
 returns : tie.Need-returns Inv-loop μ-loop
 returns c =
-    let at = c .before .loop in
-    record {
-      past = at .inv .past;
-      most = at .inv .most;
-      same = at .inv .same;
-      other = λ h. absurd (omega (arith, h));
-    }
+    let inv = c .before .loop .inv in
+    record { past = inv .past; most = inv .most; same = inv .same; other = λ h. absurd (omega (arith, h)) }
 
 returns-2 : tie.Need-returns-2 Inv-loop μ-loop
 returns-2 c =
-    let at = c .before .before .before .loop in
-    record {
-      past = at .inv .past;
-      most = at .inv .most;
-      same = at .inv .same;
-      other = λ _. c .if1 .taken;
-    }
+    let inv = c .before .before .before .loop .inv in
+    record { past = inv .past; most = inv .most; same = inv .same; other = λ _. c .if1 .taken }
 
 pub end-of-ray-spec : {M : Type 1} → statement M
 end-of-ray-spec =

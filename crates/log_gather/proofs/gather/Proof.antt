@@ -18,11 +18,7 @@ abbrev μ-loop : tie.MeasureT-loop
 μ-loop log keys certain cells₀ b u front n h₀ i₀ cells h i = length keys - i
 
 loop-holds : tie.Need-loop-holds Inv-loop μ-loop
-loop-holds c =
-    let given = c .before .before .before .args in (
-      omega arith,
-      gathered-none (given .b) (given .u) (given .front) (given .log .now) (given .keys .now) (given .certain) (given .cells .now),
-    )
+loop-holds c = (omega arith, gathered-none _ _ _ _ _ _ _)
 
 put-entry-requires : tie.Need-put-entry-requires Inv-loop μ-loop
 put-entry-requires c κs =
@@ -36,13 +32,8 @@ put-entry-requires c κs =
 
 loop-again : tie.Need-loop-again Inv-loop μ-loop
 loop-again c =
-    let put = c .before .before .put-entry in
     let loop = c .before .before .before .before .before .before .loop in
-    let given = c .before .before .before .before .before .before .before .before .before .before .args in (
-      omega arith,
-      gathered-more (given .b) (given .u) (given .front) (given .log .now) (given .keys .now) (given .certain) (given .cells .now)
-          (loop .i) (loop .cells) (put .last .1 .1 .1 .0) (loop .h) (put .result) (loop .inv .1) (put .ensures),
-    )
+    (omega arith, gathered-more _ _ _ _ _ _ _ (loop .i) _ _ (loop .h) _ (loop .inv .1) (c .before .before .put-entry .ensures))
 
 returns : tie.Need-returns Inv-loop μ-loop
 returns c =

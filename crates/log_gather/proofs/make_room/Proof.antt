@@ -6,17 +6,14 @@ use Rattle.log_gather.proofs.make_room.Tie as tie
 
 returns-2 : tie.Need-returns-2
 returns-2 c =
-    let normal = c .before .before .before .normalize-front in
     let start = c .before .before .before .before .before .before .before .before in
-    loosens-joined (start .args .cells .now) (normal .last .0) (start .args .h) (normal .result)
-    (start .pre .0) (start .pre .1) (normal .ensures) (c .if2 .taken)
+    loosens-joined _ _ (start .args .h) _ (start .pre .0) (start .pre .1) (c .before .before .before .normalize-front .ensures) (c .if2 .taken)
 
 returns-3 : tie.Need-returns-3
 returns-3 c =
-    let normal = c .before .before .before .before .before .normalize-front in
     let start = c .before .before .before .before .before .before .before .before .before .before in
-    loosens-halved (start .args .cells .now) (normal .last .0) (start .args .h) (normal .result)
-    (start .pre .0) (start .pre .1) (normal .ensures) (c .lower .result) (c .before .before .if2 .left) (c .lower .ensures)
+    let normal = c .before .before .before .before .before .normalize-front .ensures in
+    loosens-halved _ _ (start .args .h) _ (start .pre .0) (start .pre .1) normal _ (c .before .before .if2 .left) (c .lower .ensures)
 
 pub make-room-spec : {M : Type 1} → statement M
 make-room-spec =

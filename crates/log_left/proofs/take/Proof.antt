@@ -21,55 +21,43 @@ abbrev μ-loop : tie.MeasureT-loop
 μ-loop spans links n lo hi t₀ t = toTake n links hi t
 
 loop-holds : tie.Need-loop-holds Inv-loop μ-loop
-loop-holds c =
-    let args = c .before .before .before .args in
-    let e = c .pass .ensures in
-    (e .readable, λ l s up. taking-starts (args .lo) (args .hi) (c .pass .result) (e .readable) up (e .beyond))
+loop-holds c = let e = c .pass .ensures in (e .readable, λ l s up. taking-starts _ _ _ (e .readable) up (e .beyond))
 
 loop-less : tie.Need-loop-less Inv-loop μ-loop
 loop-less c =
     let at-test = c .before .before .before in
-    let loop = at-test .before .before in
-    let args = loop .before .before .before .before .args in
     let reaches = not-false _ (c .before .if2 .left) in
-    let cut = c .cut-pair .ensures in
-    cut-less (args .lo) (args .hi) (loop .loop .t) (c .cut-pair .result) (loop .loop .inv .0) (at-test .if1 .taken) reaches cut
+    cut-less _ _ _ _ (at-test .before .before .loop .inv .0) (at-test .if1 .taken) reaches (c .cut-pair .ensures)
 
 loop-again : tie.Need-loop-again Inv-loop μ-loop
 loop-again c =
     let at-test = c .before .before .before in
-    let loop = at-test .before .before in
-    let args = loop .before .before .before .before .args in
-    let inv = loop .loop .inv in
-    let t = loop .loop .t in
+    let inv = at-test .before .before .loop .inv in
     let cut = c .cut-pair .ensures in
     let reaches = not-false _ (c .before .if2 .left) in (
-      cut-readable (args .lo) (args .hi) t (c .cut-pair .result) (inv .0) (at-test .if1 .taken) cut,
-      λ l s up w. taking-on (args .lo) (args .hi) t (c .cut-pair .result) (inv .0) (at-test .if1 .taken) up reaches cut (inv .1 l s up w),
+      cut-readable _ _ _ _ (inv .0) (at-test .if1 .taken) cut,
+      λ l s up w. taking-on _ _ _ _ (inv .0) (at-test .if1 .taken) up reaches cut (inv .1 l s up w),
     )
 
 returns : tie.Need-returns Inv-loop μ-loop
 returns c =
     let loop = c .before .before in
-    let args = loop .before .before .before .before .args in
     let inv = loop .loop .inv in
+    let passed = loop .before .pass .ensures .walked in
     record {
       readable = inv .0;
-      walked = λ l s last h up w.
-          taking-ends (args .lo) (args .hi) (loop .loop .t) (inv .0) up (inl (c .if1 .left))
-          (inv .1 l s up (loop .before .pass .ensures .walked l s last h w));
+      walked = λ l s last h up w. taking-ends _ _ _ (inv .0) up (inl (c .if1 .left)) (inv .1 l s up (passed l s last h w));
     }
 
 returns-2 : tie.Need-returns-2 Inv-loop μ-loop
 returns-2 c =
     let loop = c .before .before .before .before in
-    let args = loop .before .before .before .before .args in
     let inv = loop .loop .inv in
+    let passed = loop .before .pass .ensures .walked in
+    let end = inr (not-true _ (c .if2 .taken)) in
     record {
       readable = inv .0;
-      walked = λ l s last h up w.
-          taking-ends (args .lo) (args .hi) (loop .loop .t) (inv .0) up (inr (not-true _ (c .if2 .taken)))
-          (inv .1 l s up (loop .before .pass .ensures .walked l s last h w));
+      walked = λ l s last h up w. taking-ends _ _ _ (inv .0) up end (inv .1 l s up (passed l s last h w));
     }
 
 pub take-spec : {M : Type 1} → statement M
