@@ -27,8 +27,7 @@ pub record AddPre (n : ℕ) (keys : List ℕ) (w : Batch) : Type 0 where
   pub fits : w .width * n < 2 ^ 64
   pub room : w .count ≤ length keys
 
--- a batch of at most `width` rays: unless it is full its keys fit the buffer, and what is told of them holds; of a full one's keys nothing is
--- promised
+-- a batch of at most `width` rays: unless it is full its keys fit the buffer, and what is told of them holds
 pub record BatchTold (width : ℕ) (before after : List ℕ) (r : Batch) (told : Type 0) : Type 0 where
   pub size : length after ≡ length before
   pub some : 0 < r .width

@@ -25,7 +25,7 @@ module _ {g : DexelGrid} {log : List Float} {ray : ℕ} (from : RayWalks) {keys 
       → TakeHitsPost n spans links (from .end) (w .keys .end) (frontOf certain w) (partHits log keys w certain) before after p t
       → (l : List Float) → le (from .end) top ≡ true → Taken n spans links l (holds (losesOf g log ray certain)) (from .end) p
       → Taken n spans links l (holds (losesOf g log ray certain)) (w .keys .end) t
-  stretch-taken certain takes l h = takes .taken l (holds (losesOf g log ray certain)) (stretch-onward named r h) (stretched named r certain)
+  stretch-taken certain takes l h = takes .taken l _ (stretch-onward named r h) (stretched named r certain)
 
   pub part-taken : {n : ℕ} {spans : List Float} {links old : List ℕ} {before mid after : List Float} {s t : Rest}
       → length keys ≡ length old

@@ -54,19 +54,22 @@ loop-again c =
 end-list-requires : tie.Need-end-list-requires Inv-loop μ-loop
 end-list-requires c κs =
     let part = c .before .before .before .before .before .before in
-    (list-readable (part .before .before .before .before .before .before .before .before .before .before .before .before .before .before .pre .0) false, part .take-part .ensures .readable false)
+    let start = part .before .before .before .before .before .before .before .before .before .before .before .before .before .before in
+    (list-readable (start .pre .0) false, part .take-part .ensures .readable false)
 
 end-list-requires-2 : tie.Need-end-list-requires-2 Inv-loop μ-loop
 end-list-requires-2 c κs =
     let part = c .before .before .before .before .before .before .before in
-    (list-readable (part .before .before .before .before .before .before .before .before .before .before .before .before .before .before .pre .0) true, part .take-part .ensures .readable true)
+    let start = part .before .before .before .before .before .before .before .before .before .before .before .before .before .before in
+    (list-readable (start .pre .0) true, part .take-part .ensures .readable true)
 
 add-ray-requires : tie.Need-add-ray-requires Inv-loop μ-loop
 add-ray-requires c κs =
     let part = c .before .before .before .before .before .before .before .before in
     let start = part .before .before .before .before .before .before .before .before .before .before .before .before .before .before in
     let asked = start .pre .0 in
-    let told = onward-counted (part .before .before .before .loop .inv) (part .take-part .ensures) (not-true _ (c .before .before .if1 .taken)) in
+    let inv = part .before .before .before .loop .inv in
+    let told = onward-counted inv (part .take-part .ensures) (not-true _ (c .before .before .if1 .taken)) in
     ray-addable asked (omega (arith, asked .counting .countable .room .in-spans, start .good, start .fits))
     (told false _ (list-sound asked false) (c .before .end-list .ensures)) (told true _ (list-sound asked true) (c .end-list2 .ensures))
 

@@ -14,12 +14,15 @@ take-hits-requires c κs =
     (pre .readable false, pre .shaped, pre .some)
 
 slice-aggregate-take-hits-2 : tie.Need-slice-aggregate-take-hits-2
-slice-aggregate-take-hits-2 c = sym (length-take-le _ _ (c .before .before .before .before .before .before .before .before .before .before .gather-ray .ensures .1 .inLog .room))
+slice-aggregate-take-hits-2 c =
+    let gathered = c .before .before .before .before .before .before .before .before .before .before in
+    sym (length-take-le _ _ (gathered .gather-ray .ensures .1 .inLog .room))
 
 take-hits-requires-2 : tie.Need-take-hits-requires-2
 take-hits-requires-2 c κs =
     let possible = c .before .before .before .before in
-    let pre = possible .before .before .before .before .before .before .before .before .before .before .before .before .before .before .pre in
+    let gathered = possible .before .before .before .before .before .before .before in
+    let pre = gathered .before .before .before .before .before .before .before .pre in
     (pre .readable true, same-shape _ _ (possible .take-hits .ensures .size) (pre .shaped), pre .some)
 
 returns : tie.Need-returns

@@ -7,7 +7,8 @@ use Rattle.log_gather.proofs.make_room.Tie as tie
 returns-2 : tie.Need-returns-2
 returns-2 c =
     let start = c .before .before .before .before .before .before .before .before in
-    loosens-joined _ _ (start .args .h) _ (start .pre .0) (start .pre .1) (c .before .before .before .normalize-front .ensures) (c .if2 .taken)
+    let normal = c .before .before .before .normalize-front .ensures in
+    loosens-joined _ _ (start .args .h) _ (start .pre .0) (start .pre .1) normal (c .if2 .taken)
 
 returns-3 : tie.Need-returns-3
 returns-3 c =

@@ -15,7 +15,8 @@ returns-2 c = puts-below (c .before .before .before .before .pre .1) (c .if2 .ta
 
 returns-3 : tie.Need-returns-3
 returns-3 c =
-    puts-front (c .before .before .before .before .before .pre .1) (not-false _ (c .before .before .before .if1 .left)) (c .before .if2 .left) (not-true _ (c .if3 .taken))
+    let rises = not-false _ (c .before .before .before .if1 .left) in
+    puts-front (c .before .before .before .before .before .pre .1) rises (c .before .if2 .left) (not-true _ (c .if3 .taken))
 
 returns-4 : tie.Need-returns-4
 returns-4 c = puts-beyond (c .before .before .before .before .before .before .before .pre .1) (not-true _ (c .if4 .taken))

@@ -41,8 +41,8 @@ loop-again c =
 returns : tie.Need-returns Inv-loop μ-loop
 returns c =
     let loop = c .before in
-    no-more _ _ _ _ _ (loop .before .before .before .before .before .pre .1) _ (loop .loop .i) _ _ (λ h. absurd (omega (arith, h, c .loop-test .left)))
-    (front-taken (loop .before)) (loop .loop .inv)
+    no-more _ _ _ _ _ (loop .before .before .before .before .before .pre .1) _ (loop .loop .i) _ _
+    (λ h. absurd (omega (arith, h, c .loop-test .left))) (front-taken (loop .before)) (loop .loop .inv)
 
 returns-2 : tie.Need-returns-2 Inv-loop μ-loop
 returns-2 c =

@@ -32,7 +32,9 @@ take-held-requires c κs =
     (gather .before .before .loop .inv .readable, roomy-front (gather .gather .ensures .gathers .roomy) normal)
 
 loop-less : tie.Need-loop-less Inv-loop μ-loop
-loop-less c = pairs-fall (c .before .before .before .before .before .before .before .before .before .before .gather .ensures .gathers) (not-false _ (c .if1 .left))
+loop-less c =
+    let gather = c .before .before .before .before .before .before .before .before .before .before in
+    pairs-fall (gather .gather .ensures .gathers) (not-false _ (c .if1 .left))
 
 loop-again : tie.Need-loop-again Inv-loop μ-loop
 loop-again c =
