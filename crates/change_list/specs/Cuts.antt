@@ -1,4 +1,4 @@
--- What makes the change of one ray good, and what its test asks.
+-- What makes the change of one ray good.
 use mathlib.Core.Path.{_≡_}
 use mathlib.Core.Bool.{true, false, _&&_}
 use mathlib.Core.List.{List}

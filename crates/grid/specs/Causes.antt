@@ -1,4 +1,4 @@
--- The refusals of `grid` in document 01's own words, over whole numbers of cells and rays, and what an accepted grid is good for.
+-- The refusals of `grid` in document 01's own words, over whole numbers of cells and rays.
 use mathlib.Core.Path.{_≡_}
 use mathlib.Core.Bool.{true, false}
 use mathlib.Core.List.{List, [], _∷_}

@@ -16,7 +16,7 @@ use Rattle.spans.specs.Spans.{All, Double, holds, sound, equal, ListOf}
 use Rattle.doubles.proofs.Order.{lt-number, eq-refl}
 use Rattle.spans.proofs.Pieces.{agree, by-ends, of-list, in-left, in-right, both-of}
 use Rattle.grid.specs.Axes.{byDigit}
-use Rattle.grid.specs.Grid.{allBetween, isBetween}
+use Rattle.grid.specs.Grid.{allBetween, isBetween, whole}
 use Rattle.grid.specs.FromSpec.{gridOf, isMm, misdescribed, anyBelow, gridOver, anyAbove, cellCount, tooFine, leastStep, magnitudeOf}
 use Rattle.grid.specs.Rays.{rayCount, raysAlong, offset, rayAxis, boundsOf, Ray}
 use Rattle.grid.specs.declared.GridAnswer.the-variants.{Accepted}
@@ -27,7 +27,6 @@ use Rattle.log_model.specs.Model.{LogAnswer, changed, refused, logCommit
 use Rattle.log_model.specs.Counts.{hitsOnList, changedRayCount}
 use Rattle.log_model.specs.Runs.{pointSets, CommitEffect, CommitStep, Run, done, next, RunMeetsModel}
 use Rattle.log_model.specs.Examples.{
-  num,
   exampleBox,
   exampleGrid,
   exampleStock,
@@ -60,9 +59,9 @@ accepted-box = refl
 
 -- minus zero names axis 0; an axis of 3, a fraction, a negative number, an infinity and NaN name no ray
 naming : map (λ log. map (namesSomeRay exampleGrid) (entries log))
-    (exampleHit (neg (num 0)) (num 0) ∷ exampleHit (num 2) (neg (num 0)) ∷ exampleHit (num 3) (num 0)
-    ∷ exampleHit (num 0) (num 1) ∷ exampleHit (num 1) (ratio 1 2) ∷ exampleHit (num 1) (neg (num 1))
-    ∷ exampleHit (inf false) (num 0) ∷ exampleHit (num 0) nan ∷ [])
+    (exampleHit (neg (whole 0)) (whole 0) ∷ exampleHit (whole 2) (neg (whole 0)) ∷ exampleHit (whole 3) (whole 0)
+    ∷ exampleHit (whole 0) (whole 1) ∷ exampleHit (whole 1) (ratio 1 2) ∷ exampleHit (whole 1) (neg (whole 1))
+    ∷ exampleHit (inf false) (whole 0) ∷ exampleHit (whole 0) nan ∷ [])
     ≡ (true ∷ []) ∷ (true ∷ []) ∷ (false ∷ []) ∷ (false ∷ []) ∷ (false ∷ []) ∷ (false ∷ []) ∷ (false ∷ []) ∷ (false ∷ []) ∷ []
 unfolding namesSomeRay entries ratio eq neg ofInt byDigit
 naming = refl
@@ -94,11 +93,11 @@ by-fit l h = cells-doubles l (fit-doubles l h)
 -- ---- a run on full rays. The log hits the ray along axis 1, which is ray 1.
 
 abbrev uncut : ℕ → Plain exampleGrid
-uncut n = record { lists = λ r k. num 0 ∷ num 10 ∷ []; generation = 0; lent = record { records = n; heads = 6 } }
+uncut n = record { lists = λ r k. whole 0 ∷ whole 10 ∷ []; generation = 0; lent = record { records = n; heads = 6 } }
 
 full : (n : ℕ) → Valid exampleGrid (uncut n)
 unfolding sound lt ofInt all-fit fits
-full n = record { isSound = λ r k. refl; doubles = λ r k. fit-doubles (num 0 ∷ num 10 ∷ []) refl; within = λ r p t. t }
+full n = record { isSound = λ r k. refl; doubles = λ r k. fit-doubles (whole 0 ∷ whole 10 ∷ []) refl; within = λ r p t. t }
 
 -- the ray changes once; the same log again is accepted and changes nothing, even with no ray allowed
 twice : answers (exampleBox 8) exampleGrid (uncut 8) (exampleCommit 0 1 66 ∷ exampleCommit 0 0 66 ∷ []) ≡ changed 1 ∷ changed 0 ∷ []
@@ -107,7 +106,7 @@ twice = refl
 
 -- one work pair short; part of an entry over; no such ray; no ray allowed; and after those refusals the log is accepted
 refusals : answers (exampleBox 8) exampleGrid (uncut 8)
-    (exampleCommit 0 1 65 ∷ record { log = num 1 ∷ []; allowance = 1; work = 66 } ∷ exampleCommit 1 1 66
+    (exampleCommit 0 1 65 ∷ record { log = whole 1 ∷ []; allowance = 1; work = 66 } ∷ exampleCommit 1 1 66
     ∷ exampleCommit 0 0 66 ∷ exampleCommit 0 1 66 ∷ [])
     ≡ refused 12 ∷ refused 11 ∷ refused 17 ∷ refused 9 ∷ changed 1 ∷ []
 unfolding answers rayCount byDigit eq lt le
@@ -125,7 +124,7 @@ ray-one s = s .lists (1, lit< tt) Possible ∷ s .lists (1, lit< tt) Certain ∷
 
 -- after the two commits of `twice`
 cut-ray : ray-one (final (exampleBox 8) exampleGrid (uncut 8) (exampleCommit 0 1 66 ∷ exampleCommit 0 0 66 ∷ []))
-    ≡ (num 0 ∷ num 2 ∷ num 3 ∷ num 10 ∷ []) ∷ (num 0 ∷ num 1 ∷ num 4 ∷ num 10 ∷ []) ∷ []
+    ≡ (whole 0 ∷ whole 2 ∷ whole 3 ∷ whole 10 ∷ []) ∷ (whole 0 ∷ whole 1 ∷ whole 4 ∷ whole 10 ∷ []) ∷ []
 unfolding final ray-one rayCount byDigit eq lt le
 cut-ray = refl
 
@@ -139,8 +138,8 @@ cut-generation = refl
 abbrev cut : Stock
 cut = record {
   cells = record {
-    spans = num 0 ∷ num 10 ∷ num 0 ∷ num 10 ∷ num 0 ∷ num 2 ∷ num 3 ∷ num 10 ∷ num 0 ∷ num 10 ∷ num 0 ∷ num 10 ∷ num 0
-        ∷ num 1 ∷ num 4 ∷ num 10 ∷ [];
+    spans = whole 0 ∷ whole 10 ∷ whole 0 ∷ whole 10 ∷ whole 0 ∷ whole 2 ∷ whole 3 ∷ whole 10 ∷ whole 0 ∷ whole 10 ∷ whole 0 ∷ whole 10 ∷ whole 0
+        ∷ whole 1 ∷ whole 4 ∷ whole 10 ∷ [];
     links = 0 ∷ 1 ∷ 0 ∷ 2 ∷ 4 ∷ 3 ∷ 0 ∷ 3 ∷ 0 ∷ 5 ∷ 0 ∷ 6 ∷ 8 ∷ 4 ∷ 0 ∷ 4 ∷ [];
     heads = 1 ∷ 2 ∷ 3 ∷ 7 ∷ 5 ∷ 6 ∷ [];
   };
@@ -152,8 +151,8 @@ cut = record {
 abbrev cut-again : Stock
 cut-again = record {
   cells = record {
-    spans = num 0 ∷ num 10 ∷ num 0 ∷ num 10 ∷ num 0 ∷ num 2 ∷ num 3 ∷ num 4 ∷ num 0 ∷ num 10 ∷ num 0 ∷ num 10 ∷ num 0
-        ∷ num 1 ∷ num 0 ∷ num 0 ∷ [];
+    spans = whole 0 ∷ whole 10 ∷ whole 0 ∷ whole 10 ∷ whole 0 ∷ whole 2 ∷ whole 3 ∷ whole 4 ∷ whole 0 ∷ whole 10 ∷ whole 0 ∷ whole 10 ∷ whole 0
+        ∷ whole 1 ∷ whole 0 ∷ whole 0 ∷ [];
     links = 0 ∷ 1 ∷ 0 ∷ 2 ∷ 4 ∷ 3 ∷ 0 ∷ 3 ∷ 0 ∷ 5 ∷ 0 ∷ 6 ∷ 0 ∷ 4 ∷ 0 ∷ 0 ∷ [];
     heads = 1 ∷ 2 ∷ 3 ∷ 7 ∷ 5 ∷ 6 ∷ [];
   };
@@ -223,7 +222,7 @@ used-in l used (suc n) h i k u = elim (decLt i n) [
     ]
 
 -- a full ray
-whole-ray : ValidRay (num 0) (num 10) (num 0 ∷ num 10 ∷ []) (num 0 ∷ num 10 ∷ [])
+whole-ray : ValidRay (whole 0) (whole 10) (whole 0 ∷ whole 10 ∷ []) (whole 0 ∷ whole 10 ∷ [])
 unfolding sound bounded lt le ofInt
 whole-ray = record { possible-sound = refl; certain-sound = refl; possible-bounded = refl; certain-bounded = refl; inside = λ p t. t }
 
@@ -237,25 +236,25 @@ inside-of P C h p t =
     (in-right C P (holds P) (of-list P))) (in-left C P (holds C) (of-list C)) h p ∙ t)
 
 -- the ray that was cut: 0 to 1 and 4 to 10 lie within 0 to 2 and 3 to 10
-cut-whole : ValidRay (num 0) (num 10) (num 0 ∷ num 2 ∷ num 3 ∷ num 10 ∷ []) (num 0 ∷ num 1 ∷ num 4 ∷ num 10 ∷ [])
+cut-whole : ValidRay (whole 0) (whole 10) (whole 0 ∷ whole 2 ∷ whole 3 ∷ whole 10 ∷ []) (whole 0 ∷ whole 1 ∷ whole 4 ∷ whole 10 ∷ [])
 unfolding sound bounded holds lt le ofInt
 cut-whole = record {
   possible-sound = refl;
   certain-sound = refl;
   possible-bounded = refl;
   certain-bounded = refl;
-  inside = inside-of (num 0 ∷ num 2 ∷ num 3 ∷ num 10 ∷ []) (num 0 ∷ num 1 ∷ num 4 ∷ num 10 ∷ []) refl;
+  inside = inside-of (whole 0 ∷ whole 2 ∷ whole 3 ∷ whole 10 ∷ []) (whole 0 ∷ whole 1 ∷ whole 4 ∷ whole 10 ∷ []) refl;
 }
 
 -- and cut again: 0 to 1 lies within 0 to 2 and 3 to 4
-again-whole : ValidRay (num 0) (num 10) (num 0 ∷ num 2 ∷ num 3 ∷ num 4 ∷ []) (num 0 ∷ num 1 ∷ [])
+again-whole : ValidRay (whole 0) (whole 10) (whole 0 ∷ whole 2 ∷ whole 3 ∷ whole 4 ∷ []) (whole 0 ∷ whole 1 ∷ [])
 unfolding sound bounded holds lt le ofInt
 again-whole = record {
   possible-sound = refl;
   certain-sound = refl;
   possible-bounded = refl;
   certain-bounded = refl;
-  inside = inside-of (num 0 ∷ num 2 ∷ num 3 ∷ num 4 ∷ []) (num 0 ∷ num 1 ∷ []) refl;
+  inside = inside-of (whole 0 ∷ whole 2 ∷ whole 3 ∷ whole 4 ∷ []) (whole 0 ∷ whole 1 ∷ []) refl;
 }
 
 filled-sound : SoundStock (exampleBox 8) exampleGrid exampleStock
@@ -377,30 +376,30 @@ third-answer = refl
 
 -- the lists after the first log, and the pairs that the first and the third take from each
 abbrev cut-at : ℕ → Kind → List Float
-cut-at zero k = num 0 ∷ num 10 ∷ []
-cut-at (suc zero) Possible = num 0 ∷ num 2 ∷ num 3 ∷ num 10 ∷ []
-cut-at (suc zero) Certain = num 0 ∷ num 1 ∷ num 4 ∷ num 10 ∷ []
-cut-at (suc (suc n)) k = num 0 ∷ num 10 ∷ []
+cut-at zero k = whole 0 ∷ whole 10 ∷ []
+cut-at (suc zero) Possible = whole 0 ∷ whole 2 ∷ whole 3 ∷ whole 10 ∷ []
+cut-at (suc zero) Certain = whole 0 ∷ whole 1 ∷ whole 4 ∷ whole 10 ∷ []
+cut-at (suc (suc n)) k = whole 0 ∷ whole 10 ∷ []
 
 abbrev first-pairs : ℕ → Kind → List Float
 first-pairs zero k = []
-first-pairs (suc zero) Possible = num 2 ∷ num 3 ∷ []
-first-pairs (suc zero) Certain = num 1 ∷ num 4 ∷ num 2 ∷ num 3 ∷ []
+first-pairs (suc zero) Possible = whole 2 ∷ whole 3 ∷ []
+first-pairs (suc zero) Certain = whole 1 ∷ whole 4 ∷ whole 2 ∷ whole 3 ∷ []
 first-pairs (suc (suc n)) k = []
 
 abbrev third-pairs : ℕ → Kind → List Float
 third-pairs zero k = []
-third-pairs (suc zero) Possible = num 4 ∷ num 10 ∷ []
-third-pairs (suc zero) Certain = num 9 ∷ num 10 ∷ num 4 ∷ num 10 ∷ []
+third-pairs (suc zero) Possible = whole 4 ∷ whole 10 ∷ []
+third-pairs (suc zero) Certain = whole 9 ∷ whole 10 ∷ whole 4 ∷ whole 10 ∷ []
 third-pairs (suc (suc n)) k = []
 
-filled-lists : (r : Ray exampleGrid) (k : Kind) → rayList (exampleBox 8) (exampleStock .cells) (r .0) k ≡ num 0 ∷ num 10 ∷ []
+filled-lists : (r : Ray exampleGrid) (k : Kind) → rayList (exampleBox 8) (exampleStock .cells) (r .0) k ≡ whole 0 ∷ whole 10 ∷ []
 unfolding endsAt places
 filled-lists r Possible = three
-    (λ r. rayList (exampleBox 8) (exampleStock .cells) (r .0) Possible ≡ num 0 ∷ num 10 ∷ []) (λ h. refl) (λ h. refl)
+    (λ r. rayList (exampleBox 8) (exampleStock .cells) (r .0) Possible ≡ whole 0 ∷ whole 10 ∷ []) (λ h. refl) (λ h. refl)
     (λ h. refl) r
 filled-lists r Certain = three
-    (λ r. rayList (exampleBox 8) (exampleStock .cells) (r .0) Certain ≡ num 0 ∷ num 10 ∷ []) (λ h. refl) (λ h. refl)
+    (λ r. rayList (exampleBox 8) (exampleStock .cells) (r .0) Certain ≡ whole 0 ∷ whole 10 ∷ []) (λ h. refl) (λ h. refl)
     (λ h. refl) r
 
 cut-lists : (r : Ray exampleGrid) (k : Kind) → rayList (exampleBox 8) (cut .cells) (r .0) k ≡ cut-at (r .0) k
@@ -433,11 +432,11 @@ third-hits r Certain = three (λ r. hitsOnList exampleGrid (entries (innerWider 
     ≡ third-pairs (r .0) Certain) (λ h. refl) (λ h. refl) (λ h. refl) r
 
 -- the lists that are left are the old ones less the hits
-first-less : (r : Ray exampleGrid) (k : Kind) → cut-at (r .0) k ≡ less (num 0 ∷ num 10 ∷ []) (first-pairs (r .0) k)
+first-less : (r : Ray exampleGrid) (k : Kind) → cut-at (r .0) k ≡ less (whole 0 ∷ whole 10 ∷ []) (first-pairs (r .0) k)
 unfolding less lt ofInt
-first-less r Possible = three (λ r. cut-at (r .0) Possible ≡ less (num 0 ∷ num 10 ∷ []) (first-pairs (r .0) Possible))
+first-less r Possible = three (λ r. cut-at (r .0) Possible ≡ less (whole 0 ∷ whole 10 ∷ []) (first-pairs (r .0) Possible))
     (λ h. refl) (λ h. refl) (λ h. refl) r
-first-less r Certain = three (λ r. cut-at (r .0) Certain ≡ less (num 0 ∷ num 10 ∷ []) (first-pairs (r .0) Certain))
+first-less r Certain = three (λ r. cut-at (r .0) Certain ≡ less (whole 0 ∷ whole 10 ∷ []) (first-pairs (r .0) Certain))
     (λ h. refl) (λ h. refl) (λ h. refl) r
 
 third-less : (r : Ray exampleGrid) (k : Kind) → exampleListAfter (r .0) k ≡ less (cut-at (r .0) k) (third-pairs (r .0) k)
@@ -526,7 +525,7 @@ module _ (vs : List LogAnswer) (t : Stock)
   }
 
 -- the uncut store of the box
-fill-lays : uncutCells (exampleBox 8) exampleGrid (cells (replicate 16 (num 7)) (replicate 16 7) (replicate 6 7)) ≡ exampleStock .cells
+fill-lays : uncutCells (exampleBox 8) exampleGrid (cells (replicate 16 (whole 7)) (replicate 16 7) (replicate 6 7)) ≡ exampleStock .cells
 unfolding uncutSpans uncutLinks uncutHeads recordAt rayCount boundsOf rayAxis offset raysAlong byDigit ofInt ofBits
 fill-lays = refl
 

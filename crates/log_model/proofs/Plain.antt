@@ -1,4 +1,4 @@
--- `Committed` can be met: over a store that is nothing but its lists and numbers, every list of commits whose logs are doubles has a run
+-- `CommitStep` can be met: over a store that is nothing but its lists and numbers, every list of commits whose logs are doubles has a run
 -- from a sound store, and it is worked out here. So neither the run nor demand 3 is empty.
 use mathlib.Core.Path.{_≡_, refl, sym, ap, _∙_}
 use mathlib.Core.Bool.{true, false, not}

@@ -1,4 +1,4 @@
--- DEMAND 3: after any run from a sound store everything that `Settled` says holds, and two runs that are alike in the hits of their
+-- DEMAND 3: after any run from a sound store everything that `RunMeetsModel` says holds, and two runs that are alike in the hits of their
 -- accepted logs leave equal lists and totals.
 use mathlib.Core.Path.{_≡_, refl, sym, ap, _∙_, subst, subst₂, fun-ext}
 use mathlib.Core.Bool.{Bool, true, false, not, _&&_, _||_}

@@ -1,4 +1,4 @@
--- Rays, logs and log commits, and which points a log takes.
+-- Logs and log commits, and which points a log takes.
 use mathlib.Core.Path.{_≡_}
 use mathlib.Core.Bool.{Bool, true, cond, _&&_, _||_}
 use mathlib.Core.List.{List, [], _∷_, List·Memᴰ}

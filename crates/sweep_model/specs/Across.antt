@@ -67,6 +67,6 @@ abbrev pub hitWith : Profile → ChordOnAxis → Section → List Float → Stri
 hitWith p l s possible Miss = Off
 hitWith p l s possible (Hit lo hi) = cond (overlapsOf possible (pair lo hi)) (On (record { outer = pair lo hi; inner = innerOf p l s })) Off
 
--- a ray is hit where possible material lies within its outer interval: `hit-material` and `material-hit` in proofs/Material.antt
+-- a ray is hit where possible material lies within its outer interval: `hit-material` and `material-hit` in sweep_ray/proofs/Material.antt
 unfoldable pub rayHitOf : Profile → ChordOnAxis → Section → (possible : List Float) → RayHit
 rayHitOf p l s possible = cond (spansMeet possible (l .reach)) (hitWith p l s possible (outerOf p l s)) Off
