@@ -32,7 +32,7 @@ module _ (spec : DexelStockSpec) (g : DexelGrid) (c : Cells) (pairs : List Float
   good-ascend (d ∷ ds) from k h all =
       let ray : ℕ = changeRay g (d .axis) (d .index) in
       let good = all .0 in
-      let v = good .cuts .loses .valid in
+      let v = good .allowed .removal .valid in
       let below : ray < rayCount g = ray-below from d good in
       let up : from ≤ ray = good .names .ascends in
       let lo₁ : k ≤ 2 * ray = omega arith in
@@ -77,7 +77,7 @@ module _ (spec : DexelStockSpec) (g : DexelGrid) (c : Cells) (pairs : List Float
           (listAfter (updatesOf g (d ∷ ds)) (2 * ray) p) x) (sym qe)
           (subst (λ (x : List Float). ValidRay (boundsOf spec g ray .lo) (boundsOf spec g ray .hi) x (d .certain-after)) (sym pe)
           (subst (λ (r : ℕ). ValidRay (boundsOf spec g r .lo) (boundsOf spec g r .hi) (d .possible-after)
-          (d .certain-after)) (sym e) (all .0 .cuts .loses .valid)))
+          (d .certain-after)) (sym e) (all .0 .allowed .removal .valid)))
       at (no ne) rest =
           let pe : listAfter (updatesOf g (d ∷ ds)) (2 * ray) p ≡ listAfter (updatesOf g ds) (2 * ray) p
           = after-other first (second ∷ updatesOf g ds) (2 * ray) p

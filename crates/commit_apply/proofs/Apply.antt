@@ -20,7 +20,7 @@ use Rattle.log_lay.specs.Updates.{updatesFrom, listsEnd}
 use Rattle.log_lay.specs.Steps.{AllFreeable, EachLayable, RaysLayable}
 use Rattle.log_lay.proofs.Room.{each-layable, no-cursor}
 use Rattle.log_model.specs.Updates.{MergeUpdates}
-use Rattle.log_model.proofs.Leaves.{ascend, intervals-left}
+use Rattle.log_model.proofs.AcceptedLog.{ascend, intervals-left}
 use Rattle.log_merge.specs.All.{MergeAllPre, MergeAllPost}
 use Rattle.commit_apply.specs.Apply.{ApplyPre, ApplyPost}
 use Rattle.store.specs.Steps.{Room, Ascending}

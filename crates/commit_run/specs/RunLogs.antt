@@ -85,7 +85,7 @@ pub data CommitsTo (spec : DexelStockSpec) (units : List ℕ) (logs : List Float
 -- demand 3 says holds of it
 pub record RunPost (spec : DexelStockSpec) (g : DexelGrid) (s : Stock) (cs : List Commit) (vs : List LogAnswer) (t : Stock) : Type 0 where
   pub run : Run spec g (lentStore spec g) s cs vs t
-  pub settled : SoundStock spec g s → RunMeetsModel spec g (lentStore spec g) s cs vs t
+  pub meets-model : SoundStock spec g s → RunMeetsModel spec g (lentStore spec g) s cs vs t
 
 -- the same, for a description that `grid` accepts
 unfoldable pub RunOnGridPost : (spec : DexelStockSpec) (units : List ℕ) → Stock → List Commit → List LogAnswer → Stock → Type 0

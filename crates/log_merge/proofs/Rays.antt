@@ -1,4 +1,4 @@
--- One ray: its lists and hits brought, then cut in the part of the buffer that the new lists go to.
+-- One ray: its lists and hits are loaded, then cut in the part of the buffer that the new lists go to.
 use mathlib.Core.Path.{_≡_, refl, sym, ap, _∙_, subst₂}
 use mathlib.Core.Bool.{true, false, not}
 use mathlib.Core.List.{List, []}
@@ -25,7 +25,7 @@ use Rattle.log_merge.specs.Rays.{RayCutPost, LoadPre, LoadPost, limitOf,
 use Rattle.log_merge.specs.declared.RayUpdate.{RayUpdate}
 use Rattle.log_merge.specs.declared.Sizes.{Sizes}
 use Rattle.log_merge.proofs.Cutting.{untouched}
-use Rattle.log_merge.proofs.Bringing.{list-most, hits-most}
+use Rattle.log_merge.proofs.Loading.{list-most, hits-most}
 use Rattle.store.specs.Store.{Cells}
 
 -- ---- no hits

@@ -24,8 +24,8 @@ abbrev pub firstSizeOf : RayUpdate → ℕ
 firstSizeOf m = cond (m .changed) (m .possible + 1) 0
 
 -- what the ray adds to the number of those that change
-abbrev pub countOf : RayUpdate → ℕ
-countOf m = cond (m .changed) 1 0
+abbrev pub oneIfChanged : RayUpdate → ℕ
+oneIfChanged m = cond (m .changed) 1 0
 
 -- where the sizes stand, and the lists
 abbrev pub sizesAt : DexelGrid → (log : List Float) → ℕ
