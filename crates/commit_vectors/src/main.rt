@@ -37,7 +37,7 @@ fn changes_in(
     spans: &mut [f64],
     links: &mut [u64],
     heads: &mut [u64],
-) -> stock::RowOutcome {
+) -> stock::Outcome {
     let mut changes = [0; 36];
     vector_rows::numbers_at(w, 94, &mut changes);
     let mut pairs = [0.0; 40];
@@ -66,7 +66,7 @@ fn log_in(
     links: &mut [u64],
     heads: &mut [u64],
     work: &mut [f64],
-) -> stock::RowOutcome {
+) -> stock::Outcome {
     let mut log = [0.0; 36];
     vector_rows::doubles_at(w, 94, &mut log);
     commit_log::commit_log_on(
@@ -92,7 +92,7 @@ fn commit_on(
     links: &mut [u64],
     heads: &mut [u64],
     work: &mut [f64],
-) -> stock::RowOutcome {
+) -> stock::Outcome {
     let units = vector_rows::units_of(w[2]);
     if w[0] == 0 {
         return changes_in(w, generation, intervals, &units, spans, links, heads);
@@ -118,7 +118,7 @@ fn store_agrees(w: &[u64; 170], spans: &[f64], links: &[u64], heads: &[u64]) -> 
 
 // Words 18 to 21: the refusal, 0 for none, the changed rays, the generation and the interval total. An accepted log
 // commit clears the work buffer.
-fn answer_agrees(w: &[u64; 170], o: stock::RowOutcome, work: &[f64]) -> bool {
+fn answer_agrees(w: &[u64; 170], o: stock::Outcome, work: &[f64]) -> bool {
     if o.generation != w[20] {
         return false;
     }
