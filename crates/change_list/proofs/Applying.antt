@@ -1,4 +1,5 @@
--- The law of a change list: what its updates leave of a sound stock.
+-- The law of a change list: what its updates leave of a sound stock. The rays ascend, so each list is updated once at
+-- most: a changed ray gets the new lists of its change, which are valid, and every other ray keeps its own.
 use mathlib.Core.Path.{_≡_, refl, sym, ap, _∙_, subst}
 use mathlib.Core.List.{List, [], _∷_, List·Memᴰ, List·Memᴰ·head, List·Memᴰ·tail, List·Memᴰ·cases-cons, List·Memᴰ·not-nil}
 use mathlib.Core.Logic.{⊎-elim}

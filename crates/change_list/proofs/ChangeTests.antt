@@ -1,4 +1,4 @@
--- What the tests of a ray's change tell, one after the other.
+-- What the tests of a ray's change decide, one after the other: each is a field of `IsRemoval` or of `ChangeAllowed`.
 use mathlib.Core.Path.{_≡_, refl, sym, ap, _∙_, subst}
 use mathlib.Core.Bool.{Bool, true, false, not, _&&_}
 use mathlib.Core.List.{List}

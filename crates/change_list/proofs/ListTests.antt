@@ -1,4 +1,4 @@
--- What the tests of a change tell, one after the other.
+-- What the tests of a change decide, one after the other: each is a field of `Good`.
 use mathlib.Core.Path.{_≡_, sym, ap, _∙_, subst}
 use mathlib.Core.Bool.{Bool, true, false, not}
 use mathlib.Core.List.{List, []}
@@ -68,7 +68,7 @@ module _ (g : DexelGrid) (axis index from : ℕ) where
     (λ p. le-leb from ray (omega (arith, p .ascends, f))),
   )
 
--- ---- 13
+-- ---- 13 is due exactly when not all is good
 pub bad-due : (good : Type 0) → (good → ⊥) → Due (badCauses good) (checkNumber Bad)
 bad-due good n = first (cause 13 (good → ⊥)) [] n
 

@@ -1,4 +1,5 @@
--- What good changes free and lay, and one turn of the check of all changes.
+-- What good changes free and lay, and one turn of the check of all changes. A good change says the lists that its ray
+-- has, so the pairs that it names before are those that it frees.
 use mathlib.Core.Path.{_≡_, refl, sym, ap, _∙_, subst}
 use mathlib.Core.List.{List, [], _∷_}
 use Prim.Native.Nat.{ℕ, suc, _+_, _-_, _*_, _%_, _/_, _≤_, _<_}

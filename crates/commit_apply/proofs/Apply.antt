@@ -1,4 +1,6 @@
--- From a sound store and the merged lists in the work buffer to the store with the log's updates done.
+-- From a sound store and the merged lists in the work buffer to the store with the log's updates done. The updates
+-- that stand in the buffer are those that the log asks, so they ascend and fit the budget: every one finds room once
+-- all are freed.
 use mathlib.Core.Path.{_≡_, refl, sym, ap, ap₂, _∙_, subst}
 use mathlib.Core.List.{List, _++_}
 use Prim.Native.Nat.{ℕ, _+_, _-_, _*_, _/_, _≤_}
@@ -27,7 +29,7 @@ use Rattle.store.specs.Steps.{Room, Ascending}
 use Rattle.store.specs.Store.{Cells, ChainsSound}
 
 module _ (spec : DexelStockSpec) (g : DexelGrid) (c : Cells) (log w : List Float) (ready : ApplyPre spec g c log w) where
-  -- a stock with these cells: the laws of a cut speak of no generation
+  -- a stock with these cells: the laws of an accepted log need one, of whatever generation
   abbrev some : Stock
   some = record { cells = c; generation = 0; intervals = ready .total }
 

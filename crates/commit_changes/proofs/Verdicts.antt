@@ -31,7 +31,7 @@ use Rattle.logic.specs.Logic.{Decides}
 use Rattle.store.specs.Steps.{Room}
 
 module _ (spec : DexelStockSpec) (g : DexelGrid) (s : Stock) (changes : List ℕ) (pairs : List Float) where
-  -- ---- 13, 10, 15
+  -- ---- 13, 10, 15: a bad change, too many intervals, the last generation
   module _ (r : ChangeCheck) (ens : CheckChangesPost spec g (s .cells) pairs (changesOf changes pairs) r) where
     pub bad-list : r ≡ Bad → VerdictBy (changeListCauses spec g s changes pairs) spec g s changes pairs (Refused 13)
     bad-list e =
@@ -93,7 +93,7 @@ module _ (spec : DexelStockSpec) (g : DexelGrid) (s : Stock) (changes : List ℕ
           record { room = room; isSound = sound; good = checked .0; budget = subst (λ (x : ℕ). x ≤ spec .«max_intervals») total-is l },
         )
 
-  -- ---- 12, 11, 14
+  -- ---- 12, 11, 14: short buffers, bad input, another base
   module _ (base : ℕ) where
     pub too-short : isShort spec g (s .cells) ≡ true
         → VerdictBy (changeCauses spec g base s changes pairs) spec g s changes pairs (Refused 12)

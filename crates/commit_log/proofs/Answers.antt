@@ -1,4 +1,4 @@
--- From the tests and the cut lists to the promise of a log commit.
+-- From the tests and the lists that are left to the promise of a log commit.
 use mathlib.Core.Path.{_≡_, refl, sym, ap, ap₂, _∙_, subst}
 use mathlib.Core.List.{List}
 use Prim.Native.Nat.{ℕ, suc, _+_, _-_, _*_}

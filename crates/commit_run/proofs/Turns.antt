@@ -166,7 +166,7 @@ run-next spec units s logs ends allowances work₀ answers₀ i t at work answer
 
     answers-are : answersTo answers′ (i + 1) ≡ answersTo answers i ++ (answerOf (x .answer) ∷ [])
     answers-are =
-        ap (answersTo answers′) (sym one-more) ∙ ap (λ (l : List ℕ). answersTo l (suc i)) (x .told)
+        ap (answersTo answers′) (sym one-more) ∙ ap (λ (l : List ℕ). answersTo l (suc i)) (x .written)
         ∙ ap₂ (λ (l : List LogAnswer) (v : LogAnswer). l ++ (v ∷ []))
         (answer-before answers i (x .answer) i (omega arith)) (answer-at answers i (x .answer) fits)
 

@@ -70,7 +70,7 @@ pub record RunStepPost (spec : DexelStockSpec) (units : List ℕ) (s : Stock) (l
     (work : List Float) (answers : List ℕ) (i : ℕ) (t : Stock) (work′ : List Float) (answers′ : List ℕ) : Type 0 where
   pub answer : CommitAnswer
   pub commits : LogCommitPost spec units s log allowance work answer t work′
-  pub told : answers′ ≡ answered answers i answer
+  pub written : answers′ ≡ answered answers i answer
 
 -- The first i commits one after the other, whatever the description is: each on the stock, the work buffer and the
 -- answers that the one before left
@@ -87,7 +87,7 @@ pub record RunPost (spec : DexelStockSpec) (g : DexelGrid) (s : Stock) (cs : Lis
   pub run : Run spec g (lentStore spec g) s cs vs t
   pub meets-model : SoundStock spec g s → RunMeetsModel spec g (lentStore spec g) s cs vs t
 
--- the same, for a description that `grid` accepts
+-- what holds of the run where the description has no cause, which is where `grid` accepts it
 unfoldable pub RunOnGridPost : (spec : DexelStockSpec) (units : List ℕ) → Stock → List Commit → List LogAnswer → Stock → Type 0
 RunOnGridPost spec units s cs vs t = NoneDue (gridCauses spec units) → RunPost spec (gridIn spec) s cs vs t
 

@@ -7,7 +7,7 @@ ghost use Rattle.log_lay.specs.Steps.{RayFreeable, AllFreeable, RaysLaya
 ghost use Rattle.store.specs.Store.{cells};
 
 // Frees both lists of a ray if it changes.
-fn free_ray(
+fn free_if_changed(
     spans: &mut [f64],
     links: &mut [u64],
     heads: &mut [u64],
@@ -44,7 +44,7 @@ pub fn free_all(
 {
     let mut ray: usize = 0;
     while ray < rays {
-        free_ray(spans, links, heads, n, work, sizes, ray);
+        free_if_changed(spans, links, heads, n, work, sizes, ray);
         ray += 1;
     }
 }
@@ -56,7 +56,7 @@ pub struct LayPlace {
 }
 
 // Lays both lists of a ray if it changes, possible first.
-fn lay_ray(
+fn lay_if_changed(
     spans: &mut [f64],
     links: &mut [u64],
     heads: &mut [u64],
@@ -115,7 +115,7 @@ pub fn lay_all(
     let mut place = LayPlace { from: 0, at };
     let mut ray: usize = 0;
     while ray < rays {
-        place = lay_ray(spans, links, heads, n, work, sizes, ray, place);
+        place = lay_if_changed(spans, links, heads, n, work, sizes, ray, place);
         ray += 1;
     }
 }

@@ -1,4 +1,6 @@
--- What the merge of one ray says of the log: whether the ray changes, and which lists are left.
+-- What the merge of one ray says of the log. The lists that stand in the buffer are the old ones less what
+-- normalising makes of the hits, and that has the points of the hits; so they are the lists after the log, and the
+-- ray changes exactly when one of them moves.
 use mathlib.Core.Path.{_≡_, refl, sym, ap, _∙_, subst}
 use mathlib.Core.Bool.{Bool, true, false}
 use mathlib.Core.List.{List}

@@ -40,7 +40,7 @@ none-apart l p h = refl
 less-none : (l : List Float) → sound l ≡ true → lessOf l [] ≡ l
 less-none l h = less-apart l [] h none-sound (none-apart l)
 
--- the same ray by its lists and those of its hits
+-- what is cut may be said by equal lists
 pub cut-same : {a b c d o u i v : List Float} {from limit : ℕ} {before after : List Float} {r : RayUpdate} → a ≡ b → c ≡ d → o ≡ u → i ≡ v
     → RayCutPost a c o i from limit before after r → RayCutPost b d u v from limit before after r
 cut-same {a} {b} {c} {d} {o} {u} {i} {v} {from} {limit} {before} {after} {r} p q s t x =

@@ -1,4 +1,6 @@
--- THE LAW OF A CUT: the updates that a log asks, done to a sound stock, leave what document 01 says of an accepted log.
+-- THE LAW OF AN ACCEPTED LOG: the updates that a log asks, done to a sound stock, leave what document 01 says. They
+-- ascend and fit the budget, so each list afterwards is the one that they say, and that is the sound list of what the
+-- log leaves.
 use mathlib.Core.Path.{_≡_, refl, sym, ap, ap₂, _∙_, subst}
 use mathlib.Core.List.{List}
 use Prim.Native.Nat.{ℕ, _+_, _-_, _*_, _/_, _≤_, _<_, min}
@@ -84,7 +86,7 @@ module _ (spec : DexelStockSpec) (g : DexelGrid) (s : Stock) (sound : SoundStock
         sizes : ℕ → ℕ → ℕ → Capacity
         sizes a b c = record { records = min (a / 2) (b / 2); heads = c }
 
-    -- THE LAW
+    -- THE LAW, for a commit with these entries
     pub accepted-effect : (c : Commit) → entries (c .log) ≡ es → AcceptedEffect g (lentStore spec g) s c (committedStock spec s us)
     unfolding pointSets
     accepted-effect c e = record {

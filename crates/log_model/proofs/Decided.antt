@@ -247,14 +247,14 @@ AllDecided (c ∷ cs) [] = ⊥
 AllDecided (c ∷ cs) (b ∷ bs) = Decides (c .present) b × AllDecided cs bs
 
 -- the number of the first cause whose test is passed, or else the other answer
-unfoldable pub answerBy : List Cause → List Bool → LogAnswer → LogAnswer
-answerBy [] bs a = a
-answerBy (c ∷ cs) [] a = a
-answerBy (c ∷ cs) (b ∷ bs) a = cond b (refused (c .number)) (answerBy cs bs a)
+unfoldable pub answerOfTests : List Cause → List Bool → LogAnswer → LogAnswer
+answerOfTests [] bs a = a
+answerOfTests (c ∷ cs) [] a = a
+answerOfTests (c ∷ cs) (b ∷ bs) a = cond b (refused (c .number)) (answerOfTests cs bs a)
 
 pub due-by : (cs : List Cause) (bs : List Bool) (a : LogAnswer) → AllDecided cs bs
-    → ((k : ℕ) × (answerBy cs bs a ≡ refused k) × Due cs k) ⊎ ((answerBy cs bs a ≡ a) × NoneDue cs)
-unfolding answerBy Due NoneDue
+    → ((k : ℕ) × (answerOfTests cs bs a ≡ refused k) × Due cs k) ⊎ ((answerOfTests cs bs a ≡ a) × NoneDue cs)
+unfolding answerOfTests Due NoneDue
 due-by [] [] a d = inr (refl, tt)
 due-by [] (b ∷ bs) a d = absurd d
 due-by (c ∷ cs) [] a d = absurd d
@@ -333,7 +333,7 @@ module _ (spec : DexelStockSpec) (g : DexelGrid) (b : Capacity) where
 
     -- the order's answer, worked out
     pub answer-due : AnswerDue spec g b ⊥ s n c
-        (answerBy (logCommitCauses spec g b ⊥ s n c) (tests lists n c) (changed (changedRayCount g lists (entries (c .log)))))
+        (answerOfTests (logCommitCauses spec g b ⊥ s n c) (tests lists n c) (changed (changedRayCount g lists (entries (c .log)))))
     unfolding AnswerDue
     answer-due = elim (due-by (logCommitCauses spec g b ⊥ s n c) (tests lists n c)
         (changed (changedRayCount g lists (entries (c .log)))) all-decided) [

@@ -47,7 +47,7 @@ use Rattle.log_model.specs.View.{lentStore}
 use Rattle.log_model.proofs.Unique.{answer-due-unsound}
 use Rattle.log_model.proofs.Less.{less}
 use Rattle.log_model.proofs.Doubles.{DoubleCells, all-doubles}
-use Rattle.log_model.proofs.Decided.{tests, answerBy, answer-due, sets-after-list}
+use Rattle.log_model.proofs.Decided.{tests, answerOfTests, answer-due, sets-after-list}
 use Rattle.log_model.proofs.View.{lent-laws, run-correct-lent}
 use Rattle.log_model.proofs.Plain.{Plain, Valid, answers, final}
 use Rattle.doubles.specs.Rounding.{ratio}
@@ -308,7 +308,7 @@ again-sound = record {
 -- the answer that the order gives to a commit on a sound stock, worked out
 abbrev answer-on : Stock → Commit → LogAnswer
 answer-on s c =
-    answerBy (logCommitCauses (exampleBox 8) exampleGrid (lentStore (exampleBox 8) exampleGrid .lent s) ⊥
+    answerOfTests (logCommitCauses (exampleBox 8) exampleGrid (lentStore (exampleBox 8) exampleGrid .lent s) ⊥
     (pointSets exampleGrid (lentStore (exampleBox 8) exampleGrid) s) (s .generation) c)
     (tests (exampleBox 8) exampleGrid (lentStore (exampleBox 8) exampleGrid .lent s)
     (λ r k. rayList (exampleBox 8) (s .cells) (r .0) k) (s .generation) c)
@@ -364,15 +364,15 @@ module _ (s : Stock) (S : SoundStock (exampleBox 8) exampleGrid s) (ds : DoubleC
   }
 
 first-answer : answer-on exampleStock (exampleCommit 0 1 66) ≡ changed 1
-unfolding answerBy logCommitCauses tests changedRayCount rayCount eq byDigit lt endsAt places le
+unfolding answerOfTests logCommitCauses tests changedRayCount rayCount eq byDigit lt endsAt places le
 first-answer = refl
 
 second-answer : answer-on cut notAllowed ≡ refused 9
-unfolding answerBy logCommitCauses tests changedRayCount rayCount eq byDigit lt endsAt places le
+unfolding answerOfTests logCommitCauses tests changedRayCount rayCount eq byDigit lt endsAt places le
 second-answer = refl
 
 third-answer : answer-on cut innerWider ≡ changed 1
-unfolding answerBy logCommitCauses tests changedRayCount rayCount eq byDigit lt endsAt places le
+unfolding answerOfTests logCommitCauses tests changedRayCount rayCount eq byDigit lt endsAt places le
 third-answer = refl
 
 -- the lists after the first log, and the pairs that the first and the third take from each

@@ -1,4 +1,5 @@
--- The points that a list of logs takes, by their hits.
+-- The points that a list of logs takes, by their hits: a point is taken exactly when a hit has it, so logs that are
+-- alike in hits take the same points.
 use mathlib.Core.Path.{_≡_, refl, sym, ap, _∙_, subst}
 use mathlib.Core.Bool.{Bool, true, false, cond, _&&_, _||_, false≢true}
 use mathlib.Core.List.{List, [], _∷_, List·Memᴰ, List·Memᴰ·head, List·Memᴰ·tail, List·Memᴰ·not-nil, List·Memᴰ·cases-cons}

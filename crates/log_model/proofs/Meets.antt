@@ -1,4 +1,5 @@
--- A sound list changes when hits are taken from it exactly when a hit has a point of it, which `hitBy` tests.
+-- A sound list changes when hits are taken from it exactly when a hit has a point of it, which `isHitBy` tests. Two
+-- pairs meet exactly when each starts before the other ends, and then one of their los is a point of both.
 use mathlib.Core.Path.{_≡_, refl, sym, ap, _∙_}
 use mathlib.Core.Bool.{Bool, true, false, not, _&&_, false≢true}
 use mathlib.Core.List.{List, [], _∷_}

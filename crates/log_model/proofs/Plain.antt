@@ -1,5 +1,5 @@
--- `Committed` can be met: over a store that is nothing but its lists and numbers, every list of commits whose logs are doubles has a run
--- from a sound store, and it is worked out here. So neither the run nor demand 3 is empty.
+-- `CommitStep` can be met: over a store that is nothing but its lists and numbers, every list of commits whose logs
+-- are doubles has a run from a sound store, and it is worked out here. So neither the run nor demand 3 is empty.
 use mathlib.Core.Path.{_≡_, refl, sym, ap, _∙_}
 use mathlib.Core.Bool.{true, false, not}
 use mathlib.Core.List.{List, [], _∷_}
@@ -17,7 +17,7 @@ use Rattle.log_model.specs.Runs.{StoreView, pointSets, AcceptedEffect, C
 use Rattle.log_model.proofs.Unique.{answer-due-unsound}
 use Rattle.log_model.proofs.Less.{less}
 use Rattle.log_model.proofs.Doubles.{DoubleCells, Doubles, hits-doubles, less-doubles}
-use Rattle.log_model.proofs.Decided.{tests, answerBy, answer-due, sets-after-list}
+use Rattle.log_model.proofs.Decided.{tests, answerOfTests, answer-due, sets-after-list}
 use Rattle.log_model.specs.RunCorrect.{SoundView}
 use Rattle.grid.specs.Rays.{Ray}
 use Rattle.stock.specs.Stock.{Kind, Possible, Certain}
@@ -54,9 +54,9 @@ plain-laws g = record { sound-list = λ s v. v .isSound; within = λ s v. v .wit
 
 module _ (spec : DexelStockSpec) (g : DexelGrid) where
   unfoldable pub answer : Plain g → Commit → LogAnswer
-  unfolding answerBy logCommitCauses tests pointSets changedRayCount
+  unfolding answerOfTests logCommitCauses tests pointSets changedRayCount
   answer s c =
-      answerBy (logCommitCauses spec g (s .lent) ⊥ (pointSets g (plain g) s) (s .generation) c)
+      answerOfTests (logCommitCauses spec g (s .lent) ⊥ (pointSets g (plain g) s) (s .generation) c)
       (tests spec g (s .lent) (s .lists) (s .generation) c)
       (changed (changedRayCount g (s .lists) (entries (c .log))))
 

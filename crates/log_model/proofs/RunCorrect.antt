@@ -1,5 +1,6 @@
--- DEMAND 3: after any run from a sound store everything that `Settled` says holds, and two runs that are alike in the hits of their
--- accepted logs leave equal lists and totals.
+-- DEMAND 3: after any run from a sound store everything that `RunMeetsModel` says holds, and two runs that are alike
+-- in the hits of their accepted logs leave equal lists and totals. A run follows the model commit by commit, and the
+-- model's sets have a closed form, the first sets less the points of all accepted logs: the claims are read off it.
 use mathlib.Core.Path.{_≡_, refl, sym, ap, _∙_, subst, subst₂, fun-ext}
 use mathlib.Core.Bool.{Bool, true, false, not, _&&_, _||_}
 use mathlib.Core.List.{List, [], _∷_, _++_}

@@ -1,5 +1,6 @@
 -- The sound list of (l less hits) has one pair for each distinct number among the los of l and the his of the hits
--- that is in l and in no hit.
+-- that is in l and in no hit. A pair starts where a point is held and nothing just below it is: at a lo of l, or
+-- where a hit ends. The los of a sound list are distinct, so counting distinct starts counts its pairs.
 use mathlib.Core.Path.{_≡_, refl, sym, ap, ap₂, _∙_}
 use mathlib.Core.Bool.{Bool, true, false, cond, not, _&&_, _||_, false≢true}
 use mathlib.Core.List.{List, [], _∷_, _++_}

@@ -1,4 +1,5 @@
--- The interval total after the updates is the number of pairs that the log leaves.
+-- The interval total after the updates is the number of pairs that the log leaves: a changed ray frees its old pairs
+-- and lays its new ones, and any other ray keeps as many as it has.
 use mathlib.Core.Path.{_≡_, refl, sym, ap, ap₂, _∙_, subst}
 use mathlib.Core.Bool.{not, _&&_}
 use mathlib.Core.List.{List, [], _∷_}

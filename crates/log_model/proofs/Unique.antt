@@ -1,4 +1,5 @@
--- What is counted is counted in one way, and document 01's order gives one answer.
+-- What is counted is counted in one way, and document 01's order gives one answer: two counts of the same rays are
+-- equal, and a set has one sound list, as numbers.
 use mathlib.Core.Path.{_≡_, refl, sym, ap, ap₂, _∙_, subst, fun-ext}
 use mathlib.Core.Bool.{Bool, true}
 use mathlib.Core.List.{List, [], _∷_}

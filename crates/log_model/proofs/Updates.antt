@@ -1,4 +1,5 @@
--- The updates that a log asks: in order, as many as rays change, and the lists that they leave.
+-- The updates that a log asks: in order, as many as rays change, and the lists that they leave. By induction over the
+-- rays: the two updates of one ray are of its own two lists, so they say nothing about any other ray.
 use mathlib.Core.Path.{_≡_, refl, sym, ap, ap₂, _∙_, subst}
 use mathlib.Core.Bool.{Bool, true, false, not, _&&_, _||_}
 use mathlib.Core.Logic.{inl, inr}

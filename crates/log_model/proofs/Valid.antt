@@ -1,4 +1,4 @@
--- A ray stays valid when a log takes points from it.
+-- A ray stays valid when a log takes points from it: what is taken from possible is taken from certain too.
 use mathlib.Core.Path.{_≡_, refl, sym, ap, _∙_}
 use mathlib.Core.Bool.{Bool, true, false, not, _||_}
 use mathlib.Core.List.{List}

@@ -1,4 +1,5 @@
--- Demand 3 of the lent store.
+-- Demand 3 of the lent store. A sound store counts its chained records, and each is a pair of one list, so its
+-- interval total is the number of all pairs.
 use mathlib.Core.Path.{_≡_, refl, sym, ap, ap₂, _∙_}
 use mathlib.Core.List.{List, [], _∷_}
 use Prim.Native.Nat.{ℕ, zero, suc, _+_, _*_, _/_, _≤_}

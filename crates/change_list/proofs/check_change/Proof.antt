@@ -1,3 +1,5 @@
+-- `change_list::check_change` meets its contract: each test that fails names a field of `Good` that does not hold;
+-- past all tests all fields hold.
 use borrow.Author.Needs.{needs}
 use native.Mathlib.Omega.{arith}
 use Prim.Native.Nat.{ℕ, _<_}

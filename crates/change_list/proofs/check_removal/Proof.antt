@@ -1,3 +1,5 @@
+-- `change_list::check_removal` meets its contract: the lists before are the ray's, so they are sound, which the test
+-- of a removal asks.
 use native.Mathlib.Omega.{arith}
 use Rattle.change_list.proofs.ChangeTests.{old-sound, allowed-not-before, allowed-by-removal}
 use Rattle.stock.proofs.Rays.{sound-chained}

@@ -1,3 +1,4 @@
+-- `change_list::check_removal_at` meets its contract: the parts of the pairs that are lent are the four lists.
 use borrow.Author.Needs.{needs}
 use Prim.Native.Nat.{_+_, _*_}
 use Rattle.store.proofs.Laying.{part-is}

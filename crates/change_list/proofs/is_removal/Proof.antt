@@ -1,3 +1,4 @@
+-- `change_list::is_removal` meets its contract: each test decides one field of `IsRemoval`.
 use borrow.Author.Needs.{needs}
 use Rattle.stock.proofs.Rays.{tells-good}
 use Rattle.change_list.proofs.ChangeTests.{

@@ -1,3 +1,4 @@
+-- `change_list::matches_before` meets its contract: the chains of a store in room can be read.
 use borrow.Author.Needs.{needs}
 use native.Mathlib.Omega.{arith}
 use Prim.Native.Nat.{_+_, _*_}

@@ -1,3 +1,4 @@
+-- `change_list::names_ray_from` meets its contract: each test decides one field of `Names`.
 use borrow.Author.Needs.{needs}
 use native.Mathlib.Omega.{arith}
 use Rattle.change_list.proofs.ListTests.{names-no-axis, names-no-ray, names-a-ray}

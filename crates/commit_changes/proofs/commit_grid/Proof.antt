@@ -1,3 +1,5 @@
+-- `commit_changes::commit_grid` meets its contract: by the verdict, which says that no cause is present or which one
+-- is due.
 use borrow.Author.Needs.{needs}
 use native.Mathlib.Omega.{arith}
 use Rattle.commit_changes.proofs.Answers.{verdict-refused, verdict-fitting, generation-steps, verdict-fits}

@@ -1,3 +1,5 @@
+-- `commit_changes::judge` meets its contract: each test that fails gives its number, which is due since the tests
+-- before it were passed.
 use borrow.Author.Needs.{needs}
 use mathlib.Core.Path.{sym, _∙_}
 use mathlib.Core.Logic.{inl, inr}

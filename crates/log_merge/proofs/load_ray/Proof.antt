@@ -1,7 +1,6 @@
 -- `log_merge::load_ray` meets its contract.
 use borrow.Author.Needs.{needs}
 use native.Mathlib.Omega.{arith}
-use borrow.Author.Needs.{needs}
 use Rattle.log_merge.proofs.Loading.{possible-ready, certain-ready, outer-ready, inner-fits, inner-ready, all-loaded}
 use Rattle.log_merge.proofs.load_ray.Statement.{statement}
 use Rattle.store.specs.Store.{cells}

@@ -1,7 +1,6 @@
 -- `log_merge::merge_ray` meets its contract.
 use borrow.Author.Needs.{needs}
 use native.Mathlib.Omega.{arith}
-use borrow.Author.Needs.{needs}
 use mathlib.Core.Path.{sym, _∙_}
 use Rattle.log_merge.proofs.Rays.{ray-same, cut-ready, ray-merged}
 use Rattle.log_merge.proofs.merge_ray.Statement.{statement}

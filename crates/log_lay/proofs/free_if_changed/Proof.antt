@@ -1,7 +1,8 @@
+-- `log_lay::free_if_changed` meets its contract: the first size tells whether the ray has updates.
 use Rattle.log_lay.proofs.Turns.{freed-same, freed-new}
 use borrow.Author.Needs.{needs}
-use Rattle.log_lay.proofs.free_ray.Statement.{statement}
-use Rattle.log_lay.proofs.free_ray.Tie as tie
+use Rattle.log_lay.proofs.free_if_changed.Statement.{statement}
+use Rattle.log_lay.proofs.free_if_changed.Tie as tie
 
 returns : tie.Need-returns
 returns c = freed-same _ _ _ _ _ _ (c .before .number-at .ensures) (c .if1 .taken)
@@ -12,8 +13,8 @@ returns-2 c = freed-new _ _ _ _ _ _
     (c .before .before .before .before .before .before .before .before .before .before .if1 .left) _
     (c .before .before .before .before .before .before .free-ray .ensures)
 
-pub free-ray-spec : {M : Type 1} → statement M
-free-ray-spec =
+pub free-if-changed-spec : {M : Type 1} → statement M
+free-if-changed-spec =
     tie.close
     (tie.spec
     (λ c. search needs)

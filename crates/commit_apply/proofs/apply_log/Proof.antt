@@ -5,8 +5,8 @@ use mir.Val.{Fits}
 use mir.Syntax.{w64}
 use lib.ListN.{length}
 use Rattle.commit_apply.proofs.Apply.{group-room, mergeable, sizes-fit, freeable, layable, done, cleared-size}
-use Rattle.commit_apply.proofs.cut_lists.Statement.{statement}
-use Rattle.commit_apply.proofs.cut_lists.Tie as tie
+use Rattle.commit_apply.proofs.apply_log.Statement.{statement}
+use Rattle.commit_apply.proofs.apply_log.Tie as tie
 
 -- the sizes lie in the work buffer
 room : (c : tie.After-total-rays)
@@ -118,8 +118,8 @@ same-length-4 c = cleared-size _ _ _ _ _ _ _ _ (finished c)
 returns : tie.Need-returns
 returns c = finished c
 
-pub cut-lists-spec : {M : Type 1} → statement M
-cut-lists-spec =
+pub apply-log-spec : {M : Type 1} → statement M
+apply-log-spec =
     tie.close
     (tie.spec
     group-requires

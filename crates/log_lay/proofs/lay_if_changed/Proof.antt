@@ -1,11 +1,13 @@
+-- `log_lay::lay_if_changed` meets its contract: the first size tells whether the ray has updates, and both sizes
+-- where its lists stand.
 use borrow.Author.Needs.{needs}
 use native.Mathlib.Omega.{arith}
 use mathlib.Core.Path.{refl}
 use Prim.Native.Nat.{_+_, _-_, _*_, _≤_}
 use lib.ListN.{length}
 use Rattle.log_lay.proofs.Turns.{laid-same, lists-room, ray-layable, laid-new}
-use Rattle.log_lay.proofs.lay_ray.Statement.{statement}
-use Rattle.log_lay.proofs.lay_ray.Tie as tie
+use Rattle.log_lay.proofs.lay_if_changed.Statement.{statement}
+use Rattle.log_lay.proofs.lay_if_changed.Tie as tie
 
 -- the two lists lie in the work buffer
 room : (c : tie.After-number-at2) → let a = c .before .before .before .before .before .before .before .args in
@@ -46,8 +48,8 @@ returns-2 c = laid-new _ _ _ _ _ _
     (c .before .before .before .before .before .before .before .before .before .before .number-at2 .ensures) _ _
     (c .before .before .before .before .before .before .lay-ray .ensures) refl
 
-pub lay-ray-spec : {M : Type 1} → statement M
-lay-ray-spec =
+pub lay-if-changed-spec : {M : Type 1} → statement M
+lay-if-changed-spec =
     tie.close
     (tie.spec
     (λ c. search needs)
