@@ -84,7 +84,8 @@ pub record Names (g : DexelGrid) (axis index from : ℕ) : Type 0 where
   pub below : index < raysAlong g (worldAxis axis)
   pub ascends : from ≤ changeRay g axis index
 
--- a change that `validate` lets pass, and whose lists lie within the lent pairs; `from` is one more than the ray of the change before
+-- a change that camlib's `validate` lets pass, and whose lists lie within the lent pairs; `from` is one more than the
+-- ray of the change before
 pub record Good (spec : DexelStockSpec) (g : DexelGrid) (c : Cells) (pairs : List Float) (from : ℕ) (d : Change) : Type 0 where
   pub within : d .past ≤ length pairs
   pub names : Names g (d .axis) (d .index) from

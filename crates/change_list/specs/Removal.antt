@@ -19,7 +19,7 @@ pub record IsRemoval (lo hi : Float) (p q p′ q′ : List Float) : Type 0 where
   pub certain-loses : (x : Float) → holds q′ x ≡ true → holds q x ≡ true
   pub differs : (equal p′ p && equal q′ q) ≡ false
 
--- a change that `validate` lets pass: its old lists are the ray's, as numbers, and the new ones a removal from them
+-- a change that camlib's `validate` lets pass: its old lists are the ray's, as numbers, and the new ones a removal from them
 pub record ChangeAllowed (spec : DexelStockSpec) (g : DexelGrid) (c : Cells) (ray : ℕ) (p q p′ q′ : List Float) : Type 0 where
   pub was : (equal (rayList spec c ray Possible) p && equal (rayList spec c ray Certain) q) ≡ true
   pub removal : IsRemoval (boundsOf spec g ray .lo) (boundsOf spec g ray .hi) p q p′ q′

@@ -1,5 +1,4 @@
-// A change list and its check against a stock: each change names a later ray than the one before, says the lists that
-// the ray has, and takes points from them only.
+// A change list, and its check against a stock, one ray's change at a time.
 ghost use mathlib.Core.Path.{_≡_};
 ghost use Prim.Native.Nat.{_+_, _*_, _%_, _^_, _≤_, _<_};
 ghost use lib.ListN.{length};

@@ -19,7 +19,7 @@ use Rattle.log_model.specs.Counts.{pairsAfter}
 use Rattle.log_model.proofs.Doubles.{DoubleCells, Doubles, all-doubles}
 use Rattle.log_group.specs.Groups.{GroupPost}
 use Rattle.log_lay.specs.Updates.{updatesFrom, listsEnd}
-use Rattle.log_lay.specs.Steps.{AllFreeable, EachLayable, RaysLayable}
+use Rattle.log_lay.specs.Steps.{FreeRaysPre, EachLayable, LayRaysPre}
 use Rattle.log_lay.proofs.Room.{each-layable, no-cursor}
 use Rattle.log_model.specs.Updates.{MergeUpdates}
 use Rattle.log_model.proofs.AcceptedLog.{ascend, intervals-left}
@@ -95,7 +95,7 @@ module _ (spec : DexelStockSpec) (g : DexelGrid) (c : Cells) (log w : List Float
       sizes-room : rays + length log / 6 + 2 * rays ≤ length w₂
       sizes-room = omega (arith, sizes-fit, same-size)
 
-      pub freeable : AllFreeable (spec .«max_intervals») c w₂ (rays + length log / 6) rays
+      pub freeable : FreeRaysPre (spec .«max_intervals») c w₂ (rays + length log / 6) rays
       freeable = record {
         in-sizes = sizes-room;
         room = subst (λ (x : ℕ). Room (spec .«max_intervals») (2 * x) c) (sym e) (ready .room);
@@ -108,7 +108,7 @@ module _ (spec : DexelStockSpec) (g : DexelGrid) (c : Cells) (log w : List Float
         d-is : d ≡ freedAll (spec .«max_intervals») c us
         d-is = freed (rays + length log / 6 + 2 * rays) ∙ ap (freedAll (spec .«max_intervals») c) us-is
 
-        pub layable : DoubleCells (c .spans) → DoubleCells log → RaysLayable (spec .«max_intervals») d w₂ (rays + length log / 6) 0 rays
+        pub layable : DoubleCells (c .spans) → DoubleCells log → LayRaysPre (spec .«max_intervals») d w₂ (rays + length log / 6) 0 rays
             (record { from = 0; at = rays + length log / 6 + 2 * rays })
         layable ds dl = record {
           in-sizes = omega (arith, sizes-room);

@@ -25,7 +25,7 @@ beginOf ends zero = 0
 beginOf ends (suc i) = getD ends i 0
 
 -- what the caller lends: the logs lie one after the other within their slice, each has an allowance, and each answer two cells
-pub record Lends (logs : List Float) (ends allowances answers : List ℕ) : Type 0 where
+pub record RunLogsPre (logs : List Float) (ends allowances answers : List ℕ) : Type 0 where
   pub ascends : (i : ℕ) → i < length ends → beginOf ends i ≤ getD ends i 0
   pub within : (i : ℕ) → i < length ends → getD ends i 0 ≤ length logs
   pub allowed : length ends ≤ length allowances
