@@ -33,13 +33,13 @@ add-t39 c = omega (
 
 returns-2 : tie.Need-returns-2
 returns-2 c =
-    let judged = c .before .before .before .before .before .before .before .before .before .before .before .before
+    let checked = c .before .before .before .before .before .before .before .before .before .before .before .before
     .before .before .before .before .before in
-    accept _ _ _ _ _ _ _ (judged .refusal .ensures)
+    accept _ _ _ _ _ _ _ (checked .refusal .ensures)
     (c .before .before .before .before .before .before .before .before .before .before .before .before .before .before
     .before .before .if1 .left)
-    (judged .before .before .before .before .before .before .before .before .before .slice-known .given)
-    (judged .before .before .before .before .before .before .shared-slice-known .given) _ _ _
+    (checked .before .before .before .before .before .before .before .before .before .slice-known .given)
+    (checked .before .before .before .before .before .before .shared-slice-known .given) _ _ _
     (c .before .before .before .before .before .before .before .before .before .before .before .apply-log .ensures) _
     (c .count-used .ensures)
 
