@@ -1,4 +1,6 @@
--- From a sound store and the merged lists in the work buffer to the store with the log's updates done.
+-- From a sound store and the merged lists in the work buffer to the store with the log's updates done. The updates
+-- that stand in the buffer are those that the log asks, so they ascend and fit the budget: every one finds room once
+-- all are freed.
 use mathlib.Core.Path.{_≡_, refl, sym, ap, ap₂, _∙_, subst}
 use mathlib.Core.List.{List, _++_}
 use Prim.Native.Nat.{ℕ, _+_, _-_, _*_, _/_, _≤_}
@@ -17,17 +19,17 @@ use Rattle.log_model.specs.Counts.{pairsAfter}
 use Rattle.log_model.proofs.Doubles.{DoubleCells, Doubles, all-doubles}
 use Rattle.log_group.specs.Groups.{GroupPost}
 use Rattle.log_lay.specs.Updates.{updatesFrom, listsEnd}
-use Rattle.log_lay.specs.Steps.{AllFreeable, EachLayable, RaysLayable}
+use Rattle.log_lay.specs.Steps.{FreeRaysPre, EachLayable, LayRaysPre}
 use Rattle.log_lay.proofs.Room.{each-layable, no-cursor}
 use Rattle.log_model.specs.Updates.{MergeUpdates}
-use Rattle.log_model.proofs.Leaves.{ascend, intervals-left}
+use Rattle.log_model.proofs.AcceptedLog.{ascend, intervals-left}
 use Rattle.log_merge.specs.All.{MergeAllPre, MergeAllPost}
 use Rattle.commit_apply.specs.Apply.{ApplyPre, ApplyPost}
 use Rattle.store.specs.Steps.{Room, Ascending}
 use Rattle.store.specs.Store.{Cells, ChainsSound}
 
 module _ (spec : DexelStockSpec) (g : DexelGrid) (c : Cells) (log w : List Float) (ready : ApplyPre spec g c log w) where
-  -- a stock with these cells: the laws of a cut speak of no generation
+  -- a stock with these cells: the laws of an accepted log need one, of whatever generation
   abbrev some : Stock
   some = record { cells = c; generation = 0; intervals = ready .total }
 
@@ -93,7 +95,7 @@ module _ (spec : DexelStockSpec) (g : DexelGrid) (c : Cells) (log w : List Float
       sizes-room : rays + length log / 6 + 2 * rays ≤ length w₂
       sizes-room = omega (arith, sizes-fit, same-size)
 
-      pub freeable : AllFreeable (spec .«max_intervals») c w₂ (rays + length log / 6) rays
+      pub freeable : FreeRaysPre (spec .«max_intervals») c w₂ (rays + length log / 6) rays
       freeable = record {
         in-sizes = sizes-room;
         room = subst (λ (x : ℕ). Room (spec .«max_intervals») (2 * x) c) (sym e) (ready .room);
@@ -106,7 +108,7 @@ module _ (spec : DexelStockSpec) (g : DexelGrid) (c : Cells) (log w : List Float
         d-is : d ≡ freedAll (spec .«max_intervals») c us
         d-is = freed (rays + length log / 6 + 2 * rays) ∙ ap (freedAll (spec .«max_intervals») c) us-is
 
-        pub layable : DoubleCells (c .spans) → DoubleCells log → RaysLayable (spec .«max_intervals») d w₂ (rays + length log / 6) 0 rays
+        pub layable : DoubleCells (c .spans) → DoubleCells log → LayRaysPre (spec .«max_intervals») d w₂ (rays + length log / 6) 0 rays
             (record { from = 0; at = rays + length log / 6 + 2 * rays })
         layable ds dl = record {
           in-sizes = omega (arith, sizes-room);

@@ -1,12 +1,12 @@
-// The cut of an accepted log: the lists of all changed rays are replaced in the store.
+// Applies an accepted log: the lists of all changed rays are replaced in the store.
 ghost use Rattle.commit_apply.specs.Apply.{ApplyPre, ApplyPost};
 ghost use Rattle.store.specs.Store.{cells};
 use grid::DexelGrid;
 use grid::DexelStockSpec;
 
-// Cuts the lists of a sound store: the entries are grouped and merged in the work buffer, then the lists of all
-// changed rays are freed and laid again. Says how many rays changed.
-pub fn cut_lists(
+// Applies a log to the lists of a sound store: the entries are grouped and merged in the work buffer, then the lists
+// of all changed rays are freed and laid again. Says how many rays changed.
+pub fn apply_log(
     spec: DexelStockSpec,
     g: DexelGrid,
     spans: &mut [f64],

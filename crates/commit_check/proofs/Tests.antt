@@ -1,4 +1,6 @@
--- Which number is due after each test of a log commit.
+-- Which number is due after each test of a log commit: the causes before it are absent, since their tests were
+-- passed, and its own is present. 9 and 10 are causes of the point sets; the counts over the lists decide them, since
+-- the lists are of doubles.
 use mathlib.Core.Path.{_≡_, refl, sym, ap, ap₂, _∙_}
 use mathlib.Core.Bool.{Bool, true, false, not, cond, _||_}
 use mathlib.Core.List.{List}
@@ -120,7 +122,7 @@ module _ (spec : DexelStockSpec) (g : DexelGrid) (s : Stock) (log : List Float) 
       → LogCheckPost spec g s log allowance work (suc k)
   refused-by k d = record { passed = λ e. absurd (omega arith); due = λ ne. d }
 
-  -- 12
+  -- 12: too few records, heads or work pairs
   pub short-due : (r : Bool) → r ≡ isShort spec g (s .cells) → r ≡ true → LogCheckPost spec g s log allowance work 12
   unfolding logCommitCauses Due
   short-due r e h = refused-by 11 (inl (few-cells (sym e ∙ h), refl))
@@ -139,7 +141,7 @@ module _ (spec : DexelStockSpec) (g : DexelGrid) (s : Stock) (log : List Float) 
 
   module _ (room : Room (spec .«max_intervals») (2 * rayCount g) (s .cells))
       (w : workNeeded (spec .«max_intervals») log ≤ length work / 2) where
-    -- 11
+    -- 11: part of an entry is over, or the store is not sound
     pub part-due : (length log % 6 ≡ 0 → ⊥) → LogCheckPost spec g s log allowance work 11
     unfolding logCommitCauses Due LogInputBad
     part-due h = refused-by 10 (inr (enough room w, inl (inl h, refl)))
@@ -152,13 +154,13 @@ module _ (spec : DexelStockSpec) (g : DexelGrid) (s : Stock) (log : List Float) 
     sound-of-test r t h = t .0 (not-false r h)
 
     module _ (whole : length log % 6 ≡ 0) (sound : SoundStock spec g s) where
-      -- 15
+      -- 15: the last generation
       pub last-due : s .generation ≡ 0xffff_ffff_ffff_ffff → LogCheckPost spec g s log allowance work 15
       unfolding logCommitCauses Due
       last-due h = refused-by 14 (inr (enough room w, inr (good whole sound, inl (h, refl))))
 
       module _ (below : s .generation ≡ 0xffff_ffff_ffff_ffff → ⊥) where
-        -- 17
+        -- 17: an entry that names no ray
         pub unnamed-due : (r : Bool) → NamesAll g log r → not r ≡ true → LogCheckPost spec g s log allowance work 17
         unfolding logCommitCauses Due
         unnamed-due r t h = refused-by 16 (inr (enough room w, inr (good whole sound, inr (below, inl (t .no (not-true r h), refl)))))
@@ -177,7 +179,7 @@ module _ (spec : DexelStockSpec) (g : DexelGrid) (s : Stock) (log : List Float) 
           module _ (b : BudgetAnswer) (e : budgetNumber b ≡ budgetOf allowance (spec .«max_intervals»)
               (changedRayCount g (rayLists spec g (s .cells)) (entries log))
               (pairsAfter g (rayLists spec g (s .cells)) (entries log))) where
-            -- 9
+            -- 9: more rays change than are allowed
             pub rays-due : Doubles g (rayLists spec g (s .cells)) (entries log) → b ≡ Rays → LogCheckPost spec g s log allowance work 9
             unfolding logCommitCauses Due
             rays-due o h =
@@ -197,7 +199,7 @@ module _ (spec : DexelStockSpec) (g : DexelGrid) (s : Stock) (log : List Float) 
                   ),
                 ))
 
-            -- 10
+            -- 10: more intervals than the budget
             pub intervals-due : Doubles g (rayLists spec g (s .cells)) (entries log) → b ≡ Intervals
                 → LogCheckPost spec g s log allowance work 10
             unfolding logCommitCauses Due
@@ -227,7 +229,7 @@ module _ (spec : DexelStockSpec) (g : DexelGrid) (s : Stock) (log : List Float) 
                   ),
                 ))
 
-            -- none
+            -- every test is passed
             pub all-passed : s .generation < 2 ^ 64 → b ≡ Kept → LogCheckPost spec g s log allowance work 0
             all-passed fits h =
                 let t = both-kept allowance (spec .«max_intervals») (changedRayCount g (rayLists spec g (s .cells)) (entries log))

@@ -43,11 +43,11 @@ use Rattle.log_model.specs.Examples.{
 use Rattle.stock.specs.Stock.{Stock, ValidAt, SoundStock, Kind, Possible, Certain, rayList}
 use Rattle.stock_fill.specs.Uncut.{uncut as uncutCells, uncutSpans, uncutLinks, uncutHeads, recordAt}
 use Rattle.log_model.specs.View.{lentStore}
-use Rattle.log_model.proofs.Unique.{judged-unsound}
+use Rattle.log_model.proofs.Unique.{answer-due-unsound}
 use Rattle.log_model.proofs.Less.{less}
 use Rattle.log_model.proofs.Doubles.{DoubleCells, all-doubles}
-use Rattle.log_model.proofs.Decided.{tests, answerBy, judged, left-list}
-use Rattle.log_model.proofs.View.{lent-laws, demand3-lent}
+use Rattle.log_model.proofs.Decided.{tests, answerOfTests, answer-due, sets-after-list}
+use Rattle.log_model.proofs.View.{lent-laws, run-correct-lent}
 use Rattle.log_model.proofs.Plain.{Plain, Valid, answers, final}
 use Rattle.doubles.specs.Rounding.{ratio}
 use Rattle.log_model.specs.RunCorrect.{HitsIncluded, Alike, StoresAgree}
@@ -307,7 +307,7 @@ again-sound = record {
 -- the answer that the order gives to a commit on a sound stock, worked out
 abbrev answer-on : Stock → Commit → LogAnswer
 answer-on s c =
-    answerBy (logCommitCauses (exampleBox 8) exampleGrid (lentStore (exampleBox 8) exampleGrid .lent s) ⊥
+    answerOfTests (logCommitCauses (exampleBox 8) exampleGrid (lentStore (exampleBox 8) exampleGrid .lent s) ⊥
     (pointSets exampleGrid (lentStore (exampleBox 8) exampleGrid) s) (s .generation) c)
     (tests (exampleBox 8) exampleGrid (lentStore (exampleBox 8) exampleGrid .lent s)
     (λ r k. rayList (exampleBox 8) (s .cells) (r .0) k) (s .generation) c)
@@ -322,16 +322,16 @@ module _ (s : Stock) (S : SoundStock (exampleBox 8) exampleGrid s) (ds : DoubleC
   unfolding pointSets
   lists-on r k = record { isSound = lent-laws (exampleBox 8) exampleGrid .sound-list s S r k; points = λ p. refl }
 
-  judged-on : (a : LogAnswer) → answer-on s c ≡ a
+  answer-due-on : (a : LogAnswer) → answer-on s c ≡ a
       → AnswerDue (exampleBox 8) exampleGrid (lentStore (exampleBox 8) exampleGrid .lent s)
       (¬ SoundStock (exampleBox 8) exampleGrid s) (pointSets exampleGrid (lentStore (exampleBox 8) exampleGrid) s)
       (s .generation) c a
-  judged-on a e = judged-unsound (exampleBox 8) exampleGrid (lentStore (exampleBox 8) exampleGrid .lent s)
+  answer-due-on a e = answer-due-unsound (exampleBox 8) exampleGrid (lentStore (exampleBox 8) exampleGrid .lent s)
       (¬ SoundStock (exampleBox 8) exampleGrid s) (λ n. n S)
       (pointSets exampleGrid (lentStore (exampleBox 8) exampleGrid) s) (s .generation) c a
       (subst (λ (b : LogAnswer). AnswerDue (exampleBox 8) exampleGrid (lentStore (exampleBox 8) exampleGrid .lent s) ⊥
       (pointSets exampleGrid (lentStore (exampleBox 8) exampleGrid) s) (s .generation) c b) e
-      (judged (exampleBox 8) exampleGrid (lentStore (exampleBox 8) exampleGrid .lent s)
+      (answer-due (exampleBox 8) exampleGrid (lentStore (exampleBox 8) exampleGrid .lent s)
       (pointSets exampleGrid (lentStore (exampleBox 8) exampleGrid) s)
       (λ r k. rayList (exampleBox 8) (s .cells) (r .0) k) lists-on (s .generation) c
       (all-doubles (exampleBox 8) exampleGrid s (c .log) ds dc)))
@@ -339,23 +339,23 @@ module _ (s : Stock) (S : SoundStock (exampleBox 8) exampleGrid s) (ds : DoubleC
   refuses : (k : ℕ) → answer-on s c ≡ refused k
       → CommitStep (exampleBox 8) exampleGrid (lentStore (exampleBox 8) exampleGrid) s c (refused k) s
   unfolding CommitEffect
-  refuses k e = record { answers = judged-on (refused k) e; leaves = refl }
+  refuses k e = record { answers = answer-due-on (refused k) e; leaves = refl }
 
   -- the lists that are left are the old ones less the hits
-  cuts-to : (n : ℕ) (t : Stock) → answer-on s c ≡ changed n → SoundStock (exampleBox 8) exampleGrid t
+  accepts-to : (n : ℕ) (t : Stock) → answer-on s c ≡ changed n → SoundStock (exampleBox 8) exampleGrid t
       → ((r : Ray exampleGrid) (k : Kind)
       → rayList (exampleBox 8) (t .cells) (r .0) k
       ≡ less (rayList (exampleBox 8) (s .cells) (r .0) k) (hitsOnList exampleGrid (entries (c .log)) r k))
       → t .generation ≡ suc (s .generation) → lentStore (exampleBox 8) exampleGrid .lent t ≡ lentStore (exampleBox 8) exampleGrid .lent s
       → CommitStep (exampleBox 8) exampleGrid (lentStore (exampleBox 8) exampleGrid) s c (changed n) t
   unfolding CommitEffect
-  cuts-to n t e T l g h = record {
-    answers = judged-on (changed n) e;
+  accepts-to n t e T l g h = record {
+    answers = answer-due-on (changed n) e;
     leaves = record {
       sound = T;
       exactly = λ r k p.
           unfold pointSets in ap (λ (l : List Float). holds l p) (l r k)
-          ∙ left-list exampleGrid (pointSets exampleGrid (lentStore (exampleBox 8) exampleGrid) s)
+          ∙ sets-after-list exampleGrid (pointSets exampleGrid (lentStore (exampleBox 8) exampleGrid) s)
           (λ r k. rayList (exampleBox 8) (s .cells) (r .0) k) lists-on (entries (c .log)) r k .points p;
       generation = g;
       lent = h;
@@ -363,15 +363,15 @@ module _ (s : Stock) (S : SoundStock (exampleBox 8) exampleGrid s) (ds : DoubleC
   }
 
 first-answer : answer-on exampleStock (exampleCommit 0 1 66) ≡ changed 1
-unfolding answerBy logCommitCauses tests changedRayCount rayCount eq byDigit lt endsAt places le
+unfolding answerOfTests logCommitCauses tests changedRayCount rayCount eq byDigit lt endsAt places le
 first-answer = refl
 
 second-answer : answer-on cut notAllowed ≡ refused 9
-unfolding answerBy logCommitCauses tests changedRayCount rayCount eq byDigit lt endsAt places le
+unfolding answerOfTests logCommitCauses tests changedRayCount rayCount eq byDigit lt endsAt places le
 second-answer = refl
 
 third-answer : answer-on cut innerWider ≡ changed 1
-unfolding answerBy logCommitCauses tests changedRayCount rayCount eq byDigit lt endsAt places le
+unfolding answerOfTests logCommitCauses tests changedRayCount rayCount eq byDigit lt endsAt places le
 third-answer = refl
 
 -- the lists after the first log, and the pairs that the first and the third take from each
@@ -478,15 +478,16 @@ third-doubles = by-fit (innerWider .log) refl
 
 three-run : Run (exampleBox 8) exampleGrid (lentStore (exampleBox 8) exampleGrid) exampleStock threeLogs threeAnswers cut-again
 three-run =
-    next (cuts-to exampleStock filled-sound filled-doubles (exampleCommit 0 1 66) first-doubles 1 cut first-answer
+    next (accepts-to exampleStock filled-sound filled-doubles (exampleCommit 0 1 66) first-doubles 1 cut first-answer
     cut-sound first-lists refl refl)
     (next (refuses cut cut-sound cut-doubles notAllowed second-doubles 9 second-answer)
-    (next (cuts-to cut cut-sound cut-doubles innerWider third-doubles 1 cut-again third-answer again-sound third-lists refl refl) done))
+    (next (accepts-to cut cut-sound cut-doubles innerWider third-doubles 1 cut-again third-answer again-sound third-lists refl refl) done))
 
 -- what demand 3 says of it
-three-settled : RunMeetsModel (exampleBox 8) exampleGrid (lentStore (exampleBox 8) exampleGrid)
+three-meet-model : RunMeetsModel (exampleBox 8) exampleGrid (lentStore (exampleBox 8) exampleGrid)
     exampleStock threeLogs threeAnswers cut-again
-three-settled = demand3-lent (exampleBox 8) exampleGrid .settles exampleStock cut-again threeLogs threeAnswers filled-sound three-run
+three-meet-model = run-correct-lent (exampleBox 8) exampleGrid .meets-model exampleStock cut-again threeLogs
+    threeAnswers filled-sound three-run
 
 -- ---- and of every other run of the three logs
 
@@ -502,18 +503,18 @@ alike-self ls = (self, self)
 module _ (vs : List LogAnswer) (t : Stock)
     (x : Run (exampleBox 8) exampleGrid (lentStore (exampleBox 8) exampleGrid) exampleStock threeLogs vs t) where
   same-answers : threeAnswers ≡ vs
-  same-answers = demand3-lent (exampleBox 8) exampleGrid .settles exampleStock t threeLogs vs filled-sound x
-      .no-others threeAnswers (three-settled .answers)
+  same-answers = run-correct-lent (exampleBox 8) exampleGrid .meets-model exampleStock t threeLogs vs filled-sound x
+      .no-others threeAnswers (three-meet-model .answers)
 
   same-end : StoresAgree exampleGrid (lentStore (exampleBox 8) exampleGrid) t cut-again
-  same-end = demand3-lent (exampleBox 8) exampleGrid .agrees exampleStock t cut-again threeLogs threeLogs vs
+  same-end = run-correct-lent (exampleBox 8) exampleGrid .agrees exampleStock t cut-again threeLogs threeLogs vs
       threeAnswers filled-sound x three-run
       (subst (λ (ws : List LogAnswer). Alike exampleGrid (acceptedLogs threeLogs ws)
       (acceptedLogs threeLogs threeAnswers)) same-answers (alike-self (acceptedLogs threeLogs threeAnswers)))
 
   two-accepted : t .generation ≡ 2
   unfolding acceptedLogs
-  two-accepted = demand3-lent (exampleBox 8) exampleGrid .settles exampleStock t threeLogs vs filled-sound x
+  two-accepted = run-correct-lent (exampleBox 8) exampleGrid .meets-model exampleStock t threeLogs vs filled-sound x
       .generation ∙ ap (λ (ws : List LogAnswer). 0 + length (acceptedLogs threeLogs ws)) (sym same-answers)
 
   at-end : AtEnd t

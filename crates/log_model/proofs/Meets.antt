@@ -1,4 +1,5 @@
--- A sound list changes when hits are taken from it exactly when a hit has a point of it, which `isHitBy` tests.
+-- A sound list changes when hits are taken from it exactly when a hit has a point of it, which `isHitBy` tests. Two
+-- pairs meet exactly when each starts before the other ends, and then one of their los is a point of both.
 use mathlib.Core.Path.{_≡_, refl, sym, ap, _∙_}
 use mathlib.Core.Bool.{Bool, true, false, not, _&&_, false≢true}
 use mathlib.Core.List.{List, [], _∷_}
@@ -102,8 +103,8 @@ not-not : (b : Bool) → not (not b) ≡ b
 not-not true = refl
 not-not false = refl
 
-taken-away : (l hits : List Float) (p : Float) → holds l p ≡ true → holds hits p ≡ true → (holds l p && not (holds hits p)) ≡ holds l p → ⊥
-taken-away l hits p x y e = clash (holds hits p) y
+not-kept : (l hits : List Float) (p : Float) → holds l p ≡ true → holds hits p ≡ true → (holds l p && not (holds hits p)) ≡ holds l p → ⊥
+not-kept l hits p x y e = clash (holds hits p) y
     (sym (not-not (holds hits p)) ∙ ap not (and-right (holds l p) (not (holds hits p)) (e ∙ x)))
 
 pub unhit-points : (l hits : List Float) → sound l ≡ true → All Double l → All Double hits
@@ -111,7 +112,7 @@ pub unhit-points : (l hits : List Float) → sound l ≡ true → All Double l �
 unhit-points l hits s dl dh f = elim (by-cases (isHitBy l hits)) [
   | inl t ↦
       let (p, d, x, y) = hit-point Double l hits dl dh (sound-rising l s) t in
-      absurd (taken-away l hits p x y (f p (d, held-number l p x)))
+      absurd (not-kept l hits p x y (f p (d, held-number l p x)))
   | inr t ↦ t
 ]
 
@@ -126,7 +127,7 @@ kept-unhit l hits s = (to, from)
     to : ((p : Float) → (holds l p && not (holds hits p)) ≡ holds l p) → isHitBy l hits ≡ false
     to f = elim (by-cases (isHitBy l hits)) [
       | inl t ↦ let (p, d, x, y) = hit-point (λ e. Unit {0}) l hits (all-unit l) (all-unit hits) (sound-rising l s) t
-          in absurd (taken-away l hits p x y (f p))
+          in absurd (not-kept l hits p x y (f p))
       | inr t ↦ t
     ]
 

@@ -1,5 +1,6 @@
 -- The sound list of (l less hits) has one pair for each distinct number among the los of l and the his of the hits
--- that is in l and in no hit.
+-- that is in l and in no hit. A pair starts where a point is held and nothing just below it is: at a lo of l, or
+-- where a hit ends. The los of a sound list are distinct, so counting distinct starts counts its pairs.
 use mathlib.Core.Path.{_≡_, refl, sym, ap, ap₂, _∙_}
 use mathlib.Core.Bool.{Bool, true, false, cond, not, _&&_, _||_, false≢true}
 use mathlib.Core.List.{List, [], _∷_, _++_}
@@ -41,12 +42,12 @@ use Rattle.log_model.specs.Counts.{losOf, hisOf, memberEq, countDistinct
 -- ---- counting distinct numbers
 
 -- equal numbers stand in the same lists
-pub among-eq : (x y : Float) (l : List Float) → eq x y ≡ true → memberEq x l ≡ true → memberEq y l ≡ true
+pub member-eq : (x y : Float) (l : List Float) → eq x y ≡ true → memberEq x l ≡ true → memberEq y l ≡ true
 unfolding memberEq
-among-eq x y [] e h = h
-among-eq x y (z ∷ l) e h = elim (or-cases (eq x z) (memberEq x l) h) [
+member-eq x y [] e h = h
+member-eq x y (z ∷ l) e h = elim (or-cases (eq x z) (memberEq x l) h) [
   | inl u ↦ or-left (eq y z) (memberEq y l) (eq-trans y x z (eq-sym x y e) u)
-  | inr u ↦ or-right (eq y z) (memberEq y l) (among-eq x y l e u)
+  | inr u ↦ or-right (eq y z) (memberEq y l) (member-eq x y l e u)
 ]
 
 -- the list without the numbers that are equal to x
@@ -94,13 +95,13 @@ module _ (test : Float → Bool) (number : (x : Float) → test x ≡ true → N
   distinct-remove x (y ∷ l) t h = go (eq x y) refl (distinct-remove x l t)
     where
       none : memberEq y l ≡ false → eq x y ≡ true → memberEq x l ≡ false
-      none a e = elim (by-cases (memberEq x l)) [ inl u ↦ absurd (clash (memberEq y l) (among-eq x y l e u) a) | inr u ↦ u ]
+      none a e = elim (by-cases (memberEq x l)) [ inl u ↦ absurd (clash (memberEq y l) (member-eq x y l e u) a) | inr u ↦ u ]
 
       here : (b : Bool) → memberEq y l ≡ b → eq x y ≡ true
           → (memberEq x l ≡ true → countDistinct test l ≡ suc (countDistinct test (remove x l)))
           → cond (test y && not b) (suc (countDistinct test l)) (countDistinct test l) ≡ suc (countDistinct test (remove x l))
       here true a e f = ap (λ (c : Bool). cond (c && false) (suc (countDistinct test l)) (countDistinct test l))
-          (sym (same x y e) ∙ t) ∙ f (among-eq y x l (eq-sym x y e) a)
+          (sym (same x y e) ∙ t) ∙ f (member-eq y x l (eq-sym x y e) a)
       here false a e f =
           ap (λ (c : Bool). cond (c && true) (suc (countDistinct test l)) (countDistinct test l)) (sym (same x y e) ∙ t)
           ∙ ap (λ (m : List Float). suc (countDistinct test m)) (sym (remove-none x l (none a e)))
@@ -148,7 +149,7 @@ module _ (test : Float → Bool) (number : (x : Float) → test x ≡ true → N
 
       back : (z : Float) → memberEq z (remove x l) ≡ true → test z ≡ true → memberEq z a ≡ true
       back z u v = elim (by-cases (eq z x)) [
-        | inl e ↦ absurd (clash (memberEq x (remove x l)) (among-eq z x (remove x l) e u) (removed x l))
+        | inl e ↦ absurd (clash (memberEq x (remove x l)) (member-eq z x (remove x l) e u) (removed x l))
         | inr e ↦ elim (or-cases (eq z x) (memberEq z a) (f z (sym (remove-other x z l e) ∙ u) v)) [
           | inl d ↦ absurd (clash (eq z x) d e)
           | inr d ↦ d
@@ -421,26 +422,26 @@ fresh-los (lo ∷ hi ∷ m) r = (first, rest (losOf m) (above-los hi m hi-up) (f
 
 -- ---- THE LAW
 
-among-left : (x : Float) (a b : List Float) → memberEq x a ≡ true → memberEq x (a ++ b) ≡ true
+member-left : (x : Float) (a b : List Float) → memberEq x a ≡ true → memberEq x (a ++ b) ≡ true
 unfolding memberEq
-among-left x [] b h = absurd (false≢true h)
-among-left x (y ∷ a) b h = elim (or-cases (eq x y) (memberEq x a) h) [
+member-left x [] b h = absurd (false≢true h)
+member-left x (y ∷ a) b h = elim (or-cases (eq x y) (memberEq x a) h) [
   | inl u ↦ or-left (eq x y) (memberEq x (a ++ b)) u
   | inr u ↦ or-right (eq x y) (memberEq x (a ++ b))
-      (among-left x a b u)
+      (member-left x a b u)
 ]
 
-among-right : (x : Float) (a b : List Float) → memberEq x b ≡ true → memberEq x (a ++ b) ≡ true
+member-right : (x : Float) (a b : List Float) → memberEq x b ≡ true → memberEq x (a ++ b) ≡ true
 unfolding memberEq
-among-right x [] b h = h
-among-right x (y ∷ a) b h = or-right (eq x y) (memberEq x (a ++ b)) (among-right x a b h)
+member-right x [] b h = h
+member-right x (y ∷ a) b h = or-right (eq x y) (memberEq x (a ++ b)) (member-right x a b h)
 
-among-cases : (x : Float) (a b : List Float) → memberEq x (a ++ b) ≡ true → (memberEq x a ≡ true) ⊎ (memberEq x b ≡ true)
+member-cases : (x : Float) (a b : List Float) → memberEq x (a ++ b) ≡ true → (memberEq x a ≡ true) ⊎ (memberEq x b ≡ true)
 unfolding memberEq
-among-cases x [] b h = inr h
-among-cases x (y ∷ a) b h = elim (or-cases (eq x y) (memberEq x (a ++ b)) h) [
+member-cases x [] b h = inr h
+member-cases x (y ∷ a) b h = elim (or-cases (eq x y) (memberEq x (a ++ b)) h) [
   | inl u ↦ inl (or-left (eq x y) (memberEq x a) u)
-  | inr u ↦ elim (among-cases x a b u) [ inl v ↦ inl (or-right (eq x y) (memberEq x a) v) | inr v ↦ inr v ]
+  | inr u ↦ elim (member-cases x a b u) [ inl v ↦ inl (or-right (eq x y) (memberEq x a) v) | inr v ↦ inr v ]
 ]
 
 module _ (l hits m : List Float) (sound-l : sound l ≡ true) (list : ListOf (λ p. holds l p && not (holds hits p)) m) where
@@ -454,7 +455,7 @@ module _ (l hits m : List Float) (sound-l : sound l ≡ true) (list : ListOf (λ
   left-start : (x : Float) → memberEq x (losOf l ++ hisOf hits) ≡ true → holds m x ≡ true → memberEq x (losOf m) ≡ true
   left-start x h t = elim (lo-or-inside m x t) [
     | inl u ↦ u
-    | inr (a, k, f) ↦ elim (among-cases x (losOf l) (hisOf hits) h) [
+    | inr (a, k, f) ↦ elim (member-cases x (losOf l) (hisOf hits) h) [
       | inl v ↦ absurd (start-gap l (sound-rising l sound-l) x a v k (λ p b c. in-list p (f p b c)))
       | inr v ↦ absurd (end-gap hits x a v k (λ p b c. in-no-hit p (f p b c)))
     ]
@@ -464,10 +465,10 @@ module _ (l hits m : List Float) (sound-l : sound l ≡ true) (list : ListOf (λ
   is-start : (a : Float) → holds m a ≡ true → Fresh m a → memberEq a (losOf l ++ hisOf hits) ≡ true
   unfolding Fresh
   is-start a t g = elim (lo-or-inside l a (in-list a t)) [
-    | inl u ↦ among-left a (losOf l) (hisOf hits) u
+    | inl u ↦ member-left a (losOf l) (hisOf hits) u
     | inr (c, k, f) ↦
         let (q, b, d, n) = g c k in
-        among-right a (losOf l) (hisOf hits)
+        member-right a (losOf l) (hisOf hits)
         (covered-end hits q a d (λ p x y. hit p (f p (le-trans c q p b x) y) (n p x y)) (in-no-hit a t))
   ]
     where

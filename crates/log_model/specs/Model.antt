@@ -90,8 +90,9 @@ unfoldable pub TooManyIntervals : DexelStockSpec → (g : DexelGrid) → Sets g 
 unfolding setsAfter entries
 TooManyIntervals spec g s c = (n : ℕ) × IntervalTotal g (setsAfter g s (entries (c .log))) n × (spec .«max_intervals» < n)
 
--- Document 01's order for a log commit, on a store that lends b, whose lists hold the sets s, at generation n. `Unsound` says that the
--- store is not sound. The causes 1 to 4 are those of `grid`, which has accepted the description.
+-- Document 01's order for a log commit, on a store that lends b, whose lists hold the sets s, at generation n.
+-- `Unsound` says that the store is not sound. The causes 1 to 4 are those of `grid`, which has accepted the
+-- description.
 unfoldable pub logCommitCauses : DexelStockSpec → (g : DexelGrid) → Capacity → Type 0 → Sets g → ℕ → Commit → List Cause
 unfolding LogBuffersShort LogInputBad NamesNoRay TooManyRays TooManyIntervals
 logCommitCauses spec g b Unsound s n c =
