@@ -129,13 +129,17 @@ module _ (shape : CutterShape) (c : PreparedCutter) where
     unfolding withinLimits
     sizes = and-left (sizesFit c) _ h
 
+    pub fit-cutting : aboveZero (c .«cutting_length_mm») ≡ true
+    unfolding sizesFit
+    fit-cutting = and-left (aboveZero (c .«cutting_length_mm»)) _ (and-right (aboveZero (c .«diameter_mm»)) _ sizes)
+
     heights : heightsFit c ≡ true
     unfolding withinLimits
     heights = and-left (heightsFit c) _ (and-right (sizesFit c) _ h)
 
-    lengths : lengthsFit c ≡ true
+    pub fit-lengths : lengthsFit c ≡ true
     unfolding withinLimits
-    lengths = and-left (lengthsFit c) _ (and-right (heightsFit c) _ (and-right (sizesFit c) _ h))
+    fit-lengths = and-left (lengthsFit c) _ (and-right (heightsFit c) _ (and-right (sizesFit c) _ h))
 
     last : (diametersFit c && shapeFits shape (c .slope)) ≡ true
     unfolding withinLimits
@@ -150,8 +154,7 @@ module _ (shape : CutterShape) (c : PreparedCutter) where
     pub fit-good : BadTool shape c → ⊥
     unfolding sizesFit heightsFit lengthsFit diametersFit shapeFits aboveZero fromZero isNotNan
     fit-good (diameter-out o) = not-out-positive million (c .«diameter_mm») (and-left (aboveZero (c .«diameter_mm»)) _ sizes) o
-    fit-good (cutting-length-out o) = not-out-positive million (c .«cutting_length_mm»)
-        (and-left (aboveZero (c .«cutting_length_mm»)) _ (and-right (aboveZero (c .«diameter_mm»)) _ sizes)) o
+    fit-good (cutting-length-out o) = not-out-positive million (c .«cutting_length_mm») fit-cutting o
     fit-good (radius-out o) = not-out-positive million (c .radius)
         (and-right (aboveZero (c .«cutting_length_mm»)) _ (and-right (aboveZero (c .«diameter_mm»)) _ sizes)) o
     fit-good (tip-height-out o) = not-out plusZero million (c .«tip_height») (and-left (fromZero (c .«tip_height»)) _ heights) o
@@ -164,7 +167,7 @@ module _ (shape : CutterShape) (c : PreparedCutter) where
     fit-good (chamfer-angle-out angle tip e o) = not-out plusZero million angle (and-left (fromZero angle) _ (own (Chamfer angle tip) e)) o
     fit-good (chamfer-tip-out angle tip e o) = not-out plusZero million tip (and-right (fromZero angle) _ (own (Chamfer angle tip) e)) o
     fit-good (dovetail-angle-out angle e o) = not-out plusZero million angle (and-left (fromZero angle) _ (own (Dovetail angle) e)) o
-    fit-good (overall-length-out o) = not-out (c .«cutting_length_mm») million (c .«overall_length_mm») lengths o
+    fit-good (overall-length-out o) = not-out (c .«cutting_length_mm») million (c .«overall_length_mm») fit-lengths o
     fit-good (dovetail-slope-low angle e o) =
         clash _ o (le→not-lt millionth (c .slope) (and-right (fromZero angle) _ (own (Dovetail angle) e)))
     fit-good (neck-nan o) = clash _ o (not-true _ (and-left (isNotNan (c .«neck_diameter_mm»)) _ diameters))
@@ -172,3 +175,6 @@ module _ (shape : CutterShape) (c : PreparedCutter) where
 
   pub bad-unfit : BadTool shape c → withinLimits shape c ≡ false
   bad-unfit b = ⊎-elim (λ h. absurd (fit-good h b)) (λ h. h) (by-cases (withinLimits shape c))
+
+  pub good-fit : (BadTool shape c → ⊥) → withinLimits shape c ≡ true
+  good-fit n = ⊎-elim (λ h. h) (λ h. absurd (n (unfit-bad h))) (by-cases (withinLimits shape c))
