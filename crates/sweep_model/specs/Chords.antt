@@ -12,7 +12,7 @@ use Rattle.sweep_model.specs.declared.Chord.{Chord}
 abbrev pub pointAt : List Float → ℕ → Vec3
 pointAt l i = record { x = getD l i nan; y = getD l (i + 1) nan; z = getD l (i + 2) nan }
 
--- chord i with its ends turned by `local`
+-- chord i with its ends turned by `local` (sweep.rs 487-491 and 497-501); its plan length is an input here
 unfoldable pub chordOf : Frame → List Float → ℕ → Chord
 chordOf f chords i =
     record {
