@@ -115,9 +115,9 @@ module _ (shape : CutterShape) (c : PreparedCutter) where
   shape-bad (Dovetail angle) e h =
       ⊎-elim (λ k. dovetail-angle-out angle e (out-of plusZero million angle k)) (λ k. steep-bad angle e k) (and-cases _ _ h)
 
-  pub unfit-bad : withinLimits shape c ≡ false → BadTool shape c
+  pub unfit-tool : withinLimits shape c ≡ false → BadTool shape c
   unfolding withinLimits
-  unfit-bad h =
+  unfit-tool h =
       ⊎-elim sizes-bad
       (λ k. ⊎-elim heights-bad
       (λ k. ⊎-elim lengths-bad
@@ -151,30 +151,30 @@ module _ (shape : CutterShape) (c : PreparedCutter) where
     own : (s : CutterShape) → shape ≡ s → shapeFits s (c .slope) ≡ true
     own s e = subst (λ (t : CutterShape). shapeFits t (c .slope) ≡ true) e (and-right (diametersFit c) _ last)
 
-    pub fit-good : BadTool shape c → ⊥
+    pub fit-tool : BadTool shape c → ⊥
     unfolding sizesFit heightsFit lengthsFit diametersFit shapeFits aboveZero fromZero isNotNan
-    fit-good (diameter-out o) = not-out-positive million (c .«diameter_mm») (and-left (aboveZero (c .«diameter_mm»)) _ sizes) o
-    fit-good (cutting-length-out o) = not-out-positive million (c .«cutting_length_mm») fit-cutting o
-    fit-good (radius-out o) = not-out-positive million (c .radius)
+    fit-tool (diameter-out o) = not-out-positive million (c .«diameter_mm») (and-left (aboveZero (c .«diameter_mm»)) _ sizes) o
+    fit-tool (cutting-length-out o) = not-out-positive million (c .«cutting_length_mm») fit-cutting o
+    fit-tool (radius-out o) = not-out-positive million (c .radius)
         (and-right (aboveZero (c .«cutting_length_mm»)) _ (and-right (aboveZero (c .«diameter_mm»)) _ sizes)) o
-    fit-good (tip-height-out o) = not-out plusZero million (c .«tip_height») (and-left (fromZero (c .«tip_height»)) _ heights) o
-    fit-good (slope-out o) = not-out plusZero million (c .slope)
+    fit-tool (tip-height-out o) = not-out plusZero million (c .«tip_height») (and-left (fromZero (c .«tip_height»)) _ heights) o
+    fit-tool (slope-out o) = not-out plusZero million (c .slope)
         (and-left (fromZero (c .slope)) _ (and-right (fromZero (c .«tip_height»)) _ heights)) o
-    fit-good (shoulder-out o) = not-out plusZero million (c .shoulder)
+    fit-tool (shoulder-out o) = not-out plusZero million (c .shoulder)
         (and-right (fromZero (c .slope)) _ (and-right (fromZero (c .«tip_height»)) _ heights)) o
-    fit-good (corner-out corner e o) = not-out plusZero million corner (own (Bull corner) e) o
-    fit-good (drill-angle-out angle e o) = not-out plusZero million angle (own (Drill angle) e) o
-    fit-good (chamfer-angle-out angle tip e o) = not-out plusZero million angle (and-left (fromZero angle) _ (own (Chamfer angle tip) e)) o
-    fit-good (chamfer-tip-out angle tip e o) = not-out plusZero million tip (and-right (fromZero angle) _ (own (Chamfer angle tip) e)) o
-    fit-good (dovetail-angle-out angle e o) = not-out plusZero million angle (and-left (fromZero angle) _ (own (Dovetail angle) e)) o
-    fit-good (overall-length-out o) = not-out (c .«cutting_length_mm») million (c .«overall_length_mm») fit-lengths o
-    fit-good (dovetail-slope-low angle e o) =
+    fit-tool (corner-out corner e o) = not-out plusZero million corner (own (Bull corner) e) o
+    fit-tool (drill-angle-out angle e o) = not-out plusZero million angle (own (Drill angle) e) o
+    fit-tool (chamfer-angle-out angle tip e o) = not-out plusZero million angle (and-left (fromZero angle) _ (own (Chamfer angle tip) e)) o
+    fit-tool (chamfer-tip-out angle tip e o) = not-out plusZero million tip (and-right (fromZero angle) _ (own (Chamfer angle tip) e)) o
+    fit-tool (dovetail-angle-out angle e o) = not-out plusZero million angle (and-left (fromZero angle) _ (own (Dovetail angle) e)) o
+    fit-tool (overall-length-out o) = not-out (c .«cutting_length_mm») million (c .«overall_length_mm») fit-lengths o
+    fit-tool (dovetail-slope-low angle e o) =
         clash _ o (le→not-lt millionth (c .slope) (and-right (fromZero angle) _ (own (Dovetail angle) e)))
-    fit-good (neck-nan o) = clash _ o (not-true _ (and-left (isNotNan (c .«neck_diameter_mm»)) _ diameters))
-    fit-good (shank-nan o) = clash _ o (not-true _ (and-right (isNotNan (c .«neck_diameter_mm»)) _ diameters))
+    fit-tool (neck-nan o) = clash _ o (not-true _ (and-left (isNotNan (c .«neck_diameter_mm»)) _ diameters))
+    fit-tool (shank-nan o) = clash _ o (not-true _ (and-right (isNotNan (c .«neck_diameter_mm»)) _ diameters))
 
-  pub bad-unfit : BadTool shape c → withinLimits shape c ≡ false
-  bad-unfit b = ⊎-elim (λ h. absurd (fit-good h b)) (λ h. h) (by-cases (withinLimits shape c))
+  pub bad-tool : BadTool shape c → withinLimits shape c ≡ false
+  bad-tool b = ⊎-elim (λ h. absurd (fit-tool h b)) (λ h. h) (by-cases (withinLimits shape c))
 
-  pub good-fit : (BadTool shape c → ⊥) → withinLimits shape c ≡ true
-  good-fit n = ⊎-elim (λ h. h) (λ h. absurd (n (unfit-bad h))) (by-cases (withinLimits shape c))
+  pub good-tool : (BadTool shape c → ⊥) → withinLimits shape c ≡ true
+  good-tool n = ⊎-elim (λ h. h) (λ h. absurd (n (unfit-tool h))) (by-cases (withinLimits shape c))

@@ -1,4 +1,4 @@
--- The code's tests of a tool; `unfit-bad` and `bad-unfit` in proofs/Limits.antt tie them to document 01's clauses. A
+-- The code's tests of a tool; `unfit-tool` and `bad-tool` in proofs/Limits.antt tie them to document 01's clauses. A
 -- NaN fails every test.
 use mathlib.Core.Bool.{Bool, true, false, not, _&&_}
 use lib.Ieee.{Float, lt, le, isNan}
@@ -19,15 +19,19 @@ fromZero x = le plusZero x && le x million
 unfoldable pub isNotNan : Float → Bool
 isNotNan x = not (isNan x)
 
+-- the numbers that must be above 0
 unfoldable pub sizesFit : PreparedCutter → Bool
 sizesFit c = aboveZero (c .«diameter_mm») && (aboveZero (c .«cutting_length_mm») && aboveZero (c .radius))
 
+-- the numbers that may be 0
 unfoldable pub heightsFit : PreparedCutter → Bool
 heightsFit c = fromZero (c .«tip_height») && (fromZero (c .slope) && fromZero (c .shoulder))
 
+-- the tool is no shorter than its cutting part
 unfoldable pub lengthsFit : PreparedCutter → Bool
 lengthsFit c = le (c .«cutting_length_mm») (c .«overall_length_mm») && le (c .«overall_length_mm») million
 
+-- the neck and the shank never cut: of them only a NaN is refused
 unfoldable pub diametersFit : PreparedCutter → Bool
 diametersFit c = isNotNan (c .«neck_diameter_mm») && isNotNan (c .«shank_diameter_mm»)
 
@@ -43,9 +47,11 @@ shapeFits Probe slope = true
 shapeFits Lollipop slope = true
 shapeFits (Dovetail angle) slope = fromZero angle && le millionth slope
 
+-- all tests of refusal 6
 unfoldable pub withinLimits : CutterShape → PreparedCutter → Bool
 withinLimits shape c = sizesFit c && (heightsFit c && (lengthsFit c && (diametersFit c && shapeFits shape (c .slope))))
 
+-- the test of refusal 5
 unfoldable pub isBeam : CutterShape → Bool
 isBeam Flat = false
 isBeam Ball = false

@@ -13,7 +13,7 @@ use Rattle.cutter.specs.declared.ProfileSlice.the-variants.{Cutting}
 use Rattle.cutter.specs.Cutter.{isFinite, offTool, cuttingRadius, radiusAt, radiusOf, cutRadius}
 use Rattle.cutter.specs.Limits.{BadTool}
 use Rattle.cutter.specs.Steps.{aboveZero, lengthsFit, withinLimits}
-use Rattle.cutter.proofs.Limits.{good-fit, fit-cutting, fit-lengths}
+use Rattle.cutter.proofs.Limits.{good-tool, fit-cutting, fit-lengths}
 
 finite-between : (x : Float) → le plusZero x ≡ true → le x million ≡ true → isFinite x ≡ true
 unfolding isFinite lt eq le ofBits
@@ -54,7 +54,7 @@ pub cut-radius-cuts : (shape : CutterShape) (c : PreparedCutter) (h : Float) →
     → cutRadius shape c h ≡ cuttingRadius shape c (clampOf h plusZero (c .«cutting_length_mm»))
 unfolding aboveZero cutRadius
 cut-radius-cuts shape c h good n =
-    let fit : withinLimits shape c ≡ true = good-fit shape c good in
+    let fit : withinLimits shape c ≡ true = good-tool shape c good in
     let length : le plusZero (c .«cutting_length_mm») ≡ true =
     lt→le _ _ (and-left _ (le (c .«cutting_length_mm») million) (fit-cutting shape c fit)) in
     ap radiusOf (section-cuts shape c _ (fit-lengths shape c fit) (clamped h plusZero (c .«cutting_length_mm») n length))

@@ -32,7 +32,7 @@ use Rattle.cutter.specs.Steps.{
   isBeam,
 }
 use Rattle.cutter.specs.declared.CutterShape.the-variants.{Flat}
-use Rattle.cutter.proofs.Limits.{beam-tells, fit-good}
+use Rattle.cutter.proofs.Limits.{beam-tells, fit-tool}
 use Rattle.strips.specs.Strip.{bandDistance, halfChord, chordStrip, diskStrip, stadiumStrip, hull, sideStrip}
 use Rattle.store.specs.Store.{places, endsAt}
 use Rattle.stock.specs.Stock.{SoundCells, isShort}
@@ -123,7 +123,7 @@ example-accepted =
         (
           (λ e. clash false (beam-tells Flat e) refl),
           (
-            fit-good Flat flat tool-fits,
+            fit-tool Flat flat tool-fits,
             (
               fit-chords (frameOf PosZ) (halves 1) threeChords chords-fit,
               (

@@ -36,7 +36,8 @@ every-cases : (test : ℕ → Bool) (n : ℕ) → every test n ≡ false → (i 
 unfolding every
 every-cases test zero h = absurd (true≢false h)
 every-cases test (suc n) h =
-    ⊎-elim (λ k. let o = every-cases test n k in (o .0, later (o .0) (o .1), o .2)) (λ k. (n, here, k)) (and-cases (every test n) (test n) h)
+    ⊎-elim (λ k. let o = every-cases test n k in (o .0, later (o .0) (o .1), o .2)) (λ k. (n, here, k))
+    (and-cases (every test n) (test n) h)
   where
     later : (i : ℕ) → i < n → i < suc n
     later i l = omega arith
@@ -94,7 +95,8 @@ module _ (l : List Float) (k : ℕ) where
     in-x o = not-out (neg twoMillion) twoMillion (getD l k nan)
         (and-left (isBetween (getD l k nan) (neg twoMillion) twoMillion) _ h) o
 
-    past-x : (isBetween (getD l (k + 1) nan) (neg twoMillion) twoMillion && isBetween (getD l (k + 2) nan) (neg twoMillion) twoMillion) ≡ true
+    past-x : (isBetween (getD l (k + 1) nan) (neg twoMillion) twoMillion
+        && isBetween (getD l (k + 2) nan) (neg twoMillion) twoMillion) ≡ true
     unfolding allBetween
     past-x = and-right (isBetween (getD l k nan) (neg twoMillion) twoMillion) _ h
 
@@ -170,7 +172,9 @@ module _ (f : Frame) (guard : Float) (chords : List Float) where
     coordinate-in i j l m o = go (ltb j 3) (ltb-true j 3) (ltb-false j 3)
       where
         go : (b : Bool) → (b ≡ true → j < 3) → (b ≡ false → 3 ≤ j) → ⊥
-        go true p q = point-in chords (8 * i) (and-left (allBetween (pointAt chords (8 * i)) (neg twoMillion) twoMillion) _ (ends-fit i l)) j (p refl) o
+        go true p q =
+            point-in chords (8 * i)
+            (and-left (allBetween (pointAt chords (8 * i)) (neg twoMillion) twoMillion) _ (ends-fit i l)) j (p refl) o
         go false p q =
             let g = q refl in
             let e : 8 * i + j ≡ 8 * i + 3 + (j - 3) = omega arith in
@@ -184,7 +188,8 @@ module _ (f : Frame) (guard : Float) (chords : List Float) where
     fit-chords (coordinate-out i j l m o) = coordinate-in i j l m o
     fit-chords (error-out i l o) =
         let c = chordOf f chords i in
-        not-out plusZero thousand (c .e) (and-left (isBetween (c .e) plusZero thousand) _ (and-right (endsFit chords i) _ (chord-fit i l))) o
+        not-out plusZero thousand (c .e)
+        (and-left (isBetween (c .e) plusZero thousand) _ (and-right (endsFit chords i) _ (chord-fit i l))) o
     fit-chords (plan-length-out i l o) =
         let c = chordOf f chords i in
         not-out (planSize c) (mul binary64 two (planSize c)) (c .length)

@@ -10,10 +10,11 @@ use Rattle.frame.specs.declared.Frame.{Frame}
 use Rattle.sweep_model.specs.declared.Chord.{Chord}
 use Rattle.sweep_model.specs.Chords.{chordOf}
 
--- 2e6 and 1000
+-- 2e6
 abbrev pub twoMillion : Float
 twoMillion = ofBits binary64 0x413e_8480_0000_0000
 
+-- 1000
 abbrev pub thousand : Float
 thousand = ofBits binary64 0x408f_4000_0000_0000
 

@@ -1,4 +1,4 @@
--- The code's tests of the guard and the chords; `unfit-chords` and `fit-chords` in proofs/ChordLimits.antt tie them to
+-- The code's tests of the guard and the chords; `unfit-chords` and `bad-chords` in proofs/ChordLimits.antt tie them to
 -- document 01's clauses. A NaN fails every test.
 use mathlib.Core.Bool.{Bool, true, _&&_}
 use mathlib.Core.List.{List}
@@ -31,6 +31,7 @@ unfoldable pub numbersFit : Chord → Bool
 unfolding lengthFits
 numbersFit c = isBetween (c .e) plusZero thousand && lengthFits c
 
+-- all tests of chord i
 unfoldable pub chordFits : Frame → List Float → ℕ → Bool
 unfolding endsFit numbersFit chordOf
 chordFits f chords i = endsFit chords i && numbersFit (chordOf f chords i)
