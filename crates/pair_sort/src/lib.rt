@@ -191,27 +191,13 @@ fn quicksort(s: &mut [f64], l: usize, r: usize, budget: usize)
     quicksort(s, j, r, less);
 }
 
-// Whether no first number of n pairs is below the one before it.
-fn ascends(s: &[f64], n: usize) -> bool
-    requires { ⌜ 2 * n ≤ length (now s) ⌝ }
+// Whether none of the first numbers of n pairs from pair a on is below its partner among those from pair b on.
+fn never_below(s: &[f64], a: usize, b: usize, n: usize) -> bool
+    requires { ⌜ (2 * (a + n) ≤ length (now s)) × (2 * (b + n) ≤ length (now s)) ⌝ }
 {
-    let mut k = 1;
+    let mut k = 0;
     while k < n {
-        if s[2 * k] < s[2 * k - 2] {
-            return false;
-        }
-        k += 1;
-    }
-    true
-}
-
-// Whether no first number of n pairs is above the one before it.
-fn descends(s: &[f64], n: usize) -> bool
-    requires { ⌜ 2 * n ≤ length (now s) ⌝ }
-{
-    let mut k = 1;
-    while k < n {
-        if s[2 * k - 2] < s[2 * k] {
+        if s[2 * (a + k)] < s[2 * (b + k)] {
             return false;
         }
         k += 1;
@@ -230,7 +216,8 @@ fn reverse(s: &mut [f64], n: usize)
     }
 }
 
-// Sorts the pairs by their first number; a last double that is no pair stays.
+// Sorts the pairs by their first number; a last double that is no pair stays. Pairs that ascend already are left, those that descend
+// reversed: each is compared with the one before it, or that one with it.
 pub fn sort_pairs(s: &mut [f64])
     ensures { λ _. ⌜ SamePairs (now (s .entry)) (now (s .exit)) ⌝ }
 {
@@ -239,10 +226,10 @@ pub fn sort_pairs(s: &mut [f64])
         insertion(s, 0, n);
         return;
     }
-    if ascends(s, n) {
+    if never_below(s, 1, 0, n - 1) {
         return;
     }
-    if descends(s, n) {
+    if never_below(s, 0, 1, n - 1) {
         reverse(s, n);
         return;
     }
