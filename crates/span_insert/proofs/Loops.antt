@@ -82,8 +82,8 @@ moving-turn b₀ from to lo hi j lo′ hi′ b s fit unread below above least mo
       rest = λ q g. getD-set-other b (to + j) q v nan (λ e. omega arith) ∙ s .rest q (omega arith);
     }
 
-pub moving-done : (b₀ : List Float) (from to lo hi count : ℕ) (b : List Float) → lo ≤ 0 → count ≤ hi → hi ≤ count → Moving b₀ from to lo hi b
-    → CellsMoved b₀ from to count b
+pub moving-done : (b₀ : List Float) (from to lo hi count : ℕ) (b : List Float) → lo ≤ 0 → count ≤ hi → hi ≤ count
+    → Moving b₀ from to lo hi b → CellsMoved b₀ from to count b
 moving-done b₀ from to lo hi count b l h g s = record {
   size = s .size;
   front = λ q a c. s .front q (omega arith);

@@ -9,7 +9,8 @@ use Rattle.span_compare.proofs.contains.Tie as tie
 returns : tie.Need-returns
 returns c =
     let a = c .before .before .before .before .args in
-    refuse-unsound (a .outer .now) (a .inner .now) (Contains (a .outer .now) (a .inner .now)) _ (c .before .both-sound .ensures) (c .if1 .taken)
+    refuse-unsound (a .outer .now) (a .inner .now) (Contains (a .outer .now) (a .inner .now)) _ (c .before .both-sound .ensures)
+    (c .if1 .taken)
 
 covers-requires : tie.Need-covers-requires
 covers-requires c κs =
