@@ -191,13 +191,14 @@ fn quicksort(s: &mut [f64], l: usize, r: usize, budget: usize)
     quicksort(s, j, r, less);
 }
 
-// Whether none of the first numbers of n pairs from pair a on is below its partner among those from pair b on.
-fn never_below(s: &[f64], a: usize, b: usize, n: usize) -> bool
-    requires { ⌜ (2 * (a + n) ≤ length (now s)) × (2 * (b + n) ≤ length (now s)) ⌝ }
+// Whether the first numbers of n pairs never fall (i = 0 and j = 2), or never rise (i = 2 and j = 0): the cells i and j before each pair
+// from the second on are compared.
+fn never_below(s: &[f64], n: usize, i: usize, j: usize) -> bool
+    requires { ⌜ (2 * n ≤ length (now s)) × (i ≤ 2) × (j ≤ 2) ⌝ }
 {
-    let mut k = 0;
+    let mut k = 1;
     while k < n {
-        if s[2 * (a + k)] < s[2 * (b + k)] {
+        if s[2 * k - i] < s[2 * k - j] {
             return false;
         }
         k += 1;
@@ -216,8 +217,8 @@ fn reverse(s: &mut [f64], n: usize)
     }
 }
 
-// Sorts the pairs by their first number; a last double that is no pair stays. Pairs that ascend already are left, those that descend
-// reversed: each is compared with the one before it, or that one with it.
+// Sorts the pairs by their first number; a last double that is no pair stays. Pairs that ascend are left as they are, those that descend
+// are reversed.
 pub fn sort_pairs(s: &mut [f64])
     ensures { λ _. ⌜ SamePairs (now (s .entry)) (now (s .exit)) ⌝ }
 {
@@ -226,10 +227,10 @@ pub fn sort_pairs(s: &mut [f64])
         insertion(s, 0, n);
         return;
     }
-    if never_below(s, 1, 0, n - 1) {
+    if never_below(s, n, 0, 2) {
         return;
     }
-    if never_below(s, 0, 1, n - 1) {
+    if never_below(s, n, 2, 0) {
         reverse(s, n);
         return;
     }
