@@ -13,7 +13,6 @@ use Rattle.doubles.specs.Doubles.{Number}
 use Rattle.logic.proofs.Bools.{or-cases, or-left, or-right, and-left, and-right, both, by-cases, clash, not-true}
 use Rattle.doubles.proofs.Order.{
   lt-number,
-  le-number,
   le-refl,
   le-trans,
   le-total,
@@ -30,13 +29,12 @@ use Rattle.doubles.proofs.Order.{
   eq-refl,
   eq-sym,
   eq-trans,
-  lt-eq-left,
-  le-eq-right,
   le-cases,
 }
 use Rattle.spans.specs.Spans.{within, holds, rising, sound, ListOf}
 use Rattle.spans.proofs.Ends.{All, Above, all-map, rising-tail, rising-above, rising-cons}
-use Rattle.spans.proofs.Sets.{sound-rising}
+use Rattle.spans.proofs.Sets.{one-point, sound-rising}
+use Rattle.spans.proofs.Points.{held-number}
 use Rattle.log_model.specs.Counts.{losOf, hisOf, memberEq, countDistinct, startsLeft}
 
 -- ---- counting distinct numbers
@@ -192,22 +190,6 @@ under lo hi p h = elim (by-cases (within lo hi p))
 rest-of : (lo hi : Float) (l : List Float) (p : Float) → within lo hi p ≡ false → holds (lo ∷ hi ∷ l) p ≡ true → holds l p ≡ true
 unfolding holds
 rest-of lo hi l p n h = elim (or-cases (within lo hi p) (holds l p) h) [ inl u ↦ absurd (clash (within lo hi p) u n) | inr u ↦ u ]
-
-pub number-of : (l : List Float) (p : Float) → holds l p ≡ true → Number p
-unfolding holds
-number-of [] p h = absurd (false≢true h)
-number-of (lo ∷ []) p h = absurd (false≢true h)
-number-of (lo ∷ hi ∷ l) p h = elim (or-cases (within lo hi p) (holds l p) h) [
-  | inl u ↦ le-number lo p (and-left (le lo p) (lt p hi) u) .1
-  | inr u ↦ number-of l p u
-]
-
--- equal numbers are one point
-pub holds-eq : (l : List Float) (x y : Float) → eq x y ≡ true → holds l x ≡ holds l y
-unfolding holds
-holds-eq [] x y e = refl
-holds-eq (lo ∷ []) x y e = refl
-holds-eq (lo ∷ hi ∷ l) x y e = ap₂ _||_ (ap₂ _&&_ (le-eq-right x y lo e) (lt-eq-left x y hi e)) (holds-eq l x y e)
 
 -- ---- the los of a rising list
 
@@ -488,8 +470,8 @@ module _ (l hits m : List Float) (sound-l : sound l ≡ true) (list : ListOf (λ
       let r = sound-rising m (list .isSound) in
       sym (los-length m)
       ∙ sym (distinct-count (λ x. holds l x && not (holds hits x))
-      (λ x t. number-of l x (and-left (holds l x) (not (holds hits x)) t))
-      (λ x y e. ap₂ (λ (b c : Bool). b && not c) (holds-eq l x y e) (holds-eq hits x y e))
+      (λ x t. held-number l x (and-left (holds l x) (not (holds hits x)) t))
+      (λ x y e. ap₂ (λ (b c : Bool). b && not c) (one-point l x y e) (one-point hits x y e))
       (losOf m) (losOf l ++ hisOf hits) (los-rising m r)
       (all-map (λ x. holds m x ≡ true) (λ x. (holds l x && not (holds hits x)) ≡ true)
       (λ x t. sym (list .points x) ∙ t) (losOf m) (los-held m r))
