@@ -9,8 +9,8 @@ use lib.Ieee.{Float}
 use Rattle.logic.proofs.Bools.{clash}
 use Rattle.grid.specs.Rays.{rayCount, Ray}
 use Rattle.grid.specs.declared.DexelGrid.{DexelGrid}
+use Rattle.log_model.specs.declared.Entry.{Entry}
 use Rattle.log_model.specs.Logs.{
-  Entry,
   entryAt,
   entriesFrom,
   entryCount,

@@ -6,7 +6,8 @@ use Prim.Native.Nat.{ℕ, zero, suc, _+_, _<_}
 use lib.Dec.{eqb}
 use lib.Ieee.{Float, binary64, le, ofBits}
 use Rattle.grid.specs.declared.DexelGrid.{DexelGrid}
-use Rattle.log_model.specs.Logs.{Entry, entryAt, entryCount, entries, namesSomeRay, entryRay, HitKind, hitLo, hitHi}
+use Rattle.log_model.specs.declared.Entry.{Entry}
+use Rattle.log_model.specs.Logs.{entryAt, entryCount, entries, namesSomeRay, entryRay, HitKind, hitLo, hitHi}
 use Rattle.log_model.specs.Model.{NamesNoRay}
 
 -- each whole entry names a ray

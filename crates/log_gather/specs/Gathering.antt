@@ -7,7 +7,7 @@ use Prim.Native.Nat.{ℕ, _+_, _%_, _≤_}
 use lib.ListN.{length, take}
 use lib.Ieee.{Float, lt}
 use Rattle.spans.specs.Spans.{within, holds}
-use Rattle.log_model.specs.Logs.{Entry}
+use Rattle.log_model.specs.declared.Entry.{Entry}
 use Rattle.log_keys.specs.Keys.{withEntry, pairsPast}
 use Rattle.log_gather.specs.declared.HeldHits.{HeldHits}
 

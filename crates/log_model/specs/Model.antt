@@ -13,7 +13,8 @@ use Rattle.spans.specs.Spans.{Point, ListOf, setMinus, holds}
 use Rattle.grid.specs.Rays.{rayCount, Ray}
 use Rattle.grid.specs.declared.DexelStockSpec.{DexelStockSpec}
 use Rattle.grid.specs.declared.DexelGrid.{DexelGrid}
-use Rattle.log_model.specs.Logs.{Entry, entries, workNeeded, namesSomeRay, removed, Commit}
+use Rattle.log_model.specs.declared.Entry.{Entry}
+use Rattle.log_model.specs.Logs.{entries, WholeLog, workNeeded, namesSomeRay, removed, Commit}
 use Rattle.stock.specs.Stock.{Kind, Possible, Certain}
 
 -- ---- the sets of all rays
@@ -73,7 +74,7 @@ LogBuffersShort spec g b c =
 
 -- 11: part of an entry is over, or the store is not sound
 unfoldable pub LogInputBad : Type 0 → Commit → Type 0
-LogInputBad Unsound c = ((length (c .log) % 6 ≡ 0) → ⊥) ⊎ Unsound
+LogInputBad Unsound c = (WholeLog (c .log) → ⊥) ⊎ Unsound
 
 -- 17: an entry that names no ray
 unfoldable pub NamesNoRay : DexelGrid → List Entry → Type 0
