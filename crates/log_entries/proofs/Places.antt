@@ -1,7 +1,7 @@
 -- The pairs on a ray by the number of the ray, and by the places of its entries.
-use mathlib.Core.Path.{_≡_, refl, ap, ap₂, sym, _∙_, subst}
+use mathlib.Core.Path.{_≡_, refl, ap, ap₂, _∙_, subst}
 use mathlib.Core.Bool.{Bool, true, false, cond, _&&_, false≢true}
-use mathlib.Core.List.{List, [], _∷_, _++_}
+use mathlib.Core.List.{List, _∷_, _++_}
 use Prim.Native.Nat.{ℕ, zero, suc, _+_, _≤_, _<_}
 use native.Mathlib.Omega.{arith}
 use lib.Dec.{eqb}
@@ -9,7 +9,6 @@ use lib.Ieee.{Float}
 use Rattle.logic.proofs.Bools.{clash}
 use Rattle.grid.specs.Rays.{rayCount, Ray}
 use Rattle.grid.specs.declared.DexelGrid.{DexelGrid}
-use Rattle.log_model.specs.declared.Entry.{Entry}
 use Rattle.log_model.specs.Logs.{
   entryAt,
   entriesFrom,
@@ -17,7 +16,6 @@ use Rattle.log_model.specs.Logs.{
   entries,
   namesSomeRay,
   entryRay,
-  namesRay,
   HitKind,
   hitLo,
   hitHi,

@@ -2,7 +2,6 @@
 ghost use mathlib.Core.Path.{_≡_};
 ghost use mathlib.Core.Bool.{true};
 ghost use Prim.Native.Nat.{_+_, _^_, _<_};
-ghost use lib.ListN.{length};
 ghost use Rattle.grid.specs.Rays.{rayCount};
 ghost use Rattle.log_model.specs.Logs.{entryAt, entryCount, isWholeLog, isWhole, wholeOf, namesSomeRay, entryRay};
 ghost use Rattle.log_entries.specs.Named.{NamesAll, beforeAxis};
