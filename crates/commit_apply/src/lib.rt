@@ -24,7 +24,7 @@ pub fn apply_log(
     let changed = log_merge::merge_all(spec, g, spans, links, heads, log, work);
     let n = spec.max_intervals as usize;
     let rays = grid_rays::total_rays(g) as usize;
-    let sizes = rays + log.len() / 6;
+    let sizes = rays + log_entries::entry_count(log);
     log_lay::free_all(spans, links, heads, n, work, sizes, rays);
     log_lay::lay_all(spans, links, heads, n, work, sizes, sizes + 2 * rays, rays);
     spans::clear_from(work, 0);

@@ -5,9 +5,9 @@ use mathlib.Core.Path.{_≡_, refl, sym, ap, ap₂, _∙_}
 use mathlib.Core.Bool.{Bool, true, false, not, cond, _||_}
 use mathlib.Core.List.{List}
 use mathlib.Core.Logic.{inl, inr}
-use Prim.Native.Nat.{ℕ, suc, _-_, _*_, _/_, _%_, _^_, _≤_, _<_, min}
+use Prim.Native.Nat.{ℕ, suc, _-_, _*_, _/_, _^_, _≤_, _<_, min}
 use native.Mathlib.Omega.{arith}
-use borrow.Author.Tests.{ltb-true, ltb-false, le-ltb}
+use borrow.Author.Tests.{ltb-true, ltb-false, le-ltb, eqb-true, eqb-false}
 use lib.Dec.{ltb}
 use lib.ListN.{length}
 use lib.Ieee.{Float}
@@ -19,7 +19,7 @@ use Rattle.grid.specs.declared.DexelStockSpec.{DexelStockSpec}
 use Rattle.grid.specs.declared.DexelGrid.{DexelGrid}
 use Rattle.stock.specs.Stock.{Stock, SoundStock, isShort, Kind, rayLists}
 use Rattle.stock.proofs.Causes.{room-of}
-use Rattle.log_model.specs.Logs.{entries, workNeeded, commitOf}
+use Rattle.log_model.specs.Logs.{entries, WholeLog, isWholeLog, workNeeded, commitOf}
 use Rattle.log_model.specs.Model.{LogBuffersShort, LogInputBad, logCommitCauses}
 use Rattle.log_model.specs.Counts.{changedRayCount, pairsAfter}
 use Rattle.log_model.specs.Runs.{pointSets}
@@ -108,7 +108,7 @@ module _ (spec : DexelStockSpec) (g : DexelGrid) (s : Stock) (log : List Float) 
   enough room w (inr (inl h)) = omega (arith, room .in-heads)
   enough room w (inr (inr h)) = omega arith
 
-  good : length log % 6 ≡ 0 → SoundStock spec g s → ¬ LogInputBad (¬ SoundStock spec g s) (commitOf log allowance work)
+  good : WholeLog log → SoundStock spec g s → ¬ LogInputBad (¬ SoundStock spec g s) (commitOf log allowance work)
   unfolding LogInputBad
   good w sound (inl h) = h w
   good w sound (inr h) = h sound
@@ -139,12 +139,15 @@ module _ (spec : DexelStockSpec) (g : DexelGrid) (s : Stock) (log : List Float) 
       → workNeeded (spec .«max_intervals») log ≤ length work / 2
   work-of-test r e h = ltb-false _ _ (sym e ∙ h)
 
+  pub whole-of-test : (r : Bool) → r ≡ isWholeLog log → not r ≡ false → WholeLog log
+  whole-of-test r e h = eqb-true _ _ (sym e ∙ not-false r h)
+
   module _ (room : Room (spec .«max_intervals») (2 * rayCount g) (s .cells))
       (w : workNeeded (spec .«max_intervals») log ≤ length work / 2) where
     -- 11: part of an entry is over, or the store is not sound
-    pub part-due : (length log % 6 ≡ 0 → ⊥) → LogCheckPost spec g s log allowance work 11
+    pub part-due : (r : Bool) → r ≡ isWholeLog log → not r ≡ true → LogCheckPost spec g s log allowance work 11
     unfolding logCommitCauses Due LogInputBad
-    part-due h = refused-by 10 (inr (enough room w, inl (inl h, refl)))
+    part-due r e h = refused-by 10 (inr (enough room w, inl (inl (eqb-false _ _ (sym e ∙ not-true r h)), refl)))
 
     pub unsound-due : (r : Bool) → Decides (SoundStock spec g s) r → not r ≡ true → LogCheckPost spec g s log allowance work 11
     unfolding logCommitCauses Due LogInputBad
@@ -153,7 +156,7 @@ module _ (spec : DexelStockSpec) (g : DexelGrid) (s : Stock) (log : List Float) 
     pub sound-of-test : (r : Bool) → Decides (SoundStock spec g s) r → not r ≡ false → SoundStock spec g s
     sound-of-test r t h = t .0 (not-false r h)
 
-    module _ (whole : length log % 6 ≡ 0) (sound : SoundStock spec g s) where
+    module _ (whole : WholeLog log) (sound : SoundStock spec g s) where
       -- 15: the last generation
       pub last-due : s .generation ≡ 0xffff_ffff_ffff_ffff → LogCheckPost spec g s log allowance work 15
       unfolding logCommitCauses Due

@@ -7,7 +7,8 @@ use Rattle.doubles.specs.Doubles.{Number}
 use Rattle.logic.proofs.Bools.{by-cases, clash}
 use Rattle.doubles.proofs.Order.{lt-number, lt-irrefl, le-refl, lt→le, not-lt→le, lt-le-trans, lt-trans}
 use Rattle.spans.specs.Overlay.{higherOf, lowerOf}
-use Rattle.log_model.specs.Logs.{Entry, HitKind, outer, inner, hitLo, hitHi}
+use Rattle.log_model.specs.declared.Entry.{Entry}
+use Rattle.log_model.specs.Logs.{HitKind, outer, inner, hitLo, hitHi}
 use Rattle.log_keys.proofs.Hits.{LosesKind, inner-hit, outer-hit}
 use Rattle.log_long.specs.Long.{beginPast, leastPast}
 use Rattle.log_long.specs.declared.LongPart.{LongPart}

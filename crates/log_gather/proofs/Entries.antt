@@ -3,15 +3,15 @@ use mathlib.Core.Path.{_≡_, refl, _∙_}
 use mathlib.Core.Logic.{inl}
 use mathlib.Core.Bool.{Bool, true, false, false≢true}
 use mathlib.Core.List.{List, _∷_}
-use Prim.Native.Nat.{ℕ, _+_, _*_, _%_, _<_}
+use Prim.Native.Nat.{ℕ, _+_, _%_}
 use native.Mathlib.Omega.{arith}
-use native.Mathlib.Nat.{mod-lt}
 use native.Mathlib.Numerals.{add-one}
 use lib.ListN.{length, getD}
 use lib.Ieee.{Float, lt, le}
 use Rattle.spans.specs.Spans.{holds}
 use Rattle.logic.proofs.Bools.{and-right}
-use Rattle.log_model.specs.Logs.{Entry, entryAt, entryCount, outer, inner, hitLo, hitHi}
+use Rattle.log_model.specs.declared.Entry.{Entry}
+use Rattle.log_model.specs.Logs.{entryAt, entryCount, outer, inner, hitLo, hitHi}
 use Rattle.log_keys.specs.Keys.{entryOfKey, withEntry, hitsTo}
 use Rattle.log_gather.specs.declared.HeldHits.{HeldHits}
 use Rattle.log_gather.specs.Gathering.{Shaped, PutPost, PutEntryPost, GatherPost}
@@ -49,17 +49,13 @@ module _ (b u f : Float) (log : List Float) (keys : List ℕ) (certain : Bool) (
   }
 
   pub gathered-more : (i : ℕ) (cells after : List Float) (h r : HeldHits) → GatherPost b u f (hitsTo log keys certain i) before cells h
-      → PutEntryPost b (entryAt log (getD keys i 0 % entryCount log)) certain cells h after r
+      → (n : ℕ) → n ≡ entryCount log → (e : Entry) → e ≡ entryAt log (getD keys i 0 % n) → PutEntryPost b e certain cells h after r
       → GatherPost b u f (hitsTo log keys certain (i + 1)) before after r
   unfolding hitsTo entryOfKey
-  gathered-more i cells after h r s p = record {
+  gathered-more i cells after h r s n all e read p = record {
     size = p .size ∙ s .size;
-    gathers = rw (add-one i) (p .gathers u f (hitsTo log keys certain i) (s .gathers));
+    gathers = rw (add-one i, ← all, ← read) (p .gathers u f (hitsTo log keys certain i) (s .gathers));
   }
 
 pub same-shape : (before after : List Float) → length after ≡ length before → Shaped before → Shaped after
 same-shape before after e s = record { quarters = rw e (s .quarters); least = rw e (s .least) }
-
--- a key's entry stands in the log
-pub in-log : (log : List Float) (key : ℕ) → 0 < entryCount log → 6 * (key % entryCount log) + 5 < length log
-in-log log key h = omega (arith, mod-lt key h)

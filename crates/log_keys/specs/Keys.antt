@@ -7,7 +7,8 @@ use Prim.Native.Nat.{ℕ, zero, suc, _%_}
 use lib.ListN.{getD}
 use lib.Ieee.{Float, lt}
 use Rattle.spans.specs.Spans.{within, holds}
-use Rattle.log_model.specs.Logs.{Entry, entryAt, entryCount, outer, inner, hitLo, hitHi}
+use Rattle.log_model.specs.declared.Entry.{Entry}
+use Rattle.log_model.specs.Logs.{entryAt, entryCount, outer, inner, hitLo, hitHi}
 
 -- the entry that a key stands for: what the key leaves when it is divided by the number of entries is its place
 unfoldable pub entryOfKey : List Float → ℕ → Entry

@@ -1,6 +1,6 @@
 // The entries of one ray in a log, gathered in a lent buffer for one stretch of numbers: those with a hit that begins in it, as many as
 // fit, which decides where the stretch ends. Of the hits that begin at or before its start only how far they reach is kept.
-ghost use Prim.Native.Nat.{_+_, _*_, _^_, _≤_, _<_};
+ghost use Prim.Native.Nat.{_+_, _^_, _≤_, _<_};
 ghost use mathlib.Core.Path.{_≡_};
 ghost use mathlib.Core.Logic.{_⊎_};
 ghost use lib.ListN.{length};
@@ -12,6 +12,7 @@ ghost use Rattle.log_keys.specs.KeysKept.{KeysKept};
 ghost use Rattle.log_long.specs.Long.{beginPast, leastPast, furtherOf, InLog, LongRoomPost};
 ghost use Rattle.log_long.specs.Long.{AddKeyPost, AddFrontsPost, GathersTo, GatherRayPost};
 use grid::DexelGrid;
+use log_model::Entry;
 
 // How many keys there are, where the stretch ends, and how far the outer and the inner hits reach
 // that begin at or before its start.
@@ -35,13 +36,11 @@ fn begin_past(top: f64, b: f64, lo: f64, hi: f64) -> f64
 }
 
 // Where the first of the entry's hits begins that begins past b, or `top` where none does.
-fn least_past(top: f64, b: f64, log: &[f64], place: usize) -> f64
-    requires { ⌜ 6 * place + 5 < length (now log) ⌝ }
-    ensures { λ r. ⌜ r ≡ leastPast top b (entryAt (now (log .entry)) place) ⌝ }
+fn least_past(top: f64, b: f64, e: Entry) -> f64
+    ensures { λ r. ⌜ r ≡ leastPast top b e ⌝ }
 {
-    let at = 6 * place;
-    let x = begin_past(top, b, log[at + 2], log[at + 3]);
-    let y = begin_past(top, b, log[at + 4], log[at + 5]);
+    let x = begin_past(top, b, e.outer_lo, e.outer_hi);
+    let y = begin_past(top, b, e.inner_lo, e.inner_hi);
     if y < x {
         return y;
     }
@@ -93,7 +92,8 @@ fn keep_below(top: f64, b: f64, log: &[f64], keys: &mut [u64], m: usize, u: f64)
     let mut k: usize = 0;
     let mut i: usize = 0;
     while i < m {
-        let kept = least_past(top, b, log, keys[i] as usize) < u;
+        let e = log_entries::entry_at(log, keys[i] as usize);
+        let kept = least_past(top, b, e) < u;
         k = log_keys::keep(keys, k, i, kept);
         i += 1;
     }
@@ -106,9 +106,9 @@ fn shorten(top: f64, b: f64, log: &[f64], keys: &mut [u64], w: LongPart) -> Long
     ensures { λ r. ⌜ LongRoomPost top b (now (log .entry)) (now (keys .entry)) w (now (keys .exit)) r × (r .count < w .count) ⌝ }
 {
     let m = w.count;
-    let x = least_past(top, b, log, keys[0] as usize);
-    let y = least_past(top, b, log, keys[m / 2] as usize);
-    let z = least_past(top, b, log, keys[m - 1] as usize);
+    let x = least_past(top, b, log_entries::entry_at(log, keys[0] as usize));
+    let y = least_past(top, b, log_entries::entry_at(log, keys[m / 2] as usize));
+    let z = least_past(top, b, log_entries::entry_at(log, keys[m - 1] as usize));
     let end = middle(x, y, z);
     let count = keep_below(top, b, log, keys, m, end);
     LongPart {
@@ -130,12 +130,20 @@ fn roomy(top: f64, b: f64, log: &[f64], keys: &mut [u64], w: LongPart) -> LongPa
     shorten(top, b, log, keys, w)
 }
 
-// The key of the entry at place i, if one of its hits begins in the stretch.
-fn add_key(top: f64, b: f64, log: &[f64], keys: &mut [u64], w: LongPart, i: usize) -> LongPart
-    requires { ⌜ InLog (now log) (now keys) (w .count) × (0 < length (now keys)) × (6 * i + 5 < length (now log)) ⌝ }
+// The key of the entry at place i, whose first hit past b begins at k, if that is in the stretch.
+fn add_key(
+    top: f64,
+    b: f64,
+    log: &[f64],
+    keys: &mut [u64],
+    w: LongPart,
+    i: usize,
+    k: f64,
+) -> LongPart
+    requires { ⌜ InLog (now log) (now keys) (w .count) × (0 < length (now keys)) × (i < entryCount (now log))
+        × (k ≡ leastPast top b (entryAt (now log) i)) ⌝ }
     ensures { λ r. ⌜ AddKeyPost top b i (now (log .entry)) (now (keys .entry)) w (now (keys .exit)) r ⌝ }
 {
-    let k = least_past(top, b, log, i);
     if !(k < w.end) {
         return w;
     }
@@ -153,17 +161,15 @@ fn add_key(top: f64, b: f64, log: &[f64], keys: &mut [u64], w: LongPart, i: usiz
     }
 }
 
-// The part with how far the hits of the entry at place i reach, if they begin at or before b.
-fn add_fronts(b: f64, log: &[f64], w: LongPart, i: usize) -> LongPart
-    requires { ⌜ 6 * i + 5 < length (now log) ⌝ }
-    ensures { λ r. ⌜ AddFrontsPost b (entryAt (now (log .entry)) i) w r ⌝ }
+// The part with how far the hits of the entry reach, if they begin at or before b.
+fn add_fronts(b: f64, e: Entry, w: LongPart) -> LongPart
+    ensures { λ r. ⌜ AddFrontsPost b e w r ⌝ }
 {
-    let at = 6 * i;
     LongPart {
         count: w.count,
         end: w.end,
-        outer: further(w.outer, b, log[at + 2], log[at + 3]),
-        inner: further(w.inner, b, log[at + 4], log[at + 5]),
+        outer: further(w.outer, b, e.outer_lo, e.outer_hi),
+        inner: further(w.inner, b, e.inner_lo, e.inner_hi),
     }
 }
 
@@ -183,8 +189,10 @@ fn add_entry(
     ensures { λ r. ⌜ GathersTo g (now (log .entry)) ray top b (i + 1) (now (keys .entry)) (now (keys .exit)) r ⌝ }
 {
     if log_entries::ray_at(g, log, i) == ray {
-        let t = add_fronts(b, log, w, i);
-        return add_key(top, b, log, keys, t, i);
+        let e = log_entries::entry_at(log, i);
+        let t = add_fronts(b, e, w);
+        let k = least_past(top, b, e);
+        return add_key(top, b, log, keys, t, i, k);
     }
     w
 }
@@ -201,7 +209,7 @@ pub fn gather_ray(
     requires { ⌜ (rayCount g ≤ 2 ^ 53) × EachNamed g (now log) × (0 < length (now keys)) ⌝ }
     ensures { λ r. ⌜ GatherRayPost g (now (log .entry)) ray top b (now (keys .entry)) (now (keys .exit)) r ⌝ }
 {
-    let n = log.len() / 6;
+    let n = log_entries::entry_count(log);
     let mut w = LongPart {
         count: 0,
         end: top,

@@ -16,7 +16,8 @@ use Rattle.grid.specs.declared.DexelGrid.{DexelGrid}
 use Rattle.store.specs.Updates.{Update, update}
 use Rattle.stock.specs.Stock.{Stock, SoundCells, Kind, Possible, Certain, rayLists}
 use Rattle.stock.proofs.Rays.{sound-chained}
-use Rattle.log_model.specs.Logs.{Entry, entries, entryCount}
+use Rattle.log_model.specs.declared.Entry.{Entry}
+use Rattle.log_model.specs.Logs.{entries, entryCount}
 use Rattle.log_model.specs.Model.{sumTo}
 use Rattle.log_model.specs.Counts.{startsLeft, hitsOnList, pairsAfter}
 use Rattle.log_model.proofs.Doubles.{DoubleCells, Doubles, all-doubles}

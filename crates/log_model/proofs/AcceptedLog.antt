@@ -13,7 +13,8 @@ use Rattle.grid.specs.declared.DexelGrid.{DexelGrid}
 use Rattle.store.specs.Updates.{Update, pairsFreed, pairsLaid, applied}
 use Rattle.store.proofs.Updating.{freed-all, updated}
 use Rattle.stock.specs.Stock.{Stock, SoundStock, ValidAt, Kind, Possible, Certain, rayList, rayLists, listNumber}
-use Rattle.log_model.specs.Logs.{Entry, entries, Commit}
+use Rattle.log_model.specs.declared.Entry.{Entry}
+use Rattle.log_model.specs.Logs.{entries, Commit}
 use Rattle.log_model.specs.Model.{setsAfter, RayChanges, Count, Capacity, none as none-counted}
 use Rattle.log_model.specs.Counts.{pairsAfter}
 use Rattle.log_model.specs.Runs.{pointSets, AcceptedEffect}

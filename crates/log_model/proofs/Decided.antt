@@ -19,9 +19,10 @@ use Rattle.spans.proofs.Points.{or-assoc}
 use Rattle.grid.specs.Rays.{rayCount, Ray}
 use Rattle.grid.specs.declared.DexelStockSpec.{DexelStockSpec}
 use Rattle.grid.specs.declared.DexelGrid.{DexelGrid}
+use Rattle.log_model.specs.declared.Entry.{Entry}
 use Rattle.log_model.specs.Logs.{
-  Entry,
   entries,
+  isWholeLog,
   workNeeded,
   namesSomeRay,
   namesRay,
@@ -271,7 +272,7 @@ module _ (spec : DexelStockSpec) (g : DexelGrid) (b : Capacity) where
   tests lists n c =
       (ltb (b .records) (spec .«max_intervals»)
       || (ltb (b .heads) (2 * rayCount g) || ltb (c .work) (workNeeded (spec .«max_intervals») (c .log))))
-      ∷ not (eqb (length (c .log) % 6) 0)
+      ∷ not (isWholeLog (c .log))
       ∷ eqb n (2 ^ 64 - 1)
       ∷ unnamed g (entries (c .log))
       ∷ ltb (c .allowance) (changedRayCount g lists (entries (c .log)))
@@ -293,11 +294,11 @@ module _ (spec : DexelStockSpec) (g : DexelGrid) (b : Capacity) where
         (less-than (b .heads) (2 * rayCount g))
         (less-than (c .work) (workNeeded (spec .«max_intervals») (c .log))))
 
-    bad-by : Decides (LogInputBad ⊥ c) (not (eqb (length (c .log) % 6) 0))
+    bad-by : Decides (LogInputBad ⊥ c) (not (isWholeLog (c .log)))
     unfolding LogInputBad
     bad-by = (
-      (λ h. inl (eqb-false (length (c .log) % 6) 0 (not-true (eqb (length (c .log) % 6) 0) h))),
-      (λ h x. elim x [ inl y ↦ y (eqb-true (length (c .log) % 6) 0 (not-false (eqb (length (c .log) % 6) 0) h)) | inr y ↦ y ]),
+      (λ h. inl (eqb-false (length (c .log) % 6) 0 (not-true (isWholeLog (c .log)) h))),
+      (λ h x. elim x [ inl y ↦ y (eqb-true (length (c .log) % 6) 0 (not-false (isWholeLog (c .log)) h)) | inr y ↦ y ]),
     )
 
     -- 9 is present exactly when the count is above the allowance

@@ -10,8 +10,8 @@ use Rattle.grid.specs.declared.DexelStockSpec.{DexelStockSpec}
 use Rattle.grid.specs.declared.DexelGrid.{DexelGrid}
 use Rattle.store.specs.Store.{placesOf, endsAt}
 use Rattle.stock.specs.Stock.{Stock, Kind, Possible, Certain, rayList, listNumber}
+use Rattle.log_model.specs.declared.Entry.{Entry}
 use Rattle.log_model.specs.Logs.{
-  Entry,
   entryAt,
   entriesFrom,
   entryCount,

@@ -9,7 +9,8 @@ use native.Mathlib.Decide.{decLt}
 use lib.ListN.{length}
 use lib.Ieee.{Float}
 use Rattle.grid.specs.declared.DexelGrid.{DexelGrid}
-use Rattle.log_model.specs.Logs.{Entry, entryAt, entriesFrom, entryCount, entries, namesRay, HitKind, hitLo, hitHi, hitsOnRay}
+use Rattle.log_model.specs.declared.Entry.{Entry}
+use Rattle.log_model.specs.Logs.{entryAt, entriesFrom, entryCount, entries, namesRay, HitKind, hitLo, hitHi, hitsOnRay}
 use Rattle.grid.specs.Rays.{Ray}
 
 from-length : (log : List Float) (i n : ℕ) → length (entriesFrom log i n) ≡ n

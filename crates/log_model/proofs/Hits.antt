@@ -9,7 +9,8 @@ use Rattle.logic.proofs.Bools.{or-cases, or-left, or-right, and-left, and-right
 use Rattle.doubles.proofs.Order.{le-trans, le-lt-trans, lt-le-trans, eq→le, eq→ge}
 use Rattle.spans.specs.Spans.{within, holds}
 use Rattle.grid.specs.declared.DexelGrid.{DexelGrid}
-use Rattle.log_model.specs.Logs.{Entry, entries, namesRay, HitKind, outer, inner, hitLo, hitHi, hitsOnRay, removed, InHit}
+use Rattle.log_model.specs.declared.Entry.{Entry}
+use Rattle.log_model.specs.Logs.{entries, namesRay, HitKind, outer, inner, hitLo, hitHi, hitsOnRay, removed, InHit}
 use Rattle.log_model.specs.RunCorrect.{HitsIncluded, Alike}
 use Rattle.grid.specs.Rays.{Ray}
 use Rattle.stock.specs.Stock.{Kind, Possible, Certain}

@@ -16,7 +16,7 @@ use Rattle.grid.specs.declared.DexelGrid.{DexelGrid}
 use Rattle.store.specs.Store.{placesOf}
 use Rattle.store.specs.Updates.{Update, update, pairsFreed, pairsLaid}
 use Rattle.stock.specs.Stock.{Stock, SoundStock, Kind, Possible, Certain, rayList}
-use Rattle.log_model.specs.Logs.{Entry}
+use Rattle.log_model.specs.declared.Entry.{Entry}
 use Rattle.log_model.specs.Model.{setsAfter, sumTo, sumOver, pairTotal}
 use Rattle.log_model.specs.Counts.{startsLeft, hitsOnList, pairsAfter}
 use Rattle.log_model.proofs.Decided.{sets-after-hits}

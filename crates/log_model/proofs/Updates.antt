@@ -20,7 +20,8 @@ use Rattle.spans.specs.Overlay.{lessOf}
 use Rattle.span_overlay.proofs.Less.{less-list}
 use Rattle.ray_subtract.specs.Subtract.{eitherHit}
 use Rattle.ray_subtract.proofs.Sparing.{less-both-list}
-use Rattle.log_model.specs.Logs.{Entry, removed}
+use Rattle.log_model.specs.declared.Entry.{Entry}
+use Rattle.log_model.specs.Logs.{removed}
 use Rattle.log_model.proofs.Doubles.{Doubles}
 use Rattle.log_model.specs.Model.{setsAfter, RayChanges, Count, counted, skipped}
 use Rattle.log_model.specs.Counts.{isHitBy, hitsOnList, isRayChanged}

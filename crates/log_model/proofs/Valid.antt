@@ -8,7 +8,8 @@ use Rattle.spans.specs.Spans.{holds, Within}
 use Rattle.spans.specs.Rays.{ValidRay}
 use Rattle.ray_merge.proofs.Rays.{bounded-within}
 use Rattle.grid.specs.declared.DexelGrid.{DexelGrid}
-use Rattle.log_model.specs.Logs.{Entry, outer, inner, hitsOnRay, removed}
+use Rattle.log_model.specs.declared.Entry.{Entry}
+use Rattle.log_model.specs.Logs.{outer, inner, hitsOnRay, removed}
 use Rattle.log_model.specs.Model.{setsAfter}
 use Rattle.log_model.specs.Steps.{ListAfterLog}
 use Rattle.grid.specs.Rays.{Ray}

@@ -1,8 +1,10 @@
 -- `log_long::add_entry` meets its contract.
 use borrow.Author.Needs.{needs}
 use native.Mathlib.Omega.{arith}
-use mathlib.Core.Path.{sym, _∙_}
+use mathlib.Core.Path.{sym, ap, subst, _∙_}
 use Rattle.log_entries.specs.Named.{EachNamed}
+use Rattle.log_model.specs.declared.Entry.{Entry}
+use Rattle.log_long.specs.Long.{leastPast, AddFrontsPost}
 use Rattle.log_long.proofs.Gathering.{gathers-passed, gathers-added}
 use Rattle.log_long.proofs.add_entry.Statement.{statement}
 use Rattle.log_long.proofs.add_entry.Tie as tie
@@ -11,19 +13,28 @@ ray-at-requires : tie.Need-ray-at-requires
 unfolding EachNamed
 ray-at-requires c κs =
     let start = c .before .before in
-    (omega arith, omega arith, start .pre .1 (start .args .i) (start .pre .3))
+    (omega arith, start .pre .3, start .pre .1 (start .args .i) (start .pre .3))
 
 add-key-requires : tie.Need-add-key-requires
 add-key-requires c κs =
-    let start = c .before .before .before .before .before .before in
-    (rw (c .before .add-fronts .ensures .count-is) (start .pre .4 .inLog), start .pre .2, omega (arith, start .pre .3))
+    let fronts = c .before .before in
+    let read = fronts .before in
+    let start = read .before .before .before .before .before in (
+      rw (fronts .add-fronts .ensures .count-is) (start .pre .4 .inLog),
+      start .pre .2,
+      start .pre .3,
+      c .before .least-past .ensures ∙ ap (leastPast (start .args .top) (start .args .b)) (read .entry-at .ensures),
+    )
 
 returns : tie.Need-returns
 returns c =
-    let on = c .before .before .before .before .before in
+    let fronts = c .before .before .before .before .before in
+    let read = fronts .before in
+    let on = read .before in
     let start = on .before .before .before .before in
     gathers-added _ _ _ _ _ _ _ (start .args .w) (start .pre .4) _ _ _ (sym (on .before .ray-at .ensures) ∙ on .if1 .taken)
-    (c .before .before .before .before .add-fronts .ensures) (c .before .before .add-key .ensures)
+    (subst (λ (e : Entry). AddFrontsPost (start .args .b) e (start .args .w) (fronts .add-fronts .result)) (read .entry-at .ensures)
+    (fronts .add-fronts .ensures)) (c .before .before .add-key .ensures)
 
 returns-2 : tie.Need-returns-2
 returns-2 c =
@@ -35,6 +46,8 @@ add-entry-spec =
     tie.close
     (tie.spec
     ray-at-requires
+    (λ c κs. search needs)
+    (λ c κs. search needs)
     (λ c κs. search needs)
     add-key-requires
     (λ c. search needs)

@@ -6,27 +6,25 @@ use Rattle.log_long.proofs.add_key.Tie as tie
 
 returns : tie.Need-returns
 returns c =
-    let start = c .before .before .before .before .before in
-    entry-out _ _ _ _ _ (start .args .w) _ (c .before .before .least-past .ensures) (start .pre .0) (c .if1 .taken)
+    let start = c .before .before .before .before in
+    entry-out _ _ _ _ _ (start .args .w) _ (start .pre .3) (start .pre .0) (c .if1 .taken)
 
 returns-2 : tie.Need-returns-2
 returns-2 c =
     let room = c .before .before .before .before in
-    let first = room .before .before .before .before in
-    entry-left _ _ _ _ _ (first .before .before .before .args .w) _ (first .least-past .ensures) _ _ (room .roomy .ensures) (c .if2 .taken)
+    let start = room .before .before .before .before .before .before in
+    entry-left _ _ _ _ _ (start .args .w) _ (start .pre .3) _ _ (room .roomy .ensures) (c .if2 .taken)
 
 returns-3 : tie.Need-returns-3
 returns-3 c =
     let room = c .before .before .before .before in
-    let first = room .before .before .before .before in
-    let start = first .before .before .before in
-    entry-added _ _ _ _ _ (start .args .w) _ (first .least-past .ensures) _ _ (room .roomy .ensures) (start .pre .2) (c .if2 .left)
+    let start = room .before .before .before .before .before .before in
+    entry-added _ _ _ _ _ (start .args .w) _ (start .pre .3) _ _ (room .roomy .ensures) (start .pre .2) (c .if2 .left)
 
 pub add-key-spec : {M : Type 1} → statement M
 add-key-spec =
     tie.close
     (tie.spec
-    (λ c κs. search needs)
     returns
     (λ c κs. search needs)
     (λ c. search needs)
