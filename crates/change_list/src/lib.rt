@@ -1,5 +1,4 @@
-// A change list, and its check against a stock.
-// The change of one ray, tested against a stock.
+// A change list, and its check against a stock, one ray's change at a time.
 ghost use mathlib.Core.Path.{_≡_};
 ghost use Prim.Native.Nat.{_+_, _*_, _%_, _^_, _≤_, _<_};
 ghost use lib.ListN.{length};

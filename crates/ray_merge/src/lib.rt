@@ -1,5 +1,4 @@
-// The one-ray merge: possible loses the inner hits, certain the outer and the inner ones.
-// The lists of a ray after a merge: the caller's own, or the new ones in the work buffer.
+// The one-ray merge, in which possible loses the inner hits and certain the outer and the inner ones, and a ray's lists after it.
 ghost use mathlib.Core.Path.{_≡_};
 ghost use Prim.Native.Nat.{_+_, _-_, _*_, _/_, _%_, _≤_, _<_};
 ghost use lib.ListN.{length};
