@@ -1,5 +1,4 @@
-// Tests and measures the rays of a lent store on their chains, with no memory of its own.
-// Reads the lists of a lent store off their chains, with no memory of its own.
+// Reads the lists of a lent store off their chains, and tests and measures its rays there, with no memory of its own.
 ghost use mathlib.Core.Path.{_≡_};
 ghost use mathlib.Core.Bool.{true, not, _&&_};
 ghost use Prim.Native.Nat.{_+_, _*_, _<_, _≤_};
@@ -11,6 +10,69 @@ ghost use Rattle.spans.specs.Rays.{ValidRay, bounded};
 ghost use Rattle.store_read.specs.Reading.{Readable, Linked, ReadListPost};
 ghost use Rattle.spans.specs.Containment.{covers, contained};
 ghost use Rattle.store_read.specs.Steps.{startsIn, ListSumPost, RaySumsPost, ReachPost};
+
+// How many pairs the list has.
+pub fn list_pairs(links: &[u64], n: usize, head: u64) -> usize
+    requires { ⌜ Linked n (now links) head ⌝ }
+    ensures { λ r. ⌜ r ≡ length (places (now (links .entry)) n head) ⌝ }
+{
+    let mut c: usize = 0;
+    let mut k = head;
+    while k != 0 {
+        let i = (k - 1) as usize;
+        k = links[2 * i];
+        c += 1;
+    }
+    c
+}
+
+// Copies the list into the buffer from cell `at` on, and says which cell is past it.
+pub fn read_list(
+    spans: &[f64],
+    links: &[u64],
+    n: usize,
+    head: u64,
+    out: &mut [f64],
+    at: usize,
+) -> usize
+    requires { ⌜ Readable n (now spans) (now links) head × (at + length (listFrom n (now spans) (now links) head) ≤ length (now out)) ⌝ }
+    ensures { λ r. ⌜ ReadListPost (listFrom n (now (spans .entry)) (now (links .entry)) head) (now (out .entry)) at (now (out .exit)) r ⌝ }
+{
+    let mut t = at;
+    let mut k = head;
+    while k != 0 {
+        let i = (k - 1) as usize;
+        out[t] = spans[2 * i];
+        out[t + 1] = spans[2 * i + 1];
+        k = links[2 * i];
+        t += 2;
+    }
+    t
+}
+
+// Whether the list has these ends, as numbers.
+pub fn list_is(spans: &[f64], links: &[u64], n: usize, head: u64, pairs: &[f64]) -> bool
+    requires { ⌜ Readable n (now spans) (now links) head ⌝ }
+    ensures { λ r. ⌜ r ≡ equal (listFrom n (now (spans .entry)) (now (links .entry)) head) (now (pairs .entry)) ⌝ }
+{
+    let mut t: usize = 0;
+    let mut k = head;
+    while k != 0 {
+        if pairs.len() - t < 2 {
+            return false;
+        }
+        let i = (k - 1) as usize;
+        if !(spans[2 * i] == pairs[t]) {
+            return false;
+        }
+        if !(spans[2 * i + 1] == pairs[t + 1]) {
+            return false;
+        }
+        k = links[2 * i];
+        t += 2;
+    }
+    t == pairs.len()
+}
 
 // Whether the pair at place i does not begin at x or below, and has lo < hi.
 fn follows(spans: &[f64], i: usize, x: f64) -> bool
@@ -206,67 +268,4 @@ pub fn valid_ray_at(
 {
     let r = measure_ray(spans, links, n, possible, certain, low, high);
     r.valid
-}
-
-// How many pairs the list has.
-pub fn list_pairs(links: &[u64], n: usize, head: u64) -> usize
-    requires { ⌜ Linked n (now links) head ⌝ }
-    ensures { λ r. ⌜ r ≡ length (places (now (links .entry)) n head) ⌝ }
-{
-    let mut c: usize = 0;
-    let mut k = head;
-    while k != 0 {
-        let i = (k - 1) as usize;
-        k = links[2 * i];
-        c += 1;
-    }
-    c
-}
-
-// Copies the list into the buffer from cell `at` on, and says which cell is past it.
-pub fn read_list(
-    spans: &[f64],
-    links: &[u64],
-    n: usize,
-    head: u64,
-    out: &mut [f64],
-    at: usize,
-) -> usize
-    requires { ⌜ Readable n (now spans) (now links) head × (at + length (listFrom n (now spans) (now links) head) ≤ length (now out)) ⌝ }
-    ensures { λ r. ⌜ ReadListPost (listFrom n (now (spans .entry)) (now (links .entry)) head) (now (out .entry)) at (now (out .exit)) r ⌝ }
-{
-    let mut t = at;
-    let mut k = head;
-    while k != 0 {
-        let i = (k - 1) as usize;
-        out[t] = spans[2 * i];
-        out[t + 1] = spans[2 * i + 1];
-        k = links[2 * i];
-        t += 2;
-    }
-    t
-}
-
-// Whether the list has these ends, as numbers.
-pub fn list_is(spans: &[f64], links: &[u64], n: usize, head: u64, pairs: &[f64]) -> bool
-    requires { ⌜ Readable n (now spans) (now links) head ⌝ }
-    ensures { λ r. ⌜ r ≡ equal (listFrom n (now (spans .entry)) (now (links .entry)) head) (now (pairs .entry)) ⌝ }
-{
-    let mut t: usize = 0;
-    let mut k = head;
-    while k != 0 {
-        if pairs.len() - t < 2 {
-            return false;
-        }
-        let i = (k - 1) as usize;
-        if !(spans[2 * i] == pairs[t]) {
-            return false;
-        }
-        if !(spans[2 * i + 1] == pairs[t + 1]) {
-            return false;
-        }
-        k = links[2 * i];
-        t += 2;
-    }
-    t == pairs.len()
 }
