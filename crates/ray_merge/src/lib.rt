@@ -6,7 +6,8 @@ ghost use Rattle.ray_merge.specs.Merge.{MergePost};
 ghost use Rattle.ray_subtract.specs.Steps.{PlacedAt, NormalizedAt, MergeInputs, MergeListsPost};
 ghost use mathlib.Core.Bool.{false};
 ghost use Rattle.ray_subtract.specs.Subtract.{handedBack};
-ghost use Rattle.ray_merge.specs.Handed.{possibleHanded, certainHanded, PossibleStays, CertainStays, ListMoved, PossibleMoved, CertainMoved};
+ghost use Rattle.ray_merge.specs.Handed.{possibleHanded, certainHanded, PossibleStays, CertainStays};
+ghost use Rattle.ray_merge.specs.Handed.{ListMoved, PossibleMoved, CertainMoved};
 use ray_subtract::MergedList;
 use ray_subtract::MergedLists;
 
