@@ -27,11 +27,11 @@ fn some_above(spans: &[f64], links: &[u64], n: usize, head: u64, x: f64) -> bool
 {
     let mut k = head;
     while k != 0 {
-        let i = (k - 1) as usize;
-        if x < spans[2 * i + 1] {
+        let r = store::record_at(spans, links, (k - 1) as usize);
+        if x < r.hi {
             return true;
         }
-        k = links[2 * i];
+        k = r.next;
     }
     false
 }
@@ -44,8 +44,8 @@ pub fn spans_meet(spans: &[f64], links: &[u64], n: usize, head: u64, s: Pair) ->
     if head == 0 {
         return false;
     }
-    let i = (head - 1) as usize;
-    if spans[2 * i] < s.hi {
+    let first = store::record_at(spans, links, (head - 1) as usize);
+    if first.lo < s.hi {
         return some_above(spans, links, n, head, s.lo);
     }
     false
@@ -58,16 +58,14 @@ pub fn overlaps_at(spans: &[f64], links: &[u64], n: usize, head: u64, s: Pair) -
 {
     let mut k = head;
     while k != 0 {
-        let i = (k - 1) as usize;
-        let lo = spans[2 * i];
-        let hi = spans[2 * i + 1];
-        if doubles_minmax::larger(lo, s.lo) < doubles_minmax::smaller(hi, s.hi) {
+        let r = store::record_at(spans, links, (k - 1) as usize);
+        if doubles_minmax::larger(r.lo, s.lo) < doubles_minmax::smaller(r.hi, s.hi) {
             return true;
         }
-        if !(hi < s.hi) {
+        if !(r.hi < s.hi) {
             return false;
         }
-        k = links[2 * i];
+        k = r.next;
     }
     false
 }
