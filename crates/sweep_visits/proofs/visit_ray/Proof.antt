@@ -39,8 +39,8 @@ returns-3 : tie.Need-returns-3
 returns-3 c = halt-full (c .before .before .before .before .before .before .before .before .before .before .before
     .before .before .before .before .before .pre .1) _
     (entry-on _ _ _ _ _ _ _ _ _ _ (sym
-        (rw (c .before .before .before .before .before .before .possible-head .ensures) at
-        (c .before .before .before .before .before .ray-hit .ensures))
+    (rw (c .before .before .before .before .before .before .possible-head .ensures) at
+    (c .before .before .before .before .before .ray-hit .ensures))
     ∙ c .before .before .before .h .given .1)) (entry-length _ _ _)
     (c .before .before .before .before .before .before .before .before .before .before .if1 .left) (c .if2 .taken)
 
@@ -57,7 +57,7 @@ returns-4 c =
     .before .before .before .before .before .before .before .before .before .pre in
     let e = entry-on _ _ _ _ _ _ _ _ _ _
     (sym (rw (c .before .before .before .before .before .before .before .before .before .before .before .possible-head
-        .ensures) at (c .before .before .before .before .before .before .before .before .before .before .ray-hit .ensures))
+    .ensures) at (c .before .before .before .before .before .before .before .before .before .before .ray-hit .ensures))
     ∙ c .before .before .before .before .before .before .before .before .h .given .1) in
     went-on (pre .1) 6 (ap length e ∙ entry-length _ _ _) _
     (c .before .before .before .before .before .before .before .before .before .before .before .before .before
