@@ -7,43 +7,51 @@ use Rattle.log_merge.proofs.bring.Statement.{statement}
 use Rattle.store.specs.Store.{cells}
 use Rattle.log_merge.proofs.bring.Tie as tie
 
+ray-heads-requires : tie.Need-ray-heads-requires
+ray-heads-requires c κs = let asked = c .before .before .before .before .before .pre in
+    omega (arith, asked .store .room .in-heads, asked .below)
+
 read-list-requires : tie.Need-read-list-requires
 read-list-requires c κs =
     let t = c .before .before .before .before .before .before .before in
     let a = t .args in
-    possible-ready (a .spec) (a .g) (cells (a .spans .now) (a .links .now) (a .heads .now)) (a .log .now)
-    (a .work .now) (a .ray) (a .s) (t .pre)
+    rw (c .before .ray-heads .ensures)
+    (possible-ready (a .spec) (a .g) (cells (a .spans .now) (a .links .now) (a .heads .now)) (a .log .now)
+    (a .work .now) (a .ray) (a .s) (t .pre))
 
 read-list-requires-2 : tie.Need-read-list-requires-2
 read-list-requires-2 c κs =
-    let y = c .before .before .before .before in
+    let y = c .before .before .before in
+    let e = y .before .before .ray-heads .ensures in
     let t = y .before .before .before .before .before .before .before .before in
     let a = t .args in
-    certain-ready (a .spec) (a .g) (cells (a .spans .now) (a .links .now) (a .heads .now)) (a .log .now)
+    rw e (certain-ready (a .spec) (a .g) (cells (a .spans .now) (a .links .now) (a .heads .now)) (a .log .now)
     (a .work .now) (a .ray) (a .s) (t .pre) (y .read-list .last .1 .1 .1 .1 .0) (y .read-list .result)
-    (y .read-list .ensures)
+    (rw e at (y .read-list .ensures)))
 
 bring-hits-requires : tie.Need-bring-hits-requires
 bring-hits-requires c κs =
     let z = c .before .before .before in
-    let y = z .before .before .before .before .before in
+    let y = z .before .before .before .before in
+    let e = y .before .before .ray-heads .ensures in
     let t = y .before .before .before .before .before .before .before .before in
     let a = t .args in
     outer-ready (a .spec) (a .g) (cells (a .spans .now) (a .links .now) (a .heads .now)) (a .log .now) (a .work .now)
-    (a .ray) (a .s) (t .pre) (y .read-list .last .1 .1 .1 .1 .0) (y .read-list .result) (y .read-list .ensures)
-    (z .read-list2 .last .1 .1 .1 .1 .0) (z .read-list2 .result) (z .read-list2 .ensures)
+    (a .ray) (a .s) (t .pre) (y .read-list .last .1 .1 .1 .1 .0) (y .read-list .result) (rw e at (y .read-list .ensures))
+    (z .read-list2 .last .1 .1 .1 .1 .0) (z .read-list2 .result) (rw e at (z .read-list2 .ensures))
 
 add-bring-hits : tie.Need-add-bring-hits
 add-bring-hits c =
     let h = c .before .before .before in
     let z = h .before .before .before .before in
-    let y = z .before .before .before .before .before in
+    let y = z .before .before .before .before in
+    let e = y .before .before .ray-heads .ensures in
     let t = y .before .before .before .before .before .before .before .before in
     let a = t .args in
     let i = inner-fits (a .spec) (a .g) (cells (a .spans .now) (a .links .now) (a .heads .now)) (a .log .now)
     (a .work .now) (a .ray) (a .s) (t .pre) (y .read-list .last .1 .1 .1 .1 .0) (y .read-list .result)
-    (y .read-list .ensures)
-    (z .read-list2 .last .1 .1 .1 .1 .0) (z .read-list2 .result) (z .read-list2 .ensures)
+    (rw e at (y .read-list .ensures))
+    (z .read-list2 .last .1 .1 .1 .1 .0) (z .read-list2 .result) (rw e at (z .read-list2 .ensures))
     (h .bring-hits .last .1 .1 .0) (h .bring-hits .result) (h .bring-hits .ensures) in
     omega (arith, i, t .good .1 .1 .1 .1 .1 .1 .0 .1)
 
@@ -51,12 +59,13 @@ bring-hits-requires-2 : tie.Need-bring-hits-requires-2
 bring-hits-requires-2 c κs =
     let h = c .before .before .before in
     let z = h .before .before .before .before in
-    let y = z .before .before .before .before .before in
+    let y = z .before .before .before .before in
+    let e = y .before .before .ray-heads .ensures in
     let t = y .before .before .before .before .before .before .before .before in
     let a = t .args in
     inner-ready (a .spec) (a .g) (cells (a .spans .now) (a .links .now) (a .heads .now)) (a .log .now) (a .work .now)
-    (a .ray) (a .s) (t .pre) (y .read-list .last .1 .1 .1 .1 .0) (y .read-list .result) (y .read-list .ensures)
-    (z .read-list2 .last .1 .1 .1 .1 .0) (z .read-list2 .result) (z .read-list2 .ensures)
+    (a .ray) (a .s) (t .pre) (y .read-list .last .1 .1 .1 .1 .0) (y .read-list .result) (rw e at (y .read-list .ensures))
+    (z .read-list2 .last .1 .1 .1 .1 .0) (z .read-list2 .result) (rw e at (z .read-list2 .ensures))
     (h .bring-hits .last .1 .1 .0) (h .bring-hits .result) (h .bring-hits .ensures)
 
 returns : tie.Need-returns
@@ -64,12 +73,13 @@ returns c =
     let k = c .before .before in
     let h = k .before .before .before .before in
     let z = h .before .before .before .before in
-    let y = z .before .before .before .before .before in
+    let y = z .before .before .before .before in
+    let e = y .before .before .ray-heads .ensures in
     let t = y .before .before .before .before .before .before .before .before in
     let a = t .args in
     all-brought (a .spec) (a .g) (cells (a .spans .now) (a .links .now) (a .heads .now)) (a .log .now) (a .work .now)
-    (a .ray) (a .s) (t .pre) (y .read-list .last .1 .1 .1 .1 .0) (y .read-list .result) (y .read-list .ensures)
-    (z .read-list2 .last .1 .1 .1 .1 .0) (z .read-list2 .result) (z .read-list2 .ensures)
+    (a .ray) (a .s) (t .pre) (y .read-list .last .1 .1 .1 .1 .0) (y .read-list .result) (rw e at (y .read-list .ensures))
+    (z .read-list2 .last .1 .1 .1 .1 .0) (z .read-list2 .result) (rw e at (z .read-list2 .ensures))
     (h .bring-hits .last .1 .1 .0) (h .bring-hits .result) (h .bring-hits .ensures)
     (k .bring-hits2 .last .1 .1 .0) (k .bring-hits2 .result) (k .bring-hits2 .ensures)
 
@@ -77,13 +87,8 @@ pub bring-spec : {M : Type 1} → statement M
 bring-spec =
     tie.close
     (tie.spec
-    (λ c. search needs)
-    (λ c. search needs)
-    (λ c. search needs)
+    ray-heads-requires
     read-list-requires
-    (λ c. search needs)
-    (λ c. search needs)
-    (λ c. search needs)
     read-list-requires-2
     bring-hits-requires
     add-bring-hits
