@@ -246,11 +246,11 @@ fn matches_before(
         && equal (rayList spec (cells (now (spans .entry)) (now (links .entry)) (now (heads .entry))) ray Certain) (now (q .entry))) ⌝ }
 {
     let n = spec.max_intervals as usize;
-    let j = 2 * (ray as usize);
-    if !store_read::list_is(spans, links, n, heads[j], p) {
+    let head = store::ray_heads(heads, ray as usize);
+    if !store_read::list_is(spans, links, n, head.possible, p) {
         return false;
     }
-    store_read::list_is(spans, links, n, heads[j + 1], q)
+    store_read::list_is(spans, links, n, head.certain, q)
 }
 
 // Whether the new lists of a ray are valid, gain no point of the old ones and differ from them.

@@ -1,7 +1,6 @@
-// The strips and the cutter under C names, for the oracle and the benchmark only. An answer that is an enum comes
-// back as a struct of numbers; a shape goes in as a number and its own numbers. The functions of `doubles` under C
-// names, for the oracle and the benchmark only. Inner functions of a blank and its stock under C names, for the
-// oracle and the benchmark only: each is its crate's function of the same name, and asks what that asks.
+// Inner functions under C names, for the oracle and the benchmark only: each is its crate's function of the same name
+// and asks what that asks, an answer that is an enum comes back as a struct of numbers, and a shape goes in as a number
+// and its own numbers.
 ghost use mathlib.Core.Path.{_≡_};
 ghost use Rattle.strips.specs.Strip.{diskStrip, stadiumStrip};
 ghost use Rattle.strips.specs.Polygon.{polygonStrip};

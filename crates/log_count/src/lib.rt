@@ -124,8 +124,9 @@ pub fn count_ray(
         (now (buffer .entry)) (now (buffer .exit)) r ⌝ }
 {
     let n = spec.max_intervals as usize;
-    let p = count_list(spans, links, n, heads[2 * ray], log, keys, false, buffer);
-    let c = count_list(spans, links, n, heads[2 * ray + 1], log, keys, true, buffer);
+    let head = store::ray_heads(heads, ray);
+    let p = count_list(spans, links, n, head.possible, log, keys, false, buffer);
+    let c = count_list(spans, links, n, head.certain, log, keys, true, buffer);
     add_ray(t, p, c)
 }
 
@@ -204,10 +205,9 @@ pub fn count_long(
 {
     let n = spec.max_intervals as usize;
     let top = doubles_bits::of_bits(0x7ff0_0000_0000_0000);
-    let h = heads[2 * ray];
-    let k = heads[2 * ray + 1];
-    let mut p = log_left::start(spans, links, n, h);
-    let mut c = log_left::start(spans, links, n, k);
+    let head = store::ray_heads(heads, ray);
+    let mut p = log_left::start(spans, links, n, head.possible);
+    let mut c = log_left::start(spans, links, n, head.certain);
     let mut b = -top;
     loop {
         let w = take_part(g, spans, links, n, log, ray, keys, buffer, top, b, p, c);
@@ -220,7 +220,7 @@ pub fn count_long(
     }
     add_ray(
         t,
-        end_list(spans, links, n, h, p),
-        end_list(spans, links, n, k, c),
+        end_list(spans, links, n, head.possible, p),
+        end_list(spans, links, n, head.certain, c),
     )
 }

@@ -105,9 +105,9 @@ fn load_ray(
         (now (work .entry)) (now (work .exit)) r ⌝ }
 {
     let n = spec.max_intervals as usize;
-    let j = 2 * ray;
-    let c = store_read::read_list(spans, links, n, heads[j], work, s);
-    let o = store_read::read_list(spans, links, n, heads[j + 1], work, c);
+    let head = store::ray_heads(heads, ray);
+    let c = store_read::read_list(spans, links, n, head.possible, work, s);
+    let o = store_read::read_list(spans, links, n, head.certain, work, c);
     let no = load_hits(g, log, work, ray, false, o);
     let ni = load_hits(g, log, work, ray, true, o + no);
     Sizes {

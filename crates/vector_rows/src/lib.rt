@@ -1,5 +1,5 @@
-// What the words of a recorded row say, and whether the cells of a buffer are the recorded ones. Past the row every word is 0.
-// What programs that replay recorded answers share: the counts of their rows, and how they are printed.
+// What programs that replay recorded answers share: the words of a row, past which every word is 0, the test of a
+// buffer's cells against them, and the counts of rows and how these are printed.
 ghost use mathlib.Core.Path.{_≡_};
 ghost use lib.Ieee.{nan};
 ghost use lib.ListN.{length, take};

@@ -13,31 +13,41 @@ use Rattle.log_count.proofs.Asking.{possible-readable, certain-readable
 use Rattle.log_count.proofs.Onward.{TakenTo, onward-start, onward-next, onward-falls, onward-possible, onward-certain}
 use Rattle.log_count.proofs.count_long.Statement.{statement}
 use Rattle.store.specs.Store.{cells}
+use Rattle.store.specs.Layout.{headsOf}
 use Rattle.log_count.proofs.count_long.Tie as tie
 
 abbrev Inv-loop : tie.InvT-loop
-Inv-loop g spans links heads log ray keys₀ buffer₀ t n top h k p₀ c₀ b₀ keys buffer p c b =
-    TakenTo g n spans links log ray h k keys₀ keys buffer₀ buffer top b p c
+Inv-loop g spans links heads log ray keys₀ buffer₀ t n top head p₀ c₀ b₀ keys buffer p c b =
+    TakenTo g n spans links log ray (headsOf heads ray .possible) (headsOf heads ray .certain) keys₀ keys buffer₀ buffer top b p c
 
 abbrev μ-loop : tie.MeasureT-loop
-μ-loop g spans links heads log ray keys₀ buffer₀ t n top h k p₀ c₀ b₀ keys buffer p c b = length (pairsPast b (certainLoses g log ray))
+μ-loop g spans links heads log ray keys₀ buffer₀ t n top head p₀ c₀ b₀ keys buffer p c b = length (pairsPast b (certainLoses g log ray))
+
+ray-heads-requires : tie.Need-ray-heads-requires Inv-loop μ-loop
+ray-heads-requires c κs =
+    let asked = c .before .before .before .before .before .before .before .pre .0 in
+    omega (arith, asked .counting .countable .room .in-heads, asked .inside)
 
 start-requires : tie.Need-start-requires Inv-loop μ-loop
-start-requires c κs = possible-readable (c .before .before .before .before .before .before .before .before .before .pre .0)
+start-requires c κs = rw (c .ray-heads .ensures)
+    (possible-readable (c .before .before .before .before .before .before .before .before .pre .0))
 
 start-requires-2 : tie.Need-start-requires-2 Inv-loop μ-loop
-start-requires-2 c κs = certain-readable (c .before .before .before .before .before .before .before .before .before .before .pre .0)
+start-requires-2 c κs = rw (c .before .ray-heads .ensures)
+    (certain-readable (c .before .before .before .before .before .before .before .before .before .pre .0))
 
 loop-holds : tie.Need-loop-holds Inv-loop μ-loop
 loop-holds c =
-    let bits = c .before .before .before .before in
+    let bits = c .before .before .before in
     let asked = bits .before .before .before .before .before .before .before .pre .0 in
-    onward-start (bits .of-bits .ensures) (possible-sound asked) (certain-sound asked) (c .before .start .ensures) (c .start2 .ensures)
+    let e = c .before .before .ray-heads .ensures in
+    onward-start (bits .of-bits .ensures) (possible-sound asked) (certain-sound asked) (rw e at (c .before .start .ensures))
+    (rw e at (c .start2 .ensures))
 
 take-part-requires : tie.Need-take-part-requires Inv-loop μ-loop
 take-part-requires c κs =
     let inv = c .before .before .loop .inv in
-    let bits = c .before .before .before .before .before .before .before in
+    let bits = c .before .before .before .before .before .before in
     let start = bits .before .before .before .before .before .before .before in
     let given = start .args in
     let asked = start .pre .0 in
@@ -57,43 +67,48 @@ loop-less : tie.Need-loop-less Inv-loop μ-loop
 loop-less c =
     let part = c .before .before .before .before .before .before .before .before in
     let loop = part .before .before .before in
-    let bits = loop .before .before .before .before .before in
+    let bits = loop .before .before .before .before in
     onward-falls (bits .of-bits .ensures) (loop .loop .inv) (part .take-part .ensures) (not-false _ (c .if1 .left))
 
 loop-again : tie.Need-loop-again Inv-loop μ-loop
 loop-again c =
     let part = c .before .before .before .before .before .before .before .before in
     let loop = part .before .before .before in
-    let bits = loop .before .before .before .before .before in
+    let bits = loop .before .before .before .before in
     onward-next (bits .of-bits .ensures) (loop .loop .inv) (part .take-part .ensures)
 
 end-list-requires : tie.Need-end-list-requires Inv-loop μ-loop
 end-list-requires c κs =
     let part = c .before .before .before .before .before .before .before .before in
-    let bits = part .before .before .before .before .before .before .before .before in
-    let asked = bits .before .before .before .before .before .before .before .pre .0 in
-    (possible-readable asked, part .take-part .ensures .possible-readable)
+    let bits = part .before .before .before .before .before .before .before in
+    let asked = bits .before .before .before .before .before .before .before .pre .0 in (
+      rw (part .before .before .before .before .before .before .ray-heads .ensures) (possible-readable asked),
+      part .take-part .ensures .possible-readable,
+    )
 
 end-list-requires-2 : tie.Need-end-list-requires-2 Inv-loop μ-loop
 end-list-requires-2 c κs =
     let part = c .before .before .before .before .before .before .before .before .before in
-    let bits = part .before .before .before .before .before .before .before .before in
-    let asked = bits .before .before .before .before .before .before .before .pre .0 in
-    (certain-readable asked, part .take-part .ensures .certain-readable)
+    let bits = part .before .before .before .before .before .before .before in
+    let asked = bits .before .before .before .before .before .before .before .pre .0 in (
+      rw (part .before .before .before .before .before .before .ray-heads .ensures) (certain-readable asked),
+      part .take-part .ensures .certain-readable,
+    )
 
 add-ray-requires : tie.Need-add-ray-requires Inv-loop μ-loop
 add-ray-requires c κs =
     let last = not-true _ (c .before .before .if1 .taken) in
     let part = c .before .before .before .before .before .before .before .before .before .before in
     let loop = part .before .before .before in
-    let bits = loop .before .before .before .before .before in
+    let bits = loop .before .before .before .before in
     let start = bits .before .before .before .before .before .before .before in
     let asked = start .pre .0 in
+    let e = loop .before .before .before .ray-heads .ensures in
     asked-addable asked (omega (arith, asked .counting .countable .room .in-spans, start .good, start .fits))
     (onward-possible (bits .of-bits .ensures) (loop .loop .inv) (part .take-part .ensures) last (possible-sound asked)
-    (c .before .end-list .ensures))
+    (rw e at (c .before .end-list .ensures)))
     (onward-certain (bits .of-bits .ensures) (loop .loop .inv) (part .take-part .ensures) last (certain-sound asked)
-    (c .end-list2 .ensures))
+    (rw e at (c .end-list2 .ensures)))
 
 same-length : tie.Need-same-length Inv-loop μ-loop
 same-length c =
@@ -110,18 +125,19 @@ returns c =
     let last = not-true _ (c .before .before .before .if1 .taken) in
     let part = c .before .before .before .before .before .before .before .before .before .before .before in
     let loop = part .before .before .before in
-    let bits = loop .before .before .before .before .before in
+    let bits = loop .before .before .before .before in
     let start = bits .before .before .before .before .before .before .before in
     let asked = start .pre .0 in
+    let e = loop .before .before .before .ray-heads .ensures in
     let taken = onward-next (bits .of-bits .ensures) (loop .loop .inv) (part .take-part .ensures) in (
       taken .keys-size,
       record {
         size = taken .size;
         prefixed = asked-added asked (omega (arith, asked .counting .countable .room .in-spans, start .good, start .fits))
             (onward-possible (bits .of-bits .ensures) (loop .loop .inv) (part .take-part .ensures) last (possible-sound asked)
-            (c .before .before .end-list .ensures))
+            (rw e at (c .before .before .end-list .ensures)))
             (onward-certain (bits .of-bits .ensures) (loop .loop .inv) (part .take-part .ensures) last (certain-sound asked)
-            (c .before .end-list2 .ensures))
+            (rw e at (c .before .end-list2 .ensures)))
             _ (c .add-ray .ensures);
       },
     )
@@ -133,13 +149,7 @@ count-long-spec =
     Inv-loop
     μ-loop
     (λ c κs. search needs)
-    (λ c. search needs)
-    (λ c. search needs)
-    (λ c. search needs)
-    (λ c. search needs)
-    (λ c. search needs)
-    (λ c. search needs)
-    (λ c. search needs)
+    ray-heads-requires
     start-requires
     start-requires-2
     loop-holds

@@ -1,29 +1,25 @@
 -- The walk stands at the next record of the chain.
 use borrow.Author.Needs.{needs}
-use Rattle.store_read.proofs.Steps.{step}
+use Rattle.store_read.proofs.Steps.{step, record-there}
 use Rattle.log_left.proofs.close_pair.Statement.{statement}
 use Rattle.log_left.proofs.close_pair.Tie as tie
 
-mul-begin : tie.Need-mul-begin
-mul-begin c = let pre = c .before .before .before .pre in let h = step (pre .0) (pre .1) .counted in search needs
-
-mul-begin-2 : tie.Need-mul-begin-2
-mul-begin-2 c = let pre = c .before .before .before .pre in let h = step (pre .0) (pre .1) .counted in search needs
-
-shared-slice-read-begin : tie.Need-shared-slice-read-begin
-shared-slice-read-begin c = let pre = c .before .before .before .before .pre in let h = step (pre .0) (pre .1) .counted in search needs
+record-at-requires : tie.Need-record-at-requires
+record-at-requires c κs = let asked = c .before .before .pre in record-there (asked .0) (asked .1)
 
 begin-requires : tie.Need-begin-requires
-begin-requires c κs = let pre = c .before .before .before .before .pre in step (pre .0) (pre .1) .next
+begin-requires c κs = let asked = c .before .before .before .before .pre in
+    rw (c .before .record-at .ensures) (step (asked .0) (asked .1) .next)
+
+returns : tie.Need-returns
+returns c = rw (c .before .before .record-at .ensures, c .before .wrapping-add-u64 .ensures) at (c .begin .ensures)
 
 pub close-pair-spec : {M : Type 1} → statement M
 close-pair-spec =
     tie.close
     (tie.spec
     (λ c. search needs)
+    record-at-requires
     (λ c κs. search needs)
-    mul-begin
-    mul-begin-2
-    shared-slice-read-begin
     begin-requires
-    (λ c. search needs))
+    returns)
