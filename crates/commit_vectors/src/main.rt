@@ -9,7 +9,7 @@
 // and how many differ, and how many runs were started, then how many rows can't be read, and the number of the first
 // row that differs.
 use stock::CommitAnswer;
-use vector_rows::RowCounts;
+use stock::Outcome;
 use vector_rows::RowOutcome;
 
 // The store of a run and its small record.
@@ -37,7 +37,7 @@ fn changes_in(
     spans: &mut [f64],
     links: &mut [u64],
     heads: &mut [u64],
-) -> stock::RowOutcome {
+) -> Outcome {
     let mut changes = [0; 36];
     vector_rows::numbers_at(w, 94, &mut changes);
     let mut pairs = [0.0; 40];
@@ -66,7 +66,7 @@ fn log_in(
     links: &mut [u64],
     heads: &mut [u64],
     work: &mut [f64],
-) -> stock::RowOutcome {
+) -> Outcome {
     let mut log = [0.0; 36];
     vector_rows::doubles_at(w, 94, &mut log);
     commit_log::commit_log_on(
@@ -92,7 +92,7 @@ fn commit_on(
     links: &mut [u64],
     heads: &mut [u64],
     work: &mut [f64],
-) -> stock::RowOutcome {
+) -> Outcome {
     let units = vector_rows::units_of(w[2]);
     if w[0] == 0 {
         return changes_in(w, generation, intervals, &units, spans, links, heads);
@@ -118,7 +118,7 @@ fn store_agrees(w: &[u64; 170], spans: &[f64], links: &[u64], heads: &[u64]) -> 
 
 // Words 18 to 21: the refusal, 0 for none, the changed rays, the generation and the interval total. An accepted log
 // commit clears the work buffer.
-fn answer_agrees(w: &[u64; 170], o: stock::RowOutcome, work: &[f64]) -> bool {
+fn answer_agrees(w: &[u64; 170], o: Outcome, work: &[f64]) -> bool {
     if o.generation != w[20] {
         return false;
     }
@@ -206,19 +206,12 @@ fn start_step(w: &[u64; 170]) -> Shown {
     }
 }
 
-fn shown_by(text: &[u8], s: Store) -> Shown {
-    let mut w = [0; 170];
-    if !vector_rows::read_words(text, 0, &mut w) {
-        return Shown {
-            outcome: RowOutcome::Unread,
-            store: s,
-        };
-    }
+fn shown_by(w: &[u64; 170], s: Store) -> Shown {
     if w[0] < 2 {
-        return commit_step(&w, s);
+        return commit_step(w, s);
     }
     if w[0] == 2 {
-        return start_step(&w);
+        return start_step(w);
     }
     Shown {
         outcome: RowOutcome::Unread,
@@ -236,26 +229,16 @@ fn no_store() -> Store {
     }
 }
 
-// The turns are counted down, since a proved loop has to end and nothing says that the input does.
-fn counted() -> RowCounts {
-    let mut t = vector_rows::start();
+fn main() {
     let mut store = no_store();
-    let mut turns = u64::MAX;
-    while turns > 0 {
-        let mut text = [0u8; 2890];
-        if !vector_rows::read_row(&mut text) {
-            break;
-        }
-        let s = shown_by(&text, store);
+    let mut w = [0; 170];
+    let mut r = vector_rows::first_row(16, &mut w);
+    while r.left > 0 {
+        let s = shown_by(&w, store);
         let outcome = s.outcome;
-        t = vector_rows::count(t, outcome);
+        r = vector_rows::next_row(r, outcome, 16, &mut w);
         let left = s.store;
         store = left;
-        turns -= 1;
     }
-    t
-}
-
-fn main() {
-    vector_rows::print(b"commit_changes commit_log runs", counted());
+    vector_rows::print(b"commit_changes commit_log runs", r.counts);
 }

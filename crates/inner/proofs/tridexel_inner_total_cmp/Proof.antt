@@ -1,4 +1,4 @@
--- `tridexel_inner::tridexel_inner_total_cmp` meets its contract: each arm answers the number of the case that it matched.
+-- `inner::tridexel_inner_total_cmp` meets its contract: each arm answers the number of the case that it matched.
 use borrow.Author.Needs.{needs}
 use mathlib.Core.Path.{sym, ap, _∙_}
 use Rattle.inner.specs.Orderings.{orderingCode}

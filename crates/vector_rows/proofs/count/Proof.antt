@@ -1,4 +1,4 @@
--- `vector_replay::count` meets its contract.
+-- `vector_rows::count` meets its contract.
 use Rattle.vector_rows.specs.Tallies.{counted}
 use borrow.Author.Tests.{le-ltb, lt-ltb}
 use borrow.Author.Needs.{needs}

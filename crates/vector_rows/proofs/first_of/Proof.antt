@@ -1,4 +1,4 @@
--- `vector_replay::first_of` meets its contract.
+-- `vector_rows::first_of` meets its contract.
 use Rattle.vector_rows.specs.Tallies.{firstDiffering}
 use borrow.Author.Tests.{eq-eqb, ne-eqb}
 use Rattle.vector_rows.proofs.first_of.Statement.{statement}

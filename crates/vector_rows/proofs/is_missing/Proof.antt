@@ -1,4 +1,4 @@
--- `vector_replay::is_missing` meets its contract.
+-- `vector_rows::is_missing` meets its contract.
 use Rattle.vector_rows.specs.ReadWords.{isMissing}
 use borrow.Author.Needs.{needs}
 use Rattle.vector_rows.proofs.is_missing.Statement.{statement}

@@ -1,4 +1,4 @@
--- `vector_replay::one_more` meets its contract.
+-- `vector_rows::one_more` meets its contract.
 use Rattle.vector_rows.specs.Tallies.{up}
 use borrow.Author.Tests.{eq-eqb, ne-eqb}
 use borrow.Author.Needs.{needs}

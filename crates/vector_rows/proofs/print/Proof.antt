@@ -1,4 +1,4 @@
--- `vector_replay::print` meets its contract.
+-- `vector_rows::print` meets its contract.
 use Prim.Native.Nat.{ℕ, _-_, _≤_}
 use lib.ListN.{length}
 use borrow.Author.Needs.{needs}

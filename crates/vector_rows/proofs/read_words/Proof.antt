@@ -1,4 +1,4 @@
--- `vector_replay::read_words` meets its contract.
+-- `vector_rows::read_words` meets its contract.
 use mathlib.Core.Path.{sym, _∙_}
 use Prim.Native.Nat.{_-_}
 use lib.ListN.{length}

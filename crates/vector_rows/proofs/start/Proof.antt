@@ -1,4 +1,4 @@
--- `vector_replay::start` meets its contract.
+-- `vector_rows::start` meets its contract.
 use Rattle.vector_rows.specs.Tallies.{none}
 use mathlib.Core.Path.{refl}
 use Rattle.vector_rows.proofs.start.Statement.{statement}

@@ -1,4 +1,4 @@
--- `vector_replay::value_or` meets its contract.
+-- `vector_rows::value_or` meets its contract.
 use Rattle.vector_rows.specs.ReadWords.{valueOr}
 use borrow.Author.Needs.{needs}
 use Rattle.vector_rows.proofs.value_or.Statement.{statement}

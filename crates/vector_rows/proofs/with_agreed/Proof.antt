@@ -1,4 +1,4 @@
--- `vector_replay::with_agreed` meets its contract.
+-- `vector_rows::with_agreed` meets its contract.
 use Rattle.vector_rows.specs.Tallies.{agreed, upAt}
 use borrow.Author.Needs.{needs}
 use Rattle.vector_rows.proofs.with_agreed.Statement.{statement}

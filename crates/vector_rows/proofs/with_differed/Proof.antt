@@ -1,4 +1,4 @@
--- `vector_replay::with_differed` meets its contract.
+-- `vector_rows::with_differed` meets its contract.
 use Rattle.vector_rows.specs.Tallies.{differed, upAt}
 use borrow.Author.Needs.{needs}
 use Rattle.vector_rows.proofs.with_differed.Statement.{statement}

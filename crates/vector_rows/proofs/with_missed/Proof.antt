@@ -1,4 +1,4 @@
--- `vector_replay::with_missed` meets its contract.
+-- `vector_rows::with_missed` meets its contract.
 use Rattle.vector_rows.specs.Tallies.{missed}
 use borrow.Author.Needs.{needs}
 use Rattle.vector_rows.proofs.with_missed.Statement.{statement}
