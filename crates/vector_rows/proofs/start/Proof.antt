@@ -4,9 +4,6 @@ use mathlib.Core.Path.{refl}
 use Rattle.vector_rows.proofs.start.Statement.{statement}
 use Rattle.vector_rows.proofs.start.Tie as tie
 
-returns : tie.Need-returns
-unfolding none
-returns c = refl
-
 pub start-spec : {M : Type 1} → statement M
-start-spec = tie.close (tie.spec returns)
+unfolding none
+start-spec = tie.close (tie.spec (λ c. refl))
