@@ -10,7 +10,6 @@
 // row that differs.
 use stock::CommitAnswer;
 use stock::Outcome;
-use vector_rows::RowOutcome;
 
 // The store of a run and its small record.
 struct Store {
@@ -21,23 +20,23 @@ struct Store {
     intervals: u64,
 }
 
-// What a row showed, and the store that it leaves.
+// Whether a row agrees, and the store that it leaves.
 struct Shown {
-    outcome: RowOutcome,
+    agrees: bool,
     store: Store,
 }
 
-// Words 1, 3 to 11: the description; 15: the base generation; 16, 17: the cells of the changes and of the pairs; they
+// Words 1, 3 to 11: the description; 2: the units; 15: the base generation; 16, 17: the cells of the changes and of the pairs; they
 // stand from 94 and from 130 on.
 fn changes_in(
     w: &[u64; 170],
     generation: u64,
     intervals: u64,
-    units: &[u8],
     spans: &mut [f64],
     links: &mut [u64],
     heads: &mut [u64],
 ) -> Outcome {
+    let units = vector_rows::units_of(w[2]);
     let mut changes = [0; 36];
     vector_rows::numbers_at(w, 94, &mut changes);
     let mut pairs = [0.0; 40];
@@ -46,7 +45,7 @@ fn changes_in(
         generation,
         intervals,
         vector_rows::spec_at(w, 1, 3),
-        units,
+        &units,
         spans,
         links,
         heads,
@@ -56,34 +55,8 @@ fn changes_in(
     )
 }
 
-// Word 15: the allowance; 16, 17: the cells of the log, which stands from 94 on, and of the work buffer.
-fn log_in(
-    w: &[u64; 170],
-    generation: u64,
-    intervals: u64,
-    units: &[u8],
-    spans: &mut [f64],
-    links: &mut [u64],
-    heads: &mut [u64],
-    work: &mut [f64],
-) -> Outcome {
-    let mut log = [0.0; 36];
-    vector_rows::doubles_at(w, 94, &mut log);
-    commit_log::commit_log_on(
-        generation,
-        intervals,
-        vector_rows::spec_at(w, 1, 3),
-        units,
-        spans,
-        links,
-        heads,
-        vector_rows::first(&log, w[16] as usize),
-        w[15],
-        vector_rows::first_mut(work, w[17] as usize),
-    )
-}
-
-// Word 0: the entry, 0 for the change list's; 2: the units.
+// Word 0: the entry, 0 for the change list's; of a log 15: the allowance; 16, 17: the cells of the log, which stands from 94 on, and of
+// the work buffer.
 fn commit_on(
     w: &[u64; 170],
     generation: u64,
@@ -93,11 +66,24 @@ fn commit_on(
     heads: &mut [u64],
     work: &mut [f64],
 ) -> Outcome {
-    let units = vector_rows::units_of(w[2]);
     if w[0] == 0 {
-        return changes_in(w, generation, intervals, &units, spans, links, heads);
+        return changes_in(w, generation, intervals, spans, links, heads);
     }
-    log_in(w, generation, intervals, &units, spans, links, heads, work)
+    let units = vector_rows::units_of(w[2]);
+    let mut log = [0.0; 36];
+    vector_rows::doubles_at(w, 94, &mut log);
+    commit_log::commit_log_on(
+        generation,
+        intervals,
+        vector_rows::spec_at(w, 1, 3),
+        &units,
+        spans,
+        links,
+        heads,
+        vector_rows::first(&log, w[16] as usize),
+        w[15],
+        vector_rows::first_mut(work, w[17] as usize),
+    )
 }
 
 // Whether each cell below `cleared` is plus zero, which every word past the row is, and each other one still 7.
@@ -175,7 +161,7 @@ fn commit_step(w: &[u64; 170], s: Store) -> Shown {
         store_agrees(w, &spans, &links, &heads),
     );
     Shown {
-        outcome: vector_rows::told(w[0], 2, agrees),
+        agrees: agrees,
         store: Store {
             spans,
             links,
@@ -195,7 +181,7 @@ fn start_step(w: &[u64; 170]) -> Shown {
     let mut heads = [0; 12];
     vector_rows::numbers_at(w, 82, &mut heads);
     Shown {
-        outcome: RowOutcome::Agrees(2),
+        agrees: true,
         store: Store {
             spans,
             links,
@@ -206,6 +192,7 @@ fn start_step(w: &[u64; 170]) -> Shown {
     }
 }
 
+// A row of a kind that there is not leaves the store.
 fn shown_by(w: &[u64; 170], s: Store) -> Shown {
     if w[0] < 2 {
         return commit_step(w, s);
@@ -214,7 +201,7 @@ fn shown_by(w: &[u64; 170], s: Store) -> Shown {
         return start_step(w);
     }
     Shown {
-        outcome: RowOutcome::Unread,
+        agrees: false,
         store: s,
     }
 }
@@ -235,8 +222,7 @@ fn main() {
     let mut r = vector_rows::first_row(16, &mut w);
     while r.left > 0 {
         let s = shown_by(&w, store);
-        let outcome = s.outcome;
-        r = vector_rows::next_row(r, outcome, 16, &mut w);
+        r = vector_rows::next_row(r, w[0], 3, s.agrees, 16, &mut w);
         let left = s.store;
         store = left;
     }

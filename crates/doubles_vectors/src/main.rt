@@ -5,7 +5,6 @@
 // before each of these four, and a newline. An argument that the function does not take is 0. The one NaN is 7ff8000000000000.
 // For each function it writes how many rows agree and how many differ, then how many can't be read, and the number
 // of the first row that differs.
-use vector_rows::RowOutcome;
 
 fn order_number(o: doubles::Ordering) -> u64 {
     match o {
@@ -91,15 +90,15 @@ fn answer(op: u64, a: u64, b: u64, c: u64) -> u64 {
     ))
 }
 
-fn shown(w: &[u64; 5]) -> RowOutcome {
-    vector_rows::told(w[0], 16, answer(w[0], w[1], w[2], w[3]) == w[4])
+fn answer_agrees(w: &[u64; 5]) -> bool {
+    answer(w[0], w[1], w[2], w[3]) == w[4]
 }
 
 fn main() {
     let mut w = [0; 5];
     let mut r = vector_rows::first_row(2, &mut w);
     while r.left > 0 {
-        r = vector_rows::next_row(r, shown(&w), 2, &mut w);
+        r = vector_rows::next_row(r, w[0], 16, answer_agrees(&w), 2, &mut w);
     }
     vector_rows::print(
         b"larger smaller clamp floor ceil abs sqrt order_key total_cmp to_u64 bits_of of_bits lt le mul div",

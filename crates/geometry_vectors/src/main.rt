@@ -9,7 +9,6 @@ use cutter::Radius;
 use cutter_check::ToolCheck;
 use strips::Point;
 use strips::Strip;
-use vector_rows::RowOutcome;
 
 struct Answer {
     kind: u64,
@@ -114,6 +113,13 @@ fn answer_cutter(w: &[u64; 18]) -> Answer {
     check_answer(cutter_check::check_tool(shape, c))
 }
 
+fn answer_of(w: &[u64; 18]) -> Answer {
+    if w[0] < 3 {
+        return answer_strips(w);
+    }
+    answer_cutter(w)
+}
+
 // Equal as numbers, or both NaN.
 fn same(a: f64, b: f64) -> bool {
     if a == b {
@@ -125,7 +131,8 @@ fn same(a: f64, b: f64) -> bool {
     false
 }
 
-fn agrees(x: Answer, w: &[u64; 18]) -> bool {
+fn agrees(w: &[u64; 18]) -> bool {
+    let x = answer_of(w);
     if x.kind == w[15] {
         if same(x.a, doubles_bits::of_bits(w[16])) {
             return same(x.b, doubles_bits::of_bits(w[17]));
@@ -134,22 +141,11 @@ fn agrees(x: Answer, w: &[u64; 18]) -> bool {
     false
 }
 
-fn answer_of(w: &[u64; 18]) -> Answer {
-    if w[0] < 3 {
-        return answer_strips(w);
-    }
-    answer_cutter(w)
-}
-
-fn shown(w: &[u64; 18]) -> RowOutcome {
-    vector_rows::told(w[0], 8, agrees(answer_of(w), w))
-}
-
 fn main() {
     let mut w = [0; 18];
     let mut r = vector_rows::first_row(2, &mut w);
     while r.left > 0 {
-        r = vector_rows::next_row(r, shown(&w), 2, &mut w);
+        r = vector_rows::next_row(r, w[0], 8, agrees(&w), 2, &mut w);
     }
     vector_rows::print(
         b"disk_strip polygon_strip stadium_strip radius_at cut_radius cut_max cut_min check_tool",

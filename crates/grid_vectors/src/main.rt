@@ -10,7 +10,6 @@ use grid::DexelGrid;
 use grid::DexelStockSpec;
 use grid::GridAnswer;
 use grid::WorldAxis;
-use vector_rows::RowOutcome;
 
 // The answer of `grid` for the units of this number.
 fn gridded(spec: DexelStockSpec, units: u64) -> GridAnswer
@@ -102,15 +101,11 @@ fn agrees(w: &[u64; 29]) -> bool {
 }
 
 // Rows are counted by the number of the refusal that they ask for, or 0.
-fn shown(w: &[u64; 29]) -> RowOutcome {
-    vector_rows::told(w[15], 5, agrees(w))
-}
-
 fn main() {
     let mut w = [0; 29];
     let mut r = vector_rows::first_row(16, &mut w);
     while r.left > 0 {
-        r = vector_rows::next_row(r, shown(&w), 16, &mut w);
+        r = vector_rows::next_row(r, w[15], 5, agrees(&w), 16, &mut w);
     }
     vector_rows::print(b"accepted 1 2 3 4", r.counts);
 }

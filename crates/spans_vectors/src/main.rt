@@ -7,7 +7,6 @@
 // number of the first row that differs.
 use span_compare::BoolAnswer;
 use spans::ListAnswer;
-use vector_rows::RowOutcome;
 
 // A refusal's number or 0, and the number of pairs, or 1 for yes.
 struct Reply {
@@ -99,15 +98,11 @@ fn agrees(w: &[u64; 35]) -> bool {
     vector_rows::cells_agree(&out, w, 20, ends_of(w[0], r), 15)
 }
 
-fn shown(w: &[u64; 35]) -> RowOutcome {
-    vector_rows::told(w[0], 5, agrees(w))
-}
-
 fn main() {
     let mut w = [0; 35];
     let mut r = vector_rows::first_row(16, &mut w);
     while r.left > 0 {
-        r = vector_rows::next_row(r, shown(&w), 16, &mut w);
+        r = vector_rows::next_row(r, w[0], 5, agrees(&w), 16, &mut w);
     }
     vector_rows::print(b"normalize subtract intersect contains overlaps", r.counts);
 }

@@ -10,7 +10,6 @@ use ray_subtract::MergedList;
 use stock_fill::FillAnswer;
 use stock_volume::DexelVolume;
 use stock_volume::VolumeAnswer;
-use vector_rows::RowOutcome;
 
 // Words 1 to 5: the cells of possible, certain, outer, inner and the work buffer; 6, 7: the bounds; the lists from 8, 14, 20 and 26 on.
 fn merge_on(w: &[u64; 87], work: &mut [f64]) -> MergeAnswer {
@@ -192,15 +191,11 @@ fn agrees(w: &[u64; 87]) -> bool {
     volume_agrees(w)
 }
 
-fn shown(w: &[u64; 87]) -> RowOutcome {
-    vector_rows::told(w[0], 3, agrees(w))
-}
-
 fn main() {
     let mut w = [0; 87];
     let mut r = vector_rows::first_row(16, &mut w);
     while r.left > 0 {
-        r = vector_rows::next_row(r, shown(&w), 16, &mut w);
+        r = vector_rows::next_row(r, w[0], 3, agrees(&w), 16, &mut w);
     }
     vector_rows::print(b"merge fill volume", r.counts);
 }

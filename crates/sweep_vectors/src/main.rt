@@ -6,7 +6,6 @@
 // refused sweeps it writes how many rows agree and how many differ, then how many can't be read, and the number of
 // the first row that differs.
 use sweep::SweepAnswer;
-use vector_rows::RowOutcome;
 
 // A sweep's answer as numbers, 0 for no refusal, and whether the store and the chords are as they were.
 struct Answer {
@@ -168,15 +167,11 @@ fn kind_of(refusal: u64) -> u64 {
     1
 }
 
-fn shown(w: &[u64; 243]) -> RowOutcome {
-    vector_rows::told(kind_of(w[35]), 2, agrees(w))
-}
-
 fn main() {
     let mut w = [0; 243];
     let mut r = vector_rows::first_row(16, &mut w);
     while r.left > 0 {
-        r = vector_rows::next_row(r, shown(&w), 16, &mut w);
+        r = vector_rows::next_row(r, kind_of(w[35]), 2, agrees(&w), 16, &mut w);
     }
     vector_rows::print(b"accepted refused", r.counts);
 }

@@ -459,13 +459,20 @@ pub fn first_row(head: usize, out: &mut [u64]) -> Replay
     read_on(r, head, out)
 }
 
-// Counts what the row at hand showed, and goes on to the next.
-pub fn next_row(r: Replay, o: RowOutcome, head: usize, out: &mut [u64]) -> Replay
+// Counts whether the row at hand, of function k of so many, agrees, and goes on to the next.
+pub fn next_row(
+    r: Replay,
+    k: u64,
+    functions: u64,
+    agrees: bool,
+    head: usize,
+    out: &mut [u64],
+) -> Replay
     requires { ⌜ RowPre head (length (now out)) × (0 < r .left) ⌝ }
-    ensures { λ s. ⌜ NextRowPost (counted (r .counts) o) (r .left) s ⌝ }
+    ensures { λ s. ⌜ NextRowPost (counted (r .counts) (outcomeOf k functions agrees)) (r .left) s ⌝ }
 {
     let next = Replay {
-        counts: count(r.counts, o),
+        counts: count(r.counts, told(k, functions, agrees)),
         left: r.left,
     };
     read_on(next, head, out)
