@@ -4,7 +4,7 @@ use mathlib.Core.Bool.{Bool, true, false, not, _&&_}
 use mathlib.Core.List.{List}
 use Prim.Native.Nat.{ℕ, _<_}
 use lib.Ieee.{Float}
-use Rattle.logic.proofs.Bools.{and-left, and-right, not-true, not-false, clash}
+use Rattle.logic.proofs.Bools.{and-left, and-right, not-true, not-false, clash, found}
 use Rattle.spans.specs.Spans.{sound, equal, Within}
 use Rattle.grid.specs.Rays.{rayCount, boundsOf}
 use Rattle.grid.specs.declared.DexelStockSpec.{DexelStockSpec}
@@ -12,7 +12,7 @@ use Rattle.grid.specs.declared.DexelGrid.{DexelGrid}
 use Rattle.grid.specs.declared.RayBounds.{RayBounds}
 use Rattle.span_cover.specs.Cover.{Covers}
 use Rattle.spans.specs.Rays.{ValidRay}
-use Rattle.ray_check.proofs.Tests.{passes, covers-tells}
+use Rattle.ray_check.proofs.Tests.{covers-tells}
 use Rattle.change_list.specs.Removal.{IsRemoval, ChangeAllowed}
 use Rattle.change_list.proofs.Lists.{sound-equal}
 use Rattle.logic.specs.Logic.{Decides}
@@ -55,7 +55,7 @@ module _ (lo hi : Float) (p q p′ q′ : List Float) where
   pub removal-differs-certain : (r s : Bool) → ValidRay lo hi p′ q′ → Within p p′ → Within q q′ → r ≡ equal p′ p → not r ≡ false
       → s ≡ equal q′ q → Decides (IsRemoval lo hi p q p′ q′) (not s)
   removal-differs-certain r s v a b e n f =
-      removal-decided (not s) v a b (ap (λ (t : Bool). t && equal q′ q) (passes (equal p′ p) r e n) ∙ sym f ∙ twice s)
+      removal-decided (not s) v a b (ap (λ (t : Bool). t && equal q′ q) (found r (equal p′ p) e n) ∙ sym f ∙ twice s)
     where
       twice : (b : Bool) → b ≡ not (not b)
       twice true = refl
@@ -71,14 +71,14 @@ module _ (spec : DexelStockSpec) (g : DexelGrid) (c : Cells) (ray : ℕ) (p q : 
       → s ≡ equal (rayList spec c ray Certain) q
       → s ≡ (equal (rayList spec c ray Possible) p && equal (rayList spec c ray Certain) q)
   before-by-certain r s e n f = f ∙ sym
-      (ap (λ (t : Bool). t && equal (rayList spec c ray Certain) q) (passes (equal (rayList spec c ray Possible) p) r e n))
+      (ap (λ (t : Bool). t && equal (rayList spec c ray Certain) q) (found r (equal (rayList spec c ray Possible) p) e n))
 
   -- the old lists are sound, as the store's are
   pub old-sound : SoundWithRoom spec g c → ray < rayCount g → (r : Bool)
       → r ≡ (equal (rayList spec c ray Possible) p && equal (rayList spec c ray Certain) q) → not r ≡ false
       → (sound p ≡ true) × (sound q ≡ true)
   old-sound lent l r e n =
-      let w = passes (equal (rayList spec c ray Possible) p && equal (rayList spec c ray Certain) q) r e n in
+      let w = found r (equal (rayList spec c ray Possible) p && equal (rayList spec c ray Certain) q) e n in
       let v = lent .isSound .valid ray l in (
         sound-equal (rayList spec c ray Possible) p
             (and-left (equal (rayList spec c ray Possible) p) (equal (rayList spec c ray Certain) q) w) (v .possible-sound),
@@ -100,8 +100,7 @@ module _ (spec : DexelStockSpec) (g : DexelGrid) (c : Cells) (ray : ℕ) (p q : 
         let u : Decides (IsRemoval (boundsOf spec g ray .lo) (boundsOf spec g ray .hi) p q p′ q′) s =
         subst (λ (x : RayBounds). Decides (IsRemoval (x .lo) (x .hi) p q p′ q′) s) f t in (
           (λ y. record {
-            was = passes (equal (rayList spec c ray Possible) p && equal (rayList spec c ray Certain) q)
-                r e n;
+            was = found r (equal (rayList spec c ray Possible) p && equal (rayList spec c ray Certain) q) e n;
             removal = u .0 y;
           }),
           (λ k. u .1 (k .removal)),
