@@ -1,7 +1,7 @@
 // The two commits. The small record is two numbers that the caller keeps; a refused commit leaves both as they were.
 ghost use Rattle.commit_changes.specs.ChangeCommit.{ChangesPost};
 ghost use Rattle.commit_log.specs.LogCommit.{LogCommitPost};
-ghost use Rattle.stock.specs.declared.Committed.{Committed};
+ghost use Rattle.stock.specs.declared.CommitAnswer.{CommitAnswer};
 ghost use Rattle.c_results.specs.Numbers.{AnsweredBy, committedNumbers};
 ghost use Rattle.stock.specs.Stock.{stock};
 use grid::DexelStockSpec;
@@ -21,7 +21,7 @@ pub extern "C" fn tridexel_commit_changes(
     pairs: &[f64],
     changed: &mut u64,
 ) -> u32
-    ensures { λ r. ⌜ AnsweredBy committedNumbers Committed.Refused
+    ensures { λ r. ⌜ AnsweredBy committedNumbers CommitAnswer.Refused
         (ChangesPost spec (now (units .entry)) base (now (changes .entry)) (now (pairs .entry))
         (stock (now (spans .entry)) (now (links .entry)) (now (heads .entry)) (now (generation .entry)) (now (intervals .entry)))
         (stock (now (spans .exit)) (now (links .exit)) (now (heads .exit)) (now (generation .exit)) (now (intervals .exit)))) r
@@ -60,7 +60,7 @@ pub extern "C" fn tridexel_commit_log(
     work: &mut [f64],
     changed: &mut u64,
 ) -> u32
-    ensures { λ r. ⌜ AnsweredBy committedNumbers Committed.Refused (λ a. LogCommitPost spec (now (units .entry))
+    ensures { λ r. ⌜ AnsweredBy committedNumbers CommitAnswer.Refused (λ a. LogCommitPost spec (now (units .entry))
         (stock (now (spans .entry)) (now (links .entry)) (now (heads .entry)) (now (generation .entry)) (now (intervals .entry))) (now (log .entry)) allowance (now (work .entry)) a
         (stock (now (spans .exit)) (now (links .exit)) (now (heads .exit)) (now (generation .exit)) (now (intervals .exit))) (now (work .exit))) r
         (now (changed .entry)) (now (changed .exit)) ⌝ }

@@ -11,16 +11,16 @@ ghost use Rattle.spans.specs.Results.{ListPost};
 ghost use Rattle.span_normalize.specs.Causes.{normalizeCauses};
 ghost use Rattle.span_combine.specs.Combine.{combineCauses, LessOf, CommonOf};
 ghost use Rattle.span_compare.specs.Verdicts.{ComparePost, compareCauses, Contains, Overlaps};
-ghost use Rattle.span_compare.specs.declared.Told.{Told};
+ghost use Rattle.span_compare.specs.declared.BoolAnswer.{BoolAnswer};
 ghost use Rattle.ray_merge.specs.Merge.{MergePost};
-ghost use Rattle.ray_merge.specs.declared.Merged.{Merged};
-ghost use Rattle.spans.specs.declared.Listed.{Listed};
+ghost use Rattle.ray_merge.specs.declared.MergeAnswer.{MergeAnswer};
+ghost use Rattle.spans.specs.declared.ListAnswer.{ListAnswer};
 ghost use Rattle.c_results.specs.Numbers.{AnsweredBy, listedNumbers, toldNumbers, mergedNumbers, partCells};
 
 // `span_normalize::normalize`; `pairs` becomes the number of pairs.
 #[no_mangle]
 pub extern "C" fn tridexel_normalize(spans: &[f64], out: &mut [f64], pairs: &mut usize) -> u32
-    ensures { λ r. ⌜ AnsweredBy listedNumbers Listed.Refused
+    ensures { λ r. ⌜ AnsweredBy listedNumbers ListAnswer.Refused
         (ListPost (NormalOf (now (spans .entry))) (normalizeCauses (now (spans .entry)) (length (now (out .entry))))
         (now (out .entry)) (now (out .exit)))
         r (now (pairs .entry)) (now (pairs .exit)) ⌝ }
@@ -32,7 +32,7 @@ pub extern "C" fn tridexel_normalize(spans: &[f64], out: &mut [f64], pairs: &mut
 // `span_combine::subtract`; `pairs` becomes the number of pairs.
 #[no_mangle]
 pub extern "C" fn tridexel_subtract(a: &[f64], b: &[f64], out: &mut [f64], pairs: &mut usize) -> u32
-    ensures { λ r. ⌜ AnsweredBy listedNumbers Listed.Refused (ListPost (LessOf (now (a .entry)) (now (b .entry)))
+    ensures { λ r. ⌜ AnsweredBy listedNumbers ListAnswer.Refused (ListPost (LessOf (now (a .entry)) (now (b .entry)))
         (combineCauses (now (a .entry)) (now (b .entry)) (length (now (out .entry)))) (now (out .entry)) (now (out .exit)))
         r (now (pairs .entry)) (now (pairs .exit)) ⌝ }
 {
@@ -48,7 +48,7 @@ pub extern "C" fn tridexel_intersect(
     out: &mut [f64],
     pairs: &mut usize,
 ) -> u32
-    ensures { λ r. ⌜ AnsweredBy listedNumbers Listed.Refused (ListPost (CommonOf (now (a .entry)) (now (b .entry)))
+    ensures { λ r. ⌜ AnsweredBy listedNumbers ListAnswer.Refused (ListPost (CommonOf (now (a .entry)) (now (b .entry)))
         (combineCauses (now (a .entry)) (now (b .entry)) (length (now (out .entry)))) (now (out .entry)) (now (out .exit)))
         r (now (pairs .entry)) (now (pairs .exit)) ⌝ }
 {
@@ -59,7 +59,7 @@ pub extern "C" fn tridexel_intersect(
 // `span_compare::contains`; `yes` becomes 1 or 0.
 #[no_mangle]
 pub extern "C" fn tridexel_contains(outer: &[f64], inner: &[f64], yes: &mut u32) -> u32
-    ensures { λ r. ⌜ AnsweredBy toldNumbers Told.Refused (ComparePost (compareCauses (now (outer .entry)) (now (inner .entry)))
+    ensures { λ r. ⌜ AnsweredBy toldNumbers BoolAnswer.Refused (ComparePost (compareCauses (now (outer .entry)) (now (inner .entry)))
         (Contains (now (outer .entry)) (now (inner .entry))))
         r (now (yes .entry)) (now (yes .exit)) ⌝ }
 {
@@ -70,7 +70,7 @@ pub extern "C" fn tridexel_contains(outer: &[f64], inner: &[f64], yes: &mut u32)
 // `span_compare::overlaps`; `yes` becomes 1 or 0.
 #[no_mangle]
 pub extern "C" fn tridexel_overlaps(a: &[f64], b: &[f64], yes: &mut u32) -> u32
-    ensures { λ r. ⌜ AnsweredBy toldNumbers Told.Refused (ComparePost (compareCauses (now (a .entry)) (now (b .entry)))
+    ensures { λ r. ⌜ AnsweredBy toldNumbers BoolAnswer.Refused (ComparePost (compareCauses (now (a .entry)) (now (b .entry)))
         (Overlaps (now (a .entry)) (now (b .entry))))
         r (now (yes .entry)) (now (yes .exit)) ⌝ }
 {
@@ -92,7 +92,7 @@ pub extern "C" fn tridexel_merge(
     moved: &mut [u32; 2],
     pairs: &mut [usize; 2],
 ) -> u32
-    ensures { λ r. ⌜ AnsweredBy mergedNumbers Merged.Refused (MergePost lo hi (now (possible .entry)) (now (certain .entry))
+    ensures { λ r. ⌜ AnsweredBy mergedNumbers MergeAnswer.Refused (MergePost lo hi (now (possible .entry)) (now (certain .entry))
         (now (outer .entry)) (now (inner .entry)) (now (work .entry)) (now (work .exit))) r
         (partCells (now (moved .entry)) (now (pairs .entry))) (partCells (now (moved .exit)) (now (pairs .exit))) ⌝ }
 {

@@ -1,10 +1,10 @@
 // The grid of a blank and its stock. A store is three slices: the ends of the records, their links, and the heads.
 ghost use Rattle.grid.specs.Causes.{gridIn, GridPost};
-ghost use Rattle.grid.specs.declared.Gridded.{Gridded};
+ghost use Rattle.grid.specs.declared.GridAnswer.{GridAnswer};
 ghost use Rattle.stock_fill.specs.Uncut.{FillPost, fillCauses};
 ghost use Rattle.stock_volume.specs.Volume.{VolumePost, volumeCauses};
-ghost use Rattle.stock_fill.specs.declared.Filled.{Filled};
-ghost use Rattle.stock_volume.specs.declared.Measured.{Measured};
+ghost use Rattle.stock_fill.specs.declared.FillAnswer.{FillAnswer};
+ghost use Rattle.stock_volume.specs.declared.VolumeAnswer.{VolumeAnswer};
 ghost use Rattle.c_results.specs.Numbers.{AnsweredBy, gridNumbers, gridCells, filledNumbers, tally, volumeNumbers};
 ghost use Rattle.store.specs.Store.{cells};
 use grid::DexelStockSpec;
@@ -17,7 +17,7 @@ pub extern "C" fn tridexel_grid(
     counts: &mut [u64; 3],
     steps: &mut [f64; 3],
 ) -> u32
-    ensures { λ r. ⌜ AnsweredBy gridNumbers Gridded.Refused (GridPost spec (now (units .entry))) r
+    ensures { λ r. ⌜ AnsweredBy gridNumbers GridAnswer.Refused (GridPost spec (now (units .entry))) r
         (gridCells (now (counts .entry)) (now (steps .entry))) (gridCells (now (counts .exit)) (now (steps .exit))) ⌝ }
 {
     let g = grid_from_spec::grid(spec, units);
@@ -35,7 +35,7 @@ pub extern "C" fn tridexel_fill(
     generation: &mut u64,
     intervals: &mut u64,
 ) -> u32
-    ensures { λ r. ⌜ AnsweredBy filledNumbers Filled.Refused
+    ensures { λ r. ⌜ AnsweredBy filledNumbers FillAnswer.Refused
         (FillPost (fillCauses spec (now (units .entry)) (cells (now (spans .entry)) (now (links .entry)) (now (heads .entry)))) spec (gridIn spec)
         (cells (now (spans .entry)) (now (links .entry)) (now (heads .entry))) (cells (now (spans .exit)) (now (links .exit)) (now (heads .exit)))) r
         (tally (now (generation .entry)) (now (intervals .entry))) (tally (now (generation .exit)) (now (intervals .exit))) ⌝ }
@@ -55,7 +55,7 @@ pub extern "C" fn tridexel_volume(
     intervals: u64,
     volume: &mut [f64; 10],
 ) -> u32
-    ensures { λ r. ⌜ AnsweredBy volumeNumbers Measured.Refused
+    ensures { λ r. ⌜ AnsweredBy volumeNumbers VolumeAnswer.Refused
         (VolumePost (volumeCauses spec (now (units .entry)) (cells (now (spans .entry)) (now (links .entry)) (now (heads .entry))) intervals)
         spec (gridIn spec) (cells (now (spans .entry)) (now (links .entry)) (now (heads .entry))) intervals) r
         (now (volume .entry)) (now (volume .exit)) ⌝ }

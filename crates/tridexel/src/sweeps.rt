@@ -1,7 +1,7 @@
 // The sweep. An axis and a shape go in as numbers, in the order of their declarations from 0; a number that names none is refusal 6.
 ghost use lib.ListN.{length};
 ghost use Rattle.sweep.specs.Answer.{settingOf, sweepCauses, SweepPost};
-ghost use Rattle.sweep.specs.declared.Swept.{Swept};
+ghost use Rattle.sweep.specs.declared.SweepAnswer.{SweepAnswer};
 ghost use Rattle.enum_codes.specs.Codes.{axisOf, shapeOf};
 ghost use Rattle.c_results.specs.Numbers.{AnsweredBy, sweptNumbers, totals};
 ghost use Rattle.store.specs.Store.{cells};
@@ -29,7 +29,7 @@ pub extern "C" fn tridexel_sweep(
     entries: &mut usize,
     visits: &mut u64,
 ) -> u32
-    ensures { λ r. ⌜ AnsweredBy sweptNumbers Swept.Refused
+    ensures { λ r. ⌜ AnsweredBy sweptNumbers SweepAnswer.Refused
         (SweepPost (sweepCauses (now (units .entry))
         (settingOf spec (axisOf axis) (shapeOf axis kind m n) cutter guard
         (cells (now (spans .entry)) (now (links .entry)) (now (heads .entry)))) intervals (now (chords .entry)) budget
