@@ -7,7 +7,7 @@ use Rattle.commit_vectors.proofs.main.Tie as tie
 
 pub main-spec : {M : Type 1} → statement M
 main-spec =
-    tie.close
-    (tie.spec (λ store₀ w₀ r₀ names store w r. (length w ≡ 170) × (length names ≡ 30)) (λ store₀ w₀ r₀ names store w r. r .left)
+    tie.close (tie.spec (λ store₀ w₀ r₀ names store w r. (length w ≡ 170) × (length names ≡ 30)) (λ store₀ w₀ r₀ names store w r. r .left)
     (λ c κs. search needs) (λ c. search needs) (λ c κs. search needs) (λ c. search needs) (λ c κs. search needs) (λ c. search needs)
-    (λ c κs. search needs) (λ c. search needs) (λ c. search needs) (λ c. search needs) (λ c κs. search needs) (λ c. search needs))
+    (λ c. search needs) (λ c κs. search needs) (λ c. search needs) (λ c. search needs) (λ c. search needs) (λ c κs. search needs)
+    (λ c. search needs))

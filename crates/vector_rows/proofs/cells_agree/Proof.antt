@@ -11,8 +11,9 @@ use Rattle.vector_rows.proofs.cells_agree.Tie as tie
 pub cells-agree-spec : {M : Type 1} → statement M
 cells-agree-spec =
     tie.close
-    (tie.spec (λ cells w from ends room k₀ k. RightTo (cellRight cells w from ends room) k) (λ cells w from ends room k₀ k. length cells - k)
-    (λ c. none-right) (λ c. search needs) (λ c. search needs) (λ c κs. search needs) (λ c κs. search needs)
+    (tie.spec (λ cells w from ends room k₀ k. RightTo (cellRight cells w from ends room) k)
+    (λ cells w from ends room k₀ k. length cells - k) (λ c. none-right) (λ c. search needs) (λ c. search needs)
+    (λ c κs. search needs) (λ c κs. search needs)
     (λ c. one-wrong _ (c .before .before .before .before .loop-test .taken)
     (rw (← c .before .before .word-of .ensures, ← c .before .cell-agrees .ensures) (not-true _ (c .if1 .taken))))
     (λ c. search needs) (λ c. search needs) (λ c. one-right (c .before .before .before .before .before .loop .inv)

@@ -1,10 +1,9 @@
 -- `vector_rows::read_on` meets its contract.
-use Prim.Native.Nat.{_≤_}
+use mathlib.Core.Path.{_≡_}
+use Prim.Native.Nat.{ℕ, _≤_}
 use lib.ListN.{length}
 use borrow.Author.Needs.{needs}
-use Prim.Native.Nat.{ℕ}
-use mathlib.Core.Path.{_≡_}
-use Rattle.vector_rows.specs.Replays.{UnreadBetween, no-row, one-row, NextRowPost}
+use Rattle.vector_rows.specs.Replays.{UnreadBetween, no-row, one-row}
 use Rattle.vector_rows.specs.declared.RowCounts.{RowCounts}
 use Rattle.vector_rows.proofs.read_on.Statement.{statement}
 use Rattle.vector_rows.proofs.read_on.Tie as tie
@@ -23,26 +22,9 @@ abbrev μ-loop : tie.MeasureT-loop
 
 pub read-on-spec : {M : Type 1} → statement M
 read-on-spec =
-    tie.close
-    (tie.spec
-    Inv-loop
-    μ-loop
-    (λ c. record { same = search needs; unread = no-row; most = search needs })
-    (λ c κs. search needs)
-    (λ c. search needs)
-    (λ c. search needs)
-    (λ c. search needs)
-    (λ c. search needs)
-    (λ c. search needs)
-    (λ c. search needs)
-    (λ c κs. search needs)
-    (λ c. search needs)
-    (λ c. record {
-      same = search needs;
-      unread = rw (c .with-missed .ensures) (one-row (c .before .before .before .before .before .before .before .before .loop .inv .unread));
-      most = search needs;
-    })
-    (λ c. search needs)
-    (λ c. search needs)
-    (λ c. search needs)
-    (λ c. search needs))
+    tie.close (tie.spec Inv-loop μ-loop (λ c. record { same = search needs; unread = no-row; most = search needs })
+    (λ c κs. search needs) (λ c. search needs) (λ c. search needs) (λ c. search needs) (λ c. search needs) (λ c. search needs)
+    (λ c. search needs) (λ c κs. search needs) (λ c. search needs)
+    (λ c. let loop = c .before .before .before .before .before .before .before .before .loop in
+    record { same = search needs; unread = rw (c .with-missed .ensures) (one-row (loop .inv .unread)); most = search needs })
+    (λ c. search needs) (λ c. search needs) (λ c. search needs) (λ c. search needs))
