@@ -1,7 +1,10 @@
 /* Tri-dexel stock rays: the C interface of libtridexel.a.
  *
- * Every function takes arbitrary numbers and bytes, always returns, allocates nothing and keeps nothing between calls. The result is document 01's
- * refusal number, 0 where the call is accepted. A refused call leaves every buffer and every number as it was; the one exception is named at
+ * docs/LAYOUT.md has every layout cell by cell, the limits behind each refusal, what each call leaves in each buffer, and worked examples. Sections of it are
+ * cited as "LAYOUT 6".
+ *
+ * Every function takes arbitrary numbers and bytes, always returns, allocates nothing and keeps nothing between calls. The result is the number of a
+ * refusal (LAYOUT 14), 0 where the call is accepted. A refused call leaves every buffer and every number as it was; the one exception is named at
  * tridexel_sweep. A number is given exactly when its cause holds and none before it, in the order named at the function, does.
  *
  *   1 description        2 more cells or rays than max_rays   3 twice the rays exceed max_intervals   4 a step below the resolution
@@ -29,16 +32,14 @@
 extern "C" {
 #endif
 
-/* ---- span lists: doubles lo, hi per pair, where a pair holds each p with lo <= p < hi. A list is sound when in each pair lo < hi, and each hi
- * is below the next lo. */
+/* ---- span lists: doubles lo, hi per pair; LAYOUT 3 says when a list is sound. */
 
 /* The sound list of arbitrary pairs: those without lo < hi (NaN too) are dropped, touching ones joined. `out` needs as many pairs as `spans` has.
- * Accepted: `*pairs` pairs stand at the start of `out`, every cell past them is plus zero; each end is an end of a pair that was not dropped, and where
- * zeros of both signs were given for it either may stand. Refusals: 12, 11 (part of a pair over). */
+ * Accepted: `*pairs` pairs stand at the start of `out`, every cell past them is plus zero. Refusals: 12, 11 (part of a pair over). */
 uint32_t tridexel_normalize(const double *spans, size_t spans_len, double *out, size_t out_len, size_t *pairs);
 
-/* The sound list of the points of a that are not in b; of the points in both. Of two ends that are equal as numbers the one of a stands. `out` needs as
- * many pairs as both lists together; it is left as by tridexel_normalize. Refusals: 12, 11 (a list not sound). */
+/* The sound list of the points of a that are not in b; of the points in both. `out` needs as many pairs as both lists together; it is left as by
+ * tridexel_normalize. Refusals: 12, 11 (a list not sound). */
 uint32_t tridexel_subtract(const double *a, size_t a_len, const double *b, size_t b_len, double *out, size_t out_len, size_t *pairs);
 uint32_t tridexel_intersect(const double *a, size_t a_len, const double *b, size_t b_len, double *out, size_t out_len, size_t *pairs);
 
@@ -51,8 +52,8 @@ uint32_t tridexel_overlaps(const double *a, size_t a_len, const double *b, size_
 
 /* One ray: possible loses the inner hits, certain the outer and the inner ones. lo and hi are the ray's bounds. For possible [0] and certain [1],
  * `moved` becomes 1 where the list changed, else 0, and `pairs` its number of pairs. A list that did not move is the caller's own; the new ones stand
- * at the start of `work`, possible's before certain's, and every cell past them is plus zero. Refusals: 12, 11 (part of a pair over; a ray not valid
- * within its bounds). */
+ * at the start of `work`, possible's before certain's, and plus zero past them (LAYOUT 11). Refusals: 12, 11 (part of a pair over; a ray not valid within
+ * its bounds). */
 uint32_t tridexel_merge(const double *possible, size_t possible_len, const double *certain, size_t certain_len, double lo, double hi,
                         const double *outer, size_t outer_len, const double *inner, size_t inner_len, double *work, size_t work_len,
                         uint32_t moved[2], size_t pairs[2]);
@@ -63,7 +64,7 @@ typedef struct {
   double x, y, z;
 } tridexel_vec3;
 
-/* A blank's description. `units` beside it are the two bytes "mm". */
+/* A blank's description (LAYOUT 4). `units` beside it are the two bytes "mm". */
 typedef struct {
   uint32_t version; /* 1 */
   tridexel_vec3 min_mm, max_mm;
@@ -72,29 +73,28 @@ typedef struct {
   uint64_t max_intervals;
 } tridexel_spec;
 
-/* Cells and steps along x, y, z. Rays along x are cells[1] * cells[2], and so on round; in all c0 c1 + c1 c2 + c2 c0. Refusals: 1, 2, 3, 4. */
+/* Cells and steps along x, y, z; how rays are numbered: LAYOUT 5. Refusals: 1, 2, 3, 4. */
 uint32_t tridexel_grid(tridexel_spec spec, const uint8_t *units, size_t units_len, uint64_t cells[3], double steps[3]);
 
-/* The lent store of a stock: `spans` lo, hi per record; `links` next, owner per record; `heads` the first record of possible's list and of certain's per
- * ray, zero for an empty list. Records are numbered from 1. max_intervals records (2 * max_intervals cells of spans and of links) and 2 heads per ray count;
- * cells past these are neither read nor written. The generation and the interval total are two numbers that the caller keeps. */
+/* The lent store of a stock is `spans`, `links` and `heads` (LAYOUT 6); cells past those that it needs are neither read nor written. The generation and the
+ * interval total are two numbers that the caller keeps (LAYOUT 7). */
 
 /* The rays of a grid of these cells; the cells that `spans` needs, and `links` as many; the cells that `heads` needs. */
 #define TRIDEXEL_RAYS(cells) ((size_t)((cells)[0] * (cells)[1] + (cells)[1] * (cells)[2] + (cells)[2] * (cells)[0]))
 #define TRIDEXEL_RECORD_CELLS(max_intervals) (2 * (size_t)(max_intervals))
 #define TRIDEXEL_HEAD_CELLS(rays) (2 * (size_t)(rays))
 
-/* Lays the uncut stock: one full pair in each list. Refusals: 1 to 4, 12. */
+/* Lays the uncut stock: one full pair in each list. The cells may hold anything before. Refusals: 1 to 4, 12. */
 uint32_t tridexel_fill(tridexel_spec spec, const uint8_t *units, size_t units_len, double *spans, size_t spans_len, uint64_t *links, size_t links_len,
                        uint64_t *heads, size_t heads_len, uint64_t *generation, uint64_t *intervals);
 
-/* Ten numbers: certain and possible by the rays along x, then y, then z; remaining lower, upper; removed lower, upper. Refusals: 1 to 4, 12, 11. */
+/* Ten numbers: certain and possible by the rays along x, then y, then z; remaining lower, upper; removed lower, upper (LAYOUT 13).
+ * Refusals: 1 to 4, 12, 11. */
 uint32_t tridexel_volume(tridexel_spec spec, const uint8_t *units, size_t units_len, const double *spans, size_t spans_len, const uint64_t *links,
                          size_t links_len, const uint64_t *heads, size_t heads_len, uint64_t intervals, double volume[10]);
 
-/* Commits a change list made on the stock at generation `base`. `changes`: six numbers per change, axis (0 to 2), index, and the pairs of its four lists
- * (possible and certain before, possible and certain after); `pairs`: those lists end to end. Rays ascend by axis, then index. Accepted: the lists of all
- * changed rays are freed, then laid in ray order, the generation steps, `*changed` becomes the number of changes. Refusals: 1 to 4, 12, 11, 14, 13, 10, 15. */
+/* Commits a change list made on the stock at generation `base`: six numbers per change in `changes`, its lists end to end in `pairs` (LAYOUT 9).
+ * Accepted: the store has the new lists, the generation steps, `*changed` becomes the number of changes. Refusals: 1 to 4, 12, 11, 14, 13, 10, 15. */
 uint32_t tridexel_commit_changes(tridexel_spec spec, const uint8_t *units, size_t units_len, double *spans, size_t spans_len, uint64_t *links,
                                  size_t links_len, uint64_t *heads, size_t heads_len, uint64_t *generation, uint64_t *intervals, uint64_t base,
                                  const uint64_t *changes, size_t changes_len, const double *pairs, size_t pairs_len, uint64_t *changed);
@@ -102,9 +102,9 @@ uint32_t tridexel_commit_changes(tridexel_spec spec, const uint8_t *units, size_
 /* The cells that tridexel_commit_log needs of `work`. */
 #define TRIDEXEL_LOG_WORK(max_intervals, entries) (12 * (size_t)(max_intervals) + 36 * (size_t)(entries))
 
-/* Commits a log: six doubles per entry, axis, index, outer lo, hi, inner lo, hi. possible loses the inner hits of each ray, certain the outer and the
- * inner ones; at most `allowance` rays may change. Accepted: the store and both numbers are as after a change list, `*changed` becomes the number of rays whose
- * sets changed, `work` is all plus zero. Refusals: 1 to 4, 12, 11, 15, 17, 9, 10. */
+/* Commits a log, six doubles per entry (LAYOUT 8): possible loses the inner hits of each ray, certain the outer and the inner ones; at most `allowance`
+ * rays may change. Accepted: the store has the new lists, the generation steps, `*changed` becomes the number of changed rays, `work` is all plus zero.
+ * Refusals: 1 to 4, 12, 11, 15, 17, 9, 10. */
 uint32_t tridexel_commit_log(tridexel_spec spec, const uint8_t *units, size_t units_len, double *spans, size_t spans_len, uint64_t *links,
                              size_t links_len, uint64_t *heads, size_t heads_len, uint64_t *generation, uint64_t *intervals, const double *log,
                              size_t log_len, uint64_t allowance, double *work, size_t work_len, uint64_t *changed);
@@ -114,7 +114,7 @@ uint32_t tridexel_commit_log(tridexel_spec spec, const uint8_t *units, size_t un
 /* The direction from the tool's tip toward the spindle. */
 enum { TRIDEXEL_POS_X, TRIDEXEL_NEG_X, TRIDEXEL_POS_Y, TRIDEXEL_NEG_Y, TRIDEXEL_POS_Z, TRIDEXEL_NEG_Z };
 
-/* Shapes, and their own numbers m, n: corner radius; point angle; included angle, tip diameter; flank angle (angles in radians). */
+/* Shapes, and their own numbers m, n (angles in radians): LAYOUT 10. */
 enum {
   TRIDEXEL_FLAT,
   TRIDEXEL_BALL,
@@ -127,7 +127,7 @@ enum {
   TRIDEXEL_DOVETAIL /* m: flank angle */
 };
 
-/* A cutter's numbers beside its shape. Where there is no neck its diameter is the shank's. */
+/* A cutter's numbers beside its shape; what they are for each shape: LAYOUT 10. Where there is no neck its diameter is the shank's. */
 typedef struct {
   double diameter_mm, cutting_length_mm, overall_length_mm, neck_diameter_mm, shank_diameter_mm;
   double radius, tip_height, slope, shoulder;
@@ -137,10 +137,10 @@ typedef struct {
 #define TRIDEXEL_LOG_CELLS(entries) (6 * (size_t)(entries))
 #define TRIDEXEL_CHORD_CELLS(chords) (8 * (size_t)(chords))
 
-/* The rays across the tool for a list of chords: eight doubles each, world ends a and b, the error e, the plan length (hypot of the two differences across the
- * tool axis). Accepted: `*entries` entries of six doubles stand in `log` in visiting order, every cell past them is plus zero, `*visits` is the number of rays
- * visited. A number that names no axis or no shape is 6. Refusals: 1 to 4, 12, 11, 5, 6, 7, then per visit 8 before 16; 8 and 16 leave the whole log
- * plus zero, every other refusal leaves it as it was. */
+/* The rays across the tool that a list of chords hits. A chord is eight doubles: world ends a and b, the error e, the plan length (hypot of the two
+ * differences across the tool axis; LAYOUT 10). Accepted: `*entries` log entries (LAYOUT 8) stand in `log` in visiting order, every cell past them is
+ * plus zero, `*visits` is the number of rays visited. A number that names no axis or no shape is 6. Refusals: 1 to 4, 12, 11, 5, 6, 7, then per visit 8
+ * before 16; 8 and 16 leave the whole log plus zero, every other refusal leaves it as it was. */
 uint32_t tridexel_sweep(tridexel_spec spec, const uint8_t *units, size_t units_len, const double *spans, size_t spans_len, const uint64_t *links,
                         size_t links_len, const uint64_t *heads, size_t heads_len, uint64_t intervals, uint64_t axis, uint64_t shape, double m, double n,
                         tridexel_cutter cutter, double guard, const double *chords, size_t chords_len, uint64_t budget, double *log, size_t log_len,

@@ -14,9 +14,11 @@ OUT's answer) and `made` (fields that fit make a REC), which the entries over on
 
     tools/entry_walk.py tools/ENTRY.json crates/CRATE/proofs/ENTRY/Proof.antt
 
-writes the proof again, from the root of the repository, when the entry's parameters or the record change.
+writes the proof again, from the root of the repository, when the entry's parameters or the record change; `rt fmt` then lays it out.
 """
 import re, sys, json
+sys.dont_write_bytecode = True
+from wrap import wrapped
 
 def main(cfg, out):
     cr, entry, work = cfg['crate'], cfg['entry'], cfg['work']
@@ -190,6 +192,9 @@ use denote.Exit.{yes}''')
     w(f'  to-work = (({ck}, {cq}, tt, {cargs}, {cvals}), tt)'); w('')
     restT = cons([row(i, 1) for i in range(n)])
     resta = nest([p[0] for p in ps]); restv = nest([f'v-{p[0]} ∷ []' for p in ps])
+    zt = ''.join('(' + ('Unit {0}') + ' × ' for _ in fields) + ''.join('(' + (f'List {elem(ps[i][2])}' if i in exl else 'Unit {0}') + ' × ' for i in range(n)) + 'Unit {0}' + ')' * (k + n)
+    w('  -- what the callee leaves of each argument: the last list of each `&mut` slice')
+    w('  abbrev Lasts : Type 0'); w(f'  Lasts = {zt}'); w('')
     w('  abbrev Rest : Fml'); w(f'  Rest = owns ({restT}) {resta} {restv}'); w('')
     fitsargs = ' → '.join(f'h .{fn} < 2 ^ {fw}' for fn, fw in fields)
     fnames = [f'{fn}-fits' for fn, _ in fields]
@@ -274,10 +279,9 @@ use denote.Exit.{yes}''')
     w(P + 'calls-at ! fm (Work 𝓤 H A at-mem run) known to-work ' + s + '(no-more !)' + ')' * len(argl) + ' (λ v.'); opened += 1
     ens = f'ensured 𝓤 H A callee.ended (callee.clauses 𝓤 H A at-mem run) {ck} {cargs} tt r'
     w(P + f'use1 W (later (some (λ (r : {outc}). (({toks_items}) ⊛ ‵ (O.the-row .own r (v ∷ []))) ⊛ raw ({ens})))) (id⊢ 𝓤 _) $ await ! tt $ pick ! (λ r.'); opened += 1
-    zt = ''.join('(' + ('Unit {0}') + ' × ' for _ in fields) + ''.join('(' + (f'List {elem(ps[i][2])}' if i in exl else 'Unit {0}') + ' × ' for i in range(n)) + 'Unit {0}' + ')' * (k + n)
     def z(i): return 'zs' + ' .1' * (k + i) + ' .0'
     fz = f'Fact r ' + ' '.join(f'({z(i)})' for i in mss)
-    w(P + f'split ! $ move ! (1 ∷ []) $ use1 W (some (λ (zs : {zt}). ‵ (lasts callee.ended {ck} {cargs} zs) ⊛ raw (fact 𝓤 ({fz})))) (id⊢ 𝓤 _) $ pick ! (λ zs.'); opened += 1
+    w(P + f'split ! $ move ! (1 ∷ []) $ use1 W (some (λ (zs : Lasts). ‵ (lasts callee.ended {ck} {cargs} zs) ⊛ raw (fact 𝓤 ({fz})))) (id⊢ 𝓤 _) $ pick ! (λ zs.'); opened += 1
     w(P + f'split ! $ move ! (1 ∷ []) $ heard ! ({fz}) (λ e.'); opened += 1
     w(P + '-- the last lists, and that each is as long as the list passed')
     # context [lasts; T; cell...]; strip
@@ -353,7 +357,7 @@ meets 𝓤 H A W mem run 𝓣 known =
     (tables 𝓤 H 𝓜 𝓡 code.env .C) (tables 𝓤 H 𝓜 𝓡 code.env .Λ) #entry code.function (code.unfolded 𝓤 H 𝓜 𝓡)
     (meets 𝓤 H (𝓖 .A) (givenOf 𝓤 H 𝓜 𝓖) (𝓜 .mem) (𝓡 .run) (tablesOf 𝓤 H 𝓜 (tables 𝓤 H 𝓜 𝓡 code.env))
     (cited 𝓤 H (Work 𝓤 H (𝓖 .A) (𝓜 .mem) (𝓡 .run)) 𝓜 𝓡 code.env #work work-def.routine code.calls-{cr.replace('_', '-')}·{kw} (work-thm.met 𝓤 H 𝓜 𝓖 𝓡)))''')
-    open(out, 'w').write(used('\n'.join(o) + '\n'))
+    open(out, 'w').write(wrapped(used('\n'.join(o) + '\n')))
 
 def used(text):
     """The text without the imported names that it does not use."""

@@ -1,3 +1,3 @@
 -- Laws of the answers that are handed back as numbers.
-pub mod Sweeping
+pub mod SweepResults
 pub mod Results

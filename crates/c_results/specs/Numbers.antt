@@ -31,15 +31,15 @@ abbrev pub HandedAs : {A S : Type 0} → (A → S → Type 0) → (ℕ → A) �
 HandedAs numbers refused a refusal before after = (numbers a after × (refusal ≡ 0)) ⊎ ((a ≡ refused refusal) × (after ≡ before))
 
 -- how many pairs
-abbrev pub listedNumbers : ListAnswer → ℕ → Type 0
-listedNumbers (Pairs n) pairs = pairs ≡ n
-listedNumbers (ListAnswer.Refused k) pairs = ⊥
+abbrev pub listNumbers : ListAnswer → ℕ → Type 0
+listNumbers (Pairs n) pairs = pairs ≡ n
+listNumbers (ListAnswer.Refused k) pairs = ⊥
 
 -- 1 for yes, 0 for no
-abbrev pub toldNumbers : BoolAnswer → ℕ → Type 0
-toldNumbers Yes n = n ≡ 1
-toldNumbers No n = n ≡ 0
-toldNumbers (Invalid k) n = ⊥
+abbrev pub boolNumbers : BoolAnswer → ℕ → Type 0
+boolNumbers Yes n = n ≡ 1
+boolNumbers No n = n ≡ 0
+boolNumbers (Invalid k) n = ⊥
 
 -- the cells and the steps along x, y and z
 pub record GridCells : Type 0 where
@@ -64,17 +64,17 @@ partCells moved pairs = record { moved = moved; pairs = pairs }
 abbrev pub digit : Bool → ℕ
 digit b = cond b 1 0
 
-abbrev pub mergedNumbers : MergeAnswer → PartCells → Type 0
-mergedNumbers (Lists p c) n = n ≡ partCells (digit (p .moved) ∷ digit (c .moved) ∷ []) (p .pairs ∷ c .pairs ∷ [])
-mergedNumbers (MergeAnswer.Refused k) n = ⊥
+abbrev pub mergeNumbers : MergeAnswer → PartCells → Type 0
+mergeNumbers (Lists p c) n = n ≡ partCells (digit (p .moved) ∷ digit (c .moved) ∷ []) (p .pairs ∷ c .pairs ∷ [])
+mergeNumbers (MergeAnswer.Refused k) n = ⊥
 
 -- the small record of the stock that is laid
 abbrev pub tally : (generation intervals : ℕ) → Tally
 tally generation intervals = record { generation = generation; intervals = intervals }
 
-abbrev pub filledNumbers : FillAnswer → Tally → Type 0
-filledNumbers (FillAnswer.Accepted t) n = n ≡ t
-filledNumbers (FillAnswer.Refused k) n = ⊥
+abbrev pub fillNumbers : FillAnswer → Tally → Type 0
+fillNumbers (FillAnswer.Accepted t) n = n ≡ t
+fillNumbers (FillAnswer.Refused k) n = ⊥
 
 -- the ten numbers of a volume, in the order of the Rust's `DexelVolume`
 abbrev pub volumeNumbers : VolumeAnswer → List Float → Type 0
@@ -94,14 +94,14 @@ volumeNumbers (VolumeAnswer.Accepted v) n =
 volumeNumbers (VolumeAnswer.Refused k) n = ⊥
 
 -- how many rays a commit changed
-abbrev pub committedNumbers : CommitAnswer → ℕ → Type 0
-committedNumbers (CommitAnswer.Changed n) changed = changed ≡ n
-committedNumbers (CommitAnswer.Refused k) changed = ⊥
+abbrev pub commitNumbers : CommitAnswer → ℕ → Type 0
+commitNumbers (CommitAnswer.Changed n) changed = changed ≡ n
+commitNumbers (CommitAnswer.Refused k) changed = ⊥
 
 -- the number of entries and the visit total of a sweep
 abbrev pub totals : (entries visits : ℕ) → Totals
 totals entries visits = record { entries = entries; visits = visits }
 
-abbrev pub sweptNumbers : SweepAnswer → Totals → Type 0
-sweptNumbers (SweepAnswer.Accepted t) n = n ≡ t
-sweptNumbers (SweepAnswer.Refused k) n = ⊥
+abbrev pub sweepNumbers : SweepAnswer → Totals → Type 0
+sweepNumbers (SweepAnswer.Accepted t) n = n ≡ t
+sweepNumbers (SweepAnswer.Refused k) n = ⊥

@@ -8,7 +8,9 @@ ghost use Rattle.stock.specs.declared.CommitAnswer.{CommitAnswer};
 ghost use Rattle.stock_fill.specs.declared.FillAnswer.{FillAnswer};
 ghost use Rattle.stock_volume.specs.declared.VolumeAnswer.{VolumeAnswer};
 ghost use Rattle.sweep.specs.declared.SweepAnswer.{SweepAnswer};
-ghost use Rattle.c_results.specs.Numbers.{HandedAs, listedNumbers, toldNumbers, mergedNumbers, partCells, digit, gridNumbers, gridCells, filledNumbers, tally, volumeNumbers, committedNumbers, sweptNumbers, totals};
+ghost use Rattle.c_results.specs.Numbers.{HandedAs, listNumbers, boolNumbers, mergeNumbers, partCells, digit};
+ghost use Rattle.c_results.specs.Numbers.{gridNumbers, gridCells, fillNumbers, tally, volumeNumbers};
+ghost use Rattle.c_results.specs.Numbers.{commitNumbers, sweepNumbers, totals};
 use grid::GridAnswer;
 use ray_merge::MergeAnswer;
 use span_compare::BoolAnswer;
@@ -19,8 +21,8 @@ use stock_volume::VolumeAnswer;
 use sweep::SweepAnswer;
 
 // Hands the answer of a list function back as numbers.
-pub fn hand_listed(l: ListAnswer, pairs: &mut usize) -> u32
-    ensures { λ r. ⌜ HandedAs listedNumbers ListAnswer.Refused l r (now (pairs .entry)) (now (pairs .exit)) ⌝ }
+pub fn hand_list(l: ListAnswer, pairs: &mut usize) -> u32
+    ensures { λ r. ⌜ HandedAs listNumbers ListAnswer.Refused l r (now (pairs .entry)) (now (pairs .exit)) ⌝ }
 {
     match l {
         ListAnswer::Pairs(n) => {
@@ -34,8 +36,8 @@ pub fn hand_listed(l: ListAnswer, pairs: &mut usize) -> u32
 }
 
 // Hands a yes or a no back as numbers.
-pub fn hand_told(t: BoolAnswer, yes: &mut u32) -> u32
-    ensures { λ r. ⌜ HandedAs toldNumbers BoolAnswer.Refused t r (now (yes .entry)) (now (yes .exit)) ⌝ }
+pub fn hand_bool(t: BoolAnswer, yes: &mut u32) -> u32
+    ensures { λ r. ⌜ HandedAs boolNumbers BoolAnswer.Refused t r (now (yes .entry)) (now (yes .exit)) ⌝ }
 {
     match t {
         BoolAnswer::Yes => {
@@ -60,8 +62,8 @@ fn digit_of(b: bool) -> u32
 }
 
 // Hands what became of both lists back as numbers.
-pub fn hand_merged(m: MergeAnswer, moved: &mut [u32; 2], pairs: &mut [usize; 2]) -> u32
-    ensures { λ r. ⌜ HandedAs mergedNumbers MergeAnswer.Refused m r
+pub fn hand_merge(m: MergeAnswer, moved: &mut [u32; 2], pairs: &mut [usize; 2]) -> u32
+    ensures { λ r. ⌜ HandedAs mergeNumbers MergeAnswer.Refused m r
         (partCells (now (moved .entry)) (now (pairs .entry))) (partCells (now (moved .exit)) (now (pairs .exit))) ⌝ }
 {
     match m {
@@ -94,8 +96,8 @@ pub fn hand_grid(g: GridAnswer, counts: &mut [u64; 3], steps: &mut [f64; 3]) -> 
 }
 
 // Hands the small record of a stock back as numbers.
-pub fn hand_filled(f: FillAnswer, generation: &mut u64, intervals: &mut u64) -> u32
-    ensures { λ r. ⌜ HandedAs filledNumbers FillAnswer.Refused f r
+pub fn hand_fill(f: FillAnswer, generation: &mut u64, intervals: &mut u64) -> u32
+    ensures { λ r. ⌜ HandedAs fillNumbers FillAnswer.Refused f r
         (tally (now (generation .entry)) (now (intervals .entry))) (tally (now (generation .exit)) (now (intervals .exit))) ⌝ }
 {
     match f {
@@ -111,7 +113,7 @@ pub fn hand_filled(f: FillAnswer, generation: &mut u64, intervals: &mut u64) -> 
 }
 
 // Hands a volume back as its ten numbers.
-pub fn hand_measured(m: VolumeAnswer, volume: &mut [f64; 10]) -> u32
+pub fn hand_volume(m: VolumeAnswer, volume: &mut [f64; 10]) -> u32
     ensures { λ r. ⌜ HandedAs volumeNumbers VolumeAnswer.Refused m r (now (volume .entry)) (now (volume .exit)) ⌝ }
 {
     match m {
@@ -137,8 +139,8 @@ pub fn hand_measured(m: VolumeAnswer, volume: &mut [f64; 10]) -> u32
 }
 
 // Hands the number of changed rays back.
-pub fn hand_committed(a: CommitAnswer, changed: &mut u64) -> u32
-    ensures { λ r. ⌜ HandedAs committedNumbers CommitAnswer.Refused a r (now (changed .entry)) (now (changed .exit)) ⌝ }
+pub fn hand_commit(a: CommitAnswer, changed: &mut u64) -> u32
+    ensures { λ r. ⌜ HandedAs commitNumbers CommitAnswer.Refused a r (now (changed .entry)) (now (changed .exit)) ⌝ }
 {
     match a {
         CommitAnswer::Changed(n) => {
@@ -152,8 +154,8 @@ pub fn hand_committed(a: CommitAnswer, changed: &mut u64) -> u32
 }
 
 // Hands the totals of a sweep back as numbers.
-pub fn hand_swept(s: SweepAnswer, entries: &mut usize, visits: &mut u64) -> u32
-    ensures { λ r. ⌜ HandedAs sweptNumbers SweepAnswer.Refused s r
+pub fn hand_sweep(s: SweepAnswer, entries: &mut usize, visits: &mut u64) -> u32
+    ensures { λ r. ⌜ HandedAs sweepNumbers SweepAnswer.Refused s r
         (totals (now (entries .entry)) (now (visits .entry))) (totals (now (entries .exit)) (now (visits .exit))) ⌝ }
 {
     match s {

@@ -21,8 +21,8 @@ pub record ChangesFit (spec : DexelStockSpec) (g : DexelGrid) (c : Cells) (total
       + pairsLaid (updatesIn g changes pairs) ≤ spec .«max_intervals»
 
 -- the lists of all changed rays are freed, whatever the pairs are that will be laid
-abbrev pub FreeAllPost : DexelStockSpec → DexelGrid → List ℕ → (before after : Cells) → Type 0
-FreeAllPost spec g changes before after = (total : ℕ) (pairs : List Float)
+abbrev pub FreeChangesPost : DexelStockSpec → DexelGrid → List ℕ → (before after : Cells) → Type 0
+FreeChangesPost spec g changes before after = (total : ℕ) (pairs : List Float)
     → ChangesFit spec g before total changes pairs
     → after ≡ freedAll (spec .«max_intervals») before (updatesIn g changes pairs)
 

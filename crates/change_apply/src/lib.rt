@@ -4,7 +4,7 @@ ghost use mathlib.Core.List.{List};
 ghost use Prim.Native.Nat.{ℕ, _+_, _*_, _^_, _<_};
 ghost use lib.Ieee.{Float};
 ghost use Rattle.store.specs.Updates.{laidAll, applied};
-ghost use Rattle.change_apply.specs.Passes.{ChangesFit, FreeAllPost, ChangesFreed};
+ghost use Rattle.change_apply.specs.Passes.{ChangesFit, FreeChangesPost, ChangesFreed};
 ghost use Rattle.change_list.specs.Changes.{updatesIn};
 ghost use Rattle.store.specs.Store.{cells};
 use grid::DexelGrid;
@@ -21,7 +21,7 @@ fn free_changes(
 )
     requires { ⌜ ((total : ℕ) × (pairs : List Float)
         × ChangesFit spec g (cells (now spans) (now links) (now heads)) total (now changes) pairs) ⌝ }
-    ensures { λ _. ⌜ FreeAllPost spec g (now (changes .entry))
+    ensures { λ _. ⌜ FreeChangesPost spec g (now (changes .entry))
         (cells (now (spans .entry)) (now (links .entry)) (now (heads .entry)))
         (cells (now (spans .exit)) (now (links .exit)) (now (heads .exit))) ⌝ }
 {

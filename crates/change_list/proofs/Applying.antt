@@ -1,4 +1,5 @@
--- The law of a change list: what its updates leave of a sound stock.
+-- The law of a change list: what its updates leave of a sound stock. The rays ascend, so each list is updated once at
+-- most: a changed ray gets the new lists of its change, which are valid, and every other ray keeps its own.
 use mathlib.Core.Path.{_≡_, refl, sym, ap, _∙_, subst}
 use mathlib.Core.List.{List, [], _∷_, List·Memᴰ, List·Memᴰ·head, List·Memᴰ·tail, List·Memᴰ·cases-cons, List·Memᴰ·not-nil}
 use mathlib.Core.Logic.{⊎-elim}
@@ -32,7 +33,7 @@ module _ (spec : DexelStockSpec) (g : DexelGrid) (c : Cells) (pairs : List Float
   good-ascend (d ∷ ds) from k h all =
       let ray : ℕ = changeRay g (d .axis) (d .index) in
       let good = all .0 in
-      let v = good .cuts .loses .valid in
+      let v = good .allowed .removal .valid in
       let below : ray < rayCount g = ray-below from d good in
       let up : from ≤ ray = good .names .ascends in
       let lo₁ : k ≤ 2 * ray = omega arith in
@@ -77,7 +78,7 @@ module _ (spec : DexelStockSpec) (g : DexelGrid) (c : Cells) (pairs : List Float
           (listAfter (updatesOf g (d ∷ ds)) (2 * ray) p) x) (sym qe)
           (subst (λ (x : List Float). ValidRay (boundsOf spec g ray .lo) (boundsOf spec g ray .hi) x (d .certain-after)) (sym pe)
           (subst (λ (r : ℕ). ValidRay (boundsOf spec g r .lo) (boundsOf spec g r .hi) (d .possible-after)
-          (d .certain-after)) (sym e) (all .0 .cuts .loses .valid)))
+          (d .certain-after)) (sym e) (all .0 .allowed .removal .valid)))
       at (no ne) rest =
           let pe : listAfter (updatesOf g (d ∷ ds)) (2 * ray) p ≡ listAfter (updatesOf g ds) (2 * ray) p
           = after-other first (second ∷ updatesOf g ds) (2 * ray) p

@@ -1,10 +1,10 @@
--- What the tests of a ray's change tell, one after the other.
+-- What the tests of a ray's change decide, one after the other: each is a field of `IsRemoval` or of `ChangeAllowed`.
 use mathlib.Core.Path.{_≡_, refl, sym, ap, _∙_, subst}
 use mathlib.Core.Bool.{Bool, true, false, not, _&&_}
 use mathlib.Core.List.{List}
 use Prim.Native.Nat.{ℕ, _<_}
 use lib.Ieee.{Float}
-use Rattle.logic.proofs.Bools.{and-left, and-right, not-true, not-false, clash}
+use Rattle.logic.proofs.Bools.{and-left, and-right, not-true, not-false, clash, found}
 use Rattle.spans.specs.Spans.{sound, equal, Within}
 use Rattle.grid.specs.Rays.{rayCount, boundsOf}
 use Rattle.grid.specs.declared.DexelStockSpec.{DexelStockSpec}
@@ -12,8 +12,8 @@ use Rattle.grid.specs.declared.DexelGrid.{DexelGrid}
 use Rattle.grid.specs.declared.RayBounds.{RayBounds}
 use Rattle.span_cover.specs.Cover.{Covers}
 use Rattle.spans.specs.Rays.{ValidRay}
-use Rattle.ray_check.proofs.Tests.{passes, covers-tells}
-use Rattle.change_list.specs.Cuts.{IsRemoval, ChangeAllowed}
+use Rattle.ray_check.proofs.Tests.{covers-tells}
+use Rattle.change_list.specs.Removal.{IsRemoval, ChangeAllowed}
 use Rattle.change_list.proofs.Lists.{sound-equal}
 use Rattle.logic.specs.Logic.{Decides}
 use Rattle.change_list.specs.Steps.{SoundWithRoom}
@@ -30,52 +30,55 @@ never P f = ((λ t. absurd (clash false t refl)), (λ p. absurd (f p)))
 pub covers-good : (outer inner : List Float) (r : Bool) → Covers outer inner r → not r ≡ false → Within outer inner
 covers-good outer inner r f n = covers-tells outer inner r f .0 (not-false r n)
 
--- ---- `only_loses`
+-- ---- `is_removal`
 module _ (lo hi : Float) (p q p′ q′ : List Float) where
-  pub only-1 : (r : Bool) → Decides (ValidRay lo hi p′ q′) r → not r ≡ true → Decides (IsRemoval lo hi p q p′ q′) false
-  only-1 r t n = never (IsRemoval lo hi p q p′ q′) (λ l. clash r (t .1 (l .valid)) (not-true r n))
+  pub removal-invalid : (r : Bool) → Decides (ValidRay lo hi p′ q′) r → not r ≡ true → Decides (IsRemoval lo hi p q p′ q′) false
+  removal-invalid r t n = never (IsRemoval lo hi p q p′ q′) (λ l. clash r (t .1 (l .valid)) (not-true r n))
 
-  pub only-2 : (r : Bool) → Covers p p′ r → not r ≡ true → Decides (IsRemoval lo hi p q p′ q′) false
-  only-2 r t n = never (IsRemoval lo hi p q p′ q′) (λ l. clash r (covers-tells p p′ r t .1 (l .possible-loses)) (not-true r n))
+  pub removal-gains-possible : (r : Bool) → Covers p p′ r → not r ≡ true → Decides (IsRemoval lo hi p q p′ q′) false
+  removal-gains-possible r t n =
+      never (IsRemoval lo hi p q p′ q′) (λ l. clash r (covers-tells p p′ r t .1 (l .possible-loses)) (not-true r n))
 
-  pub only-3 : (r : Bool) → Covers q q′ r → not r ≡ true → Decides (IsRemoval lo hi p q p′ q′) false
-  only-3 r t n = never (IsRemoval lo hi p q p′ q′) (λ l. clash r (covers-tells q q′ r t .1 (l .certain-loses)) (not-true r n))
+  pub removal-gains-certain : (r : Bool) → Covers q q′ r → not r ≡ true → Decides (IsRemoval lo hi p q p′ q′) false
+  removal-gains-certain r t n = never (IsRemoval lo hi p q p′ q′)
+      (λ l. clash r (covers-tells q q′ r t .1 (l .certain-loses)) (not-true r n))
 
-  pub only-made : (r : Bool) → ValidRay lo hi p′ q′ → Within p p′ → Within q q′ → (equal p′ p && equal q′ q) ≡ not r
+  pub removal-decided : (r : Bool) → ValidRay lo hi p′ q′ → Within p p′ → Within q q′ → (equal p′ p && equal q′ q) ≡ not r
       → Decides (IsRemoval lo hi p q p′ q′) r
-  only-made true v a b e = ((λ t. record { valid = v; possible-loses = a; certain-loses = b; differs = e }), (λ l. refl))
-  only-made false v a b e = never (IsRemoval lo hi p q p′ q′) (λ l. clash (equal p′ p && equal q′ q) e (l .differs))
+  removal-decided true v a b e = ((λ t. record { valid = v; possible-loses = a; certain-loses = b; differs = e }), (λ l. refl))
+  removal-decided false v a b e = never (IsRemoval lo hi p q p′ q′) (λ l. clash (equal p′ p && equal q′ q) e (l .differs))
 
-  pub only-4 : (r : Bool) → ValidRay lo hi p′ q′ → Within p p′ → Within q q′ → r ≡ equal p′ p → not r ≡ true
+  pub removal-differs-possible : (r : Bool) → ValidRay lo hi p′ q′ → Within p p′ → Within q q′ → r ≡ equal p′ p → not r ≡ true
       → Decides (IsRemoval lo hi p q p′ q′) true
-  only-4 r v a b e n = only-made true v a b (ap (λ (t : Bool). t && equal q′ q) (sym e ∙ not-true r n))
+  removal-differs-possible r v a b e n = removal-decided true v a b (ap (λ (t : Bool). t && equal q′ q) (sym e ∙ not-true r n))
 
-  pub only-5 : (r s : Bool) → ValidRay lo hi p′ q′ → Within p p′ → Within q q′ → r ≡ equal p′ p → not r ≡ false
+  pub removal-differs-certain : (r s : Bool) → ValidRay lo hi p′ q′ → Within p p′ → Within q q′ → r ≡ equal p′ p → not r ≡ false
       → s ≡ equal q′ q → Decides (IsRemoval lo hi p q p′ q′) (not s)
-  only-5 r s v a b e n f = only-made (not s) v a b (ap (λ (t : Bool). t && equal q′ q) (passes (equal p′ p) r e n) ∙ sym f ∙ twice s)
+  removal-differs-certain r s v a b e n f =
+      removal-decided (not s) v a b (ap (λ (t : Bool). t && equal q′ q) (found r (equal p′ p) e n) ∙ sym f ∙ twice s)
     where
       twice : (b : Bool) → b ≡ not (not b)
       twice true = refl
       twice false = refl
 
--- ---- `had` and `cuts`
+-- ---- `matches_before` and `check_removal`
 module _ (spec : DexelStockSpec) (g : DexelGrid) (c : Cells) (ray : ℕ) (p q : List Float) where
-  pub had-no : (r : Bool) → r ≡ equal (rayList spec c ray Possible) p → not r ≡ true
+  pub before-differs-possible : (r : Bool) → r ≡ equal (rayList spec c ray Possible) p → not r ≡ true
       → false ≡ (equal (rayList spec c ray Possible) p && equal (rayList spec c ray Certain) q)
-  had-no r e n = sym (ap (λ (t : Bool). t && equal (rayList spec c ray Certain) q) (sym e ∙ not-true r n))
+  before-differs-possible r e n = sym (ap (λ (t : Bool). t && equal (rayList spec c ray Certain) q) (sym e ∙ not-true r n))
 
-  pub had-second : (r s : Bool) → r ≡ equal (rayList spec c ray Possible) p → not r ≡ false
+  pub before-by-certain : (r s : Bool) → r ≡ equal (rayList spec c ray Possible) p → not r ≡ false
       → s ≡ equal (rayList spec c ray Certain) q
       → s ≡ (equal (rayList spec c ray Possible) p && equal (rayList spec c ray Certain) q)
-  had-second r s e n f = f ∙ sym
-      (ap (λ (t : Bool). t && equal (rayList spec c ray Certain) q) (passes (equal (rayList spec c ray Possible) p) r e n))
+  before-by-certain r s e n f = f ∙ sym
+      (ap (λ (t : Bool). t && equal (rayList spec c ray Certain) q) (found r (equal (rayList spec c ray Possible) p) e n))
 
   -- the old lists are sound, as the store's are
   pub old-sound : SoundWithRoom spec g c → ray < rayCount g → (r : Bool)
       → r ≡ (equal (rayList spec c ray Possible) p && equal (rayList spec c ray Certain) q) → not r ≡ false
       → (sound p ≡ true) × (sound q ≡ true)
   old-sound lent l r e n =
-      let w = passes (equal (rayList spec c ray Possible) p && equal (rayList spec c ray Certain) q) r e n in
+      let w = found r (equal (rayList spec c ray Possible) p && equal (rayList spec c ray Certain) q) e n in
       let v = lent .isSound .valid ray l in (
         sound-equal (rayList spec c ray Possible) p
             (and-left (equal (rayList spec c ray Possible) p) (equal (rayList spec c ray Certain) q) w) (v .possible-sound),
@@ -84,31 +87,30 @@ module _ (spec : DexelStockSpec) (g : DexelGrid) (c : Cells) (ray : ℕ) (p q : 
       )
 
   module _ (p′ q′ : List Float) where
-    pub cuts-no : (r : Bool) → r ≡ (equal (rayList spec c ray Possible) p && equal (rayList spec c ray Certain) q)
+    pub allowed-not-before : (r : Bool) → r ≡ (equal (rayList spec c ray Possible) p && equal (rayList spec c ray Certain) q)
         → not r ≡ true → Decides (ChangeAllowed spec g c ray p q p′ q′) false
-    cuts-no r e n = fails (ChangeAllowed spec g c ray p q p′ q′)
+    allowed-not-before r e n = fails (ChangeAllowed spec g c ray p q p′ q′)
         (equal (rayList spec c ray Possible) p && equal (rayList spec c ray Certain) q) r e n (λ k. k .was)
 
-    pub cuts-rest : (r s : Bool) (b : RayBounds)
+    pub allowed-by-removal : (r s : Bool) (b : RayBounds)
         → r ≡ (equal (rayList spec c ray Possible) p && equal (rayList spec c ray Certain) q) → not r ≡ false
         → b ≡ boundsOf spec g ray → Decides (IsRemoval (b .lo) (b .hi) p q p′ q′) s
         → Decides (ChangeAllowed spec g c ray p q p′ q′) s
-    cuts-rest r s b e n f t =
+    allowed-by-removal r s b e n f t =
         let u : Decides (IsRemoval (boundsOf spec g ray .lo) (boundsOf spec g ray .hi) p q p′ q′) s =
         subst (λ (x : RayBounds). Decides (IsRemoval (x .lo) (x .hi) p q p′ q′) s) f t in (
           (λ y. record {
-            was = passes (equal (rayList spec c ray Possible) p && equal (rayList spec c ray Certain) q)
-                r e n;
-            loses = u .0 y;
+            was = found r (equal (rayList spec c ray Possible) p && equal (rayList spec c ray Certain) q) e n;
+            removal = u .0 y;
           }),
-          (λ k. u .1 (k .loses)),
+          (λ k. u .1 (k .removal)),
         )
 
--- ---- `cuts_at`: a part of the pairs that is lent
+-- ---- `check_removal_at`: a part of the pairs that is lent
 module _ (spec : DexelStockSpec) (g : DexelGrid) (c : Cells) (ray : ℕ) (r : Bool) where
-  pub cuts-parts : (p q p′ q′ a b a′ b′ : List Float) → p ≡ a → q ≡ b → p′ ≡ a′ → q′ ≡ b′
+  pub allowed-parts : (p q p′ q′ a b a′ b′ : List Float) → p ≡ a → q ≡ b → p′ ≡ a′ → q′ ≡ b′
       → Decides (ChangeAllowed spec g c ray p q p′ q′) r → Decides (ChangeAllowed spec g c ray a b a′ b′) r
-  cuts-parts p q p′ q′ a b a′ b′ e f e′ f′ t =
+  allowed-parts p q p′ q′ a b a′ b′ e f e′ f′ t =
       subst (λ (x : List Float). Decides (ChangeAllowed spec g c ray x b a′ b′) r) e
       (subst (λ (x : List Float). Decides (ChangeAllowed spec g c ray p x a′ b′) r) f
       (subst (λ (x : List Float). Decides (ChangeAllowed spec g c ray p q x b′) r) e′

@@ -1,4 +1,4 @@
--- What the tests of a change tell, one after the other.
+-- What the tests of a change decide, one after the other: each is a field of `Good`.
 use mathlib.Core.Path.{_≡_, sym, ap, _∙_, subst}
 use mathlib.Core.Bool.{Bool, true, false, not}
 use mathlib.Core.List.{List, []}
@@ -16,7 +16,7 @@ use Rattle.grid.specs.Axes.{worldAxis}
 use Rattle.grid.specs.Rays.{raysAlong}
 use Rattle.grid.specs.declared.DexelStockSpec.{DexelStockSpec}
 use Rattle.grid.specs.declared.DexelGrid.{DexelGrid}
-use Rattle.change_list.specs.Cuts.{ChangeAllowed}
+use Rattle.change_list.specs.Removal.{ChangeAllowed}
 use Rattle.change_list.proofs.ChangeTests.{never}
 use Rattle.change_list.specs.Changes.{end4, changeRay, Names, changeBy, Good, badCauses}
 use Rattle.change_list.specs.Steps.{pairsIn, cursorOf, checkNumber, CheckChangePost}
@@ -53,22 +53,22 @@ module _ (h : ChangeHead) (left : ℕ) where
     (λ p. le-leb (h .«after_certain») (left - h .«before_possible» - h .«before_certain» - h .«after_possible») (omega arith)),
   )
 
--- ---- `names`
+-- ---- `names_ray_from`
 module _ (g : DexelGrid) (axis index from : ℕ) where
-  pub no-axis : 2 < axis → Decides (Names g axis index from) false
-  no-axis l = never (Names g axis index from) (λ p. let d = p .digit in omega arith)
+  pub names-no-axis : 2 < axis → Decides (Names g axis index from) false
+  names-no-axis l = never (Names g axis index from) (λ p. let d = p .digit in omega arith)
 
-  pub no-ray : (rays : ℕ) → rays ≡ raysAlong g (worldAxis axis) → rays ≤ index → Decides (Names g axis index from) false
-  no-ray rays e l = never (Names g axis index from) (λ p. omega (arith, p .below, e))
+  pub names-no-ray : (rays : ℕ) → rays ≡ raysAlong g (worldAxis axis) → rays ≤ index → Decides (Names g axis index from) false
+  names-no-ray rays e l = never (Names g axis index from) (λ p. omega (arith, p .below, e))
 
-  pub a-ray : (rays ray : ℕ) → axis ≤ 2 → rays ≡ raysAlong g (worldAxis axis) → index < rays
+  pub names-a-ray : (rays ray : ℕ) → axis ≤ 2 → rays ≡ raysAlong g (worldAxis axis) → index < rays
       → ray ≡ changeRay g axis index → Decides (Names g axis index from) (leb from ray)
-  a-ray rays ray d e l f = (
+  names-a-ray rays ray d e l f = (
     (λ t. record { digit = d; below = omega (arith, e, l); ascends = omega (arith, leb-true from ray t, f) }),
     (λ p. le-leb from ray (omega (arith, p .ascends, f))),
   )
 
--- ---- 13
+-- ---- 13 is due exactly when not all is good
 pub bad-due : (good : Type 0) → (good → ⊥) → Due (badCauses good) (checkNumber Bad)
 bad-due good n = first (cause 13 (good → ⊥)) [] n
 
@@ -94,16 +94,16 @@ module _ (spec : DexelStockSpec) (g : DexelGrid) (c : Cells) (pairs : List Float
       → CheckChangePost spec g c pairs h cur Bad
   change-unnamed r t n = bad-due _ (λ (k : GoodHere). clash r (t .1 (k .names)) (not-true r n))
 
-  pub change-uncut : (ray : ℕ) (r : Bool) → ray ≡ changeRay g (h .axis) (h .index)
+  pub change-not-allowed : (ray : ℕ) (r : Bool) → ray ≡ changeRay g (h .axis) (h .index)
       → Decides (ChangeAllowed spec g c ray (changeBy h pairs (cur .at) .possible-before)
       (changeBy h pairs (cur .at) .certain-before) (changeBy h pairs (cur .at) .possible-after)
       (changeBy h pairs (cur .at) .certain-after)) r
       → not r ≡ true → CheckChangePost spec g c pairs h cur Bad
-  change-uncut ray r e t n =
+  change-not-allowed ray r e t n =
       bad-due _ (λ (k : GoodHere). clash r
       (t .1 (subst (λ (x : ℕ). ChangeAllowed spec g c x (changeBy h pairs (cur .at) .possible-before)
       (changeBy h pairs (cur .at) .certain-before) (changeBy h pairs (cur .at) .possible-after)
-      (changeBy h pairs (cur .at) .certain-after)) (sym e) (k .cuts)))
+      (changeBy h pairs (cur .at) .certain-after)) (sym e) (k .allowed)))
       (not-true r n))
 
   pub change-done : (ray : ℕ) (r : Bool) (next : ChangeCursor) → ray ≡ changeRay g (h .axis) (h .index)
@@ -118,7 +118,7 @@ module _ (spec : DexelStockSpec) (g : DexelGrid) (c : Cells) (pairs : List Float
     record {
       within = w;
       names = m;
-      cuts = subst (λ (x : ℕ). ChangeAllowed spec g c x (changeBy h pairs (cur .at) .possible-before)
+      allowed = subst (λ (x : ℕ). ChangeAllowed spec g c x (changeBy h pairs (cur .at) .possible-before)
           (changeBy h pairs (cur .at) .certain-before) (changeBy h pairs (cur .at) .possible-after)
           (changeBy h pairs (cur .at) .certain-after)) e (t .0 (not-false r n));
     },

@@ -1,4 +1,5 @@
--- What good changes free and lay, and one turn of the check of all changes.
+-- What good changes free and lay, and one turn of the check of all changes. A good change says the lists that its ray
+-- has, so the pairs that it names before are those that it frees.
 use mathlib.Core.Path.{_≡_, refl, sym, ap, _∙_, subst}
 use mathlib.Core.List.{List, [], _∷_}
 use Prim.Native.Nat.{ℕ, suc, _+_, _-_, _*_, _%_, _/_, _≤_, _<_}
@@ -51,10 +52,10 @@ module _ (spec : DexelStockSpec) (g : DexelGrid) (c : Cells) (changes : List ℕ
       let w = good .within in
       let p : length (rayList spec c ray Possible) ≡ length (pairsFrom pairs at (h .«before_possible»)) =
       equal-length (rayList spec c ray Possible) (pairsFrom pairs at (h .«before_possible»))
-      (and-left _ _ (good .cuts .was)) in
+      (and-left _ _ (good .allowed .was)) in
       let q : length (rayList spec c ray Certain) ≡ length (pairsFrom pairs (end1 h at) (h .«before_certain»)) =
       equal-length (rayList spec c ray Certain) (pairsFrom pairs (end1 h at) (h .«before_certain»))
-      (and-right (equal (rayList spec c ray Possible) (pairsFrom pairs at (h .«before_possible»))) _ (good .cuts .was)) in
+      (and-right (equal (rayList spec c ray Possible) (pairsFrom pairs at (h .«before_possible»))) _ (good .allowed .was)) in
       let pe : length (rayList spec c ray Possible) ≡ 2
       * length (placesOf (spec .«max_intervals») (c .links) (c .heads) (2 * ray)) =
       ends-length (c .spans) (placesOf (spec .«max_intervals») (c .links) (c .heads) (2 * ray)) in

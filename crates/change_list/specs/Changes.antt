@@ -10,7 +10,7 @@ use Rattle.grid.specs.Rays.{raysAlong, rayNumber}
 use Rattle.grid.specs.declared.DexelStockSpec.{DexelStockSpec}
 use Rattle.grid.specs.declared.DexelGrid.{DexelGrid}
 use Rattle.store.specs.Updates.{Update, update, pairsFrom}
-use Rattle.change_list.specs.Cuts.{ChangeAllowed}
+use Rattle.change_list.specs.Removal.{ChangeAllowed}
 use Rattle.change_list.specs.declared.ChangeHead.{ChangeHead}
 use Rattle.refusal.specs.Refusal.{Cause, cause}
 use Rattle.store.specs.Store.{Cells}
@@ -84,11 +84,12 @@ pub record Names (g : DexelGrid) (axis index from : ℕ) : Type 0 where
   pub below : index < raysAlong g (worldAxis axis)
   pub ascends : from ≤ changeRay g axis index
 
--- a change that `validate` lets pass, and whose lists lie within the lent pairs; `from` is one more than the ray of the change before
+-- a change that camlib's `validate` lets pass, and whose lists lie within the lent pairs; `from` is one more than the
+-- ray of the change before
 pub record Good (spec : DexelStockSpec) (g : DexelGrid) (c : Cells) (pairs : List Float) (from : ℕ) (d : Change) : Type 0 where
   pub within : d .past ≤ length pairs
   pub names : Names g (d .axis) (d .index) from
-  pub cuts : ChangeAllowed spec g c (changeRay g (d .axis) (d .index)) (d .possible-before) (d .certain-before)
+  pub allowed : ChangeAllowed spec g c (changeRay g (d .axis) (d .index)) (d .possible-before) (d .certain-before)
       (d .possible-after) (d .certain-after)
 
 unfoldable pub AllGood : DexelStockSpec → DexelGrid → Cells → List Float → ℕ → List Change → Type 0

@@ -1,3 +1,3 @@
 pub mod Changes
 pub mod Steps
-pub mod Cuts
+pub mod Removal

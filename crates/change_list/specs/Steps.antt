@@ -38,7 +38,7 @@ pub record Stands (pairs : List Float) (cur : ChangeCursor) : Type 0 where
   pub within : cur .at ≤ length pairs
   pub sums : 2 * (cur .before + cur .after) ≤ cur .at
 
--- document 01's number of each answer, 0 where the check goes on: 13 for a change that `validate` turns away, or whose lists
+-- document 01's number of each answer, 0 where the check goes on: 13 for a change that camlib's `validate` turns away, or whose lists
 -- reach past the lent pairs
 abbrev pub checkNumber : ChangeCheck → ℕ
 checkNumber (Next n) = 0

@@ -1,12 +1,11 @@
-// A change list, and its check against a stock.
-// The change of one ray, tested against a stock.
+// A change list, and its check against a stock, one ray's change at a time.
 ghost use mathlib.Core.Path.{_≡_};
 ghost use Prim.Native.Nat.{_+_, _*_, _%_, _^_, _≤_, _<_};
 ghost use lib.ListN.{length};
 ghost use Rattle.grid.specs.Axes.{worldAxis};
 ghost use Rattle.grid.specs.Rays.{rayCount, raysAlong};
 ghost use Rattle.store.specs.Updates.{pairsFrom};
-ghost use Rattle.change_list.specs.Cuts.{IsRemoval, ChangeAllowed};
+ghost use Rattle.change_list.specs.Removal.{IsRemoval, ChangeAllowed};
 ghost use Rattle.change_list.specs.Changes.{headAt, changesOf, changeRay, Names};
 ghost use Rattle.change_list.specs.Steps.{pairsIn, cursorOf, Stands, CheckChangePost, CheckChangesPost, SoundWithRoom};
 ghost use Rattle.logic.specs.Logic.{Decides};
@@ -91,8 +90,8 @@ pub fn ray_named(g: DexelGrid, h: ChangeHead) -> u64
     grid_rays::ray_number(g, WorldAxis(axis), h.index)
 }
 
-// Whether a change names a ray, from the given one on.
-fn names(g: DexelGrid, h: ChangeHead, from: u64) -> bool
+// Whether a change names a ray, and one from the given one on.
+fn names_ray_from(g: DexelGrid, h: ChangeHead, from: u64) -> bool
     requires { ⌜ rayCount g < 2 ^ 64 ⌝ }
     ensures { λ r. ⌜ Decides (Names g (h .axis) (h .index) from) r ⌝ }
 {
@@ -146,11 +145,11 @@ fn check_change(
     if !fits(h, (pairs.len() - cur.at) / 2) {
         return ChangeCheck::Bad;
     }
-    if !names(g, h, cur.from) {
+    if !names_ray_from(g, h, cur.from) {
         return ChangeCheck::Bad;
     }
     let ray = ray_named(g, h);
-    let good = cuts_at(
+    let good = check_removal_at(
         spec,
         g,
         spans,
@@ -230,8 +229,8 @@ fn same_ends(a: &[f64], b: &[f64]) -> bool
     true
 }
 
-// Whether the store has these lists for a ray.
-fn had(
+// Whether the lists before are those that the store has for the ray, as numbers.
+fn matches_before(
     spec: DexelStockSpec,
     g: DexelGrid,
     spans: &[f64],
@@ -247,15 +246,15 @@ fn had(
         && equal (rayList spec (cells (now (spans .entry)) (now (links .entry)) (now (heads .entry))) ray Certain) (now (q .entry))) ⌝ }
 {
     let n = spec.max_intervals as usize;
-    let j = 2 * (ray as usize);
-    if !store_read::list_is(spans, links, n, heads[j], p) {
+    let head = store::ray_heads(heads, ray as usize);
+    if !store_read::list_is(spans, links, n, head.possible, p) {
         return false;
     }
-    store_read::list_is(spans, links, n, heads[j + 1], q)
+    store_read::list_is(spans, links, n, head.certain, q)
 }
 
 // Whether the new lists of a ray are valid, gain no point of the old ones and differ from them.
-fn only_loses(p: &[f64], q: &[f64], np: &[f64], nq: &[f64], lo: f64, hi: f64) -> bool
+fn is_removal(p: &[f64], q: &[f64], np: &[f64], nq: &[f64], lo: f64, hi: f64) -> bool
     requires { ⌜ (sound (now p) ≡ true) × (sound (now q) ≡ true) ⌝ }
     ensures { λ r. ⌜ Decides (IsRemoval lo hi (now (p .entry)) (now (q .entry)) (now (np .entry)) (now (nq .entry))) r ⌝ }
 {
@@ -274,8 +273,8 @@ fn only_loses(p: &[f64], q: &[f64], np: &[f64], nq: &[f64], lo: f64, hi: f64) ->
     !same_ends(nq, q)
 }
 
-// Whether a ray's old lists are those of the store, and its new ones are valid, gain no point and differ.
-fn cuts(
+// Whether a change of this ray is allowed: its old lists are those of the store, and the new ones a removal from them.
+fn check_removal(
     spec: DexelStockSpec,
     g: DexelGrid,
     spans: &[f64],
@@ -292,15 +291,15 @@ fn cuts(
         (cells (now (spans .entry)) (now (links .entry)) (now (heads .entry))) ray (now (p .entry)) (now (q .entry))
         (now (np .entry)) (now (nq .entry))) r ⌝ }
 {
-    if !had(spec, g, spans, links, heads, ray, p, q) {
+    if !matches_before(spec, g, spans, links, heads, ray, p, q) {
         return false;
     }
     let bounds = grid_rays::ray_bounds(spec, g, ray);
-    only_loses(p, q, np, nq, bounds.lo, bounds.hi)
+    is_removal(p, q, np, nq, bounds.lo, bounds.hi)
 }
 
-// The same, of lists that stand end to end in the pairs from cell `at` on.
-pub fn cuts_at(
+// Whether a change of this ray is allowed whose four lists, of so many pairs each, stand end to end from cell `at` on.
+pub fn check_removal_at(
     spec: DexelStockSpec,
     g: DexelGrid,
     spans: &[f64],
@@ -326,7 +325,7 @@ pub fn cuts_at(
     let f = e + 2 * bc;
     let i = f + 2 * ap;
     let j = i + 2 * ac;
-    cuts(
+    check_removal(
         spec,
         g,
         spans,

@@ -1,6 +1,6 @@
 -- A test of the first n: one more that passes, and one that fails. With it the tests of a chord and of all chords.
 use mathlib.Core.Path.{_≡_, refl, sym, ap, subst, _∙_}
-use mathlib.Core.Bool.{Bool, true, false, not, _&&_}
+use mathlib.Core.Bool.{Bool, true, false, not, _&&_, true≢false}
 use mathlib.Core.List.{List}
 use Prim.Native.Nat.{ℕ, zero, suc, _+_, _/_, _≤_, _<_}
 use native.Mathlib.Numerals.{add-one}
@@ -13,7 +13,10 @@ use Rattle.logic.proofs.Bools.{both, and-false, not-true, not-false}
 use Rattle.frame.specs.declared.Frame.{Frame}
 use Rattle.sweep_model.specs.declared.Chord.{Chord}
 use Rattle.sweep_model.specs.Chords.{chordOf}
-use Rattle.sweep_model.specs.ChordLimits.{guardFits, endsFit, numbersFit, chordFits, every, chordsFit}
+use Rattle.sweep_model.specs.ChordLimits.{BadChords}
+use Rattle.sweep_model.specs.Steps.{guardFits, endsFit, numbersFit, chordFits, every, chordsFit}
+use Rattle.sweep_model.proofs.ChordLimits.{unfit-chords, fit-chords}
+use Rattle.logic.specs.Logic.{Decides}
 
 module _ (test : ℕ → Bool) where
   pub every-none : every test 0 ≡ true
@@ -52,17 +55,24 @@ module _ (f : Frame) (chords : List Float) (i : ℕ) where
 
 -- ---- all chords
 module _ (f : Frame) (guard : Float) (chords : List Float) where
-  pub guard-out : (r : Bool) → r ≡ guardFits guard → not r ≡ true → false ≡ chordsFit f guard chords
-  unfolding chordsFit
-  guard-out r e t = sym (ap (λ (b : Bool). b && every (chordFits f chords) (length chords / 8)) (sym e ∙ not-true r t))
+  -- a test of all chords, as an answer by document 01's clauses
+  answered : (r : Bool) → r ≡ chordsFit f guard chords → Decides (BadChords f guard chords) (not r)
+  answered true e = ((λ h. absurd (true≢false (sym h))), (λ b. absurd (fit-chords f guard chords (sym e) b)))
+  answered false e = ((λ h. unfit-chords f guard chords (sym e)), (λ b. refl))
 
-  pub chord-out : (i : ℕ) (r : Bool) → i < length chords / 8 → r ≡ chordFits f chords i → not r ≡ true → false ≡ chordsFit f guard chords
+  pub guard-unfit : (r : Bool) → r ≡ guardFits guard → not r ≡ true → Decides (BadChords f guard chords) true
   unfolding chordsFit
-  chord-out i r l e t = sym (and-false (guardFits guard) (every (chordFits f chords) (length chords / 8))
-      (not-every (chordFits f chords) i (length chords / 8) r l e t))
+  guard-unfit r e t = answered false
+      (sym (ap (λ (b : Bool). b && every (chordFits f chords) (length chords / 8)) (sym e ∙ not-true r t)))
+
+  pub chord-unfit : (i : ℕ) (r : Bool) → i < length chords / 8 → r ≡ chordFits f chords i → not r ≡ true
+      → Decides (BadChords f guard chords) true
+  unfolding chordsFit
+  chord-unfit i r l e t = answered false (sym (and-false (guardFits guard) (every (chordFits f chords) (length chords / 8))
+      (not-every (chordFits f chords) i (length chords / 8) r l e t)))
 
   pub all-fit : (i : ℕ) (r : Bool) → i ≡ length chords / 8 → r ≡ guardFits guard → not r ≡ false
-      → every (chordFits f chords) i ≡ true → true ≡ chordsFit f guard chords
+      → every (chordFits f chords) i ≡ true → Decides (BadChords f guard chords) false
   unfolding chordsFit
-  all-fit i r n e t h = sym (both (guardFits guard) (every (chordFits f chords) (length chords / 8))
-      (sym e ∙ not-false r t) (ap (every (chordFits f chords)) (sym n) ∙ h))
+  all-fit i r n e t h = answered true (sym (both (guardFits guard) (every (chordFits f chords) (length chords / 8))
+      (sym e ∙ not-false r t) (ap (every (chordFits f chords)) (sym n) ∙ h)))

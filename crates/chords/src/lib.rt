@@ -1,9 +1,12 @@
 // The lent chords, and document 01's limits for them and for the guard (refusal 7).
 ghost use mathlib.Core.Path.{_≡_};
+ghost use mathlib.Core.Bool.{not};
 ghost use Prim.Native.Nat.{_+_, _*_, _≤_};
 ghost use lib.ListN.{length};
+ghost use Rattle.logic.specs.Logic.{Decides};
 ghost use Rattle.sweep_model.specs.Chords.{pointAt, chordOf};
-ghost use Rattle.sweep_model.specs.ChordLimits.{guardFits, endsFit, planSize, lengthFits, numbersFit, chordFits, chordsFit};
+ghost use Rattle.sweep_model.specs.ChordLimits.{planSize, BadChords};
+ghost use Rattle.sweep_model.specs.Steps.{guardFits, endsFit, lengthFits, numbersFit, chordFits};
 use frame::Frame;
 use grid::Vec3;
 use sweep_model::Chord;
@@ -88,9 +91,9 @@ fn chord_fits(f: Frame, chords: &[f64], i: usize) -> bool
     false
 }
 
-// Whether the guard and all whole chords are within their limits.
+// Whether the guard and all whole chords are within their limits: false exactly where a clause of refusal 7 holds.
 pub fn check_chords(f: Frame, guard: f64, chords: &[f64]) -> bool
-    ensures { λ r. ⌜ r ≡ chordsFit f guard (now (chords .entry)) ⌝ }
+    ensures { λ r. ⌜ Decides (BadChords f guard (now (chords .entry))) (not r) ⌝ }
 {
     if !guard_fits(guard) {
         return false;

@@ -1,7 +1,9 @@
--- From a sound store and the merged lists in the work buffer to the store with the log's updates done.
+-- From a sound store and the merged lists in the work buffer to the store with the log's updates done. The updates
+-- that stand in the buffer are those that the log asks, so they ascend and fit the budget: every one finds room once
+-- all are freed.
 use mathlib.Core.Path.{_≡_, refl, sym, ap, ap₂, _∙_, subst}
 use mathlib.Core.List.{List, _++_}
-use Prim.Native.Nat.{ℕ, _+_, _-_, _*_, _/_, _≤_}
+use Prim.Native.Nat.{ℕ, _+_, _-_, _*_, _≤_}
 use native.Mathlib.Omega.{arith}
 use lib.ListN.{length, take, replicate, length-replicate}
 use lib.Ieee.{Float}
@@ -17,17 +19,17 @@ use Rattle.log_model.specs.Counts.{pairsAfter}
 use Rattle.log_model.proofs.Doubles.{DoubleCells, Doubles, all-doubles}
 use Rattle.log_group.specs.Groups.{GroupPost}
 use Rattle.log_lay.specs.Updates.{updatesFrom, listsEnd}
-use Rattle.log_lay.specs.Steps.{AllFreeable, EachLayable, RaysLayable}
+use Rattle.log_lay.specs.Steps.{FreeRaysPre, EachLayable, LayRaysPre}
 use Rattle.log_lay.proofs.Room.{each-layable, no-cursor}
 use Rattle.log_model.specs.Updates.{MergeUpdates}
-use Rattle.log_model.proofs.Leaves.{ascend, intervals-left}
+use Rattle.log_model.proofs.AcceptedLog.{ascend, intervals-left}
 use Rattle.log_merge.specs.All.{MergeAllPre, MergeAllPost}
 use Rattle.commit_apply.specs.Apply.{ApplyPre, ApplyPost}
 use Rattle.store.specs.Steps.{Room, Ascending}
 use Rattle.store.specs.Store.{Cells, ChainsSound}
 
 module _ (spec : DexelStockSpec) (g : DexelGrid) (c : Cells) (log w : List Float) (ready : ApplyPre spec g c log w) where
-  -- a stock with these cells: the laws of a cut speak of no generation
+  -- a stock with these cells: the laws of an accepted log need one, of whatever generation
   abbrev some : Stock
   some = record { cells = c; generation = 0; intervals = ready .total }
 
@@ -78,22 +80,22 @@ module _ (spec : DexelStockSpec) (g : DexelGrid) (c : Cells) (log w : List Float
           each-layable (f .isSound (ready .total - pairsFreed (spec .«max_intervals») c us) (omega (arith, f .fewer)))
           (kept-room (f .kept) (ready .room)) in-order (all-empty (ready .sound .store) (ready .room) in-order) fits
 
-    module _ (rays : ℕ) (e : rays ≡ rayCount g) where
-      us-is : updatesFrom w₂ (rays + length log / 6) (rays + length log / 6 + 2 * rays) 0 rays ≡ us
-      us-is = ap (λ (x : ℕ). updatesFrom w₂ (x + entryCount log) (x + entryCount log + 2 * x) 0 x) e
+    module _ (rays : ℕ) (e : rays ≡ rayCount g) (count : ℕ) (n : count ≡ entryCount log) where
+      us-is : updatesFrom w₂ (rays + count) (rays + count + 2 * rays) 0 rays ≡ us
+      us-is = ap₂ (λ (x y : ℕ). updatesFrom w₂ (x + y) (x + y + 2 * x) 0 x) e n
 
-      end-is : listsEnd w₂ (rays + length log / 6) (rays + length log / 6 + 2 * rays) 0 rays
+      end-is : listsEnd w₂ (rays + count) (rays + count + 2 * rays) 0 rays
           ≡ listsEnd w₂ (rayCount g + entryCount log) (rayCount g + entryCount log + 2 * rayCount g) 0 (rayCount g)
-      end-is = ap (λ (x : ℕ). listsEnd w₂ (x + entryCount log) (x + entryCount log + 2 * x) 0 x) e
+      end-is = ap₂ (λ (x y : ℕ). listsEnd w₂ (x + y) (x + y + 2 * x) 0 x) e n
 
       -- the sizes lie in the work buffer
-      pub sizes-fit : rays + length log / 6 + 2 * rays ≤ length w
-      sizes-fit = omega (arith, e, ready .work-room, ready .facts .budget)
+      pub sizes-fit : rays + count + 2 * rays ≤ length w
+      sizes-fit = omega (arith, e, n, ready .work-room, ready .facts .budget)
 
-      sizes-room : rays + length log / 6 + 2 * rays ≤ length w₂
+      sizes-room : rays + count + 2 * rays ≤ length w₂
       sizes-room = omega (arith, sizes-fit, same-size)
 
-      pub freeable : AllFreeable (spec .«max_intervals») c w₂ (rays + length log / 6) rays
+      pub freeable : FreeRaysPre (spec .«max_intervals») c w₂ (rays + count) rays
       freeable = record {
         in-sizes = sizes-room;
         room = subst (λ (x : ℕ). Room (spec .«max_intervals») (2 * x) c) (sym e) (ready .room);
@@ -102,12 +104,12 @@ module _ (spec : DexelStockSpec) (g : DexelGrid) (c : Cells) (log w : List Float
       }
 
       module _ (d : Cells) (freed : (q : ℕ)
-          → d ≡ freedAll (spec .«max_intervals») c (updatesFrom w₂ (rays + length log / 6) q 0 rays)) where
+          → d ≡ freedAll (spec .«max_intervals») c (updatesFrom w₂ (rays + count) q 0 rays)) where
         d-is : d ≡ freedAll (spec .«max_intervals») c us
-        d-is = freed (rays + length log / 6 + 2 * rays) ∙ ap (freedAll (spec .«max_intervals») c) us-is
+        d-is = freed (rays + count + 2 * rays) ∙ ap (freedAll (spec .«max_intervals») c) us-is
 
-        pub layable : DoubleCells (c .spans) → DoubleCells log → RaysLayable (spec .«max_intervals») d w₂ (rays + length log / 6) 0 rays
-            (record { from = 0; at = rays + length log / 6 + 2 * rays })
+        pub layable : DoubleCells (c .spans) → DoubleCells log → LayRaysPre (spec .«max_intervals») d w₂ (rays + count) 0 rays
+            (record { from = 0; at = rays + count + 2 * rays })
         layable ds dl = record {
           in-sizes = omega (arith, sizes-room);
           in-lists = omega (arith, end-is, merged .ends);
@@ -118,7 +120,7 @@ module _ (spec : DexelStockSpec) (g : DexelGrid) (c : Cells) (log w : List Float
 
         pub done : (b : Cells) (w₃ : List Float)
             → b ≡ laidAll (spec .«max_intervals») d
-            (updatesFrom w₂ (rays + length log / 6) (rays + length log / 6 + 2 * rays) 0 rays)
+            (updatesFrom w₂ (rays + count) (rays + count + 2 * rays) 0 rays)
             → w₃ ≡ take 0 w₂ ++ replicate (length w₂ - 0) plusZero → ApplyPost spec g c log w m b w₃
         unfolding applied
         done b w₃ laid clear = record {

@@ -1,4 +1,4 @@
--- What the cut of an accepted log finds in the cells, and what it leaves there.
+-- What an accepted log finds in the cells, and what applying it leaves there.
 use mathlib.Core.Path.{_≡_}
 use mathlib.Core.List.{List}
 use Prim.Native.Nat.{ℕ, _*_, _/_, _≤_}

@@ -1,12 +1,12 @@
-// The cut of an accepted log: the lists of all changed rays are replaced in the store.
+// Applies an accepted log: the lists of all changed rays are replaced in the store.
 ghost use Rattle.commit_apply.specs.Apply.{ApplyPre, ApplyPost};
 ghost use Rattle.store.specs.Store.{cells};
 use grid::DexelGrid;
 use grid::DexelStockSpec;
 
-// Cuts the lists of a sound store: the entries are grouped and merged in the work buffer, then the lists of all
-// changed rays are freed and laid again. Says how many rays changed.
-pub fn cut_lists(
+// Applies a log to the lists of a sound store: the entries are grouped and merged in the work buffer, then the lists
+// of all changed rays are freed and laid again. Says how many rays changed.
+pub fn apply_log(
     spec: DexelStockSpec,
     g: DexelGrid,
     spans: &mut [f64],
@@ -24,7 +24,7 @@ pub fn cut_lists(
     let changed = log_merge::merge_all(spec, g, spans, links, heads, log, work);
     let n = spec.max_intervals as usize;
     let rays = grid_rays::total_rays(g) as usize;
-    let sizes = rays + log.len() / 6;
+    let sizes = rays + log_entries::entry_count(log);
     log_lay::free_all(spans, links, heads, n, work, sizes, rays);
     log_lay::lay_all(spans, links, heads, n, work, sizes, sizes + 2 * rays, rays);
     spans::clear_from(work, 0);

@@ -29,26 +29,26 @@ use Rattle.store.specs.Store.{Cells}
 -- ---- over a grid that is accepted
 module _ (spec : DexelStockSpec) (g : DexelGrid) (s : Stock) (changes : List ℕ) (pairs : List Float) (base : ℕ)
     (r : ChangeVerdict) (ens : VerdictBy (changeCauses spec g base s changes pairs) spec g s changes pairs r) where
-  pub judged-no : (k : ℕ) → r ≡ No k → ChangesPostBy (changeCauses spec g base s changes pairs) spec g changes pairs s s (Refused k)
-  judged-no k e = (subst (VerdictBy (changeCauses spec g base s changes pairs) spec g s changes pairs) e ens, refl)
+  pub verdict-refused : (k : ℕ) → r ≡ No k → ChangesPostBy (changeCauses spec g base s changes pairs) spec g changes pairs s s (Refused k)
+  verdict-refused k e = (subst (VerdictBy (changeCauses spec g base s changes pairs) spec g s changes pairs) e ens, refl)
 
   module _ (t : ℕ) (e : r ≡ Fits t) where
-    told : VerdictBy (changeCauses spec g base s changes pairs) spec g s changes pairs (Fits t)
-    told = subst (VerdictBy (changeCauses spec g base s changes pairs) spec g s changes pairs) e ens
+    verdict : VerdictBy (changeCauses spec g base s changes pairs) spec g s changes pairs (Fits t)
+    verdict = subst (VerdictBy (changeCauses spec g base s changes pairs) spec g s changes pairs) e ens
 
-    pub judged-fitting : ChangesFit spec g (s .cells) (s .intervals) changes pairs
-    judged-fitting = told .2
+    pub verdict-fitting : ChangesFit spec g (s .cells) (s .intervals) changes pairs
+    verdict-fitting = verdict .2
 
     pub generation-steps : s .generation < 2 ^ 64 → s .generation + 1 < 2 ^ 64
     unfolding NoneDue
-    generation-steps h = step (s .generation) h (told .0 .1 .1 .1 .1 .1 .0)
+    generation-steps h = step (s .generation) h (verdict .0 .1 .1 .1 .1 .1 .0)
       where
         step : (n : ℕ) → n < 2 ^ 64 → (n ≡ 2 ^ 64 - 1 → ⊥) → n + 1 < 2 ^ 64
         step n l ne = omega arith
 
     leaves : ChangesEffect spec g changes pairs s (changedStock spec g s changes pairs)
     leaves =
-        let f = judged-fitting in
+        let f = verdict-fitting in
         let u = changes-update spec g (s .cells) pairs (s .intervals) (f .isSound) (f .room) (changesOf changes pairs)
         (f .good) (f .budget) in
         record {
@@ -70,18 +70,18 @@ module _ (spec : DexelStockSpec) (g : DexelGrid) (s : Stock) (changes : List ℕ
           kept = u .kept;
         }
 
-    pub judged-fits : (d : Cells) → d ≡ applied (spec .«max_intervals») (s .cells) (updatesIn g changes pairs)
+    pub verdict-fits : (d : Cells) → d ≡ applied (spec .«max_intervals») (s .cells) (updatesIn g changes pairs)
         → ChangesPostBy (changeCauses spec g base s changes pairs) spec g changes pairs s
         (record { cells = d; generation = s .generation + 1; intervals = t }) (Changed (length changes / 6))
-    judged-fits d h =
+    verdict-fits d h =
         let is : record { cells = d; generation = s .generation + 1; intervals = t } ≡ changedStock spec g s changes pairs
         = ap (λ (x : Cells). record { cells = x; generation = s .generation + 1; intervals = t }) h
         ∙ ap (λ (x : ℕ). record {
           cells = applied (spec .«max_intervals») (s .cells) (updatesIn g changes pairs);
           generation = s .generation + 1;
           intervals = x;
-        }) (told .1) in
-        (told .0, refl, subst (ChangesEffect spec g changes pairs s) (sym is) leaves)
+        }) (verdict .1) in
+        (verdict .0, refl, subst (ChangesEffect spec g changes pairs s) (sym is) leaves)
 
 -- ---- over any description
 module _ (spec : DexelStockSpec) (units : List ℕ) (s : Stock) (changes : List ℕ) (pairs : List Float) (base : ℕ) where

@@ -31,7 +31,7 @@ use Rattle.logic.specs.Logic.{Decides}
 use Rattle.store.specs.Steps.{Room}
 
 module _ (spec : DexelStockSpec) (g : DexelGrid) (s : Stock) (changes : List ℕ) (pairs : List Float) where
-  -- ---- 13, 10, 15
+  -- ---- 13, 10, 15: a bad change, too many intervals, the last generation
   module _ (r : ChangeCheck) (ens : CheckChangesPost spec g (s .cells) pairs (changesOf changes pairs) r) where
     pub bad-list : r ≡ Bad → VerdictBy (changeListCauses spec g s changes pairs) spec g s changes pairs (Refused 13)
     bad-list e =
@@ -40,33 +40,33 @@ module _ (spec : DexelStockSpec) (g : DexelGrid) (s : Stock) (changes : List ℕ
 
     module _ (cur : ChangeCursor) (e : r ≡ Next cur) (room : Room (spec .«max_intervals») (2 * rayCount g) (s .cells))
         (sound : SoundStock spec g s) where
-      told : CheckChangesPost spec g (s .cells) pairs (changesOf changes pairs) (Next cur)
-      told = subst (CheckChangesPost spec g (s .cells) pairs (changesOf changes pairs)) e ens
+      checked : CheckChangesPost spec g (s .cells) pairs (changesOf changes pairs) (Next cur)
+      checked = subst (CheckChangesPost spec g (s .cells) pairs (changesOf changes pairs)) e ens
 
       -- no more pairs are freed than the store has
       pub freed-fewer : cur .before ≤ s .intervals
       freed-fewer =
           let f = freed-all (sound .store) room
-          (good-ascend spec g (s .cells) pairs (changesOf changes pairs) 0 0 (omega arith) (told .0)) in
-          omega (arith, told .1, f .fewer)
+          (good-ascend spec g (s .cells) pairs (changesOf changes pairs) 0 0 (omega arith) (checked .0)) in
+          omega (arith, checked .1, f .fewer)
 
       -- the total needs no more than 64 bits
       pub total-fits : length (s .cells .spans) < 2 ^ 64 → length pairs < 2 ^ 64 → s .intervals - cur .before + cur .after < 2 ^ 64
       total-fits hs hp =
           let most = free-records (spec .«max_intervals») (2 * rayCount g) (s .intervals) (s .cells .spans)
           (s .cells .links) (s .cells .heads) (sound .store) in
-          omega (arith, most, room .in-spans, told .3)
+          omega (arith, most, room .in-spans, checked .3)
 
       total-is : s .intervals - cur .before + cur .after ≡ intervalsAfter spec g s changes pairs
-      total-is = ap (λ (x : ℕ). s .intervals - x + cur .after) (told .1)
+      total-is = ap (λ (x : ℕ). s .intervals - x + cur .after) (checked .1)
           ∙ ap (λ (x : ℕ). s .intervals - pairsFreed (spec .«max_intervals») (s .cells) (updatesIn g changes pairs)
-          + x) (told .2)
+          + x) (checked .2)
 
       pub over-budget : spec .«max_intervals» < s .intervals - cur .before + cur .after
           → VerdictBy (changeListCauses spec g s changes pairs) spec g s changes pairs (Refused 10)
       unfolding Due
       over-budget l = inr (
-        (λ (bad : AllGood spec g (s .cells) pairs 0 (changesOf changes pairs) → ⊥). bad (told .0)),
+        (λ (bad : AllGood spec g (s .cells) pairs 0 (changesOf changes pairs) → ⊥). bad (checked .0)),
         inl (subst (λ (x : ℕ). spec .«max_intervals» < x) total-is l, refl),
       )
 
@@ -79,7 +79,7 @@ module _ (spec : DexelStockSpec) (g : DexelGrid) (s : Stock) (changes : List ℕ
         unfolding Due
         last-generation h = inr (
           (λ (bad : AllGood spec g (s .cells) pairs 0 (changesOf changes pairs) → ⊥). bad
-              (told .0)),
+              (checked .0)),
           inr (within, inl (h, refl)),
         )
 
@@ -88,12 +88,12 @@ module _ (spec : DexelStockSpec) (g : DexelGrid) (s : Stock) (changes : List ℕ
             (Fits (s .intervals - cur .before + cur .after))
         unfolding NoneDue
         list-fits h = (
-          ((λ (bad : AllGood spec g (s .cells) pairs 0 (changesOf changes pairs) → ⊥). bad (told .0)), (within, (h, tt))),
+          ((λ (bad : AllGood spec g (s .cells) pairs 0 (changesOf changes pairs) → ⊥). bad (checked .0)), (within, (h, tt))),
           total-is,
-          record { room = room; isSound = sound; good = told .0; budget = subst (λ (x : ℕ). x ≤ spec .«max_intervals») total-is l },
+          record { room = room; isSound = sound; good = checked .0; budget = subst (λ (x : ℕ). x ≤ spec .«max_intervals») total-is l },
         )
 
-  -- ---- 12, 11, 14
+  -- ---- 12, 11, 14: short buffers, bad input, another base
   module _ (base : ℕ) where
     pub too-short : isShort spec g (s .cells) ≡ true
         → VerdictBy (changeCauses spec g base s changes pairs) spec g s changes pairs (Refused 12)
@@ -124,9 +124,9 @@ module _ (spec : DexelStockSpec) (g : DexelGrid) (s : Stock) (changes : List ℕ
         unfolding Due
         other-base h = inr (not-short, inr (not-unsound, inl (h, refl)))
 
-        pub list-judged : base ≡ s .generation → (r : ChangeVerdict)
+        pub list-verdict : base ≡ s .generation → (r : ChangeVerdict)
             → VerdictBy (changeListCauses spec g s changes pairs) spec g s changes pairs r
             → VerdictBy (changeCauses spec g base s changes pairs) spec g s changes pairs r
         unfolding Due NoneDue
-        list-judged e (Refused k) d = inr (not-short, inr (not-unsound, inr ((λ (ne : base ≡ s .generation → ⊥). ne e), d)))
-        list-judged e (Fits t) d = ((not-short, (not-unsound, ((λ (ne : base ≡ s .generation → ⊥). ne e), d .0))), d .1, d .2)
+        list-verdict e (Refused k) d = inr (not-short, inr (not-unsound, inr ((λ (ne : base ≡ s .generation → ⊥). ne e), d)))
+        list-verdict e (Fits t) d = ((not-short, (not-unsound, ((λ (ne : base ≡ s .generation → ⊥). ne e), d .0))), d .1, d .2)

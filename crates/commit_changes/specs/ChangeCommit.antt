@@ -27,7 +27,7 @@ intervalsAfter spec g s changes pairs =
 abbrev pub ChangeInputBad : DexelStockSpec → DexelGrid → Stock → List ℕ → List Float → Type 0
 ChangeInputBad spec g s changes pairs = (SoundStock spec g s → ⊥) ⊎ ((length changes % 6 ≡ 0 → ⊥) ⊎ (length pairs % 2 ≡ 0 → ⊥))
 
--- of a sound store: 13 a change that `validate` turns away, or whose lists reach past the lent pairs; 10 intervals
+-- of a sound store: 13 a change that camlib's `validate` turns away, or whose lists reach past the lent pairs; 10 intervals
 -- after the commit above `max_intervals`; 15 generation at its maximum
 abbrev pub changeListCauses : DexelStockSpec → DexelGrid → Stock → List ℕ → List Float → List Cause
 changeListCauses spec g s changes pairs =

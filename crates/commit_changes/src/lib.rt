@@ -205,7 +205,8 @@ pub fn commit_changes(
     pairs: &[f64],
 ) -> CommitAnswer
     ensures { λ r. ⌜ ChangesPost spec (now (units .entry)) base (now (changes .entry)) (now (pairs .entry))
-        (stock (now (spans .entry)) (now (links .entry)) (now (heads .entry)) (now (tally .entry) .generation) (now (tally .entry) .intervals))
+        (stock (now (spans .entry)) (now (links .entry)) (now (heads .entry)) (now (tally .entry) .generation)
+        (now (tally .entry) .intervals))
         (stock (now (spans .exit)) (now (links .exit)) (now (heads .exit)) (now (tally .exit) .generation)
         (now (tally .exit) .intervals)) r ⌝ }
 {

@@ -1,11 +1,13 @@
--- Which number is due after each test of a log commit.
+-- Which number is due after each test of a log commit: the causes before it are absent, since their tests were
+-- passed, and its own is present. 9 and 10 are causes of the point sets; the counts over the lists decide them, since
+-- the lists are of doubles.
 use mathlib.Core.Path.{_≡_, refl, sym, ap, ap₂, _∙_}
 use mathlib.Core.Bool.{Bool, true, false, not, cond, _||_}
 use mathlib.Core.List.{List}
 use mathlib.Core.Logic.{inl, inr}
-use Prim.Native.Nat.{ℕ, suc, _-_, _*_, _/_, _%_, _^_, _≤_, _<_, min}
+use Prim.Native.Nat.{ℕ, suc, _-_, _*_, _/_, _^_, _≤_, _<_, min}
 use native.Mathlib.Omega.{arith}
-use borrow.Author.Tests.{ltb-true, ltb-false, le-ltb}
+use borrow.Author.Tests.{ltb-true, ltb-false, le-ltb, eqb-true, eqb-false}
 use lib.Dec.{ltb}
 use lib.ListN.{length}
 use lib.Ieee.{Float}
@@ -17,7 +19,7 @@ use Rattle.grid.specs.declared.DexelStockSpec.{DexelStockSpec}
 use Rattle.grid.specs.declared.DexelGrid.{DexelGrid}
 use Rattle.stock.specs.Stock.{Stock, SoundStock, isShort, Kind, rayLists}
 use Rattle.stock.proofs.Causes.{room-of}
-use Rattle.log_model.specs.Logs.{entries, workNeeded, commitOf}
+use Rattle.log_model.specs.Logs.{entries, WholeLog, isWholeLog, workNeeded, commitOf}
 use Rattle.log_model.specs.Model.{LogBuffersShort, LogInputBad, logCommitCauses}
 use Rattle.log_model.specs.Counts.{changedRayCount, pairsAfter}
 use Rattle.log_model.specs.Runs.{pointSets}
@@ -106,7 +108,7 @@ module _ (spec : DexelStockSpec) (g : DexelGrid) (s : Stock) (log : List Float) 
   enough room w (inr (inl h)) = omega (arith, room .in-heads)
   enough room w (inr (inr h)) = omega arith
 
-  good : length log % 6 ≡ 0 → SoundStock spec g s → ¬ LogInputBad (¬ SoundStock spec g s) (commitOf log allowance work)
+  good : WholeLog log → SoundStock spec g s → ¬ LogInputBad (¬ SoundStock spec g s) (commitOf log allowance work)
   unfolding LogInputBad
   good w sound (inl h) = h w
   good w sound (inr h) = h sound
@@ -120,7 +122,7 @@ module _ (spec : DexelStockSpec) (g : DexelGrid) (s : Stock) (log : List Float) 
       → LogCheckPost spec g s log allowance work (suc k)
   refused-by k d = record { passed = λ e. absurd (omega arith); due = λ ne. d }
 
-  -- 12
+  -- 12: too few records, heads or work pairs
   pub short-due : (r : Bool) → r ≡ isShort spec g (s .cells) → r ≡ true → LogCheckPost spec g s log allowance work 12
   unfolding logCommitCauses Due
   short-due r e h = refused-by 11 (inl (few-cells (sym e ∙ h), refl))
@@ -137,12 +139,15 @@ module _ (spec : DexelStockSpec) (g : DexelGrid) (s : Stock) (log : List Float) 
       → workNeeded (spec .«max_intervals») log ≤ length work / 2
   work-of-test r e h = ltb-false _ _ (sym e ∙ h)
 
+  pub whole-of-test : (r : Bool) → r ≡ isWholeLog log → not r ≡ false → WholeLog log
+  whole-of-test r e h = eqb-true _ _ (sym e ∙ not-false r h)
+
   module _ (room : Room (spec .«max_intervals») (2 * rayCount g) (s .cells))
       (w : workNeeded (spec .«max_intervals») log ≤ length work / 2) where
-    -- 11
-    pub part-due : (length log % 6 ≡ 0 → ⊥) → LogCheckPost spec g s log allowance work 11
+    -- 11: part of an entry is over, or the store is not sound
+    pub part-due : (r : Bool) → r ≡ isWholeLog log → not r ≡ true → LogCheckPost spec g s log allowance work 11
     unfolding logCommitCauses Due LogInputBad
-    part-due h = refused-by 10 (inr (enough room w, inl (inl h, refl)))
+    part-due r e h = refused-by 10 (inr (enough room w, inl (inl (eqb-false _ _ (sym e ∙ not-true r h)), refl)))
 
     pub unsound-due : (r : Bool) → Decides (SoundStock spec g s) r → not r ≡ true → LogCheckPost spec g s log allowance work 11
     unfolding logCommitCauses Due LogInputBad
@@ -151,14 +156,14 @@ module _ (spec : DexelStockSpec) (g : DexelGrid) (s : Stock) (log : List Float) 
     pub sound-of-test : (r : Bool) → Decides (SoundStock spec g s) r → not r ≡ false → SoundStock spec g s
     sound-of-test r t h = t .0 (not-false r h)
 
-    module _ (whole : length log % 6 ≡ 0) (sound : SoundStock spec g s) where
-      -- 15
+    module _ (whole : WholeLog log) (sound : SoundStock spec g s) where
+      -- 15: the last generation
       pub last-due : s .generation ≡ 0xffff_ffff_ffff_ffff → LogCheckPost spec g s log allowance work 15
       unfolding logCommitCauses Due
       last-due h = refused-by 14 (inr (enough room w, inr (good whole sound, inl (h, refl))))
 
       module _ (below : s .generation ≡ 0xffff_ffff_ffff_ffff → ⊥) where
-        -- 17
+        -- 17: an entry that names no ray
         pub unnamed-due : (r : Bool) → NamesAll g log r → not r ≡ true → LogCheckPost spec g s log allowance work 17
         unfolding logCommitCauses Due
         unnamed-due r t h = refused-by 16 (inr (enough room w, inr (good whole sound, inr (below, inl (t .no (not-true r h), refl)))))
@@ -177,7 +182,7 @@ module _ (spec : DexelStockSpec) (g : DexelGrid) (s : Stock) (log : List Float) 
           module _ (b : BudgetAnswer) (e : budgetNumber b ≡ budgetOf allowance (spec .«max_intervals»)
               (changedRayCount g (rayLists spec g (s .cells)) (entries log))
               (pairsAfter g (rayLists spec g (s .cells)) (entries log))) where
-            -- 9
+            -- 9: more rays change than are allowed
             pub rays-due : Doubles g (rayLists spec g (s .cells)) (entries log) → b ≡ Rays → LogCheckPost spec g s log allowance work 9
             unfolding logCommitCauses Due
             rays-due o h =
@@ -197,7 +202,7 @@ module _ (spec : DexelStockSpec) (g : DexelGrid) (s : Stock) (log : List Float) 
                   ),
                 ))
 
-            -- 10
+            -- 10: more intervals than the budget
             pub intervals-due : Doubles g (rayLists spec g (s .cells)) (entries log) → b ≡ Intervals
                 → LogCheckPost spec g s log allowance work 10
             unfolding logCommitCauses Due
@@ -227,7 +232,7 @@ module _ (spec : DexelStockSpec) (g : DexelGrid) (s : Stock) (log : List Float) 
                   ),
                 ))
 
-            -- none
+            -- every test is passed
             pub all-passed : s .generation < 2 ^ 64 → b ≡ Kept → LogCheckPost spec g s log allowance work 0
             all-passed fits h =
                 let t = both-kept allowance (spec .«max_intervals») (changedRayCount g (rayLists spec g (s .cells)) (entries log))

@@ -16,7 +16,7 @@ fn is_work_short(n: usize, log: &[f64], work: &[f64]) -> bool
     requires { ⌜ 16 * n < 2 ^ 64 ⌝ }
     ensures { λ r. ⌜ r ≡ ltb (length (now (work .entry)) / 2) (workNeeded n (now (log .entry))) ⌝ }
 {
-    work.len() / 2 < 6 * n + 18 * (log.len() / 6)
+    work.len() / 2 < 6 * n + 18 * log_entries::entry_count(log)
 }
 
 // Document 01's number of the first cause that is present, and 0 where there is none. It writes nothing, so that a
@@ -44,7 +44,7 @@ pub fn refusal(
     if is_work_short(spec.max_intervals as usize, log, work) {
         return 12;
     }
-    if log.len() % 6 != 0 {
+    if !log_entries::is_whole_log(log) {
         return 11;
     }
     if !stock::check_stock(spec, g, spans, links, heads, intervals) {

@@ -1,4 +1,4 @@
--- From the tests and the cut lists to the promise of a log commit.
+-- From the tests and the lists that are left to the promise of a log commit.
 use mathlib.Core.Path.{_≡_, refl, sym, ap, ap₂, _∙_, subst}
 use mathlib.Core.List.{List}
 use Prim.Native.Nat.{ℕ, suc, _+_, _-_, _*_}
@@ -24,7 +24,7 @@ use Rattle.log_model.specs.Runs.{pointSets, CommitEffect, AcceptedEffect}
 use Rattle.log_model.specs.View.{lentStore, CommitOnAnyGrid}
 use Rattle.log_model.proofs.Doubles.{DoubleCells, Doubles, all-doubles}
 use Rattle.log_model.specs.Updates.{MergeUpdates, committedStock}
-use Rattle.log_model.proofs.Leaves.{changed-rays, all-updated, cut-sound, cut}
+use Rattle.log_model.proofs.AcceptedLog.{changed-rays, all-updated, committed-sound, accepted-effect}
 use Rattle.commit_check.specs.Tests.{LogChecked, LogCheckPost}
 use Rattle.commit_check.proofs.Tests.{passes-none}
 use Rattle.commit_apply.specs.Apply.{ApplyPre, ApplyPost}
@@ -79,7 +79,7 @@ module _ (spec : DexelStockSpec) (g : DexelGrid) (s : Stock) (log : List Float) 
           number =
               counted ∙ ap (λ (x : Cells). countTo (usedAt (x .spans) (x .links)) (spec .«max_intervals»)) (done .left)
               ∙ count-of (spec .«max_intervals») (2 * rayCount g) _ _ _ _
-              (cut-sound spec g s (passes .sound) (passes .room) (entries log) doubles (done .updates) m asked
+              (committed-sound spec g s (passes .sound) (passes .room) (entries log) doubles (done .updates) m asked
               (passes .few-pairs) .store)
 
       pub accept : LogCommitOnGrid spec g s log allowance work (Changed m)
@@ -92,7 +92,7 @@ module _ (spec : DexelStockSpec) (g : DexelGrid) (s : Stock) (log : List Float) 
             changed-rays spec g s (passes .sound) (passes .room) (entries log) doubles (done .updates) m asked,
           );
           leaves = subst (AcceptedEffect g (lentStore spec g) s (commitOf log allowance work)) (sym left-is)
-              (cut spec g s (passes .sound) (passes .room) (entries log) doubles (done .updates) m asked (passes .few-pairs)
+              (accepted-effect spec g s (passes .sound) (passes .room) (entries log) doubles (done .updates) m asked (passes .few-pairs)
               (commitOf log allowance work) refl);
         };
         left = record {

@@ -41,7 +41,7 @@ abbrev pub LogCellsPost : (spec : DexelStockSpec) (g : DexelGrid) (s : Stock) (l
 LogCellsPost spec g s log work (Changed m) t work′ = AcceptedCells spec g s log work m t work′
 LogCellsPost spec g s log work (Refused k) t work′ = work′ ≡ work
 
--- the same, whatever the description is
+-- what a log commit leaves in the cells; a description that `grid` refuses is one more refusal
 abbrev pub LogCellsOnAnyGrid : GridAnswer → (spec : DexelStockSpec) (s : Stock) (log work : List Float) → CommitAnswer
     → (t : Stock) (work′ : List Float) → Type 0
 LogCellsOnAnyGrid (Griddable g) spec s log work a t work′ = LogCellsPost spec g s log work a t work′

@@ -49,7 +49,7 @@ fn commit_grid(
             intervals,
         };
     }
-    let changed = commit_apply::cut_lists(spec, g, spans, links, heads, log, work);
+    let changed = commit_apply::apply_log(spec, g, spans, links, heads, log, work);
     let total = store::count_used(spans, links, spec.max_intervals as usize) as u64;
     Outcome {
         answer: CommitAnswer::Changed(changed),

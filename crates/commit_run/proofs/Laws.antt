@@ -36,7 +36,7 @@ use Rattle.commit_run.specs.RunLogs.{
   RunOnGridPost,
   RunLogsPost,
 }
-use Rattle.commit_run.proofs.Turns.{told-at}
+use Rattle.commit_run.proofs.Turns.{answer-at}
 use Rattle.commit_run.specs.Refused.{AllRefused}
 use Rattle.grid.specs.Rays.{Ray}
 
@@ -70,7 +70,7 @@ module _ (spec : DexelStockSpec) (units : List ℕ) (k : ℕ) (due : Due (gridCa
         let y = refuses (x .commits .described) t u _ (answerOf (x .answer)) _ w v (x .answer) (x .commits .by) (x .commits .promise)
         (x .commits .left) in
         let keeps : (q : ℕ) → (q ≡ 2 * i → ⊥) → (q ≡ 2 * i + 1 → ⊥) → getD ls q 0 ≡ getD ks q 0 = λ q a b.
-        ap (λ (l : List ℕ). getD l q 0) (x .told)
+        ap (λ (l : List ℕ). getD l q 0) (x .written)
         ∙ getD-set-other (set ks (2 * i) (answerCode (x .answer))) (2 * i + 1) q (answerNumber (x .answer)) 0 b
         ∙ getD-set-other ks (2 * i) q (answerCode (x .answer)) 0 a in (
           record {
@@ -82,12 +82,12 @@ module _ (spec : DexelStockSpec) (units : List ℕ) (k : ℕ) (due : Due (gridCa
                   (keeps (2 * j + 1) (λ (e : 2 * j + 1 ≡ 2 * i). omega arith) (λ (e : 2 * j + 1 ≡ 2 * i + 1). omega arith))
                   ∙ r .each j l
               | no l ↦ subst (λ (m : ℕ). answerBy (getD ls (2 * m) 0) (getD ls (2 * m + 1) 0) ≡ refused k) (last i j h l)
-                  (ap (λ (l : List ℕ). answerBy (getD l (2 * i) 0) (getD l (2 * i + 1) 0)) (x .told)
-                  ∙ told-at ks i (x .answer) (omega (arith, n)) ∙ y .0)
+                  (ap (λ (l : List ℕ). answerBy (getD l (2 * i) 0) (getD l (2 * i + 1) 0)) (x .written)
+                  ∙ answer-at ks i (x .answer) (omega (arith, n)) ∙ y .0)
             ];
             past = λ q h. keeps q (λ (e : q ≡ 2 * i). omega arith) (λ (e : q ≡ 2 * i + 1). omega arith) ∙ r .past q (omega arith);
           },
-          ap length (x .told) ∙ length-set (set ks (2 * i) (answerCode (x .answer))) (2 * i + 1) (answerNumber (x .answer))
+          ap length (x .written) ∙ length-set (set ks (2 * i) (answerCode (x .answer))) (2 * i + 1) (answerNumber (x .answer))
               ∙ length-set ks (2 * i) (answerCode (x .answer)) ∙ n,
         )
       where
@@ -113,4 +113,4 @@ pub only-one : (spec : DexelStockSpec) (units : List ℕ) (logs : List Float) (e
     → equal l (rayList spec (t .cells) (r .0) k) ≡ true
 unfolding RunOnGridPost
 only-one spec units logs ends allowances s work answers t w ks x n snd r k l d h f =
-    x .ran n .settled snd .only-list r k l d (x .doubles (r .0) k) h f
+    x .ran n .meets-model snd .only-list r k l d (x .doubles (r .0) k) h f

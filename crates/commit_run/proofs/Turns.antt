@@ -22,7 +22,7 @@ use Rattle.log_model.specs.Runs.{Run, done, CommitStep as CommitPromise}
 use Rattle.log_model.specs.View.{lentStore, CommitOnAnyGrid}
 use Rattle.log_model.proofs.RunCorrect.{extend}
 use Rattle.log_model.proofs.Doubles.{DoubleCells, list-doubles}
-use Rattle.log_model.proofs.View.{demand3-lent}
+use Rattle.log_model.proofs.View.{run-correct-lent}
 use Rattle.commit_log.specs.LogCommit.{answerOf}
 use Rattle.commit_run.specs.RunLogs.{
   beginOf,
@@ -48,9 +48,9 @@ by-numbers (Changed n) = refl
 by-numbers (NotCommitted k) = refl
 
 -- answer i stands in its own two cells
-pub told-at : (answers : List ℕ) (i : ℕ) (a : CommitAnswer) → 2 * i + 1 < length answers
+pub answer-at : (answers : List ℕ) (i : ℕ) (a : CommitAnswer) → 2 * i + 1 < length answers
     → answerBy (getD (answered answers i a) (2 * i) 0) (getD (answered answers i a) (2 * i + 1) 0) ≡ answerOf a
-told-at answers i a fits =
+answer-at answers i a fits =
     let first : getD (answered answers i a) (2 * i) 0 ≡ answerCode a =
     getD-set-other (set answers (2 * i) (answerCode a)) (2 * i + 1) (2 * i) (answerNumber a) 0
     (λ (e : 2 * i ≡ 2 * i + 1). omega arith) ∙ getD-set-same answers (2 * i) (answerCode a) 0 (omega arith) in
@@ -60,15 +60,15 @@ told-at answers i a fits =
     ap₂ answerBy first second ∙ by-numbers a
 
 -- and the answers before it stay
-told-before : (answers : List ℕ) (i : ℕ) (a : CommitAnswer) (k : ℕ) → k ≤ i → answersTo (answered answers i a) k ≡ answersTo answers k
+answer-before : (answers : List ℕ) (i : ℕ) (a : CommitAnswer) (k : ℕ) → k ≤ i → answersTo (answered answers i a) k ≡ answersTo answers k
 unfolding answersTo
-told-before answers i a zero h = refl
-told-before answers i a (suc k) h =
+answer-before answers i a zero h = refl
+answer-before answers i a (suc k) h =
     let same : (q : ℕ) → q < 2 * i → getD (answered answers i a) q 0 ≡ getD answers q 0 = λ q l.
     getD-set-other (set answers (2 * i) (answerCode a)) (2 * i + 1) q (answerNumber a) 0
     (λ (e : q ≡ 2 * i + 1). omega arith)
     ∙ getD-set-other answers (2 * i) q (answerCode a) 0 (λ (e : q ≡ 2 * i). omega arith) in
-    ap₂ (λ (l : List LogAnswer) (x : LogAnswer). l ++ (x ∷ [])) (told-before answers i a k (omega arith))
+    ap₂ (λ (l : List LogAnswer) (x : LogAnswer). l ++ (x ∷ [])) (answer-before answers i a k (omega arith))
     (ap₂ answerBy (same (2 * k) (omega arith)) (same (2 * k + 1) (omega arith)))
 
 -- the first i commits are run, the next log begins at cell `at`, and each buffer has its size
@@ -166,9 +166,9 @@ run-next spec units s logs ends allowances work₀ answers₀ i t at work answer
 
     answers-are : answersTo answers′ (i + 1) ≡ answersTo answers i ++ (answerOf (x .answer) ∷ [])
     answers-are =
-        ap (answersTo answers′) (sym one-more) ∙ ap (λ (l : List ℕ). answersTo l (suc i)) (x .told)
+        ap (answersTo answers′) (sym one-more) ∙ ap (λ (l : List ℕ). answersTo l (suc i)) (x .written)
         ∙ ap₂ (λ (l : List LogAnswer) (v : LogAnswer). l ++ (v ∷ []))
-        (told-before answers i (x .answer) i (omega arith)) (told-at answers i (x .answer) fits)
+        (answer-before answers i (x .answer) i (omega arith)) (answer-at answers i (x .answer) fits)
 
 pub run-end : (spec : DexelStockSpec) (units : List ℕ) (s : Stock) (logs : List Float) (ends allowances : List ℕ)
     (work₀ : List Float) (answers₀ : List ℕ) (i : ℕ) (t : Stock) (at : ℕ) (work : List Float) (answers : List ℕ)
@@ -186,7 +186,7 @@ run-end spec units s logs ends allowances work₀ answers₀ i t at work answers
           (commitsTo logs ends allowances (length work₀ / 2) k) (answersTo answers k) t) all (r .run e) in
           record {
             run = run;
-            settled = λ sound. demand3-lent spec (gridIn spec) .settles s t
+            meets-model = λ sound. run-correct-lent spec (gridIn spec) .meets-model s t
                 (commitsTo logs ends allowances (length work₀ / 2) (length ends)) (answersTo answers (length ends)) sound run;
           };
       doubles = list-doubles spec t (r .doubles);

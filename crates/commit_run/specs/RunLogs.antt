@@ -25,7 +25,7 @@ beginOf ends zero = 0
 beginOf ends (suc i) = getD ends i 0
 
 -- what the caller lends: the logs lie one after the other within their slice, each has an allowance, and each answer two cells
-pub record Lends (logs : List Float) (ends allowances answers : List ℕ) : Type 0 where
+pub record RunLogsPre (logs : List Float) (ends allowances answers : List ℕ) : Type 0 where
   pub ascends : (i : ℕ) → i < length ends → beginOf ends i ≤ getD ends i 0
   pub within : (i : ℕ) → i < length ends → getD ends i 0 ≤ length logs
   pub allowed : length ends ≤ length allowances
@@ -70,7 +70,7 @@ pub record RunStepPost (spec : DexelStockSpec) (units : List ℕ) (s : Stock) (l
     (work : List Float) (answers : List ℕ) (i : ℕ) (t : Stock) (work′ : List Float) (answers′ : List ℕ) : Type 0 where
   pub answer : CommitAnswer
   pub commits : LogCommitPost spec units s log allowance work answer t work′
-  pub told : answers′ ≡ answered answers i answer
+  pub written : answers′ ≡ answered answers i answer
 
 -- The first i commits one after the other, whatever the description is: each on the stock, the work buffer and the
 -- answers that the one before left
@@ -85,9 +85,9 @@ pub data CommitsTo (spec : DexelStockSpec) (units : List ℕ) (logs : List Float
 -- demand 3 says holds of it
 pub record RunPost (spec : DexelStockSpec) (g : DexelGrid) (s : Stock) (cs : List Commit) (vs : List LogAnswer) (t : Stock) : Type 0 where
   pub run : Run spec g (lentStore spec g) s cs vs t
-  pub settled : SoundStock spec g s → RunMeetsModel spec g (lentStore spec g) s cs vs t
+  pub meets-model : SoundStock spec g s → RunMeetsModel spec g (lentStore spec g) s cs vs t
 
--- the same, for a description that `grid` accepts
+-- what holds of the run where the description has no cause, which is where `grid` accepts it
 unfoldable pub RunOnGridPost : (spec : DexelStockSpec) (units : List ℕ) → Stock → List Commit → List LogAnswer → Stock → Type 0
 RunOnGridPost spec units s cs vs t = NoneDue (gridCauses spec units) → RunPost spec (gridIn spec) s cs vs t
 

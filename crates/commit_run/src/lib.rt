@@ -2,7 +2,7 @@
 ghost use mathlib.Core.Path.{_≡_};
 ghost use Prim.Native.Nat.{_+_, _*_, _<_, _≤_};
 ghost use lib.ListN.{length, set};
-ghost use Rattle.commit_run.specs.RunLogs.{Lends, logFrom, answered, RunStepPost, RunLogsPost};
+ghost use Rattle.commit_run.specs.RunLogs.{RunLogsPre, logFrom, answered, RunStepPost, RunLogsPost};
 ghost use Rattle.stock.specs.Stock.{stock};
 use grid::DexelStockSpec;
 use stock::CommitAnswer;
@@ -86,9 +86,10 @@ pub fn run_logs(
     work: &mut [f64],
     answers: &mut [u64],
 ) -> Tally
-    requires { ⌜ Lends (now logs) (now ends) (now allowances) (now answers) ⌝ }
+    requires { ⌜ RunLogsPre (now logs) (now ends) (now allowances) (now answers) ⌝ }
     ensures { λ r. ⌜ RunLogsPost spec (now (units .entry)) (now (logs .entry)) (now (ends .entry)) (now (allowances .entry))
-        (stock (now (spans .entry)) (now (links .entry)) (now (heads .entry)) (tally .generation) (tally .intervals)) (now (work .entry)) (now (answers .entry))
+        (stock (now (spans .entry)) (now (links .entry)) (now (heads .entry)) (tally .generation) (tally .intervals))
+        (now (work .entry)) (now (answers .entry))
         (stock (now (spans .exit)) (now (links .exit)) (now (heads .exit)) (r .generation) (r .intervals))
         (now (work .exit)) (now (answers .exit)) ⌝ }
 {

@@ -9,8 +9,7 @@
 // and how many differ, and how many runs were started, then how many rows can't be read, and the number of the first
 // row that differs.
 use stock::CommitAnswer;
-use vector_rows::RowCounts;
-use vector_rows::RowOutcome;
+use stock::Outcome;
 
 // The store of a run and its small record.
 struct Store {
@@ -21,23 +20,23 @@ struct Store {
     intervals: u64,
 }
 
-// What a row showed, and the store that it leaves.
+// Whether a row agrees, and the store that it leaves.
 struct Shown {
-    outcome: RowOutcome,
+    agrees: bool,
     store: Store,
 }
 
-// Words 1, 3 to 11: the description; 15: the base generation; 16, 17: the cells of the changes and of the pairs; they
+// Words 1, 3 to 11: the description; 2: the units; 15: the base generation; 16, 17: the cells of the changes and of the pairs; they
 // stand from 94 and from 130 on.
 fn changes_in(
     w: &[u64; 170],
     generation: u64,
     intervals: u64,
-    units: &[u8],
     spans: &mut [f64],
     links: &mut [u64],
     heads: &mut [u64],
-) -> stock::Outcome {
+) -> Outcome {
+    let units = vector_rows::units_of(w[2]);
     let mut changes = [0; 36];
     vector_rows::numbers_at(w, 94, &mut changes);
     let mut pairs = [0.0; 40];
@@ -46,7 +45,7 @@ fn changes_in(
         generation,
         intervals,
         vector_rows::spec_at(w, 1, 3),
-        units,
+        &units,
         spans,
         links,
         heads,
@@ -56,34 +55,8 @@ fn changes_in(
     )
 }
 
-// Word 15: the allowance; 16, 17: the cells of the log, which stands from 94 on, and of the work buffer.
-fn log_in(
-    w: &[u64; 170],
-    generation: u64,
-    intervals: u64,
-    units: &[u8],
-    spans: &mut [f64],
-    links: &mut [u64],
-    heads: &mut [u64],
-    work: &mut [f64],
-) -> stock::Outcome {
-    let mut log = [0.0; 36];
-    vector_rows::doubles_at(w, 94, &mut log);
-    commit_log::commit_log_on(
-        generation,
-        intervals,
-        vector_rows::spec_at(w, 1, 3),
-        units,
-        spans,
-        links,
-        heads,
-        vector_rows::first(&log, w[16] as usize),
-        w[15],
-        vector_rows::first_mut(work, w[17] as usize),
-    )
-}
-
-// Word 0: the entry, 0 for the change list's; 2: the units.
+// Word 0: the entry, 0 for the change list's; of a log 15: the allowance; 16, 17: the cells of the log, which stands from 94 on, and of
+// the work buffer.
 fn commit_on(
     w: &[u64; 170],
     generation: u64,
@@ -92,12 +65,25 @@ fn commit_on(
     links: &mut [u64],
     heads: &mut [u64],
     work: &mut [f64],
-) -> stock::Outcome {
-    let units = vector_rows::units_of(w[2]);
+) -> Outcome {
     if w[0] == 0 {
-        return changes_in(w, generation, intervals, &units, spans, links, heads);
+        return changes_in(w, generation, intervals, spans, links, heads);
     }
-    log_in(w, generation, intervals, &units, spans, links, heads, work)
+    let units = vector_rows::units_of(w[2]);
+    let mut log = [0.0; 36];
+    vector_rows::doubles_at(w, 94, &mut log);
+    commit_log::commit_log_on(
+        generation,
+        intervals,
+        vector_rows::spec_at(w, 1, 3),
+        &units,
+        spans,
+        links,
+        heads,
+        vector_rows::first(&log, w[16] as usize),
+        w[15],
+        vector_rows::first_mut(work, w[17] as usize),
+    )
 }
 
 // Whether each cell below `cleared` is plus zero, which every word past the row is, and each other one still 7.
@@ -118,7 +104,7 @@ fn store_agrees(w: &[u64; 170], spans: &[f64], links: &[u64], heads: &[u64]) -> 
 
 // Words 18 to 21: the refusal, 0 for none, the changed rays, the generation and the interval total. An accepted log
 // commit clears the work buffer.
-fn answer_agrees(w: &[u64; 170], o: stock::Outcome, work: &[f64]) -> bool {
+fn answer_agrees(w: &[u64; 170], o: Outcome, work: &[f64]) -> bool {
     if o.generation != w[20] {
         return false;
     }
@@ -175,7 +161,7 @@ fn commit_step(w: &[u64; 170], s: Store) -> Shown {
         store_agrees(w, &spans, &links, &heads),
     );
     Shown {
-        outcome: vector_rows::told(w[0], 2, agrees),
+        agrees: agrees,
         store: Store {
             spans,
             links,
@@ -195,7 +181,7 @@ fn start_step(w: &[u64; 170]) -> Shown {
     let mut heads = [0; 12];
     vector_rows::numbers_at(w, 82, &mut heads);
     Shown {
-        outcome: RowOutcome::Agrees(2),
+        agrees: true,
         store: Store {
             spans,
             links,
@@ -206,22 +192,16 @@ fn start_step(w: &[u64; 170]) -> Shown {
     }
 }
 
-fn shown_by(text: &[u8], s: Store) -> Shown {
-    let mut w = [0; 170];
-    if !vector_rows::read_words(text, 0, &mut w) {
-        return Shown {
-            outcome: RowOutcome::Unread,
-            store: s,
-        };
-    }
+// A row of a kind that there is not leaves the store.
+fn shown_by(w: &[u64; 170], s: Store) -> Shown {
     if w[0] < 2 {
-        return commit_step(&w, s);
+        return commit_step(w, s);
     }
     if w[0] == 2 {
-        return start_step(&w);
+        return start_step(w);
     }
     Shown {
-        outcome: RowOutcome::Unread,
+        agrees: false,
         store: s,
     }
 }
@@ -236,26 +216,15 @@ fn no_store() -> Store {
     }
 }
 
-// The turns are counted down, since a proved loop has to end and nothing says that the input does.
-fn counted() -> RowCounts {
-    let mut t = vector_rows::start();
+fn main() {
     let mut store = no_store();
-    let mut turns = u64::MAX;
-    while turns > 0 {
-        let mut text = [0u8; 2890];
-        if !vector_rows::read_row(&mut text) {
-            break;
-        }
-        let s = shown_by(&text, store);
-        let outcome = s.outcome;
-        t = vector_rows::count(t, outcome);
+    let mut w = [0; 170];
+    let mut r = vector_rows::first_row(16, &mut w);
+    while r.left > 0 {
+        let s = shown_by(&w, store);
+        r = vector_rows::next_row(r, w[0], 3, s.agrees, 16, &mut w);
         let left = s.store;
         store = left;
-        turns -= 1;
     }
-    t
-}
-
-fn main() {
-    vector_rows::print(b"commit_changes commit_log runs", counted());
+    vector_rows::print(b"commit_changes commit_log runs", r.counts);
 }

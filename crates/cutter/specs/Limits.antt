@@ -1,64 +1,33 @@
--- Refusals 5 and 6: document 01's limits for a tool. A NaN fails every test.
+-- Refusals 5 and 6: document 01's limits for a tool, a constructor for each number that it names.
 use mathlib.Core.Path.{_≡_}
-use mathlib.Core.Bool.{Bool, true, false, not, _&&_}
+use mathlib.Core.Bool.{true}
 use mathlib.Core.List.{List, [], _∷_}
-use lib.Ieee.{Float, lt, le, isNan}
+use lib.Ieee.{Float, lt, isNan}
 use Rattle.doubles.specs.Constants.{million, millionth, plusZero}
+use Rattle.doubles.specs.Ranges.{OutOf, OutOfPositive}
 use Rattle.refusal.specs.Refusal.{Cause, cause}
 use Rattle.cutter.specs.declared.CutterShape.{CutterShape}
-use Rattle.cutter.specs.declared.CutterShape.the-variants.{Flat, Ball, Bull, Drill, Chamfer, Beam, Probe, Lollipop, Dovetail}
+use Rattle.cutter.specs.declared.CutterShape.the-variants.{Bull, Drill, Chamfer, Beam, Dovetail}
 use Rattle.cutter.specs.declared.PreparedCutter.{PreparedCutter}
 
--- in (0, 1e6]
-unfoldable pub aboveZero : Float → Bool
-aboveZero x = lt plusZero x && le x million
+-- 6 tool: a NaN is outside every range, so `NaN anywhere` is left to say of the neck and the shank alone
+pub data BadTool (shape : CutterShape) (c : PreparedCutter) : Type 0 where
+  diameter-out : OutOfPositive million (c .«diameter_mm») → BadTool shape c
+  cutting-length-out : OutOfPositive million (c .«cutting_length_mm») → BadTool shape c
+  radius-out : OutOfPositive million (c .radius) → BadTool shape c
+  tip-height-out : OutOf plusZero million (c .«tip_height») → BadTool shape c
+  slope-out : OutOf plusZero million (c .slope) → BadTool shape c
+  shoulder-out : OutOf plusZero million (c .shoulder) → BadTool shape c
+  corner-out : (corner : Float) → shape ≡ Bull corner → OutOf plusZero million corner → BadTool shape c
+  drill-angle-out : (angle : Float) → shape ≡ Drill angle → OutOf plusZero million angle → BadTool shape c
+  chamfer-angle-out : (angle tip : Float) → shape ≡ Chamfer angle tip → OutOf plusZero million angle → BadTool shape c
+  chamfer-tip-out : (angle tip : Float) → shape ≡ Chamfer angle tip → OutOf plusZero million tip → BadTool shape c
+  dovetail-angle-out : (angle : Float) → shape ≡ Dovetail angle → OutOf plusZero million angle → BadTool shape c
+  overall-length-out : OutOf (c .«cutting_length_mm») million (c .«overall_length_mm») → BadTool shape c
+  dovetail-slope-low : (angle : Float) → shape ≡ Dovetail angle → lt (c .slope) millionth ≡ true → BadTool shape c
+  neck-nan : isNan (c .«neck_diameter_mm») ≡ true → BadTool shape c
+  shank-nan : isNan (c .«shank_diameter_mm») ≡ true → BadTool shape c
 
--- in [0, 1e6]
-unfoldable pub fromZero : Float → Bool
-fromZero x = le plusZero x && le x million
-
--- any double but a NaN
-unfoldable pub isNotNan : Float → Bool
-isNotNan x = not (isNan x)
-
-unfoldable pub sizesFit : PreparedCutter → Bool
-sizesFit c = aboveZero (c .«diameter_mm») && (aboveZero (c .«cutting_length_mm») && aboveZero (c .radius))
-
-unfoldable pub heightsFit : PreparedCutter → Bool
-heightsFit c = fromZero (c .«tip_height») && (fromZero (c .slope) && fromZero (c .shoulder))
-
-unfoldable pub lengthsFit : PreparedCutter → Bool
-lengthsFit c = le (c .«cutting_length_mm») (c .«overall_length_mm») && le (c .«overall_length_mm») million
-
-unfoldable pub diametersFit : PreparedCutter → Bool
-diametersFit c = isNotNan (c .«neck_diameter_mm») && isNotNan (c .«shank_diameter_mm»)
-
--- the shape's own numbers, and for a dovetail the slope, by which its radius is divided
-unfoldable pub shapeFits : CutterShape → Float → Bool
-shapeFits Flat slope = true
-shapeFits Ball slope = true
-shapeFits (Bull corner) slope = fromZero corner
-shapeFits (Drill angle) slope = fromZero angle
-shapeFits (Chamfer angle diameter) slope = fromZero angle && fromZero diameter
-shapeFits Beam slope = true
-shapeFits Probe slope = true
-shapeFits Lollipop slope = true
-shapeFits (Dovetail angle) slope = fromZero angle && le millionth slope
-
-unfoldable pub withinLimits : CutterShape → PreparedCutter → Bool
-withinLimits shape c = sizesFit c && (heightsFit c && (lengthsFit c && (diametersFit c && shapeFits shape (c .slope))))
-
-unfoldable pub isBeam : CutterShape → Bool
-isBeam Flat = false
-isBeam Ball = false
-isBeam (Bull corner) = false
-isBeam (Drill angle) = false
-isBeam (Chamfer angle diameter) = false
-isBeam Beam = true
-isBeam Probe = false
-isBeam Lollipop = false
-isBeam (Dovetail angle) = false
-
--- refusals 5 and 6, in document 01's order
+-- 5 beam, then 6 tool: document 01's order
 abbrev pub toolCauses : CutterShape → PreparedCutter → List Cause
-toolCauses shape c = cause 5 (isBeam shape ≡ true) ∷ cause 6 (withinLimits shape c ≡ false) ∷ []
+toolCauses shape c = cause 5 (shape ≡ Beam) ∷ cause 6 (BadTool shape c) ∷ []

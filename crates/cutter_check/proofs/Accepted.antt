@@ -1,7 +1,7 @@
 -- A tool within document 01's limits, whatever its shape: over the cutting part every section cuts, so that the neck
 -- and the shank have no part in `cut_radius`.
 use mathlib.Core.Path.{_≡_, refl, ap}
-use mathlib.Core.Bool.{Bool, true, false, cond, _&&_, false≢true}
+use mathlib.Core.Bool.{Bool, true, false, cond, false≢true}
 use lib.Ieee.{Float, nan, inf, fin, ofBits, lt, le, eq}
 use Rattle.doubles.specs.Constants.{million, plusZero}
 use Rattle.doubles.specs.Doubles.{Number, clampOf}
@@ -11,7 +11,9 @@ use Rattle.cutter.specs.declared.CutterShape.{CutterShape}
 use Rattle.cutter.specs.declared.PreparedCutter.{PreparedCutter}
 use Rattle.cutter.specs.declared.ProfileSlice.the-variants.{Cutting}
 use Rattle.cutter.specs.Cutter.{isFinite, offTool, cuttingRadius, radiusAt, radiusOf, cutRadius}
-use Rattle.cutter.specs.Limits.{aboveZero, sizesFit, heightsFit, lengthsFit, diametersFit, shapeFits, withinLimits}
+use Rattle.cutter.specs.Limits.{BadTool}
+use Rattle.cutter.specs.Steps.{aboveZero, lengthsFit, withinLimits}
+use Rattle.cutter.proofs.Limits.{good-tool, fit-cutting, fit-lengths}
 
 finite-between : (x : Float) → le plusZero x ≡ true → le x million ≡ true → isFinite x ≡ true
 unfolding isFinite lt eq le ofBits
@@ -48,17 +50,11 @@ section-cuts shape c z h w =
     rw (finite-between z (w .above) most, le→not-lt plusZero z (w .above), le→not-lt z (c .«overall_length_mm») top, w .below)
 
 -- for every shape, and for every height that is a number
-pub cut-radius-cuts : (shape : CutterShape) (c : PreparedCutter) (h : Float) → withinLimits shape c ≡ true → Number h
+pub cut-radius-cuts : (shape : CutterShape) (c : PreparedCutter) (h : Float) → (BadTool shape c → ⊥) → Number h
     → cutRadius shape c h ≡ cuttingRadius shape c (clampOf h plusZero (c .«cutting_length_mm»))
-unfolding withinLimits sizesFit aboveZero cutRadius
-cut-radius-cuts shape c h t n =
-    let rest = lengthsFit c && (diametersFit c && shapeFits shape (c .slope)) in
-    let sizes : sizesFit c ≡ true = and-left (sizesFit c) (heightsFit c && rest) t in
-    let lengths : lengthsFit c ≡ true =
-    and-left (lengthsFit c) (diametersFit c && shapeFits shape (c .slope))
-    (and-right (heightsFit c) rest (and-right (sizesFit c) (heightsFit c && rest) t)) in
-    let cutting : aboveZero (c .«cutting_length_mm») ≡ true =
-    and-left _ (aboveZero (c .radius))
-    (and-right (aboveZero (c .«diameter_mm»)) (aboveZero (c .«cutting_length_mm») && aboveZero (c .radius)) sizes) in
-    let length : le plusZero (c .«cutting_length_mm») ≡ true = lt→le _ _ (and-left _ (le (c .«cutting_length_mm») million) cutting) in
-    ap radiusOf (section-cuts shape c _ lengths (clamped h plusZero (c .«cutting_length_mm») n length))
+unfolding aboveZero cutRadius
+cut-radius-cuts shape c h good n =
+    let fit : withinLimits shape c ≡ true = good-tool shape c good in
+    let length : le plusZero (c .«cutting_length_mm») ≡ true =
+    lt→le _ _ (and-left _ (le (c .«cutting_length_mm») million) (fit-cutting shape c fit)) in
+    ap radiusOf (section-cuts shape c _ (fit-lengths shape c fit) (clamped h plusZero (c .«cutting_length_mm») n length))

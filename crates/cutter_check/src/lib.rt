@@ -1,7 +1,8 @@
 // Refusals 5 and 6: whether a tool is within document 01's limits.
 ghost use mathlib.Core.Path.{_≡_};
 ghost use mathlib.Core.Bool.{_&&_};
-ghost use Rattle.cutter.specs.Limits.{aboveZero, fromZero, isNotNan, sizesFit, heightsFit, lengthsFit, diametersFit, shapeFits, withinLimits, isBeam};
+ghost use Rattle.cutter.specs.Steps.{aboveZero, fromZero, isNotNan, sizesFit, heightsFit, lengthsFit};
+ghost use Rattle.cutter.specs.Steps.{diametersFit, shapeFits, withinLimits, isBeam};
 ghost use Rattle.cutter_check.specs.Steps.{ToolCheckPost};
 use cutter::CutterShape;
 use cutter::PreparedCutter;

@@ -1,5 +1,6 @@
 pub mod Order
 pub mod Pick
+pub mod Ranges
 pub mod Total
 pub mod Held
 pub mod Whole

@@ -1,4 +1,5 @@
--- What floor and ceil mean: the nearest whole number below and above.
+-- What floor and ceiling are, said without their definitions: the nearest whole number below and above. `floor-greatest` and
+-- `ceil-least` in proofs/Greatest.antt prove it for every finite double. Beside them the double nearest to a fraction.
 use mathlib.Core.Path.{_≡_}
 use mathlib.Core.Bool.{true, false}
 use Prim.Native.Nat.{ℕ, _*_, _%_}

@@ -5,8 +5,6 @@
 // before each of these four, and a newline. An argument that the function does not take is 0. The one NaN is 7ff8000000000000.
 // For each function it writes how many rows agree and how many differ, then how many can't be read, and the number
 // of the first row that differs.
-use vector_rows::RowCounts;
-use vector_rows::RowOutcome;
 
 fn order_number(o: doubles::Ordering) -> u64 {
     match o {
@@ -92,33 +90,18 @@ fn answer(op: u64, a: u64, b: u64, c: u64) -> u64 {
     ))
 }
 
-fn compared(text: &[u8]) -> RowOutcome {
-    let k = vector_rows::value_or(hex_text::hex_at(text, 0, 2), 256);
-    let mut w = [0; 4];
-    if !vector_rows::read_words(text, 3, &mut w) {
-        return RowOutcome::Unread;
-    }
-    vector_rows::told(k, 16, answer(k, w[0], w[1], w[2]) == w[3])
-}
-
-// The turns are counted down, since a proved loop has to end and nothing says that the input does.
-fn counted() -> RowCounts {
-    let mut t = vector_rows::start();
-    let mut turns = u64::MAX;
-    while turns > 0 {
-        let mut text = [0u8; 71];
-        if !vector_rows::read_row(&mut text) {
-            break;
-        }
-        t = vector_rows::count(t, compared(&text));
-        turns -= 1;
-    }
-    t
+fn answer_agrees(w: &[u64; 5]) -> bool {
+    answer(w[0], w[1], w[2], w[3]) == w[4]
 }
 
 fn main() {
+    let mut w = [0; 5];
+    let mut r = vector_rows::first_row(2, &mut w);
+    while r.left > 0 {
+        r = vector_rows::next_row(r, w[0], 16, answer_agrees(&w), 2, &mut w);
+    }
     vector_rows::print(
         b"larger smaller clamp floor ceil abs sqrt order_key total_cmp to_u64 bits_of of_bits lt le mul div",
-        counted(),
+        r.counts,
     );
 }

@@ -1,6 +1,6 @@
 // Axes and cutter shapes from the numbers that name them, in the order of their declarations from 0.
 ghost use mathlib.Core.Path.{_≡_};
-ghost use Rattle.enum_codes.specs.Codes.{axisOf, lowShape, highShape, namedShape, shapeOf};
+ghost use Rattle.enum_codes.specs.Codes.{axisOf, namedShape, shapeOf};
 use cutter::CutterShape;
 use frame::Axis;
 
@@ -25,8 +25,9 @@ pub fn axis_of(n: u64) -> Axis
     Axis::NegZ
 }
 
-fn low_shape(kind: u64, m: f64, n: f64) -> CutterShape
-    ensures { λ r. ⌜ r ≡ lowShape kind m n ⌝ }
+// A number that names no shape gives one beyond every limit.
+pub fn named_shape(kind: u64, m: f64, n: f64) -> CutterShape
+    ensures { λ r. ⌜ r ≡ namedShape kind m n ⌝ }
 {
     if kind == 0 {
         return CutterShape::Flat;
@@ -40,12 +41,9 @@ fn low_shape(kind: u64, m: f64, n: f64) -> CutterShape
     if kind == 3 {
         return CutterShape::Drill(m);
     }
-    CutterShape::Chamfer(m, n)
-}
-
-fn high_shape(kind: u64, m: f64) -> CutterShape
-    ensures { λ r. ⌜ r ≡ highShape kind m ⌝ }
-{
+    if kind == 4 {
+        return CutterShape::Chamfer(m, n);
+    }
     if kind == 5 {
         return CutterShape::Beam;
     }
@@ -59,16 +57,6 @@ fn high_shape(kind: u64, m: f64) -> CutterShape
         return CutterShape::Dovetail(m);
     }
     CutterShape::Dovetail(0.0 / 0.0)
-}
-
-// A number that names no shape gives one beyond every limit.
-pub fn named_shape(kind: u64, m: f64, n: f64) -> CutterShape
-    ensures { λ r. ⌜ r ≡ namedShape kind m n ⌝ }
-{
-    if kind < 5 {
-        return low_shape(kind, m, n);
-    }
-    high_shape(kind, m)
 }
 
 // A number that names no axis gives a shape beyond every limit, but a beam stays one.

@@ -9,13 +9,19 @@ use cutter::Radius;
 use cutter_check::ToolCheck;
 use strips::Point;
 use strips::Strip;
-use vector_rows::RowCounts;
-use vector_rows::RowOutcome;
 
 struct Answer {
     kind: u64,
     a: f64,
     b: f64,
+}
+
+fn number(kind: u64, a: f64) -> Answer {
+    Answer {
+        kind: kind,
+        a: a,
+        b: 0.0,
+    }
 }
 
 fn strip_answer(s: Strip) -> Answer {
@@ -25,61 +31,29 @@ fn strip_answer(s: Strip) -> Answer {
             a: lo,
             b: hi,
         },
-        Strip::Miss => Answer {
-            kind: 0,
-            a: 0.0,
-            b: 0.0,
-        },
+        Strip::Miss => number(0, 0.0),
     }
 }
 
 fn slice_answer(s: ProfileSlice) -> Answer {
     match s {
-        ProfileSlice::Cutting(r) => Answer {
-            kind: 1,
-            a: r,
-            b: 0.0,
-        },
-        ProfileSlice::NonCutting(r) => Answer {
-            kind: 2,
-            a: r,
-            b: 0.0,
-        },
-        ProfileSlice::Outside => Answer {
-            kind: 0,
-            a: 0.0,
-            b: 0.0,
-        },
+        ProfileSlice::Cutting(r) => number(1, r),
+        ProfileSlice::NonCutting(r) => number(2, r),
+        ProfileSlice::Outside => number(0, 0.0),
     }
 }
 
 fn radius_answer(s: Radius) -> Answer {
     match s {
-        Radius::Is(r) => Answer {
-            kind: 1,
-            a: r,
-            b: 0.0,
-        },
-        Radius::Outside => Answer {
-            kind: 0,
-            a: 0.0,
-            b: 0.0,
-        },
+        Radius::Is(r) => number(1, r),
+        Radius::Outside => number(0, 0.0),
     }
 }
 
 fn check_answer(t: ToolCheck) -> Answer {
     match t {
-        ToolCheck::Accepted => Answer {
-            kind: 0,
-            a: 0.0,
-            b: 0.0,
-        },
-        ToolCheck::Refused(k) => Answer {
-            kind: k as u64,
-            a: 0.0,
-            b: 0.0,
-        },
+        ToolCheck::Accepted => number(0, 0.0),
+        ToolCheck::Refused(k) => number(k as u64, 0.0),
     }
 }
 
@@ -90,57 +64,60 @@ fn point(x: u64, y: u64) -> Point {
     }
 }
 
-fn answer_strips(op: u64, w: &[u64; 17]) -> Answer {
-    if op == 0 {
+fn answer_strips(w: &[u64; 18]) -> Answer {
+    if w[0] == 0 {
         return strip_answer(strips::disk_strip(
-            point(w[0], w[1]),
-            doubles_bits::of_bits(w[2]),
+            point(w[1], w[2]),
             doubles_bits::of_bits(w[3]),
             doubles_bits::of_bits(w[4]),
+            doubles_bits::of_bits(w[5]),
         ));
     }
-    if op == 1 {
+    if w[0] == 1 {
         return strip_answer(strips::polygon_strip(
-            point(w[0], w[1]),
-            point(w[2], w[3]),
-            point(w[4], w[5]),
-            point(w[6], w[7]),
-            doubles_bits::of_bits(w[8]),
+            point(w[1], w[2]),
+            point(w[3], w[4]),
+            point(w[5], w[6]),
+            point(w[7], w[8]),
             doubles_bits::of_bits(w[9]),
+            doubles_bits::of_bits(w[10]),
         ));
     }
     strip_answer(strips::stadium_strip(
-        point(w[0], w[1]),
-        point(w[2], w[3]),
-        doubles_bits::of_bits(w[4]),
+        point(w[1], w[2]),
+        point(w[3], w[4]),
         doubles_bits::of_bits(w[5]),
         doubles_bits::of_bits(w[6]),
         doubles_bits::of_bits(w[7]),
+        doubles_bits::of_bits(w[8]),
     ))
 }
 
-fn answer_cutter(op: u64, w: &[u64; 17]) -> Answer {
-    let shape = vector_rows::shape_at(w, 0);
-    let c = vector_rows::cutter_at(w, 3);
-    let h0 = doubles_bits::of_bits(w[12]);
-    let h1 = doubles_bits::of_bits(w[13]);
-    if op == 3 {
+fn answer_cutter(w: &[u64; 18]) -> Answer {
+    let shape = vector_rows::shape_at(w, 1);
+    let c = vector_rows::cutter_at(w, 4);
+    let h0 = doubles_bits::of_bits(w[13]);
+    let h1 = doubles_bits::of_bits(w[14]);
+    if w[0] == 3 {
         return slice_answer(cutter::radius_at(shape, c, h0));
     }
-    if op == 4 {
-        return Answer {
-            kind: 1,
-            a: cutter::cut_radius(shape, c, h0),
-            b: 0.0,
-        };
+    if w[0] == 4 {
+        return number(1, cutter::cut_radius(shape, c, h0));
     }
-    if op == 5 {
+    if w[0] == 5 {
         return radius_answer(cutter::cut_max(shape, c, h0, h1));
     }
-    if op == 6 {
+    if w[0] == 6 {
         return radius_answer(cutter::cut_min(shape, c, h0, h1));
     }
     check_answer(cutter_check::check_tool(shape, c))
+}
+
+fn answer_of(w: &[u64; 18]) -> Answer {
+    if w[0] < 3 {
+        return answer_strips(w);
+    }
+    answer_cutter(w)
 }
 
 // Equal as numbers, or both NaN.
@@ -154,49 +131,24 @@ fn same(a: f64, b: f64) -> bool {
     false
 }
 
-fn agrees(x: Answer, w: &[u64; 17]) -> bool {
-    if x.kind == w[14] {
-        if same(x.a, doubles_bits::of_bits(w[15])) {
-            return same(x.b, doubles_bits::of_bits(w[16]));
+fn agrees(w: &[u64; 18]) -> bool {
+    let x = answer_of(w);
+    if x.kind == w[15] {
+        if same(x.a, doubles_bits::of_bits(w[16])) {
+            return same(x.b, doubles_bits::of_bits(w[17]));
         }
     }
     false
 }
 
-fn answer_of(op: u64, w: &[u64; 17]) -> Answer {
-    if op < 3 {
-        return answer_strips(op, w);
-    }
-    answer_cutter(op, w)
-}
-
-fn compared(text: &[u8]) -> RowOutcome {
-    let k = vector_rows::value_or(hex_text::hex_at(text, 0, 2), 256);
-    let mut w = [0; 17];
-    if !vector_rows::read_words(text, 3, &mut w) {
-        return RowOutcome::Unread;
-    }
-    vector_rows::told(k, 8, agrees(answer_of(k, &w), &w))
-}
-
-// The turns are counted down, since a proved loop has to end and nothing says that the input does.
-fn counted() -> RowCounts {
-    let mut t = vector_rows::start();
-    let mut turns = u64::MAX;
-    while turns > 0 {
-        let mut text = [0u8; 292];
-        if !vector_rows::read_row(&mut text) {
-            break;
-        }
-        t = vector_rows::count(t, compared(&text));
-        turns -= 1;
-    }
-    t
-}
-
 fn main() {
+    let mut w = [0; 18];
+    let mut r = vector_rows::first_row(2, &mut w);
+    while r.left > 0 {
+        r = vector_rows::next_row(r, w[0], 8, agrees(&w), 2, &mut w);
+    }
     vector_rows::print(
         b"disk_strip polygon_strip stadium_strip radius_at cut_radius cut_max cut_min check_tool",
-        counted(),
+        r.counts,
     );
 }

@@ -45,22 +45,21 @@ lt-values (fin false m e) (fin false n d) a b p q h =
     (rw (x, y, mul-assoc a (down e) (down d), mul-assoc b (down d) (down e), mul-comm (down d) (down e))
     (mul-lt-mul-of-pos-right h (mul-pos (down-pos e) (down-pos d))))
 
+-- the test tells whether i < j where it passes for each such i
+lt-if : (i j : ℕ) → (i < j → lt (whole i) (whole j) ≡ true) → lt (whole i) (whole j) ≡ ltb i j
+lt-if i j f = go (ltb i j) (ltb-true i j) (ltb-false i j)
+  where
+    go : (b : Bool) → (b ≡ true → i < j) → (b ≡ false → j ≤ i) → lt (whole i) (whole j) ≡ b
+    go true g k = f (g refl)
+    go false g k = le→not-lt (whole j) (whole i) (le-wholes j i (k refl))
+
 -- a whole number below 2 ^ 53 compares with any other as the double does, though the other may be rounded
 pub lt-whole : (i j : ℕ) → i < 2 ^ 53 → lt (whole i) (whole j) ≡ ltb i j
-lt-whole i j h = go (ltb i j) (ltb-true i j) (ltb-false i j)
-  where
-    go : (b : Bool) → (b ≡ true → i < j) → (b ≡ false → j ≤ i) → lt (whole i) (whole j) ≡ b
-    go true f g = lt-le-trans (whole i) (whole (suc i)) (whole j)
-        (lt-values (whole i) (whole (suc i)) i (suc i) (value i (omega arith)) (value (suc i) h) (omega arith))
-        (le-wholes (suc i) j (f refl))
-    go false f g = le→not-lt (whole j) (whole i) (le-wholes j i (g refl))
+lt-whole i j h = lt-if i j (λ k. lt-le-trans (whole i) (whole (suc i)) (whole j)
+    (lt-values (whole i) (whole (suc i)) i (suc i) (value i (omega arith)) (value (suc i) h) (omega arith)) (le-wholes (suc i) j k))
 
 pub lt-whole-right : (i j : ℕ) → j ≤ 2 ^ 53 → lt (whole i) (whole j) ≡ ltb i j
-lt-whole-right i j h = go (ltb i j) (ltb-true i j) (ltb-false i j)
-  where
-    go : (b : Bool) → (b ≡ true → i < j) → (b ≡ false → j ≤ i) → lt (whole i) (whole j) ≡ b
-    go true f g = let k : i < j = f refl in lt-whole i j (omega arith) ∙ lt-ltb i j k
-    go false f g = le→not-lt (whole j) (whole i) (le-wholes j i (g refl))
+lt-whole-right i j h = lt-if i j (λ k. lt-whole i j (omega arith) ∙ lt-ltb i j k)
 
 -- ---- the cells of an extent
 

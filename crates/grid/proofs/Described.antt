@@ -1,6 +1,6 @@
 -- The tests of a description, and document 01's clauses for them: each test fails exactly where its clause holds. Assumes nothing.
 use mathlib.Core.Path.{_≡_, refl, sym, ap, _∙_, subst}
-use mathlib.Core.Logic.{_⊎_, inl, inr, ⊎-elim}
+use mathlib.Core.Logic.{⊎-elim}
 use mathlib.Core.Bool.{Bool, true, false, _&&_, _||_, true≢false}
 use mathlib.Core.List.{List, [], _∷_}
 use Prim.Native.Nat.{ℕ, zero, suc, _≤_}
@@ -11,15 +11,16 @@ use lib.ListN.{length}
 use lib.Ieee.{Float, nan, inf, fin, ofBits, neg, lt, le, eq, isNan}
 use lib.Ieee.Scale.{finite}
 use Rattle.doubles.specs.Constants.{million, millionth}
-use Rattle.doubles.specs.Doubles.{Number, absOf}
+use Rattle.doubles.specs.Ranges.{OutOf}
+use Rattle.doubles.specs.Doubles.{absOf}
 use Rattle.logic.proofs.Bools.{or-cases, or-neither, not-true, not-false, and-true}
-use Rattle.doubles.proofs.Order.{not-le→lt, lt→not-le, fin-number, nan-none, le-number, le-neg, side→le}
+use Rattle.doubles.proofs.Order.{fin-number, le-neg, side→le}
+use Rattle.doubles.proofs.Ranges.{finite-number, out-of, not-out}
 use Rattle.grid.specs.Axes.{byDigit, byAxis, worldAxis, alongOf}
 use Rattle.grid.specs.Grid.{isBetween, allBetween}
 use Rattle.grid.specs.FromSpec.{leastSize, anyBelow, anyAbove, isMm, extentsOf, misdescribed}
 use Rattle.grid.specs.Causes.{
   mm,
-  OutOf,
   Misdescribed,
   version-not-1,
   units-not-mm,
@@ -46,10 +47,6 @@ each P x y z p q r a = go (a .0)
     go (suc (suc n)) = r
 
 -- ---- tests taken apart
-
-and-split : (a b : Bool) → (a && b) ≡ false → (a ≡ false) ⊎ (b ≡ false)
-and-split true b h = inr h
-and-split false b h = inl refl
 
 pub and-both : (a b : Bool) → (a && b) ≡ true → (a ≡ true) × (b ≡ true)
 and-both true b h = (refl, h)
@@ -90,40 +87,6 @@ not-above p limit = no-axis (λ x. lt limit x) p
 
 -- ---- within bounds
 
-pub finite-number : (x : Float) → finite x ≡ true → Number x
-unfolding isNan
-finite-number nan h = absurd (true≢false (sym h))
-finite-number (inf s) h = refl
-finite-number (fin s m e) h = refl
-
-pub between-finite : (lo hi x : Float) → finite lo ≡ true → finite hi ≡ true → le lo x ≡ true → le x hi ≡ true → finite x ≡ true
-unfolding le lt eq
-between-finite lo hi nan f g p q = absurd (nan-none (le-number lo nan p .1))
-between-finite nan hi (inf true) f g p q = absurd (true≢false (sym f))
-between-finite (inf s) hi (inf true) f g p q = absurd (true≢false (sym f))
-between-finite (fin s m e) hi (inf true) f g p q = absurd (true≢false (sym p))
-between-finite lo nan (inf false) f g p q = absurd (true≢false (sym g))
-between-finite lo (inf s) (inf false) f g p q = absurd (true≢false (sym g))
-between-finite lo (fin s m e) (inf false) f g p q = absurd (true≢false (sym q))
-between-finite lo hi (fin s m e) f g p q = refl
-
-module _ (lo hi : Float) where
-  out-of : Number lo → Number hi → (x : Float) → isBetween x lo hi ≡ false → OutOf lo hi x
-  unfolding OutOf isBetween
-  out-of p q nan h = inl refl
-  out-of p q (inf s) h = inl refl
-  out-of p q (fin s m e) h =
-      elim (and-split (le lo (fin s m e)) (le (fin s m e) hi) h) [
-        | inl l ↦ inr (inl (not-le→lt lo (fin s m e) p (fin-number s m e) l))
-        | inr l ↦ inr (inr (not-le→lt (fin s m e) hi (fin-number s m e) q l))
-      ]
-
-  not-out : finite lo ≡ true → finite hi ≡ true → (x : Float) → isBetween x lo hi ≡ true → OutOf lo hi x → ⊥
-  unfolding OutOf isBetween
-  not-out f g x h (inl i) = let b = and-both (le lo x) (le x hi) h in true≢false (sym (between-finite lo hi x f g (b .0) (b .1)) ∙ i)
-  not-out f g x h (inr (inl l)) = true≢false (sym (and-both (le lo x) (le x hi) h .0) ∙ lt→not-le x lo l)
-  not-out f g x h (inr (inr l)) = true≢false (sym (and-both (le lo x) (le x hi) h .1) ∙ lt→not-le hi x l)
-
 -- the Rust's own test of a bound: finite, and at most 1e6 in size
 pub bound-test : (x : Float) → (finite x && le (absOf x) million) ≡ isBetween x (neg million) million
 unfolding isBetween absOf ofBits neg
@@ -161,31 +124,15 @@ not-mm units h e = true≢false (subst (λ (l : List ℕ). true ≡ isMm l) (sym
 
 -- ---- a description
 
-million-finite : finite million ≡ true
-unfolding ofBits
-million-finite = refl
-
-low-finite : finite (neg million) ≡ true
-unfolding ofBits neg
-low-finite = refl
-
-size-finite : finite leastSize ≡ true
-unfolding ofBits
-size-finite = refl
-
-out-axis : (p : Vec3) (lo hi : Float) → finite lo ≡ true → finite hi ≡ true → allBetween p lo hi ≡ false
-    → (a : WorldAxis) × OutOf lo hi (alongOf p a)
-unfolding allBetween byDigit
-out-axis p lo hi f g h = go (isBetween (p .x) lo hi) (isBetween (p .y) lo hi) refl refl h
+out-axis : (p : Vec3) (lo hi : Float) → allBetween p lo hi ≡ false → (a : WorldAxis) × OutOf lo hi (alongOf p a)
+unfolding allBetween isBetween byDigit
+out-axis p lo hi h = go (isBetween (p .x) lo hi) (isBetween (p .y) lo hi) refl refl h
   where
-    out : (x : Float) → isBetween x lo hi ≡ false → OutOf lo hi x
-    out = out-of lo hi (finite-number lo f) (finite-number hi g)
-
     go : (u v : Bool) → isBetween (p .x) lo hi ≡ u → isBetween (p .y) lo hi ≡ v
         → (u && (v && isBetween (p .z) lo hi)) ≡ false → (a : WorldAxis) × OutOf lo hi (alongOf p a)
-    go false v x y k = (worldAxis 0, out (p .x) x)
-    go true false x y k = (worldAxis 1, out (p .y) y)
-    go true true x y k = (worldAxis 2, out (p .z) k)
+    go false v x y k = (worldAxis 0, out-of lo hi (p .x) x)
+    go true false x y k = (worldAxis 1, out-of lo hi (p .y) y)
+    go true true x y k = (worldAxis 2, out-of lo hi (p .z) k)
 
 pub within-axis : (p : Vec3) (lo hi : Float) → allBetween p lo hi ≡ true → (a : WorldAxis) → isBetween (alongOf p a) lo hi ≡ true
 unfolding allBetween
@@ -228,11 +175,12 @@ module _ (s : DexelStockSpec) (sizes : Vec3) where
       }
 
   pub no-clause : (units : List ℕ) → isMm units ≡ true → Passes s sizes → Misdescribed s sizes units → ⊥
+  unfolding isBetween
   no-clause units m p (version-not-1 h) = h (p .version)
   no-clause units m p (units-not-mm h) = h (mm-list units m)
-  no-clause units m p (min-out a h) = not-out (neg million) million low-finite million-finite (alongOf (s .«min_mm») a) (p .min a) h
-  no-clause units m p (max-out a h) = not-out (neg million) million low-finite million-finite (alongOf (s .«max_mm») a) (p .max a) h
-  no-clause units m p (size-out a h) = not-out leastSize million size-finite million-finite (alongOf sizes a) (p .size a) h
+  no-clause units m p (min-out a h) = not-out (neg million) million (alongOf (s .«min_mm») a) (p .min a) h
+  no-clause units m p (max-out a h) = not-out (neg million) million (alongOf (s .«max_mm») a) (p .max a) h
+  no-clause units m p (size-out a h) = not-out leastSize million (alongOf sizes a) (p .size a) h
   no-clause units m p (no-rays h) = p .some-rays h
   no-clause units m p (too-many-rays h) = let l = p .few-rays in omega arith
   no-clause units m p (no-intervals h) = p .some-intervals h
@@ -242,11 +190,11 @@ module _ (s : DexelStockSpec) (sizes : Vec3) where
   unfolding misdescribed
   clause units h =
       ⊎-elim (λ t. version-not-1 (eqb-false _ _ (not-true _ t)))
-      (λ k. ⊎-elim (λ t. let o = out-axis (s .«min_mm») (neg million) million low-finite million-finite (not-true _ t)
+      (λ k. ⊎-elim (λ t. let o = out-axis (s .«min_mm») (neg million) million (not-true _ t)
       in min-out (o .0) (o .1))
-      (λ k. ⊎-elim (λ t. let o = out-axis (s .«max_mm») (neg million) million low-finite million-finite (not-true _ t)
+      (λ k. ⊎-elim (λ t. let o = out-axis (s .«max_mm») (neg million) million (not-true _ t)
       in max-out (o .0) (o .1))
-      (λ k. ⊎-elim (λ t. let o = out-axis sizes leastSize million size-finite million-finite (not-true _ t) in size-out (o .0) (o .1))
+      (λ k. ⊎-elim (λ t. let o = out-axis sizes leastSize million (not-true _ t) in size-out (o .0) (o .1))
       (λ k. ⊎-elim (λ t. no-rays (eqb-true _ _ t))
       (λ k. ⊎-elim (λ t. too-many-rays (ltb-true _ _ t))
       (λ k. ⊎-elim (λ t. no-intervals (eqb-true _ _ t))

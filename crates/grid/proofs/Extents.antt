@@ -20,7 +20,7 @@ use Rattle.doubles.proofs.Order.{le→side, side→lt, fin-number, not-lt→le}
 use Rattle.doubles.proofs.Whole.{neg-round}
 use Rattle.grid.specs.Grid.{whole}
 use Rattle.grid.proofs.Counts.{value}
-use Rattle.grid.proofs.Described.{finite-number}
+use Rattle.doubles.proofs.Ranges.{finite-number}
 use Rattle.grid.proofs.Sums.{Plain, endless, number, round-plain}
 
 -- finite, and at most k in size

@@ -23,7 +23,8 @@ use Rattle.grid.specs.declared.DexelStockSpec.{DexelStockSpec}
 use Rattle.grid.specs.declared.DexelGrid.{DexelGrid}
 use Rattle.grid.specs.declared.GridAnswer.the-variants.{Accepted}
 use Rattle.grid.proofs.Counts.{value}
-use Rattle.grid.proofs.Described.{each, and-both, finite-number, Passes, passes, clause}
+use Rattle.doubles.proofs.Ranges.{finite-number}
+use Rattle.grid.proofs.Described.{each, and-both, Passes, passes, clause}
 use Rattle.grid.proofs.Extents.{Sized, sized-finite, million-sized, sub-sized, step-sized, box, micro-number}
 use Rattle.grid.proofs.Causes.{Few, few-cells, rays-exact, grid-by-causes}
 use Rattle.grid.specs.Facts.{GridFacts}

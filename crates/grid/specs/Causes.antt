@@ -1,12 +1,12 @@
--- The refusals of `grid` in document 01's own words, over whole numbers of cells and rays, and what an accepted grid is good for.
+-- The refusals of `grid` in document 01's own words, over whole numbers of cells and rays.
 use mathlib.Core.Path.{_≡_}
-use mathlib.Core.Bool.{true, false}
+use mathlib.Core.Bool.{true}
 use mathlib.Core.List.{List, [], _∷_}
 use mathlib.Core.Logic.{_⊎_}
 use Prim.Native.Nat.{ℕ, _*_, _<_}
-use lib.Ieee.{Float, neg, lt}
-use lib.Ieee.Scale.{finite}
+use lib.Ieee.{neg, lt}
 use Rattle.doubles.specs.Constants.{million, millionth}
+use Rattle.doubles.specs.Ranges.{OutOf}
 use Rattle.refusal.specs.Refusal.{Cause, cause, Due, NoneDue}
 use Rattle.grid.specs.Axes.{alongOf, cellsAlong, stepAlong}
 use Rattle.grid.specs.FromSpec.{leastSize, sizesOf, extentsOf, dimsOf, gridWith, leastStep, gridOf}
@@ -22,11 +22,7 @@ use Rattle.grid.specs.declared.GridAnswer.the-variants.{Accepted, Refuse
 abbrev pub mm : List ℕ
 mm = 109 ∷ 109 ∷ []
 
--- not finite, or below lo, or above hi
-unfoldable pub OutOf : (lo hi x : Float) → Type 0
-OutOf lo hi x = (finite x ≡ false) ⊎ ((lt x lo ≡ true) ⊎ (lt hi x ≡ true))
-
--- 1 description: a constructor for each clause of document 01
+-- 1 description: a constructor for each clause of document 01; what is not finite is outside each of these ranges
 pub data Misdescribed (s : DexelStockSpec) (sizes : Vec3) (units : List ℕ) : Type 0 where
   version-not-1 : (s .version ≡ 1 → ⊥) → Misdescribed s sizes units
   units-not-mm : (units ≡ mm → ⊥) → Misdescribed s sizes units

@@ -1,6 +1,12 @@
 // The grid of a blank: its description tested, its cells and steps worked out.
 ghost use mathlib.Core.Path.{_≡_};
-ghost use Rattle.grid.specs.FromSpec.{anyBelow, anyAbove, isMm, misdescribed, cellCount, dimsOf, gridWith, magnitudeOf, tooFine, gridOver};
+ghost use mathlib.Core.Bool.{not, _||_};
+ghost use lib.Dec.{eqb, ltb};
+ghost use lib.Ieee.{neg};
+ghost use Rattle.doubles.specs.Constants.{million};
+ghost use Rattle.grid.specs.Grid.{allBetween};
+ghost use Rattle.grid.specs.FromSpec.{leastSize, anyBelow, anyAbove, isMm, misdescribed, cellCount, dimsOf};
+ghost use Rattle.grid.specs.FromSpec.{gridWith, magnitudeOf, tooFine, gridOver};
 ghost use Rattle.grid.specs.Causes.{GridPost};
 use grid::DexelGrid;
 use grid::DexelStockSpec;
@@ -43,6 +49,33 @@ fn any_above(p: Vec3, limit: f64) -> bool
     p.z > limit
 }
 
+// Whether a bound or a cell size is out of its limits.
+fn any_bound_off(min: Vec3, max: Vec3, sizes: Vec3) -> bool
+    ensures { λ r. ⌜ r ≡ (not (allBetween min (neg million) million)
+        || (not (allBetween max (neg million) million) || not (allBetween sizes leastSize million))) ⌝ }
+{
+    if !grid::all_within(min, -1e6, 1e6) {
+        return true;
+    }
+    if !grid::all_within(max, -1e6, 1e6) {
+        return true;
+    }
+    !grid::all_within(sizes, 1e-5, 1e6)
+}
+
+// Whether a budget is out of its limits.
+fn any_budget_off(max_rays: u64, max_intervals: u64) -> bool
+    ensures { λ r. ⌜ r ≡ (eqb «max_rays» 0 || (ltb 4294967295 «max_rays» || eqb «max_intervals» 0)) ⌝ }
+{
+    if max_rays == 0 {
+        return true;
+    }
+    if max_rays > 4294967295 {
+        return true;
+    }
+    max_intervals == 0
+}
+
 // Refusal 1 but for the units, over a cell size per axis.
 fn is_misdescribed(spec: DexelStockSpec, sizes: Vec3, extents: Vec3) -> bool
     ensures { λ r. ⌜ r ≡ misdescribed spec sizes extents ⌝ }
@@ -50,22 +83,10 @@ fn is_misdescribed(spec: DexelStockSpec, sizes: Vec3, extents: Vec3) -> bool
     if spec.version != 1 {
         return true;
     }
-    if !grid::all_within(spec.min_mm, -1e6, 1e6) {
+    if any_bound_off(spec.min_mm, spec.max_mm, sizes) {
         return true;
     }
-    if !grid::all_within(spec.max_mm, -1e6, 1e6) {
-        return true;
-    }
-    if !grid::all_within(sizes, 1e-5, 1e6) {
-        return true;
-    }
-    if spec.max_rays == 0 {
-        return true;
-    }
-    if spec.max_rays > 4294967295 {
-        return true;
-    }
-    if spec.max_intervals == 0 {
+    if any_budget_off(spec.max_rays, spec.max_intervals) {
         return true;
     }
     any_below(extents, 1e-6)

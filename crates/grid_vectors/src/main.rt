@@ -10,8 +10,6 @@ use grid::DexelGrid;
 use grid::DexelStockSpec;
 use grid::GridAnswer;
 use grid::WorldAxis;
-use vector_rows::RowCounts;
-use vector_rows::RowOutcome;
 
 // The answer of `grid` for the units of this number.
 fn gridded(spec: DexelStockSpec, units: u64) -> GridAnswer
@@ -103,29 +101,11 @@ fn agrees(w: &[u64; 29]) -> bool {
 }
 
 // Rows are counted by the number of the refusal that they ask for, or 0.
-fn compared(text: &[u8]) -> RowOutcome {
-    let mut w = [0; 29];
-    if !vector_rows::read_words(text, 0, &mut w) {
-        return RowOutcome::Unread;
-    }
-    vector_rows::told(w[15], 5, agrees(&w))
-}
-
-// The turns are counted down, since a proved loop has to end and nothing says that the input does.
-fn counted() -> RowCounts {
-    let mut t = vector_rows::start();
-    let mut turns = u64::MAX;
-    while turns > 0 {
-        let mut text = [0u8; 493];
-        if !vector_rows::read_row(&mut text) {
-            break;
-        }
-        t = vector_rows::count(t, compared(&text));
-        turns -= 1;
-    }
-    t
-}
-
 fn main() {
-    vector_rows::print(b"accepted 1 2 3 4", counted());
+    let mut w = [0; 29];
+    let mut r = vector_rows::first_row(16, &mut w);
+    while r.left > 0 {
+        r = vector_rows::next_row(r, w[15], 5, agrees(&w), 16, &mut w);
+    }
+    vector_rows::print(b"accepted 1 2 3 4", r.counts);
 }

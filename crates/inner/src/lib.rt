@@ -1,28 +1,26 @@
-// The strips and the cutter under C names, for the oracle and the benchmark only. An answer that is an enum comes
-// back as a struct of numbers; a shape goes in as a number and its own numbers. The functions of `doubles` under C
-// names, for the oracle and the benchmark only. Inner functions of a blank and its stock under C names, for the
-// oracle and the benchmark only: each is its crate's function of the same name, and asks what that asks.
+// Inner functions under C names, for the oracle and the benchmark only: each is its crate's function of the same name, and asks what
+// that asks. An answer that is an enum comes back as a number or as a struct of numbers.
 ghost use mathlib.Core.Path.{_≡_};
-ghost use Rattle.strips.specs.Strip.{diskStrip, stadiumStrip};
-ghost use Rattle.strips.specs.Polygon.{polygonStrip};
-ghost use Rattle.cutter.specs.Cutter.{radiusAt, cutRadius, cutMax, cutMin};
-ghost use Rattle.inner.specs.Geometry.{stripAs, sliceAs, radiusAs, CheckedAs};
-ghost use Rattle.enum_codes.specs.Codes.{namedShape};
-ghost use Rattle.cutter_check.specs.Steps.{ToolCheckPost};
+ghost use Prim.Native.Nat.{_*_, _<_, _^_};
 ghost use lib.Ieee.{binary64, ofBits, toBits, toUnsigned};
+ghost use Rattle.logic.specs.Logic.{Decides};
 ghost use Rattle.doubles.specs.Doubles.{largerOf, smallerOf, clampOf, floorOf, ceilOf, absOf};
+ghost use Rattle.doubles.specs.TotalOrder.{keyOf, totalOf};
 ghost use Rattle.doubles_sqrt.specs.Root.{squareRoot};
 ghost use Rattle.inner.specs.Orderings.{orderingCode};
-ghost use Prim.Native.Nat.{_*_, _<_, _^_};
+ghost use Rattle.strips.specs.Strip.{diskStrip, stadiumStrip};
+ghost use Rattle.strips.specs.Polygon.{polygonStrip};
+ghost use Rattle.enum_codes.specs.Codes.{namedShape};
+ghost use Rattle.cutter.specs.Cutter.{radiusAt, cutRadius, cutMax, cutMin};
+ghost use Rattle.cutter_check.specs.Steps.{ToolCheckPost};
+ghost use Rattle.inner.specs.Geometry.{stripAs, sliceAs, radiusAs, CheckedAs};
 ghost use Rattle.grid.specs.Axes.{worldAxis, cellsAlong, crossOf};
 ghost use Rattle.grid.specs.Rays.{rayCount, raysAlong, rayNumber, cellAt};
-ghost use Rattle.ray_text.specs.Run.{ProgramRan};
-ghost use Rattle.stock.specs.Stock.{SoundCells};
-ghost use Rattle.logic.specs.Logic.{Decides};
-ghost use Rattle.doubles.specs.TotalOrder.{keyOf, totalOf};
 ghost use Rattle.grid.specs.Centers.{rayCenterOf, cellBoundOf};
 ghost use Rattle.store.specs.Steps.{Room};
 ghost use Rattle.store.specs.Store.{cells};
+ghost use Rattle.stock.specs.Stock.{SoundCells};
+ghost use Rattle.ray_text.specs.Run.{ProgramRan};
 use cutter::PreparedCutter;
 use cutter::ProfileSlice;
 use cutter::Radius;
@@ -34,17 +32,104 @@ use grid::WorldAxis;
 use strips::Point;
 use strips::Strip;
 
+// Doubles.
+
+#[no_mangle]
+pub extern "C" fn tridexel_inner_larger(a: f64, b: f64) -> f64
+    ensures { λ r. ⌜ r ≡ largerOf a b ⌝ }
+{
+    doubles_minmax::larger(a, b)
+}
+
+#[no_mangle]
+pub extern "C" fn tridexel_inner_smaller(a: f64, b: f64) -> f64
+    ensures { λ r. ⌜ r ≡ smallerOf a b ⌝ }
+{
+    doubles_minmax::smaller(a, b)
+}
+
+#[no_mangle]
+pub extern "C" fn tridexel_inner_clamp(x: f64, lo: f64, hi: f64) -> f64
+    ensures { λ r. ⌜ r ≡ clampOf x lo hi ⌝ }
+{
+    doubles_minmax::clamp(x, lo, hi)
+}
+
+#[no_mangle]
+pub extern "C" fn tridexel_inner_floor(x: f64) -> f64
+    ensures { λ r. ⌜ r ≡ floorOf x ⌝ }
+{
+    doubles::floor(x)
+}
+
+#[no_mangle]
+pub extern "C" fn tridexel_inner_ceil(x: f64) -> f64
+    ensures { λ r. ⌜ r ≡ ceilOf x ⌝ }
+{
+    doubles::ceil(x)
+}
+
+#[no_mangle]
+pub extern "C" fn tridexel_inner_abs(x: f64) -> f64
+    ensures { λ r. ⌜ r ≡ absOf x ⌝ }
+{
+    doubles::abs(x)
+}
+
+#[no_mangle]
+pub extern "C" fn tridexel_inner_sqrt(x: f64) -> f64
+    ensures { λ r. ⌜ r ≡ squareRoot binary64 x ⌝ }
+{
+    doubles_sqrt::sqrt(x)
+}
+
+#[no_mangle]
+pub extern "C" fn tridexel_inner_of_bits(bits: u64) -> f64
+    ensures { λ r. ⌜ r ≡ ofBits binary64 bits ⌝ }
+{
+    doubles_bits::of_bits(bits)
+}
+
+#[no_mangle]
+pub extern "C" fn tridexel_inner_bits_of(x: f64) -> u64
+    ensures { λ r. ⌜ r ≡ toBits binary64 x ⌝ }
+{
+    doubles_bits::bits_of(x)
+}
+
+#[no_mangle]
+pub extern "C" fn tridexel_inner_to_u64(x: f64) -> u64
+    ensures { λ r. ⌜ r ≡ toUnsigned 64 x ⌝ }
+{
+    doubles::to_u64(x)
+}
+
+#[no_mangle]
+pub extern "C" fn tridexel_inner_order_key(x: f64) -> u64
+    ensures { λ r. ⌜ r ≡ keyOf x ⌝ }
+{
+    doubles_bits::order_key(x)
+}
+
+#[no_mangle]
+pub extern "C" fn tridexel_inner_total_cmp(a: f64, b: f64) -> u32
+    ensures { λ r. ⌜ r ≡ orderingCode (totalOf a b) ⌝ }
+{
+    let o = doubles_bits::total_cmp(a, b);
+    match o {
+        doubles::Ordering::Less => 0,
+        doubles::Ordering::Equal => 1,
+        doubles::Ordering::Greater => 2,
+    }
+}
+
+// The strips. An answer is 1 and the two ends, or 0.
+
 #[repr(C)]
 pub struct StripNumbers {
     pub hit: u64,
     pub lo: f64,
     pub hi: f64,
-}
-
-#[repr(C)]
-pub struct RadiusNumbers {
-    pub kind: u64,
-    pub radius: f64,
 }
 
 fn strip_numbers(s: Strip) -> StripNumbers
@@ -97,6 +182,14 @@ pub extern "C" fn tridexel_inner_stadium_strip(
     ensures { λ r. ⌜ r ≡ stripAs (stadiumStrip a b length rho y0 y1) ⌝ }
 {
     strip_numbers(strips::stadium_strip(a, b, length, rho, y0, y1))
+}
+
+// The cutter. A shape goes in as its number and its own numbers.
+
+#[repr(C)]
+pub struct RadiusNumbers {
+    pub kind: u64,
+    pub radius: f64,
 }
 
 fn slice_numbers(s: ProfileSlice) -> RadiusNumbers
@@ -200,94 +293,7 @@ pub extern "C" fn tridexel_inner_check_tool(kind: u64, m: f64, n: f64, c: Prepar
     }
 }
 
-#[no_mangle]
-pub extern "C" fn tridexel_inner_larger(a: f64, b: f64) -> f64
-    ensures { λ r. ⌜ r ≡ largerOf a b ⌝ }
-{
-    doubles_minmax::larger(a, b)
-}
-
-#[no_mangle]
-pub extern "C" fn tridexel_inner_smaller(a: f64, b: f64) -> f64
-    ensures { λ r. ⌜ r ≡ smallerOf a b ⌝ }
-{
-    doubles_minmax::smaller(a, b)
-}
-
-#[no_mangle]
-pub extern "C" fn tridexel_inner_clamp(x: f64, lo: f64, hi: f64) -> f64
-    ensures { λ r. ⌜ r ≡ clampOf x lo hi ⌝ }
-{
-    doubles_minmax::clamp(x, lo, hi)
-}
-
-#[no_mangle]
-pub extern "C" fn tridexel_inner_floor(x: f64) -> f64
-    ensures { λ r. ⌜ r ≡ floorOf x ⌝ }
-{
-    doubles::floor(x)
-}
-
-#[no_mangle]
-pub extern "C" fn tridexel_inner_ceil(x: f64) -> f64
-    ensures { λ r. ⌜ r ≡ ceilOf x ⌝ }
-{
-    doubles::ceil(x)
-}
-
-#[no_mangle]
-pub extern "C" fn tridexel_inner_abs(x: f64) -> f64
-    ensures { λ r. ⌜ r ≡ absOf x ⌝ }
-{
-    doubles::abs(x)
-}
-
-#[no_mangle]
-pub extern "C" fn tridexel_inner_sqrt(x: f64) -> f64
-    ensures { λ r. ⌜ r ≡ squareRoot binary64 x ⌝ }
-{
-    doubles_sqrt::sqrt(x)
-}
-
-#[no_mangle]
-pub extern "C" fn tridexel_inner_of_bits(bits: u64) -> f64
-    ensures { λ r. ⌜ r ≡ ofBits binary64 bits ⌝ }
-{
-    doubles_bits::of_bits(bits)
-}
-
-#[no_mangle]
-pub extern "C" fn tridexel_inner_bits_of(x: f64) -> u64
-    ensures { λ r. ⌜ r ≡ toBits binary64 x ⌝ }
-{
-    doubles_bits::bits_of(x)
-}
-
-#[no_mangle]
-pub extern "C" fn tridexel_inner_to_u64(x: f64) -> u64
-    ensures { λ r. ⌜ r ≡ toUnsigned 64 x ⌝ }
-{
-    doubles::to_u64(x)
-}
-
-#[no_mangle]
-pub extern "C" fn tridexel_inner_order_key(x: f64) -> u64
-    ensures { λ r. ⌜ r ≡ keyOf x ⌝ }
-{
-    doubles_bits::order_key(x)
-}
-
-#[no_mangle]
-pub extern "C" fn tridexel_inner_total_cmp(a: f64, b: f64) -> u32
-    ensures { λ r. ⌜ r ≡ orderingCode (totalOf a b) ⌝ }
-{
-    let o = doubles_bits::total_cmp(a, b);
-    match o {
-        doubles::Ordering::Less => 0,
-        doubles::Ordering::Equal => 1,
-        doubles::Ordering::Greater => 2,
-    }
-}
+// The blank's rays and cells.
 
 #[no_mangle]
 pub extern "C" fn tridexel_inner_rays(g: DexelGrid, axis: u8) -> u64
@@ -351,6 +357,8 @@ pub extern "C" fn tridexel_inner_cell_at(
     grid_cells::cell_at(spec, g, WorldAxis(axis), x)
 }
 
+// The stock.
+
 #[no_mangle]
 pub extern "C" fn tridexel_inner_check_stock(
     spec: DexelStockSpec,
@@ -366,7 +374,8 @@ pub extern "C" fn tridexel_inner_check_stock(
     stock::check_stock(spec, g, spans, links, heads, intervals)
 }
 
-// `ray_text::run`
+// The text of a ray: `ray_text::run`.
+
 #[no_mangle]
 pub extern "C" fn tridexel_inner_merge_ray(s: &[u8], out: &mut [u8; 65536]) -> usize
     ensures { λ r. ⌜ ProgramRan (now (s .entry)) (now (out .entry)) (now (out .exit)) r ⌝ }

@@ -7,7 +7,8 @@ use Rattle.doubles.specs.Doubles.{Number}
 use Rattle.logic.proofs.Bools.{by-cases, clash}
 use Rattle.doubles.proofs.Order.{lt-number, lt-irrefl, lt-le-trans}
 use Rattle.spans.specs.Overlay.{higherOf, lowerOf}
-use Rattle.log_model.specs.Logs.{Entry, HitKind, outer, inner, hitLo, hitHi}
+use Rattle.log_model.specs.declared.Entry.{Entry}
+use Rattle.log_model.specs.Logs.{HitKind, outer, inner, hitLo, hitHi}
 use Rattle.span_overlay.proofs.Less.{higher-first, higher-second, lower-first, lower-second}
 use Rattle.log_keys.specs.Keys.{top}
 use Rattle.log_keys.proofs.Infinity.{top-number}

@@ -125,8 +125,9 @@ pub fn count_ray(
         (now (buffer .entry)) (now (buffer .exit)) r ⌝ }
 {
     let n = spec.max_intervals as usize;
-    let p = count_list(spans, links, n, heads[2 * ray], log, keys, false, buffer);
-    let c = count_list(spans, links, n, heads[2 * ray + 1], log, keys, true, buffer);
+    let head = store::ray_heads(heads, ray);
+    let p = count_list(spans, links, n, head.possible, log, keys, false, buffer);
+    let c = count_list(spans, links, n, head.certain, log, keys, true, buffer);
     add_ray(t, p, c)
 }
 
@@ -204,10 +205,9 @@ pub fn count_long(
 {
     let n = spec.max_intervals as usize;
     let top = 1.0 / 0.0;
-    let h = heads[2 * ray];
-    let k = heads[2 * ray + 1];
-    let p = log_left::start(spans, links, n, h);
-    let c = log_left::start(spans, links, n, k);
+    let head = store::ray_heads(heads, ray);
+    let p = log_left::start(spans, links, n, head.possible);
+    let c = log_left::start(spans, links, n, head.certain);
     let mut w = RayWalks {
         possible: p,
         certain: c,
@@ -221,7 +221,7 @@ pub fn count_long(
     }
     add_ray(
         t,
-        end_list(spans, links, n, h, w.possible),
-        end_list(spans, links, n, k, w.certain),
+        end_list(spans, links, n, head.possible, w.possible),
+        end_list(spans, links, n, head.certain, w.certain),
     )
 }

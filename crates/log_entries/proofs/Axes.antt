@@ -10,7 +10,8 @@ use Rattle.grid.specs.Axes.{worldAxis, byDigit}
 use Rattle.grid.specs.Rays.{rayCount, raysAlong, offset, rayNumber}
 use Rattle.grid.specs.declared.DexelGrid.{DexelGrid}
 use Rattle.grid.proofs.Numbering.{offset-le}
-use Rattle.log_model.specs.Logs.{Entry, isWhole, wholeOf, namesSomeRay, entryRay}
+use Rattle.log_model.specs.declared.Entry.{Entry}
+use Rattle.log_model.specs.Logs.{isWhole, wholeOf, namesSomeRay, entryRay}
 use Rattle.log_model.proofs.Naming.{named}
 use Rattle.log_entries.specs.Named.{beforeAxis}
 

@@ -7,7 +7,8 @@ use native.Mathlib.Omega.{arith}
 use lib.Dec.{eqb}
 use lib.ListN.{length}
 use Rattle.grid.specs.declared.DexelGrid.{DexelGrid}
-use Rattle.log_model.specs.Logs.{Entry, namesSomeRay, entryRay, HitKind, hitLo, hitHi, hitsOnRay}
+use Rattle.log_model.specs.declared.Entry.{Entry}
+use Rattle.log_model.specs.Logs.{namesSomeRay, entryRay, HitKind, hitLo, hitHi, hitsOnRay}
 
 module _ (g : DexelGrid) (ray : ℕ) (w : HitKind) where
   pub named-even : (es : List Entry) → length (hitsOnRay g es ray w) % 2 ≡ 0

@@ -1,12 +1,12 @@
 -- A log whose entries each name a ray, and the entries of one ray by their places in it.
 use mathlib.Core.Path.{_≡_}
-use mathlib.Core.Bool.{Bool, true, false, cond, _&&_}
+use mathlib.Core.Bool.{Bool, true, false, cond}
 use mathlib.Core.List.{List, [], _∷_}
 use Prim.Native.Nat.{ℕ, zero, suc, _+_, _<_}
 use lib.Dec.{eqb}
 use lib.Ieee.{Float, binary64, le, ofBits}
 use Rattle.grid.specs.declared.DexelGrid.{DexelGrid}
-use Rattle.log_model.specs.Logs.{Entry, entryAt, entryCount, entries, namesSomeRay, entryRay, HitKind, hitLo, hitHi}
+use Rattle.log_model.specs.Logs.{entryAt, entryCount, entries, namesSomeRay, entryRay, HitKind, hitLo, hitHi}
 use Rattle.log_model.specs.Model.{NamesNoRay}
 
 -- each whole entry names a ray

@@ -3,9 +3,8 @@ use mathlib.Core.Path.{_≡_, refl, _∙_}
 use mathlib.Core.Logic.{inl}
 use mathlib.Core.Bool.{Bool, false≢true}
 use mathlib.Core.List.{List}
-use Prim.Native.Nat.{ℕ, _+_, _*_, _%_, _<_}
+use Prim.Native.Nat.{ℕ, _+_, _%_}
 use native.Mathlib.Omega.{arith}
-use native.Mathlib.Nat.{mod-lt}
 use native.Mathlib.Numerals.{add-one}
 use lib.ListN.{length, getD}
 use lib.Ieee.{Float, lt, le}
@@ -53,7 +52,3 @@ module _ (b u f : Float) (log : List Float) (keys : List ℕ) (certain : Bool) (
 
 pub same-shape : (before after : List Float) → length after ≡ length before → Shaped before → Shaped after
 same-shape before after e s = record { quarters = rw e (s .quarters); least = rw e (s .least) }
-
--- a key's entry stands in the log
-pub in-log : (log : List Float) (key : ℕ) → 0 < entryCount log → 6 * (key % entryCount log) + 5 < length log
-in-log log key h = omega (arith, mod-lt key h)

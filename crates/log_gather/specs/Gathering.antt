@@ -1,13 +1,13 @@
 -- Gathering the hits of a stretch of numbers, from b on.
 use mathlib.Core.Path.{_≡_}
-use mathlib.Core.Bool.{Bool, true, false}
+use mathlib.Core.Bool.{Bool, true}
 use mathlib.Core.List.{List, _∷_}
 use mathlib.Core.Logic.{_⊎_}
 use Prim.Native.Nat.{ℕ, _+_, _%_, _≤_}
 use lib.ListN.{length, take}
 use lib.Ieee.{Float, lt}
 use Rattle.spans.specs.Spans.{within, holds}
-use Rattle.log_model.specs.Logs.{Entry}
+use Rattle.log_model.specs.declared.Entry.{Entry}
 use Rattle.log_keys.specs.Keys.{withEntry, pairsPast}
 use Rattle.log_gather.specs.declared.HeldHits.{HeldHits}
 

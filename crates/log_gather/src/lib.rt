@@ -1,12 +1,13 @@
 // The hits of some entries of a log, gathered in a lent buffer for one stretch of numbers: as many as fit, which decides where the
 // stretch ends.
-ghost use Prim.Native.Nat.{_+_, _*_, _<_};
+ghost use Prim.Native.Nat.{_<_};
 ghost use mathlib.Core.Path.{_≡_};
 ghost use lib.ListN.{length};
 ghost use Rattle.spans.specs.Overlay.{lowerOf};
-ghost use Rattle.log_model.specs.Logs.{entryAt, entryCount};
+ghost use Rattle.log_model.specs.Logs.{entryCount};
 ghost use Rattle.log_keys.specs.Keys.{hitsTo};
 ghost use Rattle.log_gather.specs.Gathering.{Shaped, WholePairs, MakeRoomPost, PutPost, PutEntryPost, GatherPost};
+use log_model::Entry;
 
 // The hits of a stretch as they are gathered: the cells in use, where the stretch ends, and how far the hits that begin at or before
 // its start reach.
@@ -86,23 +87,15 @@ fn put(cells: &mut [f64], h: HeldHits, b: f64, lo: f64, hi: f64) -> HeldHits
 }
 
 // The hits of an entry that the list loses: certain loses the outer one too.
-fn put_entry(
-    log: &[f64],
-    place: usize,
-    certain: bool,
-    cells: &mut [f64],
-    h: HeldHits,
-    b: f64,
-) -> HeldHits
-    requires { ⌜ Shaped (now cells) × WholePairs (now cells) (h .count) × (6 * place + 5 < length (now log)) ⌝ }
-    ensures { λ r. ⌜ PutEntryPost b (entryAt (now (log .entry)) place) certain (now (cells .entry)) h (now (cells .exit)) r ⌝ }
+fn put_entry(e: Entry, certain: bool, cells: &mut [f64], h: HeldHits, b: f64) -> HeldHits
+    requires { ⌜ Shaped (now cells) × WholePairs (now cells) (h .count) ⌝ }
+    ensures { λ r. ⌜ PutEntryPost b e certain (now (cells .entry)) h (now (cells .exit)) r ⌝ }
 {
-    let at = 6 * place;
     if certain {
-        let w = put(cells, h, b, log[at + 2], log[at + 3]);
-        return put(cells, w, b, log[at + 4], log[at + 5]);
+        let w = put(cells, h, b, e.outer_lo, e.outer_hi);
+        return put(cells, w, b, e.inner_lo, e.inner_hi);
     }
-    put(cells, h, b, log[at + 4], log[at + 5])
+    put(cells, h, b, e.inner_lo, e.inner_hi)
 }
 
 // Gathers the hits of all entries.
@@ -119,7 +112,7 @@ pub fn gather(
     ensures { λ r. ⌜ GatherPost b u front (hitsTo (now (log .entry)) (now (keys .entry)) certain (length (now (keys .entry))))
         (now (cells .entry)) (now (cells .exit)) r ⌝ }
 {
-    let n = (log.len() / 6) as u64;
+    let n = log_entries::entry_count(log) as u64;
     let mut h = HeldHits {
         count: 0,
         end: u,
@@ -127,7 +120,8 @@ pub fn gather(
     };
     let mut i: usize = 0;
     while i < keys.len() {
-        h = put_entry(log, (keys[i] % n) as usize, certain, cells, h, b);
+        let e = log_entries::entry_at(log, (keys[i] % n) as usize);
+        h = put_entry(e, certain, cells, h, b);
         i += 1;
     }
     h

@@ -1,7 +1,7 @@
 -- Copying the pairs of a chain, one place after the other.
 use mathlib.Core.Path.{_≡_, refl, sym, ap, _∙_, subst}
 use mathlib.Core.List.{List, [], _∷_}
-use Prim.Native.Nat.{ℕ, suc, _+_, _-_, _*_, _≤_, _<_}
+use Prim.Native.Nat.{ℕ, suc, _+_, _-_, _≤_, _<_}
 use native.Mathlib.Omega.{arith}
 use lib.ListN.{length, getD, set, length-set}
 use lib.Seq.{getD-set-other, sets, sets-eq}
@@ -10,28 +10,13 @@ use Rattle.log_numbers.specs.Numbers.{numberAt}
 use Rattle.log_numbers.proofs.Cells.{number-same}
 use Rattle.grid.specs.Rays.{rayCount}
 use Rattle.grid.specs.declared.DexelGrid.{DexelGrid}
-use Rattle.log_model.specs.Logs.{entryAt, entries, entryCount, HitKind, outer, inner, hitLo, hitHi, hitsOnRay}
+use Rattle.log_model.specs.declared.Entry.{Entry}
+use Rattle.log_model.specs.Logs.{entryAt, entries, entryCount, HitKind, hitLo, hitHi, hitsOnRay}
 use Rattle.log_entries.specs.Named.{namedFrom, pairsAt}
 use Rattle.log_entries.proofs.Places.{pairs-at}
 use Rattle.store_read.specs.Reading.{ReadListPost}
-use Rattle.log_group.specs.Groups.{PlaceChain, ends, more, Grouped, columnOf}
+use Rattle.log_group.specs.Groups.{PlaceChain, ends, more, Grouped}
 use Rattle.log_group.proofs.Chains.{chain-kept}
-
--- the two ends of an entry's pair in the log
-module _ (log : List Float) (i : ℕ) where
-  pub lo-at : (k : HitKind) → hitLo k (entryAt log i) ≡ getD log (6 * i + columnOf k) nan
-  unfolding hitLo entryAt
-  lo-at outer = refl
-  lo-at inner = refl
-
-  pub hi-at : (k : HitKind) → hitHi k (entryAt log i) ≡ getD log (6 * i + columnOf k + 1) nan
-  unfolding hitHi entryAt
-  hi-at outer = ap (λ (n : ℕ). getD log n nan) (omega arith)
-  hi-at inner = ap (λ (n : ℕ). getD log n nan) (omega arith)
-
-pub column-most : (k : HitKind) → columnOf k ≤ 4
-column-most outer = omega arith
-column-most inner = omega arith
 
 -- two chains from the same number have the same places
 pub chain-one : {w : List Float} {rays from to k : ℕ} {is js : List ℕ} → PlaceChain w rays from to k is
@@ -70,7 +55,7 @@ module _ (rays : ℕ) (log : List Float) (kind : HitKind) (ray at : ℕ) (before
 
   -- the cells after the pair at place i came to cell t
   abbrev pub turned : List Float → ℕ → ℕ → List Float
-  turned w t i = set (set w t (getD log (6 * i + columnOf kind) nan)) (t + 1) (getD log (6 * i + columnOf kind + 1) nan)
+  turned w t i = set (set w t (hitLo kind (entryAt log i))) (t + 1) (hitHi kind (entryAt log i))
 
   -- what there is to know of a turn
   pub record Turn (w : List Float) (t k : ℕ) : Type 0 where
@@ -79,11 +64,10 @@ module _ (rays : ℕ) (log : List Float) (kind : HitKind) (ray at : ℕ) (before
     pub room : t + 2 ≤ length before
     pub again : Gathering rays log kind ray at before (turned w t (k - 1)) (t + 2) (numberAt (turned w t (k - 1)) (rays + (k - 1)))
 
-  step-cells : (w : List Float) (t i : ℕ) (is : List ℕ) → sets w t (pairsAt log (i ∷ is) kind)
-      ≡ sets (set (set w t (getD log (6 * i + columnOf kind) nan)) (t + 1) (getD log (6 * i + columnOf kind + 1) nan))
-      (t + 2) (pairsAt log is kind)
+  step-cells : (w : List Float) (t i : ℕ) (is : List ℕ)
+      → sets w t (pairsAt log (i ∷ is) kind) ≡ sets (turned w t i) (t + 2) (pairsAt log is kind)
   unfolding pairsAt
-  step-cells w t i is = rw (← lo-at log i kind, ← hi-at log i kind, next t, two t)
+  step-cells w t i is = rw (next t, two t)
     where
       next : (t : ℕ) → t + 1 ≡ suc t
       next t = omega arith
@@ -98,13 +82,14 @@ module _ (rays : ℕ) (log : List Float) (kind : HitKind) (ray at : ℕ) (before
   module _ (w : List Float) (t : ℕ) where
     kept : (i q : ℕ) → rays + entryCount log ≤ t → q < entryCount log → getD (turned w t i) (rays + q) nan ≡ getD w (rays + q) nan
     kept i q past e =
-        getD-set-other (set w t (getD log (6 * i + columnOf kind) nan)) (t + 1) (rays + q)
-        (getD log (6 * i + columnOf kind + 1) nan) nan (λ (h : rays + q ≡ t + 1). omega arith)
-        ∙ getD-set-other w t (rays + q) (getD log (6 * i + columnOf kind) nan) nan (λ (h : rays + q ≡ t). omega arith)
+        let lo = hitLo kind (entryAt log i) in
+        getD-set-other (set w t lo) (t + 1) (rays + q) (hitHi kind (entryAt log i)) nan (λ (h : rays + q ≡ t + 1). omega arith)
+        ∙ getD-set-other w t (rays + q) lo nan (λ (h : rays + q ≡ t). omega arith)
 
     same-size : (i : ℕ) → length (turned w t i) ≡ length w
-    same-size i = length-set (set w t (getD log (6 * i + columnOf kind) nan)) (t + 1)
-        (getD log (6 * i + columnOf kind + 1) nan) ∙ length-set w t (getD log (6 * i + columnOf kind) nan)
+    same-size i =
+        let lo = hitLo kind (entryAt log i) in
+        length-set (set w t lo) (t + 1) (hitHi kind (entryAt log i)) ∙ length-set w t lo
 
     -- the rest of the chain, when the pair at place i is copied
     rest : {k : ℕ} (s : Gathering rays log kind ray at before w t k) (i : ℕ) (is : List ℕ) → i < entryCount log
@@ -156,16 +141,15 @@ module _ (rays : ℕ) (log : List Float) (kind : HitKind) (ray at : ℕ) (before
       last (more a b c) e = absurd (omega arith)
 
 -- a turn, in the terms of the code
-pub again : (rays : ℕ) (log : List Float) (kind : HitKind) (ray at : ℕ) (before w : List Float) (t k c : ℕ)
-    (v : List Float) (n : ℕ) → c ≡ columnOf kind
-    → v ≡ set (set w t (getD log (6 * (k - 1) + c) nan)) (t + 1) (getD log (6 * (k - 1) + c + 1) nan) → n ≡ numberAt v (rays + (k - 1))
+pub again : (rays : ℕ) (log : List Float) (kind : HitKind) (ray at : ℕ) (before w : List Float) (t k : ℕ) (x : Entry)
+    (v : List Float) (n : ℕ) → x ≡ entryAt log (k - 1)
+    → v ≡ set (set w t (hitLo kind x)) (t + 1) (hitHi kind x) → n ≡ numberAt v (rays + (k - 1))
     → Gathering rays log kind ray at before (turned rays log kind ray at before w t (k - 1)) (t + 2)
     (numberAt (turned rays log kind ray at before w t (k - 1)) (rays + (k - 1)))
     → Gathering rays log kind ray at before v (t + 2) n
-again rays log kind ray at before w t k c v n col cells num s =
+again rays log kind ray at before w t k x v n read cells num s =
     let e : v ≡ turned rays log kind ray at before w t (k - 1) =
-    cells ∙ ap (λ (x : ℕ). set (set w t (getD log (6 * (k - 1) + x) nan)) (t + 1)
-    (getD log (6 * (k - 1) + x + 1) nan)) col in
+    cells ∙ ap (λ (y : Entry). set (set w t (hitLo kind y)) (t + 1) (hitHi kind y)) read in
     subst (λ (m : ℕ). Gathering rays log kind ray at before v (t + 2) m) (sym num)
     (subst (λ (x : List Float). Gathering rays log kind ray at before x (t + 2) (numberAt x (rays + (k - 1)))) (sym e) s)
 

@@ -35,8 +35,3 @@ pub record GroupPost (g : DexelGrid) (log before after : List Float) : Type 0 wh
 abbrev pub hitKindOf : (isInner : Bool) → HitKind
 hitKindOf true = inner
 hitKindOf false = outer
-
--- where the pair of this kind begins in an entry of six doubles
-abbrev pub columnOf : HitKind → ℕ
-columnOf outer = 2
-columnOf inner = 4

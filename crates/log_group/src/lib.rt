@@ -1,15 +1,16 @@
 // Groups the entries of a log by ray: the entries of each ray are chained in the work buffer, in the log's order.
 ghost use mathlib.Core.Path.{_≡_};
-ghost use Prim.Native.Nat.{_+_, _*_, _<_, _≤_};
+ghost use Prim.Native.Nat.{_+_, _<_, _≤_};
 ghost use lib.Ieee.{nan};
 ghost use lib.ListN.{length, getD, set};
 ghost use Rattle.log_numbers.specs.Numbers.{numberCell};
 ghost use Rattle.grid.specs.Rays.{rayCount};
-ghost use Rattle.log_model.specs.Logs.{entries, entryCount, hitsOnRay};
+ghost use Rattle.log_model.specs.Logs.{entries, entryCount, hitLo, hitHi, hitsOnRay};
 ghost use Rattle.log_entries.specs.Named.{EachNamed};
 ghost use Rattle.store_read.specs.Reading.{ReadListPost};
-ghost use Rattle.log_group.specs.Groups.{Grouped, GroupPost, hitKindOf, columnOf};
+ghost use Rattle.log_group.specs.Groups.{Grouped, GroupPost, hitKindOf};
 use grid::DexelGrid;
+use log_model::Entry;
 
 // Puts place i in front of the chain of the ray.
 fn link(work: &mut [f64], rays: usize, ray: usize, i: usize)
@@ -28,7 +29,7 @@ pub fn group(g: DexelGrid, log: &[f64], work: &mut [f64])
 {
     let rays = grid_rays::total_rays(g) as usize;
     spans::clear_from(&mut work[..rays], 0);
-    let mut i = log.len() / 6;
+    let mut i = log_entries::entry_count(log);
     while 0 < i {
         i -= 1;
         let ray = log_entries::ray_at(g, log, i);
@@ -36,24 +37,18 @@ pub fn group(g: DexelGrid, log: &[f64], work: &mut [f64])
     }
 }
 
-// Where an entry's pair begins.
-fn column(inner: bool) -> usize
-    ensures { λ r. ⌜ r ≡ columnOf (hitKindOf inner) ⌝ }
+// Copies the entry's outer or inner pair to cell t.
+fn put_hit(e: Entry, inner: bool, work: &mut [f64], t: usize)
+    requires { ⌜ t + 1 < length (now work) ⌝ }
+    ensures { λ _. ⌜ now (work .exit) ≡ set (set (now (work .entry)) t (hitLo (hitKindOf inner) e)) (t + 1) (hitHi (hitKindOf inner) e) ⌝ }
 {
     if inner {
-        return 4;
+        work[t] = e.inner_lo;
+        work[t + 1] = e.inner_hi;
+        return;
     }
-    2
-}
-
-// Copies the pair that begins at column c of the entry at place i to cell t.
-fn put_hit(log: &[f64], i: usize, c: usize, work: &mut [f64], t: usize)
-    requires { ⌜ (6 * i + c + 1 < length (now log)) × (t + 1 < length (now work)) ⌝ }
-    ensures { λ _. ⌜ now (work .exit) ≡ set (set (now (work .entry)) t (getD (now (log .entry)) (6 * i + c) nan))
-        (t + 1) (getD (now (log .entry)) (6 * i + c + 1) nan) ⌝ }
-{
-    work[t] = log[6 * i + c];
-    work[t + 1] = log[6 * i + c + 1];
+    work[t] = e.outer_lo;
+    work[t + 1] = e.outer_hi;
 }
 
 // Copies the outer or the inner pairs of the entries on a ray into the buffer from cell `at` on, past the chains, and
@@ -72,12 +67,11 @@ pub fn gather_hits(
         at (now (work .exit)) r ⌝ }
 {
     let rays = grid_rays::total_rays(g) as usize;
-    let c = column(inner);
     let mut t = at;
     let mut k = log_numbers::number_at(work, ray);
     while k != 0 {
         let i = (k - 1) as usize;
-        put_hit(log, i, c, work, t);
+        put_hit(log_entries::entry_at(log, i), inner, work, t);
         k = log_numbers::number_at(work, rays + i);
         t += 2;
     }

@@ -8,7 +8,8 @@ use lib.ListN.{getD}
 use lib.Ieee.{Float, lt, div, ofBits, binary64}
 use Rattle.grid.specs.declared.DexelGrid.{DexelGrid}
 use Rattle.spans.specs.Spans.{within, holds}
-use Rattle.log_model.specs.Logs.{Entry, entryAt, entryCount, entries, outer, inner, hitLo, hitHi, hitsOnRay}
+use Rattle.log_model.specs.declared.Entry.{Entry}
+use Rattle.log_model.specs.Logs.{entryAt, entryCount, entries, outer, inner, hitLo, hitHi, hitsOnRay}
 
 -- the entry that a key stands for: what the key leaves when it is divided by the number of entries is its place
 unfoldable pub entryOfKey : List Float → ℕ → Entry

@@ -13,7 +13,7 @@ use Rattle.store.proofs.Replacing.{Replaced}
 use Rattle.store.proofs.Freeing.{freed-list, freed-kept}
 use Rattle.store.proofs.Updating.{kept-none, kept-then, kept-room, freed-append, laid-append}
 use Rattle.log_lay.specs.Updates.{firstSize, updatesFrom, listsEnd}
-use Rattle.log_lay.specs.Steps.{RayFreeable, AllFreeable, EachLayable, RaysLayable, RaysLaid}
+use Rattle.log_lay.specs.Steps.{FreeIfChangedPre, FreeRaysPre, EachLayable, LayRaysPre, LayRaysPost}
 use Rattle.log_lay.specs.declared.LayPlace.{LayPlace}
 use Rattle.log_lay.proofs.Lists.{updates-none, end-none, end-past, end-more, updates-more}
 use Rattle.log_lay.proofs.Turns.{freed-none, laid-none, no-update, freed-ray-new}
@@ -23,12 +23,12 @@ use Rattle.store.specs.Steps.{Room, FreeListPre}
 -- the lists of the first rays are freed
 pub record FreedTo (n : ℕ) (c : Cells) (w : List Float) (sizes rays ray : ℕ) (d : Cells) : Type 0 where
   pub most : ray ≤ rays
-  pub still : AllFreeable n d w sizes rays
+  pub still : FreeRaysPre n d w sizes rays
   pub done : (q : ℕ) → d ≡ freedAll n c (updatesFrom w sizes q 0 ray)
   pub kept : CellsPastKept n (2 * rays) c d
 
 module _ (n : ℕ) (c : Cells) (w : List Float) (sizes rays : ℕ) where
-  pub freed-start : AllFreeable n c w sizes rays → FreedTo n c w sizes rays 0 c
+  pub freed-start : FreeRaysPre n c w sizes rays → FreedTo n c w sizes rays 0 c
   freed-start a = record {
     most = omega arith;
     still = a;
@@ -57,14 +57,14 @@ module _ (n m total : ℕ) (c : Cells) (s : ChainsSound n m total c) (room : Roo
   one-sound = let r : Replaced n m total c (freedList n c j) j [] = freed-list n m total c s room j j<m in
       r .isSound (total - length (placesOf n (c .links) (c .heads) j)) (omega (arith, r .less))
 
-module _ (n : ℕ) (c : Cells) (w : List Float) (sizes rays ray : ℕ) (a : AllFreeable n c w sizes rays) (h : ray < rays) where
+module _ (n : ℕ) (c : Cells) (w : List Float) (sizes rays ray : ℕ) (a : FreeRaysPre n c w sizes rays) (h : ray < rays) where
   in-first : 2 * ray < 2 * rays
   in-first = omega arith
 
   in-second : 2 * ray + 1 < 2 * rays
   in-second = omega arith
 
-  pub turn-freeable : RayFreeable n c w sizes ray
+  pub turn-freeable : FreeIfChangedPre n c w sizes ray
   turn-freeable = record {
     in-sizes = omega (arith, a .in-sizes);
     lists = record {
@@ -78,7 +78,7 @@ module _ (n : ℕ) (c : Cells) (w : List Float) (sizes rays ray : ℕ) (a : AllF
 
   -- the store after the turn
   turn-freed : (d : Cells) → ((q : ℕ) → d ≡ freedAll n c (updatesFrom w sizes q ray 1))
-      → AllFreeable n d w sizes rays × CellsPastKept n (2 * rays) c d
+      → FreeRaysPre n d w sizes rays × CellsPastKept n (2 * rays) c d
   turn-freed d f = at (ℕ-discrete (firstSize w sizes ray) 0)
     where
       r₁ : Room n (2 * rays) (freedList n c (2 * ray))
@@ -87,10 +87,10 @@ module _ (n : ℕ) (c : Cells) (w : List Float) (sizes rays ray : ℕ) (a : AllF
       s₁ : ChainsSound n (2 * rays) (one-total n (2 * rays) (a .total) c (a .store) (a .room) (2 * ray) in-first) (freedList n c (2 * ray))
       s₁ = one-sound n (2 * rays) (a .total) c (a .store) (a .room) (2 * ray) in-first
 
-      at : Dec (firstSize w sizes ray ≡ 0) → AllFreeable n d w sizes rays × CellsPastKept n (2 * rays) c d
-      at (yes z) = subst (λ (d : Cells). AllFreeable n d w sizes rays × CellsPastKept n (2 * rays) c d)
+      at : Dec (firstSize w sizes ray ≡ 0) → FreeRaysPre n d w sizes rays × CellsPastKept n (2 * rays) c d
+      at (yes z) = subst (λ (d : Cells). FreeRaysPre n d w sizes rays × CellsPastKept n (2 * rays) c d)
           (sym (f 0 ∙ ap (freedAll n c) (no-update w sizes ray z 0) ∙ freed-none n c)) (a, kept-none n (2 * rays) c)
-      at (no nz) = subst (λ (d : Cells). AllFreeable n d w sizes rays × CellsPastKept n (2 * rays) c d)
+      at (no nz) = subst (λ (d : Cells). FreeRaysPre n d w sizes rays × CellsPastKept n (2 * rays) c d)
           (sym (f 0 ∙ freed-ray-new n c w sizes ray nz 0)) (
             record {
               in-sizes = a .in-sizes;
@@ -136,11 +136,11 @@ each-right n [] vs c e = e
 each-right n (u ∷ us) vs c e = each-right n us vs (laidList n c u) (e .1)
 
 -- of a + b rays, the first a are laid
-module _ (n : ℕ) (c : Cells) (w : List Float) (sizes ray a b : ℕ) (p : LayPlace) (ready : RaysLayable n c w sizes ray (a + b) p) where
+module _ (n : ℕ) (c : Cells) (w : List Float) (sizes ray a b : ℕ) (p : LayPlace) (ready : LayRaysPre n c w sizes ray (a + b) p) where
   each-more : EachLayable n c (updatesFrom w sizes (p .at) ray a ++ updatesFrom w sizes (listsEnd w sizes (p .at) ray a) (ray + a) b)
   each-more = subst (EachLayable n c) (updates-more w sizes a b (p .at) ray) (ready .each)
 
-  pub layable-first : RaysLayable n c w sizes ray a p
+  pub layable-first : LayRaysPre n c w sizes ray a p
   layable-first = record {
     in-sizes = omega (arith, ready .in-sizes);
     in-lists = omega (
@@ -153,7 +153,7 @@ module _ (n : ℕ) (c : Cells) (w : List Float) (sizes ray a b : ℕ) (p : LayPl
     cursor = ready .cursor;
   }
 
-  pub layable-rest : (d : Cells) (q : LayPlace) → RaysLaid n c w sizes ray a p d q → RaysLayable n d w sizes (ray + a) b q
+  pub layable-rest : (d : Cells) (q : LayPlace) → LayRaysPost n c w sizes ray a p d q → LayRaysPre n d w sizes (ray + a) b q
   layable-rest d q l = record {
     in-sizes = omega (arith, ready .in-sizes);
     in-lists = omega (arith, ready .in-lists, end-more w sizes a b (p .at) ray, ap (λ (x : ℕ). listsEnd w sizes x (ray + a) b) (l .at));
@@ -164,8 +164,8 @@ module _ (n : ℕ) (c : Cells) (w : List Float) (sizes ray a b : ℕ) (p : LayPl
   }
 
 pub laid-more : (n : ℕ) (c : Cells) (w : List Float) (sizes ray a b : ℕ) (p : LayPlace) (d : Cells) (q : LayPlace)
-    (e : Cells) (r : LayPlace) → RaysLaid n c w sizes ray a p d q → RaysLaid n d w sizes (ray + a) b q e r
-    → RaysLaid n c w sizes ray (a + b) p e r
+    (e : Cells) (r : LayPlace) → LayRaysPost n c w sizes ray a p d q → LayRaysPost n d w sizes (ray + a) b q e r
+    → LayRaysPost n c w sizes ray (a + b) p e r
 laid-more n c w sizes ray a b p d q e r l m = record {
   left =
       m .left ∙ ap₂ (λ (x : Cells) (y : ℕ). laidAll n x (updatesFrom w sizes y (ray + a) b)) (l .left) (l .at)
@@ -179,13 +179,13 @@ laid-more n c w sizes ray a b p d q e r l m = record {
 -- the lists of the first rays are laid, and the sizes of the store are as before
 pub record LaidTo (n : ℕ) (c : Cells) (w : List Float) (sizes at rays ray : ℕ) (d : Cells) (p : LayPlace) : Type 0 where
   pub most : ray ≤ rays
-  pub done : RaysLaid n c w sizes 0 ray (record { from = 0; at = at }) d p
+  pub done : LayRaysPost n c w sizes 0 ray (record { from = 0; at = at }) d p
   pub spans-size : length (d .spans) ≡ length (c .spans)
   pub links-size : length (d .links) ≡ length (c .links)
   pub heads-size : length (d .heads) ≡ length (c .heads)
 
 module _ (n : ℕ) (c : Cells) (w : List Float) (sizes at rays : ℕ)
-    (ready : RaysLayable n c w sizes 0 rays (record { from = 0; at = at })) where
+    (ready : LayRaysPre n c w sizes 0 rays (record { from = 0; at = at })) where
   pub laid-start : LaidTo n c w sizes at rays 0 c (record { from = 0; at = at })
   laid-start = record {
     most = omega arith;
@@ -200,24 +200,24 @@ module _ (n : ℕ) (c : Cells) (w : List Float) (sizes at rays : ℕ)
   }
 
   module _ (ray : ℕ) (d : Cells) (p : LayPlace) (t : LaidTo n c w sizes at rays ray d p) where
-    pub turn-layable : ray < rays → RaysLayable n d w sizes ray 1 p
+    pub turn-layable : ray < rays → LayRaysPre n d w sizes ray 1 p
     turn-layable h =
         let all : ray + (rays - ray) ≡ rays = omega arith in
         let one : 1 + (rays - ray - 1) ≡ rays - ray = omega arith in
-        let left : RaysLayable n d w sizes (0 + ray) (rays - ray) p =
+        let left : LayRaysPre n d w sizes (0 + ray) (rays - ray) p =
         layable-rest n c w sizes 0 ray (rays - ray) (record { from = 0; at = at })
-        (subst (λ (k : ℕ). RaysLayable n c w sizes 0 k (record { from = 0; at = at })) (sym all) ready) d p (t .done) in
+        (subst (λ (k : ℕ). LayRaysPre n c w sizes 0 k (record { from = 0; at = at })) (sym all) ready) d p (t .done) in
         layable-first n d w sizes ray 1 (rays - ray - 1) p
-        (subst (λ (k : ℕ). RaysLayable n d w sizes ray k p) (sym one)
-        (subst (λ (k : ℕ). RaysLayable n d w sizes k (rays - ray) p) (zero-add ray) left))
+        (subst (λ (k : ℕ). LayRaysPre n d w sizes ray k p) (sym one)
+        (subst (λ (k : ℕ). LayRaysPre n d w sizes k (rays - ray) p) (zero-add ray) left))
 
-    pub laid-next : ray < rays → (e : Cells) (q : LayPlace) → RaysLaid n d w sizes ray 1 p e q
+    pub laid-next : ray < rays → (e : Cells) (q : LayPlace) → LayRaysPost n d w sizes ray 1 p e q
         → length (e .spans) ≡ length (d .spans) → length (e .links) ≡ length (d .links)
         → length (e .heads) ≡ length (d .heads) → LaidTo n c w sizes at rays (ray + 1) e q
     laid-next h e q l ss ls hs = record {
       most = omega arith;
       done = laid-more n c w sizes 0 ray 1 (record { from = 0; at = at }) d p e q (t .done)
-          (subst (λ (k : ℕ). RaysLaid n d w sizes k 1 p e q) (sym (zero-add ray)) l);
+          (subst (λ (k : ℕ). LayRaysPost n d w sizes k 1 p e q) (sym (zero-add ray)) l);
       spans-size = ss ∙ t .spans-size;
       links-size = ls ∙ t .links-size;
       heads-size = hs ∙ t .heads-size;

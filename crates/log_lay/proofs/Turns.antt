@@ -10,7 +10,7 @@ use Rattle.log_numbers.specs.Numbers.{numberAt}
 use Rattle.store.specs.Updates.{Update, update, pairsFrom, freedList, freedAll, laidList, laidAll}
 use Rattle.store_write.specs.LayRays.{LayRayPre, LayRayPost}
 use Rattle.log_lay.specs.Updates.{firstSize, updatesFrom, listsEnd}
-use Rattle.log_lay.specs.Steps.{EachLayable, RaysLayable, RaysLaid}
+use Rattle.log_lay.specs.Steps.{EachLayable, LayRaysPre, LayRaysPost}
 use Rattle.log_lay.specs.declared.LayPlace.{LayPlace}
 use Rattle.log_lay.proofs.Lists.{
   updates-none,
@@ -80,9 +80,9 @@ module _ (n : ℕ) (c : Cells) (w : List Float) (sizes ray first : ℕ) (e : fir
   freed-new nz b f q = f ∙ sym (freed-ray-new n c w sizes ray (λ z. nz (e ∙ z)) q)
 
 -- ---- laying
-module _ (n : ℕ) (c : Cells) (w : List Float) (sizes ray : ℕ) (p : LayPlace) (ready : RaysLayable n c w sizes ray 1 p)
+module _ (n : ℕ) (c : Cells) (w : List Float) (sizes ray : ℕ) (p : LayPlace) (ready : LayRaysPre n c w sizes ray 1 p)
     (first : ℕ) (e : first ≡ firstSize w sizes ray) where
-  pub laid-same : first ≡ 0 → RaysLaid n c w sizes ray 1 p c p
+  pub laid-same : first ≡ 0 → LayRaysPost n c w sizes ray 1 p c p
   laid-same z = record {
     left = sym (ap (laidAll n c) (no-update w sizes ray (sym e ∙ z) (p .at)) ∙ laid-none n c);
     at = sym (no-list w sizes ray (sym e ∙ z) (p .at));
@@ -125,7 +125,7 @@ module _ (n : ℕ) (c : Cells) (w : List Float) (sizes ray : ℕ) (p : LayPlace)
 
     pub laid-new : (b : Cells) (q : LayPlace)
         → LayRayPost n c ray (pairsFrom w (p .at) (first - 1)) (pairsFrom w (p .at + 2 * (first - 1)) second)
-        (q .from) b → q .at ≡ p .at + 2 * (first - 1) + 2 * second → RaysLaid n c w sizes ray 1 p b q
+        (q .from) b → q .at ≡ p .at + 2 * (first - 1) + 2 * second → LayRaysPost n c w sizes ray 1 p b q
     unfolding end middle
     laid-new b q laid at = record {
       left =

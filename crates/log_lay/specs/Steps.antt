@@ -13,12 +13,12 @@ use Rattle.store.specs.Steps.{Room, LayListPre}
 use Rattle.store.specs.Store.{Cells, ChainsSound}
 
 -- both lists of a ray can be freed, and its first size can be read
-pub record RayFreeable (n : ℕ) (c : Cells) (w : List Float) (sizes ray : ℕ) : Type 0 where
+pub record FreeIfChangedPre (n : ℕ) (c : Cells) (w : List Float) (sizes ray : ℕ) : Type 0 where
   pub in-sizes : sizes + 2 * ray < length w
   pub lists : FreeRayPre n c ray
 
 -- a sound store of two lists for each ray, and the sizes of all rays in the work buffer
-pub record AllFreeable (n : ℕ) (c : Cells) (w : List Float) (sizes rays : ℕ) : Type 0 where
+pub record FreeRaysPre (n : ℕ) (c : Cells) (w : List Float) (sizes rays : ℕ) : Type 0 where
   pub in-sizes : sizes + 2 * rays ≤ length w
   pub room : Room n (2 * rays) c
   pub total : ℕ
@@ -30,14 +30,14 @@ EachLayable n c [] = Unit
 EachLayable n c (u ∷ us) = LayListPre n c u × EachLayable n (laidList n c u) us
 
 -- the sizes and the new lists of k rays from `ray` on stand in the work buffer, and there is room for them
-pub record RaysLayable (n : ℕ) (c : Cells) (w : List Float) (sizes ray k : ℕ) (p : LayPlace) : Type 0 where
+pub record LayRaysPre (n : ℕ) (c : Cells) (w : List Float) (sizes ray k : ℕ) (p : LayPlace) : Type 0 where
   pub in-sizes : sizes + 2 * (ray + k) ≤ length w
   pub in-lists : listsEnd w sizes (p .at) ray k ≤ length w
   pub each : EachLayable n c (updatesFrom w sizes (p .at) ray k)
   pub cursor : FreeCursor n (c .spans) (c .links) (p .from)
 
 -- the new lists of k rays from `ray` on are laid
-pub record RaysLaid (n : ℕ) (c : Cells) (w : List Float) (sizes ray k : ℕ) (p : LayPlace) (d : Cells) (q : LayPlace) : Type 0 where
+pub record LayRaysPost (n : ℕ) (c : Cells) (w : List Float) (sizes ray k : ℕ) (p : LayPlace) (d : Cells) (q : LayPlace) : Type 0 where
   pub left : d ≡ laidAll n c (updatesFrom w sizes (p .at) ray k)
   pub at : q .at ≡ listsEnd w sizes (p .at) ray k
   pub cursor : FreeCursor n (d .spans) (d .links) (q .from)

@@ -3,11 +3,11 @@ ghost use mathlib.Core.Path.{_≡_};
 ghost use Prim.Native.Nat.{ℕ};
 ghost use Rattle.store.specs.Updates.{freedAll, laidAll};
 ghost use Rattle.log_lay.specs.Updates.{updatesFrom};
-ghost use Rattle.log_lay.specs.Steps.{RayFreeable, AllFreeable, RaysLayable, RaysLaid};
+ghost use Rattle.log_lay.specs.Steps.{FreeIfChangedPre, FreeRaysPre, LayRaysPre, LayRaysPost};
 ghost use Rattle.store.specs.Store.{cells};
 
 // Frees both lists of a ray if it changes.
-fn free_ray(
+fn free_if_changed(
     spans: &mut [f64],
     links: &mut [u64],
     heads: &mut [u64],
@@ -16,7 +16,7 @@ fn free_ray(
     sizes: usize,
     ray: usize,
 )
-    requires { ⌜ RayFreeable n (cells (now spans) (now links) (now heads)) (now work) sizes ray ⌝ }
+    requires { ⌜ FreeIfChangedPre n (cells (now spans) (now links) (now heads)) (now work) sizes ray ⌝ }
     ensures { λ _. ⌜ ((q : ℕ) → cells (now (spans .exit)) (now (links .exit)) (now (heads .exit))
         ≡ freedAll n (cells (now (spans .entry)) (now (links .entry)) (now (heads .entry)))
         (updatesFrom (now (work .entry)) sizes q ray 1)) ⌝ }
@@ -37,14 +37,14 @@ pub fn free_all(
     sizes: usize,
     rays: usize,
 )
-    requires { ⌜ AllFreeable n (cells (now spans) (now links) (now heads)) (now work) sizes rays ⌝ }
+    requires { ⌜ FreeRaysPre n (cells (now spans) (now links) (now heads)) (now work) sizes rays ⌝ }
     ensures { λ _. ⌜ ((q : ℕ) → cells (now (spans .exit)) (now (links .exit)) (now (heads .exit))
         ≡ freedAll n (cells (now (spans .entry)) (now (links .entry)) (now (heads .entry)))
         (updatesFrom (now (work .entry)) sizes q 0 rays)) ⌝ }
 {
     let mut ray: usize = 0;
     while ray < rays {
-        free_ray(spans, links, heads, n, work, sizes, ray);
+        free_if_changed(spans, links, heads, n, work, sizes, ray);
         ray += 1;
     }
 }
@@ -56,7 +56,7 @@ pub struct LayPlace {
 }
 
 // Lays both lists of a ray if it changes, possible first.
-fn lay_ray(
+fn lay_if_changed(
     spans: &mut [f64],
     links: &mut [u64],
     heads: &mut [u64],
@@ -66,8 +66,9 @@ fn lay_ray(
     ray: usize,
     place: LayPlace,
 ) -> LayPlace
-    requires { ⌜ RaysLayable n (cells (now spans) (now links) (now heads)) (now work) sizes ray 1 place ⌝ }
-    ensures { λ r. ⌜ RaysLaid n (cells (now (spans .entry)) (now (links .entry)) (now (heads .entry))) (now (work .entry)) sizes ray 1 place
+    requires { ⌜ LayRaysPre n (cells (now spans) (now links) (now heads)) (now work) sizes ray 1 place ⌝ }
+    ensures { λ r. ⌜ LayRaysPost n (cells (now (spans .entry)) (now (links .entry)) (now (heads .entry)))
+        (now (work .entry)) sizes ray 1 place
         (cells (now (spans .exit)) (now (links .exit)) (now (heads .exit))) r ⌝ }
 {
     let first = log_numbers::number_at(work, sizes + 2 * ray);
@@ -107,7 +108,7 @@ pub fn lay_all(
     at: usize,
     rays: usize,
 )
-    requires { ⌜ RaysLayable n (cells (now spans) (now links) (now heads)) (now work) sizes 0 rays (record { from = 0; at = at }) ⌝ }
+    requires { ⌜ LayRaysPre n (cells (now spans) (now links) (now heads)) (now work) sizes 0 rays (record { from = 0; at = at }) ⌝ }
     ensures { λ _. ⌜ cells (now (spans .exit)) (now (links .exit)) (now (heads .exit))
         ≡ laidAll n (cells (now (spans .entry)) (now (links .entry)) (now (heads .entry)))
         (updatesFrom (now (work .entry)) sizes at 0 rays) ⌝ }
@@ -115,7 +116,7 @@ pub fn lay_all(
     let mut place = LayPlace { from: 0, at };
     let mut ray: usize = 0;
     while ray < rays {
-        place = lay_ray(spans, links, heads, n, work, sizes, ray, place);
+        place = lay_if_changed(spans, links, heads, n, work, sizes, ray, place);
         ray += 1;
     }
 }

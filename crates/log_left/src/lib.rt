@@ -35,10 +35,10 @@ fn begin(spans: &[f64], links: &[u64], n: usize, at: u64, moved: bool, left: u64
             left,
         };
     }
-    let i = (at - 1) as usize;
+    let first = store::record_at(spans, links, (at - 1) as usize);
     Rest {
         at,
-        from: spans[2 * i],
+        from: first.lo,
         moved,
         left,
     }
@@ -58,9 +58,9 @@ fn close_pair(spans: &[f64], links: &[u64], n: usize, r: Rest) -> Rest
     ensures { λ t. ⌜ ClosePairPost (now (spans .entry)) (now (links .entry)) r t ⌝ }
 {
     let k = r.at;
-    let i = (k - 1) as usize;
+    let present = store::record_at(spans, links, (k - 1) as usize);
     let left = std::num::wrapping_add_u64(r.left, 1);
-    begin(spans, links, n, links[2 * i], r.moved, left)
+    begin(spans, links, n, present.next, r.moved, left)
 }
 
 // Closes the pairs that end at or before lo.
@@ -71,8 +71,8 @@ fn pass(spans: &[f64], links: &[u64], n: usize, r: Rest, lo: f64) -> Rest
     let mut t = r;
     while t.at != 0 {
         let k = t.at;
-        let i = (k - 1) as usize;
-        if !(spans[2 * i + 1] <= lo) {
+        let present = store::record_at(spans, links, (k - 1) as usize);
+        if !(present.hi <= lo) {
             break;
         }
         t = close_pair(spans, links, n, t);
@@ -86,12 +86,12 @@ fn cut_pair(spans: &[f64], links: &[u64], n: usize, r: Rest, lo: f64, hi: f64) -
     ensures { λ t. ⌜ CutPairPost n (now (spans .entry)) (now (links .entry)) lo hi r t ⌝ }
 {
     let k = r.at;
-    let i = (k - 1) as usize;
+    let present = store::record_at(spans, links, (k - 1) as usize);
     let mut left = r.left;
     if r.from < lo {
         left = std::num::wrapping_add_u64(left, 1);
     }
-    if hi < spans[2 * i + 1] {
+    if hi < present.hi {
         return Rest {
             at: k,
             from: hi,
@@ -99,7 +99,7 @@ fn cut_pair(spans: &[f64], links: &[u64], n: usize, r: Rest, lo: f64, hi: f64) -
             left,
         };
     }
-    begin(spans, links, n, links[2 * i], true, left)
+    begin(spans, links, n, present.next, true, left)
 }
 
 // Takes the hit [lo, hi), which begins at or after all that were taken before.

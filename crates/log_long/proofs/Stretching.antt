@@ -3,7 +3,7 @@ use mathlib.Core.Path.{_≡_, _∙_}
 use mathlib.Core.Bool.{true, false, not}
 use mathlib.Core.Logic.{_⊎_, inl, inr}
 use mathlib.Core.List.{List}
-use Prim.Native.Nat.{ℕ, _+_, _-_, _*_, _/_, _<_}
+use Prim.Native.Nat.{ℕ, _+_, _-_, _/_, _<_}
 use native.Mathlib.Omega.{arith}
 use native.Mathlib.Decide.{decLt}
 use lib.ListN.{length, getD, set, length-set}
@@ -11,16 +11,12 @@ use lib.Seq.{getD-set-same, getD-set-other}
 use lib.Ieee.{Float, lt}
 use Rattle.logic.proofs.Bools.{not-true, not-false, clash}
 use Rattle.doubles.proofs.Order.{lt-irrefl, lt-trans}
-use Rattle.log_model.specs.Logs.{entryAt}
+use Rattle.log_model.specs.Logs.{entryAt, entryCount}
 use Rattle.log_keys.specs.Keys.{top}
 use Rattle.log_keys.specs.KeysKept.{KeysKept}
 use Rattle.log_keys.proofs.Wanting.{keys-passed, keys-added, keys-fewer}
 use Rattle.log_long.specs.declared.HeldKeys.{HeldKeys}
 use Rattle.log_long.specs.Long.{leastPast, InLog, LongEnds, LongKeys, LongRoomPost, AddKeyPost}
-
--- a place of the log has six doubles
-pub place-fits : {log : List Float} {keys : List ℕ} {m : ℕ} → InLog log keys m → (t : ℕ) → t < m → 6 * getD keys t 0 + 5 < length log
-place-fits s t h = omega (arith, s .places t h)
 
 -- ---- the stretch ends earlier
 
@@ -82,14 +78,14 @@ module _ {rays : ℕ → ℕ} {log : List Float} {ray : ℕ} {b : Float} {i : �
   longKeys-added fit on below = record { held = keys-added (s .held) (on, below) fit; ends = ends-more (s .ends) }
 
 inLog-added : {log : List Float} {keys : List ℕ} {count : ℕ} (i : ℕ) → InLog log keys count → count < length keys
-    → 6 * i + 5 < length log → InLog log (set keys count i) (count + 1)
+    → i < entryCount log → InLog log (set keys count i) (count + 1)
 inLog-added {keys = keys} {count = count} i s fit inside = record {
   room = omega (arith, length-set keys count i);
   places = λ t h. elim (decLt t count) [
     | yes a ↦ rw (getD-set-other keys count t i 0 (λ x. omega (arith, x))) (s .places t a)
     | no a ↦
         let last : t ≡ count = omega arith in
-        rw (last, getD-set-same keys count i 0 fit) (omega arith)
+        rw (last, getD-set-same keys count i 0 fit) inside
   ];
 }
 
@@ -106,7 +102,7 @@ module _ {b : Float} {i : ℕ} {log : List Float} {before after : List ℕ} {w t
     longKeys = λ rays ray on l. longKeys-passed (keeps rays ray i l) (λ _. rw (← is) (not-true (lt k (t .end)) out));
   }
 
-  pub entry-added : LongRoomPost b log before w after t → 6 * i + 5 < length log → not (lt k (t .end)) ≡ false
+  pub entry-added : LongRoomPost b log before w after t → i < entryCount log → not (lt k (t .end)) ≡ false
       → AddKeyPost b i log before w (set after (t .count) i) record { count = t .count + 1; end = t .end }
   entry-added made inside below = record {
     size = length-set after (t .count) i ∙ made .size;

@@ -10,7 +10,8 @@ use Rattle.doubles.specs.Doubles.{Number}
 use Rattle.spans.specs.Spans.{within}
 use Rattle.spans.specs.Overlay.{lowerOf}
 use Rattle.grid.specs.declared.DexelGrid.{DexelGrid}
-use Rattle.log_model.specs.Logs.{Entry, entryAt, entryCount, entryRay, HitKind, outer, inner, hitLo, hitHi}
+use Rattle.log_model.specs.declared.Entry.{Entry}
+use Rattle.log_model.specs.Logs.{entryAt, entryCount, entryRay, HitKind, outer, inner, hitLo, hitHi}
 use Rattle.log_keys.specs.Keys.{top}
 use Rattle.log_keys.specs.KeysKept.{KeysBefore}
 use Rattle.log_long.specs.declared.HeldKeys.{HeldKeys}

@@ -1,6 +1,6 @@
 // The entries of one ray in a log, gathered in a lent buffer for one stretch of numbers: those with a hit that begins in it, as many as
 // fit, which decides where the stretch ends. Of the hits that begin at or before its start only how far they reach is kept.
-ghost use Prim.Native.Nat.{_+_, _*_, _^_, _≤_, _<_};
+ghost use Prim.Native.Nat.{_+_, _^_, _≤_, _<_};
 ghost use mathlib.Core.Path.{_≡_};
 ghost use mathlib.Core.Logic.{_⊎_};
 ghost use lib.ListN.{length};
@@ -11,6 +11,7 @@ ghost use Rattle.log_entries.specs.Named.{EachNamed};
 ghost use Rattle.log_keys.specs.KeysKept.{KeysKept};
 ghost use Rattle.log_long.specs.Long.{beginPast, leastPast, furtherOf, InLog, LongRoomPost, AddKeyPost, AddFrontsPost, GathersTo};
 use grid::DexelGrid;
+use log_model::Entry;
 
 // How many keys there are, and where the stretch ends.
 pub struct HeldKeys {
@@ -39,13 +40,11 @@ fn begin_past(b: f64, lo: f64, hi: f64) -> f64
 }
 
 // Where the first of the entry's hits begins that begins past b, or plus infinity where none does.
-fn least_past(b: f64, log: &[f64], place: usize) -> f64
-    requires { ⌜ 6 * place + 5 < length (now log) ⌝ }
-    ensures { λ r. ⌜ r ≡ leastPast b (entryAt (now (log .entry)) place) ⌝ }
+fn least_past(b: f64, e: Entry) -> f64
+    ensures { λ r. ⌜ r ≡ leastPast b e ⌝ }
 {
-    let at = 6 * place;
-    let x = begin_past(b, log[at + 2], log[at + 3]);
-    let y = begin_past(b, log[at + 4], log[at + 5]);
+    let x = begin_past(b, e.outer_lo, e.outer_hi);
+    let y = begin_past(b, e.inner_lo, e.inner_hi);
     if y < x {
         return y;
     }
@@ -97,7 +96,8 @@ fn keep_below(b: f64, log: &[f64], keys: &mut [u64], m: usize, u: f64) -> usize
     let mut k: usize = 0;
     let mut i: usize = 0;
     while i < m {
-        let kept = least_past(b, log, keys[i] as usize) < u;
+        let e = log_entries::entry_at(log, keys[i] as usize);
+        let kept = least_past(b, e) < u;
         k = log_keys::keep(keys, k, i, kept);
         i += 1;
     }
@@ -110,9 +110,9 @@ fn shorten(b: f64, log: &[f64], keys: &mut [u64], w: HeldKeys) -> HeldKeys
     ensures { λ r. ⌜ LongRoomPost b (now (log .entry)) (now (keys .entry)) w (now (keys .exit)) r ⌝ }
 {
     let m = w.count;
-    let x = least_past(b, log, keys[0] as usize);
-    let y = least_past(b, log, keys[m / 2] as usize);
-    let z = least_past(b, log, keys[m - 1] as usize);
+    let x = least_past(b, log_entries::entry_at(log, keys[0] as usize));
+    let y = least_past(b, log_entries::entry_at(log, keys[m / 2] as usize));
+    let z = least_past(b, log_entries::entry_at(log, keys[m - 1] as usize));
     let end = middle(x, y, z);
     let count = keep_below(b, log, keys, m, end);
     HeldKeys { count, end }
@@ -129,12 +129,12 @@ fn roomy(b: f64, log: &[f64], keys: &mut [u64], w: HeldKeys) -> HeldKeys
     shorten(b, log, keys, w)
 }
 
-// The key of the entry at place i, if one of its hits begins in the stretch.
-fn add_key(b: f64, log: &[f64], keys: &mut [u64], w: HeldKeys, i: usize) -> HeldKeys
-    requires { ⌜ InLog (now log) (now keys) (w .count) × (0 < length (now keys)) × (6 * i + 5 < length (now log)) ⌝ }
+// The key of the entry at place i, whose first hit past b begins at k, if that is in the stretch.
+fn add_key(b: f64, log: &[f64], keys: &mut [u64], w: HeldKeys, i: usize, k: f64) -> HeldKeys
+    requires { ⌜ InLog (now log) (now keys) (w .count) × (0 < length (now keys)) × (i < entryCount (now log))
+        × (k ≡ leastPast b (entryAt (now log) i)) ⌝ }
     ensures { λ r. ⌜ AddKeyPost b i (now (log .entry)) (now (keys .entry)) w (now (keys .exit)) r ⌝ }
 {
-    let k = least_past(b, log, i);
     if !(k < w.end) {
         return w;
     }
@@ -150,16 +150,14 @@ fn add_key(b: f64, log: &[f64], keys: &mut [u64], w: HeldKeys, i: usize) -> Held
     }
 }
 
-// The part with these keys, and with how far the hits of the entry at place i reach, if they begin at or before b.
-fn add_fronts(b: f64, log: &[f64], w: LongPart, keys: HeldKeys, i: usize) -> LongPart
-    requires { ⌜ 6 * i + 5 < length (now log) ⌝ }
-    ensures { λ r. ⌜ AddFrontsPost b (entryAt (now (log .entry)) i) w keys r ⌝ }
+// The part with these keys, and with how far the hits of the entry reach, if they begin at or before b.
+fn add_fronts(b: f64, e: Entry, w: LongPart, keys: HeldKeys) -> LongPart
+    ensures { λ r. ⌜ AddFrontsPost b e w keys r ⌝ }
 {
-    let at = 6 * i;
     LongPart {
         keys,
-        outer: further(w.outer, b, log[at + 2], log[at + 3]),
-        inner: further(w.inner, b, log[at + 4], log[at + 5]),
+        outer: further(w.outer, b, e.outer_lo, e.outer_hi),
+        inner: further(w.inner, b, e.inner_lo, e.inner_hi),
     }
 }
 
@@ -179,9 +177,10 @@ fn add_entry(
         × GathersTo g (now (log .entry)) ray b (i + 1) (now (keys .exit)) r ⌝ }
 {
     if log_entries::ray_at(g, log, i) == ray {
+        let e = log_entries::entry_at(log, i);
         let held = w.keys;
-        let t = add_key(b, log, keys, held, i);
-        return add_fronts(b, log, w, t, i);
+        let t = add_key(b, log, keys, held, i, least_past(b, e));
+        return add_fronts(b, e, w, t);
     }
     w
 }
@@ -192,7 +191,7 @@ pub fn gather_ray(g: DexelGrid, log: &[f64], ray: usize, b: f64, keys: &mut [u64
     ensures { λ r. ⌜ (length (now (keys .exit)) ≡ length (now (keys .entry)))
         × GathersTo g (now (log .entry)) ray b (entryCount (now (log .entry))) (now (keys .exit)) r ⌝ }
 {
-    let n = log.len() / 6;
+    let n = log_entries::entry_count(log);
     let top = 1.0 / 0.0;
     let held = HeldKeys { count: 0, end: top };
     let mut w = LongPart {

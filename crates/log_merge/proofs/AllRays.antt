@@ -16,7 +16,8 @@ use Rattle.grid.specs.declared.DexelGrid.{DexelGrid}
 use Rattle.store.specs.Updates.{Update, update}
 use Rattle.stock.specs.Stock.{Stock, SoundCells, Kind, Possible, Certain, rayLists}
 use Rattle.stock.proofs.Rays.{sound-chained}
-use Rattle.log_model.specs.Logs.{Entry, entries, entryCount}
+use Rattle.log_model.specs.declared.Entry.{Entry}
+use Rattle.log_model.specs.Logs.{entries, entryCount}
 use Rattle.log_model.specs.Model.{sumTo}
 use Rattle.log_model.specs.Counts.{startsLeft, hitsOnList, pairsAfter}
 use Rattle.log_model.proofs.Doubles.{DoubleCells, Doubles, all-doubles}
@@ -31,9 +32,9 @@ use Rattle.log_group.proofs.Chains.{grouped-kept}
 use Rattle.ray_subtract.specs.Steps.{cellsFrom}
 use Rattle.ray_subtract.proofs.Places.{part-same}
 use Rattle.log_merge.specs.Rays.{LoadPre, MergeRayPost, limitOf}
-use Rattle.log_merge.specs.All.{firstSizeOf, countOf, sizesAt, listsFrom, MergeAllPre, MergeAllPost}
+use Rattle.log_merge.specs.All.{firstSizeOf, oneIfChanged, sizesAt, listsFrom, MergeAllPre, MergeAllPost}
 use Rattle.log_merge.specs.declared.RayUpdate.{RayUpdate}
-use Rattle.log_merge.proofs.Told.{changes, changes-not, new-exact, pairs-most}
+use Rattle.log_merge.proofs.MergedRay.{changes, changes-not, new-exact, pairs-most}
 use Rattle.store.specs.Store.{Cells}
 
 -- the stock of the cells; its small record does not count here
@@ -273,7 +274,8 @@ module _ (spec : DexelStockSpec) (g : DexelGrid) (c : Cells) (log before : List 
           go false e = same-ends e
 
       next-rest : (n : ℕ) → MergeUpdates g lists (entries log) (ray + 1) (updatesFrom v (sizesAt g log) next (ray + 1) left) n
-          → MergeUpdates g lists (entries log) 0 (updatesFrom v (sizesAt g log) (listsFrom g log) 0 (rayCount g)) (changed + countOf r + n)
+          → MergeUpdates g lists (entries log) 0 (updatesFrom v (sizesAt g log) (listsFrom g log) 0 (rayCount g))
+          (changed + oneIfChanged r + n)
       next-rest n y = go (r .changed) refl
         where
           one-more : (a n : ℕ) → a + suc n ≡ a + 1 + n
@@ -294,7 +296,7 @@ module _ (spec : DexelStockSpec) (g : DexelGrid) (c : Cells) (log before : List 
               (updatesFrom v (sizesAt g log) (listsFrom g log) 0 (rayCount g))) (none-more changed n)
               (x .rest v before-it n (stays e n y))
 
-    pub merging-step : Merging spec g c log before w₂ (ray + 1) next (changed + countOf r)
+    pub merging-step : Merging spec g c log before w₂ (ray + 1) next (changed + oneIfChanged r)
     merging-step = record {
       size = size₂ ∙ x .size;
       most = omega arith;
@@ -425,7 +427,7 @@ module _ (spec : DexelStockSpec) (g : DexelGrid) (c : Cells) (log before : List 
         → (w₁ w₂ : List Float) (r : RayUpdate) (k : ℕ)
         → MergeRayPost spec g c log ray q w w₁ r
         → w₂ ≡ set (set w₁ (rays + entryCount log + 2 * ray) (numberCell (firstSizeOf r)))
-        (rays + entryCount log + 2 * ray + 1) (numberCell (r .certain)) → k ≡ countOf r
+        (rays + entryCount log + 2 * ray + 1) (numberCell (r .certain)) → k ≡ oneIfChanged r
         → Merging spec g c log before w₂ (ray + 1) (q + (2 * r .possible + 2 * r .certain)) (changed + k)
     steps ds dl below addressed w₁ w₂ r k m put count =
         subst (λ (n : ℕ). Merging spec g c log before w₂ (ray + 1) (q + (2 * r .possible + 2 * r .certain)) (changed + n)) (sym count)

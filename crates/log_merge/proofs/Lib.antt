@@ -1,6 +1,6 @@
 -- Laws that belong to no one function.
 pub mod Cutting
-pub mod Bringing
+pub mod Loading
 pub mod Rays
-pub mod Told
+pub mod MergedRay
 pub mod AllRays

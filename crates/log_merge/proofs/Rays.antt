@@ -1,4 +1,4 @@
--- One ray: its lists and hits brought, then cut in the part of the buffer that the new lists go to.
+-- One ray: its lists and hits are loaded, then cut in the part of the buffer that the new lists go to.
 use mathlib.Core.Path.{_≡_, refl, sym, ap, _∙_, subst₂}
 use mathlib.Core.Bool.{true, false, not}
 use mathlib.Core.List.{List, []}
@@ -25,7 +25,7 @@ use Rattle.log_merge.specs.Rays.{RayCutPost, LoadPre, LoadPost, limitOf,
 use Rattle.log_merge.specs.declared.RayUpdate.{RayUpdate}
 use Rattle.log_merge.specs.declared.Sizes.{Sizes}
 use Rattle.log_merge.proofs.Cutting.{untouched}
-use Rattle.log_merge.proofs.Bringing.{list-most, hits-most}
+use Rattle.log_merge.proofs.Loading.{list-most, hits-most}
 use Rattle.store.specs.Store.{Cells}
 
 -- ---- no hits
@@ -40,7 +40,7 @@ none-apart l p h = refl
 less-none : (l : List Float) → sound l ≡ true → lessOf l [] ≡ l
 less-none l h = less-apart l [] h none-sound (none-apart l)
 
--- the same ray by its lists and those of its hits
+-- what is cut may be said by equal lists
 pub cut-same : {a b c d o u i v : List Float} {from limit : ℕ} {before after : List Float} {r : RayUpdate} → a ≡ b → c ≡ d → o ≡ u → i ≡ v
     → RayCutPost a c o i from limit before after r → RayCutPost b d u v from limit before after r
 cut-same {a} {b} {c} {d} {o} {u} {i} {v} {from} {limit} {before} {after} {r} p q s t x =

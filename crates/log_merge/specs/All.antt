@@ -1,4 +1,20 @@
 -- What a merge leaves of all rays: behind the chains of the log two sizes for each ray, behind these the new lists.
+--
+-- The cells of the work buffer, for R rays, E entries and a budget of N intervals; document 01 asks for 12 N + 36 E,
+-- and 3 R is at most 2 N:
+--
+--             chains of the log            sizes          new lists            scratch of one ray
+--             +----------+----------------+--------------+--------------------+----------+---------+-------+-------+
+--             | by ray   | by entry       | two by ray   | of changed rays >> | possible | certain | outer | inner |
+--             +----------+----------------+--------------+--------------------+----------+---------+-------+-------+
+-- cells         R          E                2 R            6 N + 6 E            2 N        2 N       2 E     2 E
+-- from cell   0          R                R + E          3 R + E              3 R + 6 N + 7 E
+--
+-- A chain's cell holds one more than the place of the ray's first, or of the next, entry, and 0 where there is none.
+-- The sizes are 0 and 0 where the ray does not change, else one more than the pairs of its new possible list, and the
+-- pairs of its new certain list. The new lists stand end to end. Before each ray they have at most 2 N cells, by the
+-- budget; its own two have at most 4 N + 6 E (`limitOf`). The scratch holds the ray's lists and what normalising
+-- makes of its hits, and is written anew for each ray.
 use mathlib.Core.Path.{_≡_}
 use mathlib.Core.Bool.{cond}
 use mathlib.Core.List.{List}
@@ -24,8 +40,8 @@ abbrev pub firstSizeOf : RayUpdate → ℕ
 firstSizeOf m = cond (m .changed) (m .possible + 1) 0
 
 -- what the ray adds to the number of those that change
-abbrev pub countOf : RayUpdate → ℕ
-countOf m = cond (m .changed) 1 0
+abbrev pub oneIfChanged : RayUpdate → ℕ
+oneIfChanged m = cond (m .changed) 1 0
 
 -- where the sizes stand, and the lists
 abbrev pub sizesAt : DexelGrid → (log : List Float) → ℕ

@@ -8,7 +8,7 @@ ghost use Rattle.log_model.specs.Logs.{entries, entryCount, outer, inner, hitsO
 ghost use Rattle.log_group.specs.Groups.{Grouped, hitKindOf};
 ghost use Rattle.ray_subtract.specs.Steps.{cellsFrom, MergeWithinPre, NormalizedAt};
 ghost use Rattle.log_merge.specs.Rays.{rayMoves, RayCutPost, LoadPre, LoadPost, limitOf, MergeRayPost};
-ghost use Rattle.log_merge.specs.All.{firstSizeOf, countOf, MergeAllPre, MergeAllPost};
+ghost use Rattle.log_merge.specs.All.{firstSizeOf, oneIfChanged, MergeAllPre, MergeAllPost};
 ghost use Rattle.stock.specs.Stock.{rayList, Possible, Certain};
 ghost use Rattle.store.specs.Store.{cells};
 use grid::DexelGrid;
@@ -68,8 +68,8 @@ fn cut_ray(w: &mut [f64], at: usize, np: usize, nc: usize, no: usize, ni: usize)
     }
 }
 
-// Brings the list that normalising makes of the outer or the inner hits on a ray to cell `at`, and says how many cells it has.
-fn bring_hits(
+// Loads the list that normalising makes of the outer or the inner hits on a ray at cell `at`, and says how many cells it has.
+fn load_hits(
     g: DexelGrid,
     log: &[f64],
     work: &mut [f64],
@@ -86,8 +86,8 @@ fn bring_hits(
     span_normalize::normalize_front(&mut work[at..], e - at)
 }
 
-// Brings both lists of a ray and those that normalising makes of its hits, one after the other, to cell s.
-fn bring(
+// Loads both lists of a ray and those that normalising makes of its hits, one after the other, at cell s.
+fn load_ray(
     spec: DexelStockSpec,
     g: DexelGrid,
     spans: &[f64],
@@ -105,11 +105,11 @@ fn bring(
         (now (work .entry)) (now (work .exit)) r ⌝ }
 {
     let n = spec.max_intervals as usize;
-    let j = 2 * ray;
-    let c = store_read::read_list(spans, links, n, heads[j], work, s);
-    let o = store_read::read_list(spans, links, n, heads[j + 1], work, c);
-    let no = bring_hits(g, log, work, ray, false, o);
-    let ni = bring_hits(g, log, work, ray, true, o + no);
+    let head = store::ray_heads(heads, ray);
+    let c = store_read::read_list(spans, links, n, head.possible, work, s);
+    let o = store_read::read_list(spans, links, n, head.certain, work, c);
+    let no = load_hits(g, log, work, ray, false, o);
+    let ni = load_hits(g, log, work, ray, true, o + no);
     Sizes {
         possible: c - s,
         certain: o - c,
@@ -118,7 +118,7 @@ fn bring(
     }
 }
 
-// Merges the hits on a ray: where it changes, both its new lists stand from cell q on. Its lists and hits are brought to cell s on the way.
+// Merges the hits on a ray: where it changes, both its new lists stand from cell q on. Its lists and hits are loaded at cell s on the way.
 fn merge_ray(
     spec: DexelStockSpec,
     g: DexelGrid,
@@ -143,7 +143,7 @@ fn merge_ray(
             certain: 0,
         };
     }
-    let b = bring(spec, g, spans, links, heads, log, work, ray, s);
+    let b = load_ray(spec, g, spans, links, heads, log, work, ray, s);
     let np = b.possible;
     let nc = b.certain;
     let no = b.outer;
@@ -174,8 +174,8 @@ fn put_sizes(work: &mut [f64], at: usize, m: RayUpdate)
 }
 
 // What a ray adds to the number of those that change.
-fn count(m: RayUpdate) -> u64
-    ensures { λ r. ⌜ r ≡ countOf m ⌝ }
+fn one_if_changed(m: RayUpdate) -> u64
+    ensures { λ r. ⌜ r ≡ oneIfChanged m ⌝ }
 {
     if m.changed {
         return 1;
@@ -210,7 +210,7 @@ pub fn merge_all(
         let m = merge_ray(spec, g, spans, links, heads, log, work, ray, q, s);
         put_sizes(work, sizes + 2 * ray, m);
         q += 2 * m.possible + 2 * m.certain;
-        changed += count(m);
+        changed += one_if_changed(m);
         ray += 1;
     }
     changed

@@ -19,9 +19,10 @@ use Rattle.spans.proofs.Points.{or-assoc}
 use Rattle.grid.specs.Rays.{rayCount, Ray}
 use Rattle.grid.specs.declared.DexelStockSpec.{DexelStockSpec}
 use Rattle.grid.specs.declared.DexelGrid.{DexelGrid}
+use Rattle.log_model.specs.declared.Entry.{Entry}
 use Rattle.log_model.specs.Logs.{
-  Entry,
   entries,
+  isWholeLog,
   workNeeded,
   namesSomeRay,
   namesRay,
@@ -69,11 +70,11 @@ use Rattle.stock.specs.Stock.{Kind, Possible, Certain}
 -- ---- the points that a log takes, as those of one flat list
 
 module _ (g : DexelGrid) (r : Ray g) where
-  pairs-append : (es : List Entry) (w : HitKind) (m : List Float) (p : Float)
+  ray-hits-append : (es : List Entry) (w : HitKind) (m : List Float) (p : Float)
       → holds (hitsOnRay g es (r .0) w ++ m) p ≡ (holds (hitsOnRay g es (r .0) w) p || holds m p)
   unfolding hitsOnRay holds
-  pairs-append [] w m p = refl
-  pairs-append (e ∷ es) w m p = go (namesRay g e (r .0)) (pairs-append es w m p)
+  ray-hits-append [] w m p = refl
+  ray-hits-append (e ∷ es) w m p = go (namesRay g e (r .0)) (ray-hits-append es w m p)
     where
       go : (b : Bool) → holds (hitsOnRay g es (r .0) w ++ m) p ≡ (holds (hitsOnRay g es (r .0) w) p || holds m p)
           → holds (cond b (hitLo w e ∷ hitHi w e ∷ hitsOnRay g es (r .0) w) (hitsOnRay g es (r .0) w) ++ m) p
@@ -82,15 +83,15 @@ module _ (g : DexelGrid) (r : Ray g) where
           ∙ sym (or-assoc (within (hitLo w e) (hitHi w e) p) (holds (hitsOnRay g es (r .0) w) p) (holds m p))
       go false f = f
 
-  pub taken-hits : (es : List Entry) (k : Kind) (p : Float) → removed g es r k p ≡ holds (hitsOnList g es r k) p
+  pub removed-hits : (es : List Entry) (k : Kind) (p : Float) → removed g es r k p ≡ holds (hitsOnList g es r k) p
   unfolding removed hitsOnList
-  taken-hits es Possible p = refl
-  taken-hits es Certain p = sym (pairs-append es outer (hitsOnRay g es (r .0) inner) p)
+  removed-hits es Possible p = refl
+  removed-hits es Certain p = sym (ray-hits-append es outer (hitsOnRay g es (r .0) inner) p)
 
-  pub without-hits : (s : Sets g) (es : List Entry) (k : Kind) (p : Float)
+  pub sets-after-hits : (s : Sets g) (es : List Entry) (k : Kind) (p : Float)
       → setsAfter g s es r k p ≡ (s r k p && not (holds (hitsOnList g es r k) p))
   unfolding setsAfter
-  without-hits s es k p = ap (λ (b : Bool). s r k p && not b) (taken-hits es k p)
+  sets-after-hits s es k p = ap (λ (b : Bool). s r k p && not b) (removed-hits es k p)
 
 -- ---- a test that decides
 
@@ -165,8 +166,8 @@ module _ (g : DexelGrid) (s : Sets g) (lists : Ray g → Kind → List Float)
   stays r k =
       let law = kept-unhit (lists r k) (hitsOnList g es r k) (each r k .isSound) in (
         (λ f. law .0 (λ p. ap (λ (b : Bool). b && not (holds (hitsOnList g es r k) p)) (each r k .points p)
-            ∙ sym (without-hits g r s es k p) ∙ f p ∙ sym (each r k .points p))),
-        (λ h p. without-hits g r s es k p
+            ∙ sym (sets-after-hits g r s es k p) ∙ f p ∙ sym (each r k .points p))),
+        (λ h p. sets-after-hits g r s es k p
             ∙ ap (λ (b : Bool). b && not (holds (hitsOnList g es r k) p)) (sym (each r k .points p)) ∙ law .1 h p
             ∙ each r k .points p),
       )
@@ -177,7 +178,7 @@ module _ (g : DexelGrid) (s : Sets g) (lists : Ray g → Kind → List Float)
         → isHitBy (lists r k) (hitsOnList g es r k) ≡ false
     stays-points r k f = unhit-points (lists r k) (hitsOnList g es r k) (each r k .isSound) (d .of-lists r k) (d .of-hits r k)
         (λ p h. ap (λ (b : Bool). b && not (holds (hitsOnList g es r k) p)) (each r k .points p)
-        ∙ sym (without-hits g r s es k p) ∙ f p h ∙ sym (each r k .points p))
+        ∙ sym (sets-after-hits g r s es k p) ∙ f p h ∙ sym (each r k .points p))
 
     pub changes-by : (r : Ray g) → Decides (RayChanges g s es r) (isRayChanged g lists es r)
     unfolding RayChanges isRayChanged
@@ -202,10 +203,10 @@ module _ (g : DexelGrid) (s : Sets g) (lists : Ray g → Kind → List Float)
     rays-counted = count-by g (RayChanges g s es) (isRayChanged g lists es) changes-by (rayCount g) (le-refl (rayCount g))
 
   -- the sound lists of the sets as they would be
-  pub left-list : (r : Ray g) (k : Kind) → ListOf (setsAfter g s es r k) (less (lists r k) (hitsOnList g es r k))
-  left-list r k =
+  pub sets-after-list : (r : Ray g) (k : Kind) → ListOf (setsAfter g s es r k) (less (lists r k) (hitsOnList g es r k))
+  sets-after-list r k =
       same-list (λ p. s r k p && not (holds (hitsOnList g es r k) p)) (setsAfter g s es r k) (less (lists r k) (hitsOnList g es r k))
-      (λ p. sym (without-hits g r s es k p)) (less-list (s r k) (lists r k) (hitsOnList g es r k) (each r k))
+      (λ p. sym (sets-after-hits g r s es k p)) (less-list (s r k) (lists r k) (hitsOnList g es r k) (each r k))
 
   -- and whichever they are, their number of pairs
   one-count : (r : Ray g) (k : Kind) → length (less (lists r k) (hitsOnList g es r k)) / 2 ≡ startsLeft (lists r k) (hitsOnList g es r k)
@@ -213,26 +214,26 @@ module _ (g : DexelGrid) (s : Sets g) (lists : Ray g → Kind → List Float)
       pairs-left (lists r k) (hitsOnList g es r k) (less (lists r k) (hitsOnList g es r k)) (each r k .isSound)
       (same-list (setsAfter g s es r k) (λ p. holds (lists r k) p && not (holds (hitsOnList g es r k) p))
       (less (lists r k) (hitsOnList g es r k))
-      (λ p. without-hits g r s es k p
-      ∙ ap (λ (b : Bool). b && not (holds (hitsOnList g es r k) p)) (sym (each r k .points p))) (left-list r k))
+      (λ p. sets-after-hits g r s es k p
+      ∙ ap (λ (b : Bool). b && not (holds (hitsOnList g es r k) p)) (sym (each r k .points p))) (sets-after-list r k))
 
   pub intervals-counted : IntervalTotal g (setsAfter g s es) (pairsAfter g lists es)
   unfolding pairsAfter pairTotal
   intervals-counted = record {
     lists = λ r k. less (lists r k) (hitsOnList g es r k);
-    each = left-list;
+    each = sets-after-list;
     number = ap (sumOver g) (fun-ext (λ r. ap₂ _+_ (sym (one-count r Possible)) (sym (one-count r Certain))));
   }
 
   -- where the ends of the lists and of the hits are doubles, the points alone settle this number: whichever sound lists of doubles have
   -- the points of the sets as they would be, it is the number of their pairs
-  pub left-number : Doubles g lists es → {n : ℕ} → IntervalTotal g (setsAfter g s es) n
+  pub interval-total-is : Doubles g lists es → {n : ℕ} → IntervalTotal g (setsAfter g s es) n
       → (others : Ray g → Kind → List Float) → ((r : Ray g) (k : Kind) → All Double (others r k))
       → ((r : Ray g) (k : Kind) → sound (others r k) ≡ true)
       → ((r : Ray g) (k : Kind) (p : Float) → Point p → holds (others r k) p ≡ setsAfter g s es r k p)
       → n ≡ pairTotal g others
   unfolding intervals-counted
-  left-number d a others e o h =
+  interval-total-is d a others e o h =
       intervals-unique g (setsAfter g s es) a intervals-counted
       ∙ intervals-points g (setsAfter g s es) intervals-counted
       (λ r k. less-doubles (lists r k) (hitsOnList g es r k) (d .of-lists r k) (d .of-hits r k)) others e o h
@@ -247,14 +248,14 @@ AllDecided (c ∷ cs) [] = ⊥
 AllDecided (c ∷ cs) (b ∷ bs) = Decides (c .present) b × AllDecided cs bs
 
 -- the number of the first cause whose test is passed, or else the other answer
-unfoldable pub answerBy : List Cause → List Bool → LogAnswer → LogAnswer
-answerBy [] bs a = a
-answerBy (c ∷ cs) [] a = a
-answerBy (c ∷ cs) (b ∷ bs) a = cond b (refused (c .number)) (answerBy cs bs a)
+unfoldable pub answerOfTests : List Cause → List Bool → LogAnswer → LogAnswer
+answerOfTests [] bs a = a
+answerOfTests (c ∷ cs) [] a = a
+answerOfTests (c ∷ cs) (b ∷ bs) a = cond b (refused (c .number)) (answerOfTests cs bs a)
 
 pub due-by : (cs : List Cause) (bs : List Bool) (a : LogAnswer) → AllDecided cs bs
-    → ((k : ℕ) × (answerBy cs bs a ≡ refused k) × Due cs k) ⊎ ((answerBy cs bs a ≡ a) × NoneDue cs)
-unfolding answerBy Due NoneDue
+    → ((k : ℕ) × (answerOfTests cs bs a ≡ refused k) × Due cs k) ⊎ ((answerOfTests cs bs a ≡ a) × NoneDue cs)
+unfolding answerOfTests Due NoneDue
 due-by [] [] a d = inr (refl, tt)
 due-by [] (b ∷ bs) a d = absurd d
 due-by (c ∷ cs) [] a d = absurd d
@@ -271,7 +272,7 @@ module _ (spec : DexelStockSpec) (g : DexelGrid) (b : Capacity) where
   tests lists n c =
       (ltb (b .records) (spec .«max_intervals»)
       || (ltb (b .heads) (2 * rayCount g) || ltb (c .work) (workNeeded (spec .«max_intervals») (c .log))))
-      ∷ not (eqb (length (c .log) % 6) 0)
+      ∷ not (isWholeLog (c .log))
       ∷ eqb n (2 ^ 64 - 1)
       ∷ unnamed g (entries (c .log))
       ∷ ltb (c .allowance) (changedRayCount g lists (entries (c .log)))
@@ -293,11 +294,11 @@ module _ (spec : DexelStockSpec) (g : DexelGrid) (b : Capacity) where
         (less-than (b .heads) (2 * rayCount g))
         (less-than (c .work) (workNeeded (spec .«max_intervals») (c .log))))
 
-    bad-by : Decides (LogInputBad ⊥ c) (not (eqb (length (c .log) % 6) 0))
+    bad-by : Decides (LogInputBad ⊥ c) (not (isWholeLog (c .log)))
     unfolding LogInputBad
     bad-by = (
-      (λ h. inl (eqb-false (length (c .log) % 6) 0 (not-true (eqb (length (c .log) % 6) 0) h))),
-      (λ h x. elim x [ inl y ↦ y (eqb-true (length (c .log) % 6) 0 (not-false (eqb (length (c .log) % 6) 0) h)) | inr y ↦ y ]),
+      (λ h. inl (eqb-false (length (c .log) % 6) 0 (not-true (isWholeLog (c .log)) h))),
+      (λ h x. elim x [ inl y ↦ y (eqb-true (length (c .log) % 6) 0 (not-false (isWholeLog (c .log)) h)) | inr y ↦ y ]),
     )
 
     -- 9 is present exactly when the count is above the allowance
@@ -332,10 +333,10 @@ module _ (spec : DexelStockSpec) (g : DexelGrid) (b : Capacity) where
     )
 
     -- the order's answer, worked out
-    pub judged : AnswerDue spec g b ⊥ s n c
-        (answerBy (logCommitCauses spec g b ⊥ s n c) (tests lists n c) (changed (changedRayCount g lists (entries (c .log)))))
+    pub answer-due : AnswerDue spec g b ⊥ s n c
+        (answerOfTests (logCommitCauses spec g b ⊥ s n c) (tests lists n c) (changed (changedRayCount g lists (entries (c .log)))))
     unfolding AnswerDue
-    judged = elim (due-by (logCommitCauses spec g b ⊥ s n c) (tests lists n c)
+    answer-due = elim (due-by (logCommitCauses spec g b ⊥ s n c) (tests lists n c)
         (changed (changedRayCount g lists (entries (c .log)))) all-decided) [
           | inl (k, e, x) ↦ subst (λ (a : LogAnswer). AnswerDue spec g b ⊥ s n c a) (sym e) x
           | inr (e, x) ↦ subst (λ (a : LogAnswer). AnswerDue spec g b ⊥ s n c a) (sym e)

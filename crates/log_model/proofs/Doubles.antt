@@ -10,8 +10,8 @@ use Rattle.grid.specs.declared.DexelStockSpec.{DexelStockSpec}
 use Rattle.grid.specs.declared.DexelGrid.{DexelGrid}
 use Rattle.store.specs.Store.{placesOf, endsAt}
 use Rattle.stock.specs.Stock.{Stock, Kind, Possible, Certain, rayList, listNumber}
+use Rattle.log_model.specs.declared.Entry.{Entry}
 use Rattle.log_model.specs.Logs.{
-  Entry,
   entryAt,
   entriesFrom,
   entryCount,
@@ -69,15 +69,15 @@ module _ (g : DexelGrid) (log : List Float) (d : DoubleCells log) (r : Ray g) wh
       go true h = (lo-double i w, (hi-double i w, h))
       go false h = h
 
-  pub pairs-doubles : (w : HitKind) → All Double (hitsOnRay g (entries log) (r .0) w)
+  pub ray-hits-doubles : (w : HitKind) → All Double (hitsOnRay g (entries log) (r .0) w)
   unfolding entries
-  pairs-doubles w = from-doubles 0 (entryCount log) w
+  ray-hits-doubles w = from-doubles 0 (entryCount log) w
 
   pub hits-doubles : (k : Kind) → All Double (hitsOnList g (entries log) r k)
   unfolding hitsOnList
-  hits-doubles Possible = pairs-doubles inner
+  hits-doubles Possible = ray-hits-doubles inner
   hits-doubles Certain = all-append Double (hitsOnRay g (entries log) (r .0) outer) (hitsOnRay g (entries log) (r .0) inner)
-      (pairs-doubles outer) (pairs-doubles inner)
+      (ray-hits-doubles outer) (ray-hits-doubles inner)
 
 -- ---- both
 

@@ -9,7 +9,8 @@ use native.Mathlib.Decide.{decLt}
 use lib.ListN.{length}
 use lib.Ieee.{Float}
 use Rattle.grid.specs.declared.DexelGrid.{DexelGrid}
-use Rattle.log_model.specs.Logs.{Entry, entryAt, entriesFrom, entryCount, entries, namesRay, HitKind, hitLo, hitHi, hitsOnRay}
+use Rattle.log_model.specs.declared.Entry.{Entry}
+use Rattle.log_model.specs.Logs.{entryAt, entriesFrom, entryCount, entries, namesRay, HitKind, hitLo, hitHi, hitsOnRay}
 use Rattle.grid.specs.Rays.{Ray}
 
 from-length : (log : List Float) (i n : ℕ) → length (entriesFrom log i n) ≡ n
@@ -74,10 +75,10 @@ from-last log i (suc n) j h = ap (λ (es : List Entry). entryAt log i ∷ es) (f
     same i n j h = omega arith
 
 module _ (g : DexelGrid) (r : Ray g) (w : HitKind) where
-  pairs-of-append : (es fs : List Entry) → hitsOnRay g (es ++ fs) (r .0) w ≡ hitsOnRay g es (r .0) w ++ hitsOnRay g fs (r .0) w
+  ray-hits-append : (es fs : List Entry) → hitsOnRay g (es ++ fs) (r .0) w ≡ hitsOnRay g es (r .0) w ++ hitsOnRay g fs (r .0) w
   unfolding hitsOnRay
-  pairs-of-append [] fs = refl
-  pairs-of-append (e ∷ es) fs = go (namesRay g e (r .0)) (pairs-of-append es fs)
+  ray-hits-append [] fs = refl
+  ray-hits-append (e ∷ es) fs = go (namesRay g e (r .0)) (ray-hits-append es fs)
     where
       go : (b : Bool) → hitsOnRay g (es ++ fs) (r .0) w ≡ hitsOnRay g es (r .0) w ++ hitsOnRay g fs (r .0) w
           → cond b (hitLo w e ∷ hitHi w e ∷ hitsOnRay g (es ++ fs) (r .0) w) (hitsOnRay g (es ++ fs) (r .0) w)
@@ -85,10 +86,10 @@ module _ (g : DexelGrid) (r : Ray g) (w : HitKind) where
       go true q = ap (λ (l : List Float). hitLo w e ∷ hitHi w e ∷ l) q
       go false q = q
 
-  pub pairs-more : (log : List Float) (n : ℕ)
+  pub ray-hits-more : (log : List Float) (n : ℕ)
       → hitsOnRay g (entriesFrom log 0 (suc n)) (r .0) w
       ≡ hitsOnRay g (entriesFrom log 0 n) (r .0) w
       ++ cond (namesRay g (entryAt log n) (r .0)) (hitLo w (entryAt log n) ∷ hitHi w (entryAt log n) ∷ []) []
   unfolding hitsOnRay
-  pairs-more log n = ap (λ (es : List Entry). hitsOnRay g es (r .0) w) (from-last log 0 n n (omega arith))
-      ∙ pairs-of-append (entriesFrom log 0 n) (entryAt log n ∷ [])
+  ray-hits-more log n = ap (λ (es : List Entry). hitsOnRay g es (r .0) w) (from-last log 0 n n (omega arith))
+      ∙ ray-hits-append (entriesFrom log 0 n) (entryAt log n ∷ [])

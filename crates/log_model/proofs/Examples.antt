@@ -16,7 +16,7 @@ use Rattle.spans.specs.Spans.{All, Double, holds, sound, equal, ListOf}
 use Rattle.doubles.proofs.Order.{lt-number, eq-refl}
 use Rattle.spans.proofs.Pieces.{agree, by-ends, of-list, in-left, in-right, both-of}
 use Rattle.grid.specs.Axes.{byDigit}
-use Rattle.grid.specs.Grid.{allBetween, isBetween}
+use Rattle.grid.specs.Grid.{allBetween, isBetween, whole}
 use Rattle.grid.specs.FromSpec.{gridOf, isMm, misdescribed, anyBelow, gridOver, anyAbove, cellCount, tooFine, leastStep, magnitudeOf}
 use Rattle.grid.specs.Rays.{rayCount, raysAlong, offset, rayAxis, boundsOf, Ray}
 use Rattle.grid.specs.declared.GridAnswer.the-variants.{Accepted}
@@ -27,7 +27,6 @@ use Rattle.log_model.specs.Model.{LogAnswer, changed, refused, logCommit
 use Rattle.log_model.specs.Counts.{hitsOnList, changedRayCount}
 use Rattle.log_model.specs.Runs.{pointSets, CommitEffect, CommitStep, Run, done, next, RunMeetsModel}
 use Rattle.log_model.specs.Examples.{
-  num,
   exampleBox,
   exampleGrid,
   exampleStock,
@@ -44,11 +43,11 @@ use Rattle.log_model.specs.Examples.{
 use Rattle.stock.specs.Stock.{Stock, ValidAt, SoundStock, Kind, Possible, Certain, rayList}
 use Rattle.stock_fill.specs.Uncut.{uncut as uncutCells, uncutSpans, uncutLinks, uncutHeads, recordAt}
 use Rattle.log_model.specs.View.{lentStore}
-use Rattle.log_model.proofs.Unique.{judged-unsound}
+use Rattle.log_model.proofs.Unique.{answer-due-unsound}
 use Rattle.log_model.proofs.Less.{less}
 use Rattle.log_model.proofs.Doubles.{DoubleCells, all-doubles}
-use Rattle.log_model.proofs.Decided.{tests, answerBy, judged, left-list}
-use Rattle.log_model.proofs.View.{lent-laws, demand3-lent}
+use Rattle.log_model.proofs.Decided.{tests, answerOfTests, answer-due, sets-after-list}
+use Rattle.log_model.proofs.View.{lent-laws, run-correct-lent}
 use Rattle.log_model.proofs.Plain.{Plain, Valid, answers, final}
 use Rattle.doubles.specs.Rounding.{ratio}
 use Rattle.log_model.specs.RunCorrect.{HitsIncluded, Alike, StoresAgree}
@@ -60,9 +59,9 @@ accepted-box = refl
 
 -- minus zero names axis 0; an axis of 3, a fraction, a negative number, an infinity and NaN name no ray
 naming : map (λ log. map (namesSomeRay exampleGrid) (entries log))
-    (exampleHit (neg (num 0)) (num 0) ∷ exampleHit (num 2) (neg (num 0)) ∷ exampleHit (num 3) (num 0)
-    ∷ exampleHit (num 0) (num 1) ∷ exampleHit (num 1) (ratio 1 2) ∷ exampleHit (num 1) (neg (num 1))
-    ∷ exampleHit (inf false) (num 0) ∷ exampleHit (num 0) nan ∷ [])
+    (exampleHit (neg (whole 0)) (whole 0) ∷ exampleHit (whole 2) (neg (whole 0)) ∷ exampleHit (whole 3) (whole 0)
+    ∷ exampleHit (whole 0) (whole 1) ∷ exampleHit (whole 1) (ratio 1 2) ∷ exampleHit (whole 1) (neg (whole 1))
+    ∷ exampleHit (inf false) (whole 0) ∷ exampleHit (whole 0) nan ∷ [])
     ≡ (true ∷ []) ∷ (true ∷ []) ∷ (false ∷ []) ∷ (false ∷ []) ∷ (false ∷ []) ∷ (false ∷ []) ∷ (false ∷ []) ∷ (false ∷ []) ∷ []
 unfolding namesSomeRay entries ratio eq neg ofInt byDigit
 naming = refl
@@ -94,11 +93,11 @@ by-fit l h = cells-doubles l (fit-doubles l h)
 -- ---- a run on full rays. The log hits the ray along axis 1, which is ray 1.
 
 abbrev uncut : ℕ → Plain exampleGrid
-uncut n = record { lists = λ r k. num 0 ∷ num 10 ∷ []; generation = 0; lent = record { records = n; heads = 6 } }
+uncut n = record { lists = λ r k. whole 0 ∷ whole 10 ∷ []; generation = 0; lent = record { records = n; heads = 6 } }
 
 full : (n : ℕ) → Valid exampleGrid (uncut n)
 unfolding sound lt ofInt all-fit fits
-full n = record { isSound = λ r k. refl; doubles = λ r k. fit-doubles (num 0 ∷ num 10 ∷ []) refl; within = λ r p t. t }
+full n = record { isSound = λ r k. refl; doubles = λ r k. fit-doubles (whole 0 ∷ whole 10 ∷ []) refl; within = λ r p t. t }
 
 -- the ray changes once; the same log again is accepted and changes nothing, even with no ray allowed
 twice : answers (exampleBox 8) exampleGrid (uncut 8) (exampleCommit 0 1 66 ∷ exampleCommit 0 0 66 ∷ []) ≡ changed 1 ∷ changed 0 ∷ []
@@ -107,7 +106,7 @@ twice = refl
 
 -- one work pair short; part of an entry over; no such ray; no ray allowed; and after those refusals the log is accepted
 refusals : answers (exampleBox 8) exampleGrid (uncut 8)
-    (exampleCommit 0 1 65 ∷ record { log = num 1 ∷ []; allowance = 1; work = 66 } ∷ exampleCommit 1 1 66
+    (exampleCommit 0 1 65 ∷ record { log = whole 1 ∷ []; allowance = 1; work = 66 } ∷ exampleCommit 1 1 66
     ∷ exampleCommit 0 0 66 ∷ exampleCommit 0 1 66 ∷ [])
     ≡ refused 12 ∷ refused 11 ∷ refused 17 ∷ refused 9 ∷ changed 1 ∷ []
 unfolding answers rayCount byDigit eq lt le
@@ -125,7 +124,7 @@ ray-one s = s .lists (1, lit< tt) Possible ∷ s .lists (1, lit< tt) Certain ∷
 
 -- after the two commits of `twice`
 cut-ray : ray-one (final (exampleBox 8) exampleGrid (uncut 8) (exampleCommit 0 1 66 ∷ exampleCommit 0 0 66 ∷ []))
-    ≡ (num 0 ∷ num 2 ∷ num 3 ∷ num 10 ∷ []) ∷ (num 0 ∷ num 1 ∷ num 4 ∷ num 10 ∷ []) ∷ []
+    ≡ (whole 0 ∷ whole 2 ∷ whole 3 ∷ whole 10 ∷ []) ∷ (whole 0 ∷ whole 1 ∷ whole 4 ∷ whole 10 ∷ []) ∷ []
 unfolding final ray-one rayCount byDigit eq lt le
 cut-ray = refl
 
@@ -139,8 +138,8 @@ cut-generation = refl
 abbrev cut : Stock
 cut = record {
   cells = record {
-    spans = num 0 ∷ num 10 ∷ num 0 ∷ num 10 ∷ num 0 ∷ num 2 ∷ num 3 ∷ num 10 ∷ num 0 ∷ num 10 ∷ num 0 ∷ num 10 ∷ num 0
-        ∷ num 1 ∷ num 4 ∷ num 10 ∷ [];
+    spans = whole 0 ∷ whole 10 ∷ whole 0 ∷ whole 10 ∷ whole 0 ∷ whole 2 ∷ whole 3 ∷ whole 10 ∷ whole 0 ∷ whole 10 ∷ whole 0 ∷ whole 10 ∷ whole 0
+        ∷ whole 1 ∷ whole 4 ∷ whole 10 ∷ [];
     links = 0 ∷ 1 ∷ 0 ∷ 2 ∷ 4 ∷ 3 ∷ 0 ∷ 3 ∷ 0 ∷ 5 ∷ 0 ∷ 6 ∷ 8 ∷ 4 ∷ 0 ∷ 4 ∷ [];
     heads = 1 ∷ 2 ∷ 3 ∷ 7 ∷ 5 ∷ 6 ∷ [];
   };
@@ -152,8 +151,8 @@ cut = record {
 abbrev cut-again : Stock
 cut-again = record {
   cells = record {
-    spans = num 0 ∷ num 10 ∷ num 0 ∷ num 10 ∷ num 0 ∷ num 2 ∷ num 3 ∷ num 4 ∷ num 0 ∷ num 10 ∷ num 0 ∷ num 10 ∷ num 0
-        ∷ num 1 ∷ num 0 ∷ num 0 ∷ [];
+    spans = whole 0 ∷ whole 10 ∷ whole 0 ∷ whole 10 ∷ whole 0 ∷ whole 2 ∷ whole 3 ∷ whole 4 ∷ whole 0 ∷ whole 10 ∷ whole 0 ∷ whole 10 ∷ whole 0
+        ∷ whole 1 ∷ whole 0 ∷ whole 0 ∷ [];
     links = 0 ∷ 1 ∷ 0 ∷ 2 ∷ 4 ∷ 3 ∷ 0 ∷ 3 ∷ 0 ∷ 5 ∷ 0 ∷ 6 ∷ 0 ∷ 4 ∷ 0 ∷ 0 ∷ [];
     heads = 1 ∷ 2 ∷ 3 ∷ 7 ∷ 5 ∷ 6 ∷ [];
   };
@@ -223,7 +222,7 @@ used-in l used (suc n) h i k u = elim (decLt i n) [
     ]
 
 -- a full ray
-whole-ray : ValidRay (num 0) (num 10) (num 0 ∷ num 10 ∷ []) (num 0 ∷ num 10 ∷ [])
+whole-ray : ValidRay (whole 0) (whole 10) (whole 0 ∷ whole 10 ∷ []) (whole 0 ∷ whole 10 ∷ [])
 unfolding sound bounded lt le ofInt
 whole-ray = record { possible-sound = refl; certain-sound = refl; possible-bounded = refl; certain-bounded = refl; inside = λ p t. t }
 
@@ -237,25 +236,25 @@ inside-of P C h p t =
     (in-right C P (holds P) (of-list P))) (in-left C P (holds C) (of-list C)) h p ∙ t)
 
 -- the ray that was cut: 0 to 1 and 4 to 10 lie within 0 to 2 and 3 to 10
-cut-whole : ValidRay (num 0) (num 10) (num 0 ∷ num 2 ∷ num 3 ∷ num 10 ∷ []) (num 0 ∷ num 1 ∷ num 4 ∷ num 10 ∷ [])
+cut-whole : ValidRay (whole 0) (whole 10) (whole 0 ∷ whole 2 ∷ whole 3 ∷ whole 10 ∷ []) (whole 0 ∷ whole 1 ∷ whole 4 ∷ whole 10 ∷ [])
 unfolding sound bounded holds lt le ofInt
 cut-whole = record {
   possible-sound = refl;
   certain-sound = refl;
   possible-bounded = refl;
   certain-bounded = refl;
-  inside = inside-of (num 0 ∷ num 2 ∷ num 3 ∷ num 10 ∷ []) (num 0 ∷ num 1 ∷ num 4 ∷ num 10 ∷ []) refl;
+  inside = inside-of (whole 0 ∷ whole 2 ∷ whole 3 ∷ whole 10 ∷ []) (whole 0 ∷ whole 1 ∷ whole 4 ∷ whole 10 ∷ []) refl;
 }
 
 -- and cut again: 0 to 1 lies within 0 to 2 and 3 to 4
-again-whole : ValidRay (num 0) (num 10) (num 0 ∷ num 2 ∷ num 3 ∷ num 4 ∷ []) (num 0 ∷ num 1 ∷ [])
+again-whole : ValidRay (whole 0) (whole 10) (whole 0 ∷ whole 2 ∷ whole 3 ∷ whole 4 ∷ []) (whole 0 ∷ whole 1 ∷ [])
 unfolding sound bounded holds lt le ofInt
 again-whole = record {
   possible-sound = refl;
   certain-sound = refl;
   possible-bounded = refl;
   certain-bounded = refl;
-  inside = inside-of (num 0 ∷ num 2 ∷ num 3 ∷ num 4 ∷ []) (num 0 ∷ num 1 ∷ []) refl;
+  inside = inside-of (whole 0 ∷ whole 2 ∷ whole 3 ∷ whole 4 ∷ []) (whole 0 ∷ whole 1 ∷ []) refl;
 }
 
 filled-sound : SoundStock (exampleBox 8) exampleGrid exampleStock
@@ -308,7 +307,7 @@ again-sound = record {
 -- the answer that the order gives to a commit on a sound stock, worked out
 abbrev answer-on : Stock → Commit → LogAnswer
 answer-on s c =
-    answerBy (logCommitCauses (exampleBox 8) exampleGrid (lentStore (exampleBox 8) exampleGrid .lent s) ⊥
+    answerOfTests (logCommitCauses (exampleBox 8) exampleGrid (lentStore (exampleBox 8) exampleGrid .lent s) ⊥
     (pointSets exampleGrid (lentStore (exampleBox 8) exampleGrid) s) (s .generation) c)
     (tests (exampleBox 8) exampleGrid (lentStore (exampleBox 8) exampleGrid .lent s)
     (λ r k. rayList (exampleBox 8) (s .cells) (r .0) k) (s .generation) c)
@@ -323,16 +322,16 @@ module _ (s : Stock) (S : SoundStock (exampleBox 8) exampleGrid s) (ds : DoubleC
   unfolding pointSets
   lists-on r k = record { isSound = lent-laws (exampleBox 8) exampleGrid .sound-list s S r k; points = λ p. refl }
 
-  judged-on : (a : LogAnswer) → answer-on s c ≡ a
+  answer-due-on : (a : LogAnswer) → answer-on s c ≡ a
       → AnswerDue (exampleBox 8) exampleGrid (lentStore (exampleBox 8) exampleGrid .lent s)
       (¬ SoundStock (exampleBox 8) exampleGrid s) (pointSets exampleGrid (lentStore (exampleBox 8) exampleGrid) s)
       (s .generation) c a
-  judged-on a e = judged-unsound (exampleBox 8) exampleGrid (lentStore (exampleBox 8) exampleGrid .lent s)
+  answer-due-on a e = answer-due-unsound (exampleBox 8) exampleGrid (lentStore (exampleBox 8) exampleGrid .lent s)
       (¬ SoundStock (exampleBox 8) exampleGrid s) (λ n. n S)
       (pointSets exampleGrid (lentStore (exampleBox 8) exampleGrid) s) (s .generation) c a
       (subst (λ (b : LogAnswer). AnswerDue (exampleBox 8) exampleGrid (lentStore (exampleBox 8) exampleGrid .lent s) ⊥
       (pointSets exampleGrid (lentStore (exampleBox 8) exampleGrid) s) (s .generation) c b) e
-      (judged (exampleBox 8) exampleGrid (lentStore (exampleBox 8) exampleGrid .lent s)
+      (answer-due (exampleBox 8) exampleGrid (lentStore (exampleBox 8) exampleGrid .lent s)
       (pointSets exampleGrid (lentStore (exampleBox 8) exampleGrid) s)
       (λ r k. rayList (exampleBox 8) (s .cells) (r .0) k) lists-on (s .generation) c
       (all-doubles (exampleBox 8) exampleGrid s (c .log) ds dc)))
@@ -340,23 +339,23 @@ module _ (s : Stock) (S : SoundStock (exampleBox 8) exampleGrid s) (ds : DoubleC
   refuses : (k : ℕ) → answer-on s c ≡ refused k
       → CommitStep (exampleBox 8) exampleGrid (lentStore (exampleBox 8) exampleGrid) s c (refused k) s
   unfolding CommitEffect
-  refuses k e = record { answers = judged-on (refused k) e; leaves = refl }
+  refuses k e = record { answers = answer-due-on (refused k) e; leaves = refl }
 
   -- the lists that are left are the old ones less the hits
-  cuts-to : (n : ℕ) (t : Stock) → answer-on s c ≡ changed n → SoundStock (exampleBox 8) exampleGrid t
+  accepts-to : (n : ℕ) (t : Stock) → answer-on s c ≡ changed n → SoundStock (exampleBox 8) exampleGrid t
       → ((r : Ray exampleGrid) (k : Kind)
       → rayList (exampleBox 8) (t .cells) (r .0) k
       ≡ less (rayList (exampleBox 8) (s .cells) (r .0) k) (hitsOnList exampleGrid (entries (c .log)) r k))
       → t .generation ≡ suc (s .generation) → lentStore (exampleBox 8) exampleGrid .lent t ≡ lentStore (exampleBox 8) exampleGrid .lent s
       → CommitStep (exampleBox 8) exampleGrid (lentStore (exampleBox 8) exampleGrid) s c (changed n) t
   unfolding CommitEffect
-  cuts-to n t e T l g h = record {
-    answers = judged-on (changed n) e;
+  accepts-to n t e T l g h = record {
+    answers = answer-due-on (changed n) e;
     leaves = record {
       sound = T;
       exactly = λ r k p.
           unfold pointSets in ap (λ (l : List Float). holds l p) (l r k)
-          ∙ left-list exampleGrid (pointSets exampleGrid (lentStore (exampleBox 8) exampleGrid) s)
+          ∙ sets-after-list exampleGrid (pointSets exampleGrid (lentStore (exampleBox 8) exampleGrid) s)
           (λ r k. rayList (exampleBox 8) (s .cells) (r .0) k) lists-on (entries (c .log)) r k .points p;
       generation = g;
       lent = h;
@@ -364,43 +363,43 @@ module _ (s : Stock) (S : SoundStock (exampleBox 8) exampleGrid s) (ds : DoubleC
   }
 
 first-answer : answer-on exampleStock (exampleCommit 0 1 66) ≡ changed 1
-unfolding answerBy logCommitCauses tests changedRayCount rayCount eq byDigit lt endsAt places le
+unfolding answerOfTests logCommitCauses tests changedRayCount rayCount eq byDigit lt endsAt places le
 first-answer = refl
 
 second-answer : answer-on cut notAllowed ≡ refused 9
-unfolding answerBy logCommitCauses tests changedRayCount rayCount eq byDigit lt endsAt places le
+unfolding answerOfTests logCommitCauses tests changedRayCount rayCount eq byDigit lt endsAt places le
 second-answer = refl
 
 third-answer : answer-on cut innerWider ≡ changed 1
-unfolding answerBy logCommitCauses tests changedRayCount rayCount eq byDigit lt endsAt places le
+unfolding answerOfTests logCommitCauses tests changedRayCount rayCount eq byDigit lt endsAt places le
 third-answer = refl
 
 -- the lists after the first log, and the pairs that the first and the third take from each
 abbrev cut-at : ℕ → Kind → List Float
-cut-at zero k = num 0 ∷ num 10 ∷ []
-cut-at (suc zero) Possible = num 0 ∷ num 2 ∷ num 3 ∷ num 10 ∷ []
-cut-at (suc zero) Certain = num 0 ∷ num 1 ∷ num 4 ∷ num 10 ∷ []
-cut-at (suc (suc n)) k = num 0 ∷ num 10 ∷ []
+cut-at zero k = whole 0 ∷ whole 10 ∷ []
+cut-at (suc zero) Possible = whole 0 ∷ whole 2 ∷ whole 3 ∷ whole 10 ∷ []
+cut-at (suc zero) Certain = whole 0 ∷ whole 1 ∷ whole 4 ∷ whole 10 ∷ []
+cut-at (suc (suc n)) k = whole 0 ∷ whole 10 ∷ []
 
 abbrev first-pairs : ℕ → Kind → List Float
 first-pairs zero k = []
-first-pairs (suc zero) Possible = num 2 ∷ num 3 ∷ []
-first-pairs (suc zero) Certain = num 1 ∷ num 4 ∷ num 2 ∷ num 3 ∷ []
+first-pairs (suc zero) Possible = whole 2 ∷ whole 3 ∷ []
+first-pairs (suc zero) Certain = whole 1 ∷ whole 4 ∷ whole 2 ∷ whole 3 ∷ []
 first-pairs (suc (suc n)) k = []
 
 abbrev third-pairs : ℕ → Kind → List Float
 third-pairs zero k = []
-third-pairs (suc zero) Possible = num 4 ∷ num 10 ∷ []
-third-pairs (suc zero) Certain = num 9 ∷ num 10 ∷ num 4 ∷ num 10 ∷ []
+third-pairs (suc zero) Possible = whole 4 ∷ whole 10 ∷ []
+third-pairs (suc zero) Certain = whole 9 ∷ whole 10 ∷ whole 4 ∷ whole 10 ∷ []
 third-pairs (suc (suc n)) k = []
 
-filled-lists : (r : Ray exampleGrid) (k : Kind) → rayList (exampleBox 8) (exampleStock .cells) (r .0) k ≡ num 0 ∷ num 10 ∷ []
+filled-lists : (r : Ray exampleGrid) (k : Kind) → rayList (exampleBox 8) (exampleStock .cells) (r .0) k ≡ whole 0 ∷ whole 10 ∷ []
 unfolding endsAt places
 filled-lists r Possible = three
-    (λ r. rayList (exampleBox 8) (exampleStock .cells) (r .0) Possible ≡ num 0 ∷ num 10 ∷ []) (λ h. refl) (λ h. refl)
+    (λ r. rayList (exampleBox 8) (exampleStock .cells) (r .0) Possible ≡ whole 0 ∷ whole 10 ∷ []) (λ h. refl) (λ h. refl)
     (λ h. refl) r
 filled-lists r Certain = three
-    (λ r. rayList (exampleBox 8) (exampleStock .cells) (r .0) Certain ≡ num 0 ∷ num 10 ∷ []) (λ h. refl) (λ h. refl)
+    (λ r. rayList (exampleBox 8) (exampleStock .cells) (r .0) Certain ≡ whole 0 ∷ whole 10 ∷ []) (λ h. refl) (λ h. refl)
     (λ h. refl) r
 
 cut-lists : (r : Ray exampleGrid) (k : Kind) → rayList (exampleBox 8) (cut .cells) (r .0) k ≡ cut-at (r .0) k
@@ -433,11 +432,11 @@ third-hits r Certain = three (λ r. hitsOnList exampleGrid (entries (innerWider 
     ≡ third-pairs (r .0) Certain) (λ h. refl) (λ h. refl) (λ h. refl) r
 
 -- the lists that are left are the old ones less the hits
-first-less : (r : Ray exampleGrid) (k : Kind) → cut-at (r .0) k ≡ less (num 0 ∷ num 10 ∷ []) (first-pairs (r .0) k)
+first-less : (r : Ray exampleGrid) (k : Kind) → cut-at (r .0) k ≡ less (whole 0 ∷ whole 10 ∷ []) (first-pairs (r .0) k)
 unfolding less lt ofInt
-first-less r Possible = three (λ r. cut-at (r .0) Possible ≡ less (num 0 ∷ num 10 ∷ []) (first-pairs (r .0) Possible))
+first-less r Possible = three (λ r. cut-at (r .0) Possible ≡ less (whole 0 ∷ whole 10 ∷ []) (first-pairs (r .0) Possible))
     (λ h. refl) (λ h. refl) (λ h. refl) r
-first-less r Certain = three (λ r. cut-at (r .0) Certain ≡ less (num 0 ∷ num 10 ∷ []) (first-pairs (r .0) Certain))
+first-less r Certain = three (λ r. cut-at (r .0) Certain ≡ less (whole 0 ∷ whole 10 ∷ []) (first-pairs (r .0) Certain))
     (λ h. refl) (λ h. refl) (λ h. refl) r
 
 third-less : (r : Ray exampleGrid) (k : Kind) → exampleListAfter (r .0) k ≡ less (cut-at (r .0) k) (third-pairs (r .0) k)
@@ -479,15 +478,16 @@ third-doubles = by-fit (innerWider .log) refl
 
 three-run : Run (exampleBox 8) exampleGrid (lentStore (exampleBox 8) exampleGrid) exampleStock threeLogs threeAnswers cut-again
 three-run =
-    next (cuts-to exampleStock filled-sound filled-doubles (exampleCommit 0 1 66) first-doubles 1 cut first-answer
+    next (accepts-to exampleStock filled-sound filled-doubles (exampleCommit 0 1 66) first-doubles 1 cut first-answer
     cut-sound first-lists refl refl)
     (next (refuses cut cut-sound cut-doubles notAllowed second-doubles 9 second-answer)
-    (next (cuts-to cut cut-sound cut-doubles innerWider third-doubles 1 cut-again third-answer again-sound third-lists refl refl) done))
+    (next (accepts-to cut cut-sound cut-doubles innerWider third-doubles 1 cut-again third-answer again-sound third-lists refl refl) done))
 
 -- what demand 3 says of it
-three-settled : RunMeetsModel (exampleBox 8) exampleGrid (lentStore (exampleBox 8) exampleGrid)
+three-meet-model : RunMeetsModel (exampleBox 8) exampleGrid (lentStore (exampleBox 8) exampleGrid)
     exampleStock threeLogs threeAnswers cut-again
-three-settled = demand3-lent (exampleBox 8) exampleGrid .settles exampleStock cut-again threeLogs threeAnswers filled-sound three-run
+three-meet-model = run-correct-lent (exampleBox 8) exampleGrid .meets-model exampleStock cut-again threeLogs
+    threeAnswers filled-sound three-run
 
 -- ---- and of every other run of the three logs
 
@@ -503,18 +503,18 @@ alike-self ls = (self, self)
 module _ (vs : List LogAnswer) (t : Stock)
     (x : Run (exampleBox 8) exampleGrid (lentStore (exampleBox 8) exampleGrid) exampleStock threeLogs vs t) where
   same-answers : threeAnswers ≡ vs
-  same-answers = demand3-lent (exampleBox 8) exampleGrid .settles exampleStock t threeLogs vs filled-sound x
-      .no-others threeAnswers (three-settled .answers)
+  same-answers = run-correct-lent (exampleBox 8) exampleGrid .meets-model exampleStock t threeLogs vs filled-sound x
+      .no-others threeAnswers (three-meet-model .answers)
 
   same-end : StoresAgree exampleGrid (lentStore (exampleBox 8) exampleGrid) t cut-again
-  same-end = demand3-lent (exampleBox 8) exampleGrid .agrees exampleStock t cut-again threeLogs threeLogs vs
+  same-end = run-correct-lent (exampleBox 8) exampleGrid .agrees exampleStock t cut-again threeLogs threeLogs vs
       threeAnswers filled-sound x three-run
       (subst (λ (ws : List LogAnswer). Alike exampleGrid (acceptedLogs threeLogs ws)
       (acceptedLogs threeLogs threeAnswers)) same-answers (alike-self (acceptedLogs threeLogs threeAnswers)))
 
   two-accepted : t .generation ≡ 2
   unfolding acceptedLogs
-  two-accepted = demand3-lent (exampleBox 8) exampleGrid .settles exampleStock t threeLogs vs filled-sound x
+  two-accepted = run-correct-lent (exampleBox 8) exampleGrid .meets-model exampleStock t threeLogs vs filled-sound x
       .generation ∙ ap (λ (ws : List LogAnswer). 0 + length (acceptedLogs threeLogs ws)) (sym same-answers)
 
   at-end : AtEnd t
@@ -526,7 +526,7 @@ module _ (vs : List LogAnswer) (t : Stock)
   }
 
 -- the uncut store of the box
-fill-lays : uncutCells (exampleBox 8) exampleGrid (cells (replicate 16 (num 7)) (replicate 16 7) (replicate 6 7)) ≡ exampleStock .cells
+fill-lays : uncutCells (exampleBox 8) exampleGrid (cells (replicate 16 (whole 7)) (replicate 16 7) (replicate 6 7)) ≡ exampleStock .cells
 unfolding uncutSpans uncutLinks uncutHeads recordAt rayCount boundsOf rayAxis offset raysAlong byDigit ofInt ofBits
 fill-lays = refl
 

@@ -1,4 +1,5 @@
--- The points that a list of logs takes, by their hits.
+-- The points that a list of logs takes, by their hits: a point is taken exactly when a hit has it, so logs that are
+-- alike in hits take the same points.
 use mathlib.Core.Path.{_≡_, refl, sym, ap, _∙_, subst}
 use mathlib.Core.Bool.{Bool, true, false, cond, _&&_, _||_, false≢true}
 use mathlib.Core.List.{List, [], _∷_, List·Memᴰ, List·Memᴰ·head, List·Memᴰ·tail, List·Memᴰ·not-nil, List·Memᴰ·cases-cons}
@@ -8,7 +9,8 @@ use Rattle.logic.proofs.Bools.{or-cases, or-left, or-right, and-left, and-right
 use Rattle.doubles.proofs.Order.{le-trans, le-lt-trans, lt-le-trans, eq→le, eq→ge}
 use Rattle.spans.specs.Spans.{within, holds}
 use Rattle.grid.specs.declared.DexelGrid.{DexelGrid}
-use Rattle.log_model.specs.Logs.{Entry, entries, namesRay, HitKind, outer, inner, hitLo, hitHi, hitsOnRay, removed, InHit}
+use Rattle.log_model.specs.declared.Entry.{Entry}
+use Rattle.log_model.specs.Logs.{entries, namesRay, HitKind, outer, inner, hitLo, hitHi, hitsOnRay, removed, InHit}
 use Rattle.log_model.specs.RunCorrect.{HitsIncluded, Alike}
 use Rattle.grid.specs.Rays.{Ray}
 use Rattle.stock.specs.Stock.{Kind, Possible, Certain}
@@ -25,49 +27,50 @@ within-same lo hi lo′ hi′ p a b t =
     (lt-le-trans p hi hi′ (and-right (le lo p) (lt p hi) t) (eq→le hi hi′ b))
 
 -- an entry that takes p, and that names the ray r
-record Taker (g : DexelGrid) (es : List Entry) (r : Ray g) (w : HitKind) (p : Float) : Type 0 where
+record Remover (g : DexelGrid) (es : List Entry) (r : Ray g) (w : HitKind) (p : Float) : Type 0 where
   entry : Entry
   in-log : List·Memᴰ entry es
   on-ray : namesRay g entry (r .0) ≡ true
   does : within (hitLo w entry) (hitHi w entry) p ≡ true
 
 module _ (g : DexelGrid) (r : Ray g) (w : HitKind) (p : Float) where
-  pub pairs-cons : (e : Entry) (es : List Entry) (b : Bool) → namesRay g e (r .0) ≡ b
+  pub ray-hits-cons : (e : Entry) (es : List Entry) (b : Bool) → namesRay g e (r .0) ≡ b
       → holds (hitsOnRay g (e ∷ es) (r .0) w) p ≡ (b && within (hitLo w e) (hitHi w e) p || holds (hitsOnRay g es (r .0) w) p)
   unfolding hitsOnRay holds
-  pairs-cons e es true h = ap (λ (b : Bool). holds (cond b (hitLo w e ∷ hitHi w e ∷ hitsOnRay g es (r .0) w) (hitsOnRay g es (r .0) w)) p) h
-  pairs-cons e es false h = ap (λ (b : Bool). holds
+  ray-hits-cons e es true h = ap
+      (λ (b : Bool). holds (cond b (hitLo w e ∷ hitHi w e ∷ hitsOnRay g es (r .0) w) (hitsOnRay g es (r .0) w)) p) h
+  ray-hits-cons e es false h = ap (λ (b : Bool). holds
       (cond b (hitLo w e ∷ hitHi w e ∷ hitsOnRay g es (r .0) w) (hitsOnRay g es (r .0) w)) p) h
 
-  taker : (es : List Entry) → holds (hitsOnRay g es (r .0) w) p ≡ true → Taker g es r w p
+  remover : (es : List Entry) → holds (hitsOnRay g es (r .0) w) p ≡ true → Remover g es r w p
   unfolding hitsOnRay holds
-  taker [] t = absurd (false≢true t)
-  taker (e ∷ es) t = go (namesRay g e (r .0)) refl (taker es)
+  remover [] t = absurd (false≢true t)
+  remover (e ∷ es) t = go (namesRay g e (r .0)) refl (remover es)
     where
-      later : Taker g es r w p → Taker g (e ∷ es) r w p
+      later : Remover g es r w p → Remover g (e ∷ es) r w p
       later f = record { entry = f .entry; in-log = List·Memᴰ·tail (f .in-log); on-ray = f .on-ray; does = f .does }
 
-      go : (b : Bool) → namesRay g e (r .0) ≡ b → (holds (hitsOnRay g es (r .0) w) p ≡ true → Taker g es r w p) → Taker g (e ∷ es) r w p
+      go : (b : Bool) → namesRay g e (r .0) ≡ b → (holds (hitsOnRay g es (r .0) w) p ≡ true → Remover g es r w p) → Remover g (e ∷ es) r w p
       go true h f = elim (or-cases (within (hitLo w e) (hitHi w e) p) (holds (hitsOnRay g es (r .0) w) p)
-          (sym (pairs-cons e es true h) ∙ t)) [
+          (sym (ray-hits-cons e es true h) ∙ t)) [
             | inl u ↦ record { entry = e; in-log = List·Memᴰ·head refl; on-ray = h; does = u }
             | inr u ↦ later (f u)
           ]
-      go false h f = later (f (sym (pairs-cons e es false h) ∙ t))
+      go false h f = later (f (sym (ray-hits-cons e es false h) ∙ t))
 
-  of-taker : (es : List Entry) (e : Entry) → List·Memᴰ e es → namesRay g e (r .0) ≡ true
+  of-remover : (es : List Entry) (e : Entry) → List·Memᴰ e es → namesRay g e (r .0) ≡ true
       → within (hitLo w e) (hitHi w e) p ≡ true → holds (hitsOnRay g es (r .0) w) p ≡ true
-  of-taker [] e i a b = absurd (List·Memᴰ·not-nil i)
-  of-taker (f ∷ es) e i a b = go (List·Memᴰ·cases-cons i) (λ j. of-taker es e j a b)
+  of-remover [] e i a b = absurd (List·Memᴰ·not-nil i)
+  of-remover (f ∷ es) e i a b = go (List·Memᴰ·cases-cons i) (λ j. of-remover es e j a b)
     where
       go : (e ≡ f) ⊎ List·Memᴰ e es → (List·Memᴰ e es → holds (hitsOnRay g es (r .0) w) p ≡ true)
           → holds (hitsOnRay g (f ∷ es) (r .0) w) p ≡ true
       go (inl q) _ =
-          pairs-cons f es true (subst (λ (x : Entry). namesRay g x (r .0) ≡ true) q a)
+          ray-hits-cons f es true (subst (λ (x : Entry). namesRay g x (r .0) ≡ true) q a)
           ∙ or-left (within (hitLo w f) (hitHi w f) p) (holds (hitsOnRay g es (r .0) w) p)
           (subst (λ (x : Entry). within (hitLo w x) (hitHi w x) p ≡ true) q b)
       go (inr j) more =
-          pairs-cons f es (namesRay g f (r .0)) refl
+          ray-hits-cons f es (namesRay g f (r .0)) refl
           ∙ or-right (namesRay g f (r .0) && within (hitLo w f) (hitHi w f) p) (holds (hitsOnRay g es (r .0) w) p)
           (more j)
 
@@ -79,18 +82,18 @@ heldBy g [] r w p = false
 heldBy g (l ∷ ls) r w p = holds (hitsOnRay g (entries l) (r .0) w) p || heldBy g ls r w p
 
 -- the logs take p from the list of kind k
-pub takenBy : (g : DexelGrid) → List (List Float) → Ray g → Kind → Float → Bool
-takenBy g [] r k p = false
-takenBy g (l ∷ ls) r k p = removed g (entries l) r k p || takenBy g ls r k p
+pub removedBy : (g : DexelGrid) → List (List Float) → Ray g → Kind → Float → Bool
+removedBy g [] r k p = false
+removedBy g (l ∷ ls) r k p = removed g (entries l) r k p || removedBy g ls r k p
 
-pub takenBy-none : (g : DexelGrid) (r : Ray g) (k : Kind) (p : Float) → takenBy g [] r k p ≡ false
-unfolding takenBy
-takenBy-none g r k p = refl
+pub removedBy-none : (g : DexelGrid) (r : Ray g) (k : Kind) (p : Float) → removedBy g [] r k p ≡ false
+unfolding removedBy
+removedBy-none g r k p = refl
 
-pub takenBy-more : (g : DexelGrid) (l : List Float) (ls : List (List Float)) (r : Ray g) (k : Kind) (p : Float)
-    → takenBy g (l ∷ ls) r k p ≡ (removed g (entries l) r k p || takenBy g ls r k p)
-unfolding takenBy
-takenBy-more g l ls r k p = refl
+pub removedBy-more : (g : DexelGrid) (l : List Float) (ls : List (List Float)) (r : Ray g) (k : Kind) (p : Float)
+    → removedBy g (l ∷ ls) r k p ≡ (removed g (entries l) r k p || removedBy g ls r k p)
+unfolding removedBy
+removedBy-more g l ls r k p = refl
 
 by-kinds : (a b c d : Bool) → ((a || b) || (c || d)) ≡ ((a || c) || (b || d))
 by-kinds true b c d = refl
@@ -99,28 +102,28 @@ by-kinds false true false d = refl
 by-kinds false false c d = refl
 
 module _ (g : DexelGrid) (r : Ray g) (p : Float) where
-  from-possible : (ls : List (List Float)) → takenBy g ls r Possible p ≡ heldBy g ls r inner p
-  unfolding takenBy heldBy removed
+  from-possible : (ls : List (List Float)) → removedBy g ls r Possible p ≡ heldBy g ls r inner p
+  unfolding removedBy heldBy removed
   from-possible [] = refl
   from-possible (l ∷ ls) = ap (_||_ (holds (hitsOnRay g (entries l) (r .0) inner) p)) (from-possible ls)
 
-  from-certain : (ls : List (List Float)) → takenBy g ls r Certain p ≡ (heldBy g ls r outer p || heldBy g ls r inner p)
-  unfolding takenBy heldBy removed
+  from-certain : (ls : List (List Float)) → removedBy g ls r Certain p ≡ (heldBy g ls r outer p || heldBy g ls r inner p)
+  unfolding removedBy heldBy removed
   from-certain [] = refl
   from-certain (l ∷ ls) =
       ap (_||_ (holds (hitsOnRay g (entries l) (r .0) outer) p || holds (hitsOnRay g (entries l) (r .0) inner) p)) (from-certain ls)
       ∙ by-kinds (holds (hitsOnRay g (entries l) (r .0) outer) p) (holds (hitsOnRay g (entries l) (r .0) inner) p)
       (heldBy g ls r outer p) (heldBy g ls r inner p)
 
-  to-lies : (ls : List (List Float)) (w : HitKind) → heldBy g ls r w p ≡ true → InHit g ls r w p
+  to-hit : (ls : List (List Float)) (w : HitKind) → heldBy g ls r w p ≡ true → InHit g ls r w p
   unfolding heldBy InHit
-  to-lies [] w t = absurd (false≢true t)
-  to-lies (l ∷ ls) w t = go (or-cases (holds (hitsOnRay g (entries l) (r .0) w) p) (heldBy g ls r w p) t) (to-lies ls w)
+  to-hit [] w t = absurd (false≢true t)
+  to-hit (l ∷ ls) w t = go (or-cases (holds (hitsOnRay g (entries l) (r .0) w) p) (heldBy g ls r w p) t) (to-hit ls w)
     where
       go : (holds (hitsOnRay g (entries l) (r .0) w) p ≡ true) ⊎ (heldBy g ls r w p ≡ true)
           → (heldBy g ls r w p ≡ true → InHit g ls r w p) → InHit g (l ∷ ls) r w p
       go (inl u) _ =
-          let f = taker g r w p (entries l) u in (
+          let f = remover g r w p (entries l) u in (
             record {
               log = l;
               entry = f .entry;
@@ -155,30 +158,30 @@ module _ (g : DexelGrid) (r : Ray g) (p : Float) where
           → (holds (hitsOnRay g (entries m) (r .0) w) p || heldBy g ls r w p) ≡ true
       go (inl q) _ =
           or-left (holds (hitsOnRay g (entries m) (r .0) w) p) (heldBy g ls r w p)
-          (of-taker g r w p (entries m) e (subst (λ (x : List Float). List·Memᴰ e (entries x)) q j) a b)
+          (of-remover g r w p (entries m) e (subst (λ (x : List Float). List·Memᴰ e (entries x)) q j) a b)
       go (inr k) more = or-right (holds (hitsOnRay g (entries m) (r .0) w) p) (heldBy g ls r w p) (more k)
 
-  of-lies : (ls : List (List Float)) (w : HitKind) → InHit g ls r w p → heldBy g ls r w p ≡ true
+  of-hit : (ls : List (List Float)) (w : HitKind) → InHit g ls r w p → heldBy g ls r w p ≡ true
   unfolding InHit
-  of-lies ls w (h, t) = held-in ls w (h .log) (h .entry) (h .in-logs) (h .in-log) (h .on-ray) t
+  of-hit ls w (h, t) = held-in ls w (h .log) (h .entry) (h .in-logs) (h .in-log) (h .on-ray) t
 
   -- possible loses exactly the points in inner hits
-  pub to-inner : (ls : List (List Float)) → takenBy g ls r Possible p ≡ true → InHit g ls r inner p
-  to-inner ls t = to-lies ls inner (sym (from-possible ls) ∙ t)
+  pub to-inner : (ls : List (List Float)) → removedBy g ls r Possible p ≡ true → InHit g ls r inner p
+  to-inner ls t = to-hit ls inner (sym (from-possible ls) ∙ t)
 
-  pub of-inner : (ls : List (List Float)) → InHit g ls r inner p → takenBy g ls r Possible p ≡ true
-  of-inner ls x = from-possible ls ∙ of-lies ls inner x
+  pub of-inner : (ls : List (List Float)) → InHit g ls r inner p → removedBy g ls r Possible p ≡ true
+  of-inner ls x = from-possible ls ∙ of-hit ls inner x
 
   -- certain loses exactly the points in outer and in inner hits
-  pub to-either : (ls : List (List Float)) → takenBy g ls r Certain p ≡ true → InHit g ls r outer p ⊎ InHit g ls r inner p
+  pub to-either : (ls : List (List Float)) → removedBy g ls r Certain p ≡ true → InHit g ls r outer p ⊎ InHit g ls r inner p
   to-either ls t = elim (or-cases (heldBy g ls r outer p) (heldBy g ls r inner p) (sym (from-certain ls) ∙ t)) [
-    | inl u ↦ inl (to-lies ls outer u)
-    | inr u ↦ inr (to-lies ls inner u)
+    | inl u ↦ inl (to-hit ls outer u)
+    | inr u ↦ inr (to-hit ls inner u)
   ]
 
-  pub of-either : (ls : List (List Float)) → InHit g ls r outer p ⊎ InHit g ls r inner p → takenBy g ls r Certain p ≡ true
-  of-either ls (inl x) = from-certain ls ∙ or-left (heldBy g ls r outer p) (heldBy g ls r inner p) (of-lies ls outer x)
-  of-either ls (inr x) = from-certain ls ∙ or-right (heldBy g ls r outer p) (heldBy g ls r inner p) (of-lies ls inner x)
+  pub of-either : (ls : List (List Float)) → InHit g ls r outer p ⊎ InHit g ls r inner p → removedBy g ls r Certain p ≡ true
+  of-either ls (inl x) = from-certain ls ∙ or-left (heldBy g ls r outer p) (heldBy g ls r inner p) (of-hit ls outer x)
+  of-either ls (inr x) = from-certain ls ∙ or-right (heldBy g ls r outer p) (heldBy g ls r inner p) (of-hit ls inner x)
 
 -- ---- logs that are alike in hits take the same points
 
@@ -189,13 +192,14 @@ module _ (g : DexelGrid) where
       let (i, a, b) = f r w h in
       (i, within-same (hitLo w (h .entry)) (hitHi w (h .entry)) (hitLo w (i .entry)) (hitHi w (i .entry)) p a b t)
 
-  among : (ls ms : List (List Float)) → HitsIncluded g ls ms → (r : Ray g) (k : Kind) (p : Float)
-      → takenBy g ls r k p ≡ true → takenBy g ms r k p ≡ true
-  among ls ms f r Possible p t = of-inner g r p ms (carry ls ms f r inner p (to-inner g r p ls t))
-  among ls ms f r Certain p t = of-either g r p ms
+  included-removed : (ls ms : List (List Float)) → HitsIncluded g ls ms → (r : Ray g) (k : Kind) (p : Float)
+      → removedBy g ls r k p ≡ true → removedBy g ms r k p ≡ true
+  included-removed ls ms f r Possible p t = of-inner g r p ms (carry ls ms f r inner p (to-inner g r p ls t))
+  included-removed ls ms f r Certain p t = of-either g r p ms
       (elim (to-either g r p ls t) [ inl x ↦ inl (carry ls ms f r outer p x) | inr x ↦ inr (carry ls ms f r inner p x) ])
 
-  pub alike-take : (ls ms : List (List Float)) → Alike g ls ms → (r : Ray g) (k : Kind) (p : Float)
-      → takenBy g ls r k p ≡ takenBy g ms r k p
+  pub alike-removed : (ls ms : List (List Float)) → Alike g ls ms → (r : Ray g) (k : Kind) (p : Float)
+      → removedBy g ls r k p ≡ removedBy g ms r k p
   unfolding Alike
-  alike-take ls ms a r k p = same-if (takenBy g ls r k p) (takenBy g ms r k p) (among ls ms (a .0) r k p) (among ms ls (a .1) r k p)
+  alike-removed ls ms a r k p = same-if (removedBy g ls r k p) (removedBy g ms r k p)
+      (included-removed ls ms (a .0) r k p) (included-removed ms ls (a .1) r k p)

@@ -11,7 +11,7 @@ pub mod Plain
 pub mod Examples
 pub mod View
 pub mod RunCorrect
-pub mod Asked
-pub mod Leaves
+pub mod Updates
+pub mod AcceptedLog
 pub mod Valid
 pub mod Totals

@@ -1,14 +1,15 @@
--- A sound list changes when hits are taken from it exactly when a hit has a point of it, which `hitBy` tests.
-use mathlib.Core.Path.{_≡_, refl, sym, ap, _∙_}
+-- A sound list changes when hits are taken from it exactly when a hit has a point of it, which `isHitBy` tests. Two
+-- pairs meet exactly when each starts before the other ends, and then one of their los is a point of both.
+use mathlib.Core.Path.{_≡_, sym, ap, _∙_}
 use mathlib.Core.Bool.{Bool, true, false, not, _&&_, false≢true}
 use mathlib.Core.List.{List, [], _∷_}
 use mathlib.Core.Logic.{inl, inr, _↔_}
 use lib.Ieee.{Float, lt, le}
 use Rattle.logic.proofs.Bools.{or-cases, or-left, or-right, and-left, and-right, both, by-cases, clash}
-use Rattle.doubles.proofs.Order.{lt-number, le-number, le-refl, lt→le, not-lt→le, le-lt-trans}
+use Rattle.doubles.proofs.Order.{lt-number, le-refl, lt→le, not-lt→le, le-lt-trans}
 use Rattle.spans.specs.Spans.{All, Double, Point, within, holds, rising, sound, equal, ListOf, Apart}
-use Rattle.doubles.specs.Doubles.{Number}
-use Rattle.spans.proofs.Ends.{rising-tail, rising-above}
+use Rattle.spans.proofs.Ends.{not-not, rising-tail, rising-above}
+use Rattle.spans.proofs.Points.{held-number}
 use Rattle.spans.proofs.Sets.{sound-rising, equal-holds, same-set}
 use Rattle.log_model.specs.Counts.{meets, isHitBy}
 
@@ -89,21 +90,10 @@ hit-at l (lo ∷ hi ∷ hits) p s t = elim (or-cases (within lo hi p) (holds hit
 pub no-hit : (l hits : List Float) → isHitBy l hits ≡ false → Apart l hits
 no-hit l hits t p s = elim (by-cases (holds hits p)) [ inl u ↦ absurd (clash (isHitBy l hits) (hit-at l hits p s u) t) | inr u ↦ u ]
 
-held-number : (l : List Float) (p : Float) → holds l p ≡ true → Number p
-unfolding holds
-held-number [] p h = absurd (false≢true h)
-held-number (x ∷ []) p h = absurd (false≢true h)
-held-number (x ∷ y ∷ l) p h = elim (or-cases (within x y p) (holds l p) h)
-    [ inl w ↦ le-number x p (and-left (le x p) (lt p y) w) .1 | inr w ↦ held-number l p w ]
-
 -- THE LAW: the set of a sound list stays exactly when no hit has a point of it. Where the ends of both are doubles,
 -- it is enough that each point stays.
-not-not : (b : Bool) → not (not b) ≡ b
-not-not true = refl
-not-not false = refl
-
-taken-away : (l hits : List Float) (p : Float) → holds l p ≡ true → holds hits p ≡ true → (holds l p && not (holds hits p)) ≡ holds l p → ⊥
-taken-away l hits p x y e = clash (holds hits p) y
+not-kept : (l hits : List Float) (p : Float) → holds l p ≡ true → holds hits p ≡ true → (holds l p && not (holds hits p)) ≡ holds l p → ⊥
+not-kept l hits p x y e = clash (holds hits p) y
     (sym (not-not (holds hits p)) ∙ ap not (and-right (holds l p) (not (holds hits p)) (e ∙ x)))
 
 pub unhit-points : (l hits : List Float) → sound l ≡ true → All Double l → All Double hits
@@ -111,7 +101,7 @@ pub unhit-points : (l hits : List Float) → sound l ≡ true → All Double l �
 unhit-points l hits s dl dh f = elim (by-cases (isHitBy l hits)) [
   | inl t ↦
       let (p, d, x, y) = hit-point Double l hits dl dh (sound-rising l s) t in
-      absurd (taken-away l hits p x y (f p (d, held-number l p x)))
+      absurd (not-kept l hits p x y (f p (d, held-number l p x)))
   | inr t ↦ t
 ]
 
@@ -126,7 +116,7 @@ kept-unhit l hits s = (to, from)
     to : ((p : Float) → (holds l p && not (holds hits p)) ≡ holds l p) → isHitBy l hits ≡ false
     to f = elim (by-cases (isHitBy l hits)) [
       | inl t ↦ let (p, d, x, y) = hit-point (λ e. Unit {0}) l hits (all-unit l) (all-unit hits) (sound-rising l s) t
-          in absurd (taken-away l hits p x y (f p))
+          in absurd (not-kept l hits p x y (f p))
       | inr t ↦ t
     ]
 

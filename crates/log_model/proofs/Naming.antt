@@ -16,7 +16,8 @@ use Rattle.grid.specs.Axes.{worldAxis}
 use Rattle.grid.specs.Rays.{rayCount, raysAlong, rayNumber, Ray}
 use Rattle.grid.specs.declared.DexelGrid.{DexelGrid}
 use Rattle.grid.proofs.Numbering.{offset-le}
-use Rattle.log_model.specs.Logs.{Entry, isWhole, wholeOf, namesSomeRay, entryRay, namesRay}
+use Rattle.log_model.specs.declared.Entry.{Entry}
+use Rattle.log_model.specs.Logs.{isWhole, wholeOf, namesSomeRay, entryRay, namesRay}
 
 -- ---- doubles that are equal as numbers have one whole part
 

@@ -1,5 +1,5 @@
--- `Committed` can be met: over a store that is nothing but its lists and numbers, every list of commits whose logs are doubles has a run
--- from a sound store, and it is worked out here. So neither the run nor demand 3 is empty.
+-- `CommitStep` can be met: over a store that is nothing but its lists and numbers, every list of commits whose logs
+-- are doubles has a run from a sound store, and it is worked out here. So neither the run nor demand 3 is empty.
 use mathlib.Core.Path.{_≡_, refl, sym, ap, _∙_}
 use mathlib.Core.Bool.{true, false, not}
 use mathlib.Core.List.{List, [], _∷_}
@@ -14,10 +14,10 @@ use Rattle.log_model.specs.Logs.{entries, outer, inner, hitsOnRay, remov
 use Rattle.log_model.specs.Model.{setsAfter, pairTotal, Capacity, LogAnswer, changed, refused, logCommitCauses}
 use Rattle.log_model.specs.Counts.{hitsOnList, changedRayCount}
 use Rattle.log_model.specs.Runs.{StoreView, pointSets, AcceptedEffect, CommitEffect, CommitStep, Run, done, next}
-use Rattle.log_model.proofs.Unique.{judged-unsound}
+use Rattle.log_model.proofs.Unique.{answer-due-unsound}
 use Rattle.log_model.proofs.Less.{less}
 use Rattle.log_model.proofs.Doubles.{DoubleCells, Doubles, hits-doubles, less-doubles}
-use Rattle.log_model.proofs.Decided.{tests, answerBy, judged, left-list}
+use Rattle.log_model.proofs.Decided.{tests, answerOfTests, answer-due, sets-after-list}
 use Rattle.log_model.specs.RunCorrect.{SoundView}
 use Rattle.grid.specs.Rays.{Ray}
 use Rattle.stock.specs.Stock.{Kind, Possible, Certain}
@@ -54,9 +54,9 @@ plain-laws g = record { sound-list = λ s v. v .isSound; within = λ s v. v .wit
 
 module _ (spec : DexelStockSpec) (g : DexelGrid) where
   unfoldable pub answer : Plain g → Commit → LogAnswer
-  unfolding answerBy logCommitCauses tests pointSets changedRayCount
+  unfolding answerOfTests logCommitCauses tests pointSets changedRayCount
   answer s c =
-      answerBy (logCommitCauses spec g (s .lent) ⊥ (pointSets g (plain g) s) (s .generation) c)
+      answerOfTests (logCommitCauses spec g (s .lent) ⊥ (pointSets g (plain g) s) (s .generation) c)
       (tests spec g (s .lent) (s .lists) (s .generation) c)
       (changed (changedRayCount g (s .lists) (entries (c .log))))
 
@@ -88,7 +88,7 @@ module _ (spec : DexelStockSpec) (g : DexelGrid) where
 
     new : (r : Ray g) (k : Kind) → ListOf (setsAfter g (pointSets g (plain g) s) (entries (c .log)) r k)
         (less (s .lists r k) (hitsOnList g (entries (c .log)) r k))
-    new r k = left-list g (pointSets g (plain g) s) (s .lists) listed (entries (c .log)) r k
+    new r k = sets-after-list g (pointSets g (plain g) s) (s .lists) listed (entries (c .log)) r k
 
     -- certain loses what possible loses
     lost-too : (r : Ray g) (p : Float) → removed g (entries (c .log)) r Possible p ≡ true → removed g (entries (c .log)) r Certain p ≡ true
@@ -113,9 +113,9 @@ module _ (spec : DexelStockSpec) (g : DexelGrid) where
         (v .within r p (and-left (holds (s .lists r Certain) p) (not (removed g es r Certain p)) u))
         (ap not kept)
 
-    cuts : (n : ℕ) → AcceptedEffect g (plain g) s c (after s c (changed n))
+    accepted-effect : (n : ℕ) → AcceptedEffect g (plain g) s c (after s c (changed n))
     unfolding pointSets after
-    cuts n = record {
+    accepted-effect n = record {
       sound = record {
         isSound = λ r k. new r k .isSound;
         doubles = λ r k. less-doubles (s .lists r k) (hitsOnList g (entries (c .log)) r k) (v .doubles r k) (hits-doubles g (c .log) d r k);
@@ -129,18 +129,18 @@ module _ (spec : DexelStockSpec) (g : DexelGrid) where
     still-valid : (a : LogAnswer) → Valid g (after s c a)
     unfolding after
     still-valid (refused k) = v
-    still-valid (changed n) = cuts n .sound
+    still-valid (changed n) = accepted-effect n .sound
 
     leaves : (a : LogAnswer) → CommitEffect g (plain g) s c a (after s c a)
     unfolding CommitEffect after
     leaves (refused k) = refl
-    leaves (changed n) = cuts n
+    leaves (changed n) = accepted-effect n
 
-    committed : CommitStep spec g (plain g) s c (answer s c) (after s c (answer s c))
+    commit-step : CommitStep spec g (plain g) s c (answer s c) (after s c (answer s c))
     unfolding answer
-    committed = record {
-      answers = judged-unsound spec g (s .lent) (¬ Valid g s) (λ n. n v) (pointSets g (plain g) s) (s .generation) c (answer s c)
-          (judged spec g (s .lent) (pointSets g (plain g) s) (s .lists) listed (s .generation) c
+    commit-step = record {
+      answers = answer-due-unsound spec g (s .lent) (¬ Valid g s) (λ n. n v) (pointSets g (plain g) s) (s .generation) c (answer s c)
+          (answer-due spec g (s .lent) (pointSets g (plain g) s) (s .lists) listed (s .generation) c
           (record { of-lists = v .doubles; of-hits = hits-doubles g (c .log) d }));
       leaves = leaves (answer s c);
     }
@@ -149,4 +149,4 @@ module _ (spec : DexelStockSpec) (g : DexelGrid) where
   pub runs : (s : Plain g) → Valid g s → (cs : List Commit) → DoubleLogs cs → Run spec g (plain g) s cs (answers s cs) (final s cs)
   unfolding answers final
   runs s v [] d = done
-  runs s v (c ∷ cs) d = next (committed s v c (d .0)) (runs (after s c (answer s c)) (still-valid s v c (d .0) (answer s c)) cs (d .1))
+  runs s v (c ∷ cs) d = next (commit-step s v c (d .0)) (runs (after s c (answer s c)) (still-valid s v c (d .0) (answer s c)) cs (d .1))

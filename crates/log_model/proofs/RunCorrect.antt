@@ -1,5 +1,6 @@
--- DEMAND 3: after any run from a sound store everything that `Settled` says holds, and two runs that are alike in the hits of their
--- accepted logs leave equal lists and totals.
+-- DEMAND 3: after any run from a sound store everything that `RunMeetsModel` says holds, and two runs that are alike
+-- in the hits of their accepted logs leave equal lists and totals. A run follows the model commit by commit, and the
+-- model's sets have a closed form, the first sets less the points of all accepted logs: the claims are read off it.
 use mathlib.Core.Path.{_≡_, refl, sym, ap, _∙_, subst, subst₂, fun-ext}
 use mathlib.Core.Bool.{Bool, true, false, not, _&&_, _||_}
 use mathlib.Core.List.{List, [], _∷_, _++_}
@@ -38,8 +39,8 @@ use Rattle.log_model.specs.Runs.{
   modelStart,
   RunMeetsModel,
 }
-use Rattle.log_model.proofs.Hits.{takenBy, takenBy-none, takenBy-more, to-inner, of-inner, to-either, of-either, alike-take}
-use Rattle.log_model.proofs.Unique.{one-list, pairs-same, judged-sound, modelled-unique}
+use Rattle.log_model.proofs.Hits.{removedBy, removedBy-none, removedBy-more, to-inner, of-inner, to-either, of-either, alike-removed}
+use Rattle.log_model.proofs.Unique.{one-list, pairs-same, answer-due-sound, modelled-unique}
 use Rattle.log_model.specs.RunCorrect.{Alike, SoundView, StoresAgree, RunCorrect}
 use Rattle.grid.specs.Rays.{Ray}
 use Rattle.stock.specs.Stock.{Kind, Possible, Certain}
@@ -63,15 +64,15 @@ less-more x a b c h = go x a ∙ ap (λ (z : Bool). x && not z) (sym h)
 
 module _ (g : DexelGrid) where
   closed : (m : Model g) (cs : List Commit) (vs : List LogAnswer) (r : Ray g) (k : Kind) (p : Float)
-      → modelAfter g m cs vs .sets r k p ≡ (m .sets r k p && not (takenBy g (acceptedLogs cs vs) r k p))
+      → modelAfter g m cs vs .sets r k p ≡ (m .sets r k p && not (removedBy g (acceptedLogs cs vs) r k p))
   unfolding modelAfter acceptedLogs
-  closed m [] vs r k p = less-none (m .sets r k p) (takenBy g [] r k p) (takenBy-none g r k p)
-  closed m (c ∷ cs) [] r k p = less-none (m .sets r k p) (takenBy g [] r k p) (takenBy-none g r k p)
+  closed m [] vs r k p = less-none (m .sets r k p) (removedBy g [] r k p) (removedBy-none g r k p)
+  closed m (c ∷ cs) [] r k p = less-none (m .sets r k p) (removedBy g [] r k p) (removedBy-none g r k p)
   closed m (c ∷ cs) (refused n ∷ vs) r k p = closed m cs vs r k p
   closed m (c ∷ cs) (changed n ∷ vs) r k p =
       closed (modelStep g m c (changed n)) cs vs r k p
-      ∙ less-more (m .sets r k p) (removed g (entries (c .log)) r k p) (takenBy g (acceptedLogs cs vs) r k p)
-      (takenBy g (c .log ∷ acceptedLogs cs vs) r k p) (takenBy-more g (c .log) (acceptedLogs cs vs) r k p)
+      ∙ less-more (m .sets r k p) (removed g (entries (c .log)) r k p) (removedBy g (acceptedLogs cs vs) r k p)
+      (removedBy g (c .log ∷ acceptedLogs cs vs) r k p) (removedBy-more g (c .log) (acceptedLogs cs vs) r k p)
 
   grown : (m : Model g) (cs : List Commit) (vs : List LogAnswer) → modelAfter g m cs vs .generation ≡ m .generation
       + length (acceptedLogs cs vs)
@@ -107,7 +108,7 @@ module _ (spec : DexelStockSpec) (g : DexelGrid) (R : StoreView g) where
       let h = subst (λ (z : R .Store). Follows (R .lent z) (modelStart g R z) cs vs u) e (f (subst (R .Sound) (sym e) S)) in
       record {
         modelled = (
-          judged-sound spec g (R .lent s) (¬ R .Sound s) (λ n. n S) (pointSets g R s) (R .generation s) c
+          answer-due-sound spec g (R .lent s) (¬ R .Sound s) (λ n. n S) (pointSets g R s) (R .generation s) c
               (refused k) (x .answers),
           h .modelled,
         );
@@ -120,7 +121,7 @@ module _ (spec : DexelStockSpec) (g : DexelGrid) (R : StoreView g) where
       let h = subst₂ (λ (b : Capacity) (m : Model g). Follows b m cs vs u) (y .lent) (restart s t c n y) (f (y .sound)) in
       record {
         modelled = (
-          judged-sound spec g (R .lent s) (¬ R .Sound s) (λ n. n S) (pointSets g R s) (R .generation s) c
+          answer-due-sound spec g (R .lent s) (¬ R .Sound s) (λ n. n S) (pointSets g R s) (R .generation s) c
               (changed n) (x .answers),
           h .modelled,
         );
@@ -145,36 +146,36 @@ module _ (spec : DexelStockSpec) (g : DexelGrid) (R : StoreView g) (L : SoundVie
   module _ (s : R .Store) (cs : List Commit) (vs : List LogAnswer) (t : R .Store)
       (F : Follows spec g R (R .lent s) (modelStart g R s) cs vs t) where
     holding : (r : Ray g) (k : Kind) (p : Float)
-        → holds (R .lists t r k) p ≡ (holds (R .lists s r k) p && not (takenBy g (acceptedLogs cs vs) r k p))
+        → holds (R .lists t r k) p ≡ (holds (R .lists s r k) p && not (removedBy g (acceptedLogs cs vs) r k p))
     unfolding pointSets modelStart
     holding r k p = ap (λ (z : Sets g). z r k p) (F .sets) ∙ closed g (modelStart g R s) cs vs r k p
 
     kept : (r : Ray g) (k : Kind) (p : Float) → holds (R .lists t r k) p ≡ true → holds (R .lists s r k) p ≡ true
-    kept r k p x = and-left (holds (R .lists s r k) p) (not (takenBy g (acceptedLogs cs vs) r k p)) (sym (holding r k p) ∙ x)
+    kept r k p x = and-left (holds (R .lists s r k) p) (not (removedBy g (acceptedLogs cs vs) r k p)) (sym (holding r k p) ∙ x)
 
-    not-taken : (r : Ray g) (k : Kind) (p : Float) → holds (R .lists t r k) p ≡ true → takenBy g (acceptedLogs cs vs) r k p ≡ true → ⊥
-    not-taken r k p x y =
-        clash (takenBy g (acceptedLogs cs vs) r k p) y
-        (not-true (takenBy g (acceptedLogs cs vs) r k p)
-        (and-right (holds (R .lists s r k) p) (not (takenBy g (acceptedLogs cs vs) r k p)) (sym (holding r k p) ∙ x)))
+    not-removed : (r : Ray g) (k : Kind) (p : Float) → holds (R .lists t r k) p ≡ true → removedBy g (acceptedLogs cs vs) r k p ≡ true → ⊥
+    not-removed r k p x y =
+        clash (removedBy g (acceptedLogs cs vs) r k p) y
+        (not-true (removedBy g (acceptedLogs cs vs) r k p)
+        (and-right (holds (R .lists s r k) p) (not (removedBy g (acceptedLogs cs vs) r k p)) (sym (holding r k p) ∙ x)))
 
     still : (r : Ray g) (k : Kind) (p : Float) → holds (R .lists s r k) p ≡ true
-        → (takenBy g (acceptedLogs cs vs) r k p ≡ true → ⊥) → holds (R .lists t r k) p ≡ true
-    still r k p x n = holding r k p ∙ elim (by-cases (takenBy g (acceptedLogs cs vs) r k p)) [
+        → (removedBy g (acceptedLogs cs vs) r k p ≡ true → ⊥) → holds (R .lists t r k) p ≡ true
+    still r k p x n = holding r k p ∙ elim (by-cases (removedBy g (acceptedLogs cs vs) r k p)) [
       | inl y ↦ absurd (n y)
-      | inr y ↦ both (holds (R .lists s r k) p) (not (takenBy g (acceptedLogs cs vs) r k p)) x (ap not y)
+      | inr y ↦ both (holds (R .lists s r k) p) (not (removedBy g (acceptedLogs cs vs) r k p)) x (ap not y)
     ]
 
     neither : (r : Ray g) (p : Float) → ¬ InHit g (acceptedLogs cs vs) r outer p
-        → ¬ InHit g (acceptedLogs cs vs) r inner p → takenBy g (acceptedLogs cs vs) r Certain p ≡ true → ⊥
+        → ¬ InHit g (acceptedLogs cs vs) r inner p → removedBy g (acceptedLogs cs vs) r Certain p ≡ true → ⊥
     neither r p a b x = elim (to-either g r p (acceptedLogs cs vs) x) [ inl y ↦ a y | inr y ↦ b y ]
 
     list-of : (r : Ray g) (k : Kind) → ListOf (modelAfter g (modelStart g R s) cs vs .sets r k) (R .lists t r k)
     unfolding pointSets
     list-of r k = record { isSound = L .sound-list t (F .sound) r k; points = λ p. ap (λ (z : Sets g). z r k p) (F .sets) }
 
-    settled : RunMeetsModel spec g R s cs vs t
-    settled = record {
+    run-meets-model : RunMeetsModel spec g R s cs vs t
+    run-meets-model = record {
       answers = F .modelled;
       no-others = λ bs x. modelled-unique spec g (R .lent s) (modelStart g R s) cs bs vs x (F .modelled);
       listed = list-of;
@@ -184,14 +185,14 @@ module _ (spec : DexelStockSpec) (g : DexelGrid) (R : StoreView g) (L : SoundVie
       model-generation = F .generation;
       generation = F .generation ∙ unfold modelStart in grown g (modelStart g R s) cs vs;
       possible-is = λ r p. (
-        (λ x. (kept r Possible p x, λ y. not-taken r Possible p x (of-inner g r p (acceptedLogs cs vs) y))),
+        (λ x. (kept r Possible p x, λ y. not-removed r Possible p x (of-inner g r p (acceptedLogs cs vs) y))),
         (λ x. still r Possible p (x .0) (λ y. x .1 (to-inner g r p (acceptedLogs cs vs) y))),
       );
       certain-is = λ r p. (
         (λ x. (
           kept r Certain p x,
-          (λ y. not-taken r Certain p x (of-either g r p (acceptedLogs cs vs) (inl y))),
-          (λ y. not-taken r Certain p x (of-either g r p (acceptedLogs cs vs) (inr y))),
+          (λ y. not-removed r Certain p x (of-either g r p (acceptedLogs cs vs) (inl y))),
+          (λ y. not-removed r Certain p x (of-either g r p (acceptedLogs cs vs) (inr y))),
         )),
         (λ x. still r Certain p (x .0) (neither r p (x .1) (x .2))),
       );
@@ -207,7 +208,7 @@ module _ (spec : DexelStockSpec) (g : DexelGrid) (R : StoreView g) (L : SoundVie
     same-sets : (r : Ray g) (k : Kind) (p : Float) → holds (R .lists u r k) p ≡ holds (R .lists t r k) p
     same-sets r k p =
         holding s ds ws u G r k p
-        ∙ ap (λ (b : Bool). holds (R .lists s r k) p && not b) (sym (alike-take g (acceptedLogs cs vs) (acceptedLogs ds ws) a r k p))
+        ∙ ap (λ (b : Bool). holds (R .lists s r k) p && not b) (sym (alike-removed g (acceptedLogs cs vs) (acceptedLogs ds ws) a r k p))
         ∙ sym (holding s cs vs t F r k p)
 
     same : (r : Ray g) (k : Kind) → equal (R .lists t r k) (R .lists u r k) ≡ true
@@ -223,9 +224,9 @@ module _ (spec : DexelStockSpec) (g : DexelGrid) (R : StoreView g) (L : SoundVie
     }
 
 -- THE THEOREM, for every way to read a store
-pub demand3 : (spec : DexelStockSpec) (g : DexelGrid) (R : StoreView g) → SoundView g R → RunCorrect spec g R
-demand3 spec g R L = record {
-  settles = λ s t cs vs S x. settled spec g R L s cs vs t (follows spec g R x S);
+pub run-correct : (spec : DexelStockSpec) (g : DexelGrid) (R : StoreView g) → SoundView g R → RunCorrect spec g R
+run-correct spec g R L = record {
+  meets-model = λ s t cs vs S x. run-meets-model spec g R L s cs vs t (follows spec g R x S);
   agrees = λ s t u cs ds vs ws S x y a. agree spec g R L s t u cs ds vs ws (follows spec g R x S) (follows spec g R y S) a;
 }
 

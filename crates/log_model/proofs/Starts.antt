@@ -1,5 +1,6 @@
 -- The sound list of (l less hits) has one pair for each distinct number among the los of l and the his of the hits
--- that is in l and in no hit.
+-- that is in l and in no hit. A pair starts where a point is held and nothing just below it is: at a lo of l, or
+-- where a hit ends. The los of a sound list are distinct, so counting distinct starts counts its pairs.
 use mathlib.Core.Path.{_≡_, refl, sym, ap, ap₂, _∙_}
 use mathlib.Core.Bool.{Bool, true, false, cond, not, _&&_, _||_, false≢true}
 use mathlib.Core.List.{List, [], _∷_, _++_}
@@ -12,7 +13,6 @@ use Rattle.doubles.specs.Doubles.{Number}
 use Rattle.logic.proofs.Bools.{or-cases, or-left, or-right, and-left, and-right, both, by-cases, clash, not-true}
 use Rattle.doubles.proofs.Order.{
   lt-number,
-  le-number,
   le-refl,
   le-trans,
   le-total,
@@ -29,24 +29,23 @@ use Rattle.doubles.proofs.Order.{
   eq-refl,
   eq-sym,
   eq-trans,
-  lt-eq-left,
-  le-eq-right,
   le-cases,
 }
 use Rattle.spans.specs.Spans.{within, holds, rising, sound, ListOf}
 use Rattle.spans.proofs.Ends.{All, Above, all-map, rising-tail, rising-above, rising-cons}
-use Rattle.spans.proofs.Sets.{sound-rising}
+use Rattle.spans.proofs.Sets.{one-point, sound-rising}
+use Rattle.spans.proofs.Points.{held-number}
 use Rattle.log_model.specs.Counts.{losOf, hisOf, memberEq, countDistinct, startsLeft}
 
 -- ---- counting distinct numbers
 
 -- equal numbers stand in the same lists
-pub among-eq : (x y : Float) (l : List Float) → eq x y ≡ true → memberEq x l ≡ true → memberEq y l ≡ true
+pub member-eq : (x y : Float) (l : List Float) → eq x y ≡ true → memberEq x l ≡ true → memberEq y l ≡ true
 unfolding memberEq
-among-eq x y [] e h = h
-among-eq x y (z ∷ l) e h = elim (or-cases (eq x z) (memberEq x l) h) [
+member-eq x y [] e h = h
+member-eq x y (z ∷ l) e h = elim (or-cases (eq x z) (memberEq x l) h) [
   | inl u ↦ or-left (eq y z) (memberEq y l) (eq-trans y x z (eq-sym x y e) u)
-  | inr u ↦ or-right (eq y z) (memberEq y l) (among-eq x y l e u)
+  | inr u ↦ or-right (eq y z) (memberEq y l) (member-eq x y l e u)
 ]
 
 -- the list without the numbers that are equal to x
@@ -94,13 +93,13 @@ module _ (test : Float → Bool) (number : (x : Float) → test x ≡ true → N
   distinct-remove x (y ∷ l) t h = go (eq x y) refl (distinct-remove x l t)
     where
       none : memberEq y l ≡ false → eq x y ≡ true → memberEq x l ≡ false
-      none a e = elim (by-cases (memberEq x l)) [ inl u ↦ absurd (clash (memberEq y l) (among-eq x y l e u) a) | inr u ↦ u ]
+      none a e = elim (by-cases (memberEq x l)) [ inl u ↦ absurd (clash (memberEq y l) (member-eq x y l e u) a) | inr u ↦ u ]
 
       here : (b : Bool) → memberEq y l ≡ b → eq x y ≡ true
           → (memberEq x l ≡ true → countDistinct test l ≡ suc (countDistinct test (remove x l)))
           → cond (test y && not b) (suc (countDistinct test l)) (countDistinct test l) ≡ suc (countDistinct test (remove x l))
       here true a e f = ap (λ (c : Bool). cond (c && false) (suc (countDistinct test l)) (countDistinct test l))
-          (sym (same x y e) ∙ t) ∙ f (among-eq y x l (eq-sym x y e) a)
+          (sym (same x y e) ∙ t) ∙ f (member-eq y x l (eq-sym x y e) a)
       here false a e f =
           ap (λ (c : Bool). cond (c && true) (suc (countDistinct test l)) (countDistinct test l)) (sym (same x y e) ∙ t)
           ∙ ap (λ (m : List Float). suc (countDistinct test m)) (sym (remove-none x l (none a e)))
@@ -148,7 +147,7 @@ module _ (test : Float → Bool) (number : (x : Float) → test x ≡ true → N
 
       back : (z : Float) → memberEq z (remove x l) ≡ true → test z ≡ true → memberEq z a ≡ true
       back z u v = elim (by-cases (eq z x)) [
-        | inl e ↦ absurd (clash (memberEq x (remove x l)) (among-eq z x (remove x l) e u) (removed x l))
+        | inl e ↦ absurd (clash (memberEq x (remove x l)) (member-eq z x (remove x l) e u) (removed x l))
         | inr e ↦ elim (or-cases (eq z x) (memberEq z a) (f z (sym (remove-other x z l e) ∙ u) v)) [
           | inl d ↦ absurd (clash (eq z x) d e)
           | inr d ↦ d
@@ -191,22 +190,6 @@ under lo hi p h = elim (by-cases (within lo hi p))
 rest-of : (lo hi : Float) (l : List Float) (p : Float) → within lo hi p ≡ false → holds (lo ∷ hi ∷ l) p ≡ true → holds l p ≡ true
 unfolding holds
 rest-of lo hi l p n h = elim (or-cases (within lo hi p) (holds l p) h) [ inl u ↦ absurd (clash (within lo hi p) u n) | inr u ↦ u ]
-
-pub number-of : (l : List Float) (p : Float) → holds l p ≡ true → Number p
-unfolding holds
-number-of [] p h = absurd (false≢true h)
-number-of (lo ∷ []) p h = absurd (false≢true h)
-number-of (lo ∷ hi ∷ l) p h = elim (or-cases (within lo hi p) (holds l p) h) [
-  | inl u ↦ le-number lo p (and-left (le lo p) (lt p hi) u) .1
-  | inr u ↦ number-of l p u
-]
-
--- equal numbers are one point
-pub holds-eq : (l : List Float) (x y : Float) → eq x y ≡ true → holds l x ≡ holds l y
-unfolding holds
-holds-eq [] x y e = refl
-holds-eq (lo ∷ []) x y e = refl
-holds-eq (lo ∷ hi ∷ l) x y e = ap₂ _||_ (ap₂ _&&_ (le-eq-right x y lo e) (lt-eq-left x y hi e)) (holds-eq l x y e)
 
 -- ---- the los of a rising list
 
@@ -421,26 +404,26 @@ fresh-los (lo ∷ hi ∷ m) r = (first, rest (losOf m) (above-los hi m hi-up) (f
 
 -- ---- THE LAW
 
-among-left : (x : Float) (a b : List Float) → memberEq x a ≡ true → memberEq x (a ++ b) ≡ true
+member-left : (x : Float) (a b : List Float) → memberEq x a ≡ true → memberEq x (a ++ b) ≡ true
 unfolding memberEq
-among-left x [] b h = absurd (false≢true h)
-among-left x (y ∷ a) b h = elim (or-cases (eq x y) (memberEq x a) h) [
+member-left x [] b h = absurd (false≢true h)
+member-left x (y ∷ a) b h = elim (or-cases (eq x y) (memberEq x a) h) [
   | inl u ↦ or-left (eq x y) (memberEq x (a ++ b)) u
   | inr u ↦ or-right (eq x y) (memberEq x (a ++ b))
-      (among-left x a b u)
+      (member-left x a b u)
 ]
 
-among-right : (x : Float) (a b : List Float) → memberEq x b ≡ true → memberEq x (a ++ b) ≡ true
+member-right : (x : Float) (a b : List Float) → memberEq x b ≡ true → memberEq x (a ++ b) ≡ true
 unfolding memberEq
-among-right x [] b h = h
-among-right x (y ∷ a) b h = or-right (eq x y) (memberEq x (a ++ b)) (among-right x a b h)
+member-right x [] b h = h
+member-right x (y ∷ a) b h = or-right (eq x y) (memberEq x (a ++ b)) (member-right x a b h)
 
-among-cases : (x : Float) (a b : List Float) → memberEq x (a ++ b) ≡ true → (memberEq x a ≡ true) ⊎ (memberEq x b ≡ true)
+member-cases : (x : Float) (a b : List Float) → memberEq x (a ++ b) ≡ true → (memberEq x a ≡ true) ⊎ (memberEq x b ≡ true)
 unfolding memberEq
-among-cases x [] b h = inr h
-among-cases x (y ∷ a) b h = elim (or-cases (eq x y) (memberEq x (a ++ b)) h) [
+member-cases x [] b h = inr h
+member-cases x (y ∷ a) b h = elim (or-cases (eq x y) (memberEq x (a ++ b)) h) [
   | inl u ↦ inl (or-left (eq x y) (memberEq x a) u)
-  | inr u ↦ elim (among-cases x a b u) [ inl v ↦ inl (or-right (eq x y) (memberEq x a) v) | inr v ↦ inr v ]
+  | inr u ↦ elim (member-cases x a b u) [ inl v ↦ inl (or-right (eq x y) (memberEq x a) v) | inr v ↦ inr v ]
 ]
 
 module _ (l hits m : List Float) (sound-l : sound l ≡ true) (list : ListOf (λ p. holds l p && not (holds hits p)) m) where
@@ -454,7 +437,7 @@ module _ (l hits m : List Float) (sound-l : sound l ≡ true) (list : ListOf (λ
   left-start : (x : Float) → memberEq x (losOf l ++ hisOf hits) ≡ true → holds m x ≡ true → memberEq x (losOf m) ≡ true
   left-start x h t = elim (lo-or-inside m x t) [
     | inl u ↦ u
-    | inr (a, k, f) ↦ elim (among-cases x (losOf l) (hisOf hits) h) [
+    | inr (a, k, f) ↦ elim (member-cases x (losOf l) (hisOf hits) h) [
       | inl v ↦ absurd (start-gap l (sound-rising l sound-l) x a v k (λ p b c. in-list p (f p b c)))
       | inr v ↦ absurd (end-gap hits x a v k (λ p b c. in-no-hit p (f p b c)))
     ]
@@ -464,10 +447,10 @@ module _ (l hits m : List Float) (sound-l : sound l ≡ true) (list : ListOf (λ
   is-start : (a : Float) → holds m a ≡ true → Fresh m a → memberEq a (losOf l ++ hisOf hits) ≡ true
   unfolding Fresh
   is-start a t g = elim (lo-or-inside l a (in-list a t)) [
-    | inl u ↦ among-left a (losOf l) (hisOf hits) u
+    | inl u ↦ member-left a (losOf l) (hisOf hits) u
     | inr (c, k, f) ↦
         let (q, b, d, n) = g c k in
-        among-right a (losOf l) (hisOf hits)
+        member-right a (losOf l) (hisOf hits)
         (covered-end hits q a d (λ p x y. hit p (f p (le-trans c q p b x) y) (n p x y)) (in-no-hit a t))
   ]
     where
@@ -487,8 +470,8 @@ module _ (l hits m : List Float) (sound-l : sound l ≡ true) (list : ListOf (λ
       let r = sound-rising m (list .isSound) in
       sym (los-length m)
       ∙ sym (distinct-count (λ x. holds l x && not (holds hits x))
-      (λ x t. number-of l x (and-left (holds l x) (not (holds hits x)) t))
-      (λ x y e. ap₂ (λ (b c : Bool). b && not c) (holds-eq l x y e) (holds-eq hits x y e))
+      (λ x t. held-number l x (and-left (holds l x) (not (holds hits x)) t))
+      (λ x y e. ap₂ (λ (b c : Bool). b && not c) (one-point l x y e) (one-point hits x y e))
       (losOf m) (losOf l ++ hisOf hits) (los-rising m r)
       (all-map (λ x. holds m x ≡ true) (λ x. (holds l x && not (holds hits x)) ≡ true)
       (λ x t. sym (list .points x) ∙ t) (losOf m) (los-held m r))

@@ -1,4 +1,5 @@
--- The interval total after the updates is the number of pairs that the log leaves.
+-- The interval total after the updates is the number of pairs that the log leaves: a changed ray frees its old pairs
+-- and lays its new ones, and any other ray keeps as many as it has.
 use mathlib.Core.Path.{_≡_, refl, sym, ap, ap₂, _∙_, subst}
 use mathlib.Core.Bool.{not, _&&_}
 use mathlib.Core.List.{List, [], _∷_}
@@ -15,16 +16,16 @@ use Rattle.grid.specs.declared.DexelGrid.{DexelGrid}
 use Rattle.store.specs.Store.{placesOf}
 use Rattle.store.specs.Updates.{Update, update, pairsFreed, pairsLaid}
 use Rattle.stock.specs.Stock.{Stock, SoundStock, Kind, Possible, Certain, rayList}
-use Rattle.log_model.specs.Logs.{Entry}
+use Rattle.log_model.specs.declared.Entry.{Entry}
 use Rattle.log_model.specs.Model.{setsAfter, sumTo, sumOver, pairTotal}
 use Rattle.log_model.specs.Counts.{startsLeft, hitsOnList, pairsAfter}
-use Rattle.log_model.proofs.Decided.{without-hits}
+use Rattle.log_model.proofs.Decided.{sets-after-hits}
 use Rattle.log_model.proofs.Doubles.{Doubles}
 use Rattle.log_model.proofs.Less.{same-list}
 use Rattle.log_model.proofs.Starts.{pairs-left}
 use Rattle.log_model.proofs.View.{list-places, lent-laws}
 use Rattle.log_model.specs.Updates.{MergeUpdates, none, same, new}
-use Rattle.log_model.proofs.Asked.{number-possible, number-certain, exact-possible, exact-certain, kept-left}
+use Rattle.log_model.proofs.Updates.{number-possible, number-certain, exact-possible, exact-certain, list-after-same}
 use Rattle.log_model.specs.Steps.{ListAfterLog}
 
 -- a sum over rays goes by their number
@@ -84,7 +85,7 @@ module _ (spec : DexelStockSpec) (g : DexelGrid) (s : Stock) (sound : SoundStock
   one-pairs r k l a = pairs-left (rayList spec (s .cells) (r .0) k) (hitsOnList g es r k) l (each r k .isSound)
       (same-list (setsAfter g (λ r k. holds (rayList spec (s .cells) (r .0) k)) es r k)
       (λ p. holds (rayList spec (s .cells) (r .0) k) p && not (holds (hitsOnList g es r k) p)) l
-      (λ p. without-hits g r (λ r k. holds (rayList spec (s .cells) (r .0) k)) es k p) a)
+      (λ p. sets-after-hits g r (λ r k. holds (rayList spec (s .cells) (r .0) k)) es k p) a)
 
   module _ (d : Doubles g (λ r k. rayList spec (s .cells) (r .0) k) es) where
     totals : {ray m : ℕ} {us : List Update} → MergeUpdates g (λ r k. rayList spec (s .cells) (r .0) k) es ray us m → (h : ray ≤ rayCount g)
@@ -100,9 +101,9 @@ module _ (spec : DexelStockSpec) (g : DexelGrid) (s : Stock) (sound : SoundStock
         )
     totals (same {ray = ray} i e t) h =
         let p = one-pairs (ray, i) Possible (rayList spec (s .cells) ray Possible)
-        (kept-left g (λ r k. rayList spec (s .cells) (r .0) k) es each d (ray, i) e Possible) in
+        (list-after-same g (λ r k. rayList spec (s .cells) (r .0) k) es each d (ray, i) e Possible) in
         let c = one-pairs (ray, i) Certain (rayList spec (s .cells) ray Certain)
-        (kept-left g (λ r k. rayList spec (s .cells) (r .0) k) es each d (ray, i) e Certain) in
+        (list-after-same g (λ r k. rayList spec (s .cells) (r .0) k) es each d (ray, i) e Certain) in
         omega (arith, totals t i, sum-next g left ray h i, sum-next g old ray h i, old-is (ray, i) _ _ refl refl, left-is (ray, i) _ _ p c)
     totals (new {ray = ray} {p = p} {c = c} {us = us} i e x t) h =
         let a = exact-possible g (λ r k. rayList spec (s .cells) (r .0) k) es (ray, i) p c x (each (ray, i) Possible .isSound) in

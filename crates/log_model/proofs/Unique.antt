@@ -1,4 +1,5 @@
--- What is counted is counted in one way, and document 01's order gives one answer.
+-- What is counted is counted in one way, and document 01's order gives one answer: two counts of the same rays are
+-- equal, and a set has one sound list, as numbers.
 use mathlib.Core.Path.{_≡_, refl, sym, ap, ap₂, _∙_, subst, fun-ext}
 use mathlib.Core.Bool.{Bool, true}
 use mathlib.Core.List.{List, [], _∷_}
@@ -92,13 +93,13 @@ not-either n u (inl a) = n (inl a)
 not-either n u (inr b) = u b
 
 module _ (spec : DexelStockSpec) (g : DexelGrid) (b : Capacity) where
-  pub judged-unique : (U : Type 0) (s : Sets g) (n : ℕ) (c : Commit) (v w : LogAnswer) → AnswerDue spec g b U s n c v
+  pub answer-due-unique : (U : Type 0) (s : Sets g) (n : ℕ) (c : Commit) (v w : LogAnswer) → AnswerDue spec g b U s n c v
       → AnswerDue spec g b U s n c w → v ≡ w
   unfolding AnswerDue
-  judged-unique U s n c (refused k) (refused j) x y = ap refused (due-unique (logCommitCauses spec g b U s n c) k j x y)
-  judged-unique U s n c (refused k) (changed j) x y = absurd (none-due (logCommitCauses spec g b U s n c) k (y .0) x)
-  judged-unique U s n c (changed k) (refused j) x y = absurd (none-due (logCommitCauses spec g b U s n c) j (x .0) y)
-  judged-unique U s n c (changed k) (changed j) x y = ap changed (count-unique (x .1) (y .1))
+  answer-due-unique U s n c (refused k) (refused j) x y = ap refused (due-unique (logCommitCauses spec g b U s n c) k j x y)
+  answer-due-unique U s n c (refused k) (changed j) x y = absurd (none-due (logCommitCauses spec g b U s n c) k (y .0) x)
+  answer-due-unique U s n c (changed k) (refused j) x y = absurd (none-due (logCommitCauses spec g b U s n c) j (x .0) y)
+  answer-due-unique U s n c (changed k) (changed j) x y = ap changed (count-unique (x .1) (y .1))
 
   -- the model gives one list of answers
   pub modelled-unique : (m : Model g) (cs : List Commit) (vs ws : List LogAnswer) → ModelAnswers spec g b m cs vs
@@ -110,27 +111,27 @@ module _ (spec : DexelStockSpec) (g : DexelGrid) (b : Capacity) where
   modelled-unique m (c ∷ cs) [] ws x y = absurd x
   modelled-unique m (c ∷ cs) (v ∷ vs) [] x y = absurd y
   modelled-unique m (c ∷ cs) (v ∷ vs) (w ∷ ws) x y =
-      let e : v ≡ w = judged-unique ⊥ (m .sets) (m .generation) c v w (x .0) (y .0) in
+      let e : v ≡ w = answer-due-unique ⊥ (m .sets) (m .generation) c v w (x .0) (y .0) in
       ap₂ (λ (a : LogAnswer) (l : List LogAnswer). a ∷ l) e
       (modelled-unique (modelStep g m c v) cs vs ws (x .1)
       (subst (λ (a : LogAnswer). ModelAnswers spec g b (modelStep g m c a) cs ws) (sym e) (y .1)))
 
   -- on a sound store the order is the model's
-  pub judged-sound : (U : Type 0) → ¬ U → (s : Sets g) (n : ℕ) (c : Commit) (v : LogAnswer)
+  pub answer-due-sound : (U : Type 0) → ¬ U → (s : Sets g) (n : ℕ) (c : Commit) (v : LogAnswer)
       → AnswerDue spec g b U s n c v → AnswerDue spec g b ⊥ s n c v
   unfolding AnswerDue
-  judged-sound U u s n c (refused k) (inl x) = inl x
-  judged-sound U u s n c (refused k) (inr (x, inl (inl y, e))) = inr (x, inl (inl y, e))
-  judged-sound U u s n c (refused k) (inr (x, inl (inr y, e))) = absurd (u y)
-  judged-sound U u s n c (refused k) (inr (x, inr (y, d))) = inr (x, inr ((λ z. y (only-part z)), d))
-  judged-sound U u s n c (changed k) ((x, (y, d)), e) = ((x, ((λ z. y (only-part z)), d)), e)
+  answer-due-sound U u s n c (refused k) (inl x) = inl x
+  answer-due-sound U u s n c (refused k) (inr (x, inl (inl y, e))) = inr (x, inl (inl y, e))
+  answer-due-sound U u s n c (refused k) (inr (x, inl (inr y, e))) = absurd (u y)
+  answer-due-sound U u s n c (refused k) (inr (x, inr (y, d))) = inr (x, inr ((λ z. y (only-part z)), d))
+  answer-due-sound U u s n c (changed k) ((x, (y, d)), e) = ((x, ((λ z. y (only-part z)), d)), e)
 
   -- and the model's order is that of a sound store
-  pub judged-unsound : (U : Type 0) → ¬ U → (s : Sets g) (n : ℕ) (c : Commit) (v : LogAnswer)
+  pub answer-due-unsound : (U : Type 0) → ¬ U → (s : Sets g) (n : ℕ) (c : Commit) (v : LogAnswer)
       → AnswerDue spec g b ⊥ s n c v → AnswerDue spec g b U s n c v
   unfolding AnswerDue
-  judged-unsound U u s n c (refused k) (inl x) = inl x
-  judged-unsound U u s n c (refused k) (inr (x, inl (inl y, e))) = inr (x, inl (inl y, e))
-  judged-unsound U u s n c (refused k) (inr (x, inl (inr y, e))) = absurd y
-  judged-unsound U u s n c (refused k) (inr (x, inr (y, d))) = inr (x, inr ((λ z. not-either y u z), d))
-  judged-unsound U u s n c (changed k) ((x, (y, d)), e) = ((x, ((λ z. not-either y u z), d)), e)
+  answer-due-unsound U u s n c (refused k) (inl x) = inl x
+  answer-due-unsound U u s n c (refused k) (inr (x, inl (inl y, e))) = inr (x, inl (inl y, e))
+  answer-due-unsound U u s n c (refused k) (inr (x, inl (inr y, e))) = absurd y
+  answer-due-unsound U u s n c (refused k) (inr (x, inr (y, d))) = inr (x, inr ((λ z. not-either y u z), d))
+  answer-due-unsound U u s n c (changed k) ((x, (y, d)), e) = ((x, ((λ z. not-either y u z), d)), e)

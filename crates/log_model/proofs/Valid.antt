@@ -1,4 +1,4 @@
--- A ray stays valid when a log takes points from it.
+-- A ray stays valid when a log takes points from it: what is taken from possible is taken from certain too.
 use mathlib.Core.Path.{_≡_, refl, sym, ap, _∙_}
 use mathlib.Core.Bool.{Bool, true, false, not, _||_}
 use mathlib.Core.List.{List}
@@ -8,7 +8,8 @@ use Rattle.spans.specs.Spans.{holds, Within}
 use Rattle.spans.specs.Rays.{ValidRay}
 use Rattle.ray_merge.proofs.Rays.{bounded-within}
 use Rattle.grid.specs.declared.DexelGrid.{DexelGrid}
-use Rattle.log_model.specs.Logs.{Entry, outer, inner, hitsOnRay, removed}
+use Rattle.log_model.specs.declared.Entry.{Entry}
+use Rattle.log_model.specs.Logs.{outer, inner, hitsOnRay, removed}
 use Rattle.log_model.specs.Model.{setsAfter}
 use Rattle.log_model.specs.Steps.{ListAfterLog}
 use Rattle.grid.specs.Rays.{Ray}
@@ -16,14 +17,15 @@ use Rattle.stock.specs.Stock.{Kind, Possible, Certain}
 
 module _ (g : DexelGrid) (lists : Ray g → Kind → List Float) (es : List Entry) (r : Ray g) where
   -- what is left of a list lies in it
-  left-within : (k : Kind) (l : List Float) → ListAfterLog g lists es r k l → Within (lists r k) l
+  list-after-within : (k : Kind) (l : List Float) → ListAfterLog g lists es r k l → Within (lists r k) l
   unfolding setsAfter
-  left-within k l a p h = and-left (holds (lists r k) p) (not (removed g es r k p)) (sym (a .points p) ∙ h)
+  list-after-within k l a p h = and-left (holds (lists r k) p) (not (removed g es r k p)) (sym (a .points p) ∙ h)
 
   -- and in no hit
-  left-out : (k : Kind) (l : List Float) → ListAfterLog g lists es r k l → (p : Float) → holds l p ≡ true → removed g es r k p ≡ false
+  list-after-out : (k : Kind) (l : List Float) → ListAfterLog g lists es r k l → (p : Float) → holds l p ≡ true → removed g es r k p ≡ false
   unfolding setsAfter
-  left-out k l a p h = not-true (removed g es r k p) (and-right (holds (lists r k) p) (not (removed g es r k p)) (sym (a .points p) ∙ h))
+  list-after-out k l a p h = not-true (removed g es r k p)
+      (and-right (holds (lists r k) p) (not (removed g es r k p)) (sym (a .points p) ∙ h))
 
   -- what certain keeps, possible keeps
   spared : (p : Float) → removed g es r Certain p ≡ false → removed g es r Possible p ≡ false
@@ -40,8 +42,8 @@ module _ (g : DexelGrid) (lists : Ray g → Kind → List Float) (es : List Entr
   still-valid lo hi v p c a b = record {
     possible-sound = a .isSound;
     certain-sound = b .isSound;
-    possible-bounded = bounded-within lo hi (lists r Possible) p (v .possible-bounded) (a .isSound) (left-within Possible p a);
-    certain-bounded = bounded-within lo hi (lists r Certain) c (v .certain-bounded) (b .isSound) (left-within Certain c b);
+    possible-bounded = bounded-within lo hi (lists r Possible) p (v .possible-bounded) (a .isSound) (list-after-within Possible p a);
+    certain-bounded = bounded-within lo hi (lists r Certain) c (v .certain-bounded) (b .isSound) (list-after-within Certain c b);
     inside = λ x h. a .points x ∙ both (holds (lists r Possible) x) (not (removed g es r Possible x))
-        (v .inside x (left-within Certain c b x h)) (ap not (spared x (left-out Certain c b x h)));
+        (v .inside x (list-after-within Certain c b x h)) (ap not (spared x (list-after-out Certain c b x h)));
   }

@@ -1,4 +1,5 @@
--- Demand 3 of the lent store.
+-- Demand 3 of the lent store. A sound store counts its chained records, and each is a pair of one list, so its
+-- interval total is the number of all pairs.
 use mathlib.Core.Path.{_≡_, refl, sym, ap, ap₂, _∙_}
 use mathlib.Core.List.{List, [], _∷_}
 use Prim.Native.Nat.{ℕ, zero, suc, _+_, _*_, _/_, _≤_}
@@ -13,7 +14,7 @@ use Rattle.stock.specs.Stock.{Stock, Kind, Possible, Certain, rayList, listNumb
 use Rattle.store.specs.Store.{placesOf, chained, endsAt}
 use Rattle.log_model.specs.Model.{sumTo, pairTotal}
 use Rattle.log_model.specs.View.{lentStore}
-use Rattle.log_model.proofs.RunCorrect.{demand3}
+use Rattle.log_model.proofs.RunCorrect.{run-correct}
 use Rattle.log_model.specs.RunCorrect.{SoundView, RunCorrect}
 
 -- a list has one pair for each of its places
@@ -109,5 +110,5 @@ lent-laws spec g = record {
 }
 
 -- THE THEOREM, of the lent store
-pub demand3-lent : (spec : DexelStockSpec) (g : DexelGrid) → RunCorrect spec g (lentStore spec g)
-demand3-lent spec g = demand3 spec g (lentStore spec g) (lent-laws spec g)
+pub run-correct-lent : (spec : DexelStockSpec) (g : DexelGrid) → RunCorrect spec g (lentStore spec g)
+run-correct-lent spec g = run-correct spec g (lentStore spec g) (lent-laws spec g)

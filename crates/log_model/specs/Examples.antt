@@ -6,10 +6,10 @@ use mathlib.Core.Path.{_≡_}
 use mathlib.Core.Bool.{true}
 use mathlib.Core.List.{List, [], _∷_}
 use Prim.Native.Nat.{ℕ, zero, suc}
-use lib.IntN.{pos}
 use lib.ListN.{replicate}
-use lib.Ieee.{Float, binary64, ofInt}
+use lib.Ieee.{Float}
 use Rattle.spans.specs.Spans.{equal}
+use Rattle.grid.specs.Grid.{whole}
 use Rattle.grid.specs.FromSpec.{gridOf}
 use Rattle.grid.specs.declared.DexelStockSpec.{DexelStockSpec}
 use Rattle.grid.specs.declared.DexelGrid.{DexelGrid}
@@ -23,30 +23,26 @@ use Rattle.log_model.specs.View.{lentStore}
 use Rattle.grid.specs.Rays.{Ray}
 use Rattle.store.specs.Store.{cells}
 
--- a whole number as a double
-abbrev pub num : ℕ → Float
-num n = ofInt binary64 (pos n)
-
 -- the box with room for n records, and its grid
 abbrev pub exampleBox : ℕ → DexelStockSpec
 exampleBox n = record {
   version = 1;
-  «min_mm» = record { x = num 0; y = num 0; z = num 0 };
-  «max_mm» = record { x = num 10; y = num 10; z = num 10 };
-  «cell_size_mm» = num 10;
+  «min_mm» = record { x = whole 0; y = whole 0; z = whole 0 };
+  «max_mm» = record { x = whole 10; y = whole 10; z = whole 10 };
+  «cell_size_mm» = whole 10;
   «max_rays» = 3;
   «max_intervals» = n;
 }
 
 abbrev pub exampleGrid : DexelGrid
-exampleGrid = record { c0 = 1; c1 = 1; c2 = 1; s0 = num 10; s1 = num 10; s2 = num 10 }
+exampleGrid = record { c0 = 1; c1 = 1; c2 = 1; s0 = whole 10; s1 = whole 10; s2 = whole 10 }
 
 -- the uncut store: records 1 to 6 in ray order, possible first, and two free ones
 abbrev pub exampleStock : Stock
 exampleStock = record {
   cells = record {
-    spans = num 0 ∷ num 10 ∷ num 0 ∷ num 10 ∷ num 0 ∷ num 10 ∷ num 0 ∷ num 10 ∷ num 0 ∷ num 10 ∷ num 0 ∷ num 10
-        ∷ num 0 ∷ num 0 ∷ num 0 ∷ num 0 ∷ [];
+    spans = whole 0 ∷ whole 10 ∷ whole 0 ∷ whole 10 ∷ whole 0 ∷ whole 10 ∷ whole 0 ∷ whole 10 ∷ whole 0 ∷ whole 10 ∷ whole 0 ∷ whole 10
+        ∷ whole 0 ∷ whole 0 ∷ whole 0 ∷ whole 0 ∷ [];
     links = 0 ∷ 1 ∷ 0 ∷ 2 ∷ 0 ∷ 3 ∷ 0 ∷ 4 ∷ 0 ∷ 5 ∷ 0 ∷ 6 ∷ 0 ∷ 0 ∷ 0 ∷ 0 ∷ [];
     heads = 1 ∷ 2 ∷ 3 ∷ 4 ∷ 5 ∷ 6 ∷ [];
   };
@@ -56,19 +52,19 @@ exampleStock = record {
 
 -- a log of one entry: outer 1 to 4, inner 2 to 3
 abbrev pub exampleHit : Float → Float → List Float
-exampleHit axis index = axis ∷ index ∷ num 1 ∷ num 4 ∷ num 2 ∷ num 3 ∷ []
+exampleHit axis index = axis ∷ index ∷ whole 1 ∷ whole 4 ∷ whole 2 ∷ whole 3 ∷ []
 
 -- index, allowance and work pairs of a commit
 abbrev pub exampleCommit : ℕ → ℕ → ℕ → Commit
-exampleCommit index allowance work = record { log = exampleHit (num 1) (num index); allowance = allowance; work = work }
+exampleCommit index allowance work = record { log = exampleHit (whole 1) (whole index); allowance = allowance; work = work }
 
 -- no ray is allowed, and the ray along axis 0 would change
 abbrev pub notAllowed : Commit
-notAllowed = record { log = exampleHit (num 0) (num 0); allowance = 0; work = 66 }
+notAllowed = record { log = exampleHit (whole 0) (whole 0); allowance = 0; work = 66 }
 
 -- outer 9 to 10, inner 4 to 10
 abbrev pub innerWider : Commit
-innerWider = record { log = num 1 ∷ num 0 ∷ num 9 ∷ num 10 ∷ num 4 ∷ num 10 ∷ []; allowance = 1; work = 66 }
+innerWider = record { log = whole 1 ∷ whole 0 ∷ whole 9 ∷ whole 10 ∷ whole 4 ∷ whole 10 ∷ []; allowance = 1; work = 66 }
 
 abbrev pub threeLogs : List Commit
 threeLogs = exampleCommit 0 1 66 ∷ notAllowed ∷ innerWider ∷ []
@@ -78,10 +74,10 @@ threeAnswers = changed 1 ∷ refused 9 ∷ changed 1 ∷ []
 
 -- the lists at the end: the ray along axis 1 has 0 to 2 and 3 to 4 for possible, 0 to 1 for certain, and the other rays are full
 abbrev pub exampleListAfter : ℕ → Kind → List Float
-exampleListAfter zero k = num 0 ∷ num 10 ∷ []
-exampleListAfter (suc zero) Possible = num 0 ∷ num 2 ∷ num 3 ∷ num 4 ∷ []
-exampleListAfter (suc zero) Certain = num 0 ∷ num 1 ∷ []
-exampleListAfter (suc (suc n)) k = num 0 ∷ num 10 ∷ []
+exampleListAfter zero k = whole 0 ∷ whole 10 ∷ []
+exampleListAfter (suc zero) Possible = whole 0 ∷ whole 2 ∷ whole 3 ∷ whole 4 ∷ []
+exampleListAfter (suc zero) Certain = whole 0 ∷ whole 1 ∷ []
+exampleListAfter (suc (suc n)) k = whole 0 ∷ whole 10 ∷ []
 
 -- a stock as the run leaves it: generation 2, seven intervals, and these lists
 pub record AtEnd (t : Stock) : Type 0 where
@@ -93,7 +89,7 @@ pub record AtEnd (t : Stock) : Type 0 where
 pub record RunRight : Type 0 where
   pub accepted : gridOf (exampleBox 8) (109 ∷ 109 ∷ []) ≡ Accepted exampleGrid
   -- the fill lays the first stock in cells that held 7
-  pub fills : uncut (exampleBox 8) exampleGrid (cells (replicate 16 (num 7)) (replicate 16 7) (replicate 6 7)) ≡ exampleStock .cells
+  pub fills : uncut (exampleBox 8) exampleGrid (cells (replicate 16 (whole 7)) (replicate 16 7) (replicate 6 7)) ≡ exampleStock .cells
   pub fills-record : uncutTally exampleGrid ≡ record { generation = exampleStock .generation; intervals = exampleStock .intervals }
   -- there is a run
   pub end : Stock

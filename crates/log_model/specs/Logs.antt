@@ -1,8 +1,8 @@
--- Rays, logs and log commits, and which points a log takes.
+-- Logs and log commits, and which points a log takes.
 use mathlib.Core.Path.{_≡_}
 use mathlib.Core.Bool.{Bool, true, cond, _&&_, _||_}
 use mathlib.Core.List.{List, [], _∷_, List·Memᴰ}
-use Prim.Native.Nat.{ℕ, zero, suc, _+_, _*_, _/_}
+use Prim.Native.Nat.{ℕ, zero, suc, _+_, _*_, _/_, _%_}
 use lib.Dec.{ltb, eqb}
 use lib.ListN.{length, getD}
 use lib.IntN.{pos}
@@ -12,27 +12,19 @@ use Rattle.grid.specs.Axes.{worldAxis}
 use Rattle.grid.specs.Rays.{raysAlong, rayNumber, Ray}
 use Rattle.grid.specs.declared.DexelGrid.{DexelGrid}
 use Rattle.stock.specs.Stock.{Kind, Possible, Certain}
+use Rattle.log_model.specs.declared.Entry.{Entry}
 
 -- ---- a log: six doubles for each entry
-
--- document 01's log entry: axis, index, outer, inner
-pub record Entry : Type 0 where
-  pub axis : Float
-  pub index : Float
-  pub outerLo : Float
-  pub outerHi : Float
-  pub innerLo : Float
-  pub innerHi : Float
 
 -- the entry in the doubles from 6 i on
 unfoldable pub entryAt : List Float → ℕ → Entry
 entryAt log i = record {
   axis = getD log (6 * i) nan;
   index = getD log (6 * i + 1) nan;
-  outerLo = getD log (6 * i + 2) nan;
-  outerHi = getD log (6 * i + 3) nan;
-  innerLo = getD log (6 * i + 4) nan;
-  innerHi = getD log (6 * i + 5) nan;
+  «outer_lo» = getD log (6 * i + 2) nan;
+  «outer_hi» = getD log (6 * i + 3) nan;
+  «inner_lo» = getD log (6 * i + 4) nan;
+  «inner_hi» = getD log (6 * i + 5) nan;
 }
 
 -- n entries from the i-th on
@@ -44,6 +36,13 @@ entriesFrom log i (suc n) = entryAt log i ∷ entriesFrom log (suc i) n
 -- how many whole entries the log has
 abbrev pub entryCount : List Float → ℕ
 entryCount log = length log / 6
+
+-- no part of an entry is over
+abbrev pub WholeLog : List Float → Type 0
+WholeLog log = length log % 6 ≡ 0
+
+abbrev pub isWholeLog : List Float → Bool
+isWholeLog log = eqb (length log % 6) 0
 
 -- the pairs that a log commit needs in its work buffer, by document 01: six for each interval of the budget and 18 for each entry
 abbrev pub workNeeded : (intervals : ℕ) → List Float → ℕ
@@ -88,12 +87,12 @@ pub data HitKind : Type 0 where
 
 -- the two ends of an entry's pair
 unfoldable pub hitLo : HitKind → Entry → Float
-hitLo outer e = e .outerLo
-hitLo inner e = e .innerLo
+hitLo outer e = e .«outer_lo»
+hitLo inner e = e .«inner_lo»
 
 unfoldable pub hitHi : HitKind → Entry → Float
-hitHi outer e = e .outerHi
-hitHi inner e = e .innerHi
+hitHi outer e = e .«outer_hi»
+hitHi inner e = e .«inner_hi»
 
 -- the outer or the inner pairs of the entries that name the ray r, as a flat list. Pairs without lo < hi hold no point.
 unfoldable pub hitsOnRay : DexelGrid → List Entry → (ray : ℕ) → HitKind → List Float

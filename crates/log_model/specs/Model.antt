@@ -1,19 +1,20 @@
 -- The causes of a log commit in document 01's order, and document 01's model of a list of log commits: it keeps two
 -- point sets per ray and the generation, and is fed the first stock and the commits alone.
 use mathlib.Core.Path.{_≡_}
-use mathlib.Core.Bool.{Bool, false, not, _&&_}
+use mathlib.Core.Bool.{Bool, false}
 use mathlib.Core.List.{List, [], _∷_, List·Memᴰ}
 use mathlib.Core.Logic.{_⊎_}
-use Prim.Native.Nat.{ℕ, zero, suc, _+_, _-_, _*_, _/_, _%_, _^_, _≤_, _<_}
+use Prim.Native.Nat.{ℕ, zero, suc, _+_, _-_, _*_, _/_, _^_, _≤_, _<_}
 use native.Mathlib.Nat.{le-refl, le-of-lt}
 use lib.ListN.{length}
 use lib.Ieee.{Float}
 use Rattle.refusal.specs.Refusal.{Cause, cause, Due, NoneDue}
-use Rattle.spans.specs.Spans.{Point, ListOf, setMinus, holds}
+use Rattle.spans.specs.Spans.{Point, ListOf, setMinus}
 use Rattle.grid.specs.Rays.{rayCount, Ray}
 use Rattle.grid.specs.declared.DexelStockSpec.{DexelStockSpec}
 use Rattle.grid.specs.declared.DexelGrid.{DexelGrid}
-use Rattle.log_model.specs.Logs.{Entry, entries, workNeeded, namesSomeRay, removed, Commit}
+use Rattle.log_model.specs.declared.Entry.{Entry}
+use Rattle.log_model.specs.Logs.{entries, WholeLog, workNeeded, namesSomeRay, removed, Commit}
 use Rattle.stock.specs.Stock.{Kind, Possible, Certain}
 
 -- ---- the sets of all rays
@@ -73,7 +74,7 @@ LogBuffersShort spec g b c =
 
 -- 11: part of an entry is over, or the store is not sound
 unfoldable pub LogInputBad : Type 0 → Commit → Type 0
-LogInputBad Unsound c = ((length (c .log) % 6 ≡ 0) → ⊥) ⊎ Unsound
+LogInputBad Unsound c = (WholeLog (c .log) → ⊥) ⊎ Unsound
 
 -- 17: an entry that names no ray
 unfoldable pub NamesNoRay : DexelGrid → List Entry → Type 0
@@ -90,8 +91,9 @@ unfoldable pub TooManyIntervals : DexelStockSpec → (g : DexelGrid) → Sets g 
 unfolding setsAfter entries
 TooManyIntervals spec g s c = (n : ℕ) × IntervalTotal g (setsAfter g s (entries (c .log))) n × (spec .«max_intervals» < n)
 
--- Document 01's order for a log commit, on a store that lends b, whose lists hold the sets s, at generation n. `Unsound` says that the
--- store is not sound. The causes 1 to 4 are those of `exampleGrid`, which has accepted the description.
+-- Document 01's order for a log commit, on a store that lends b, whose lists hold the sets s, at generation n.
+-- `Unsound` says that the store is not sound. The causes 1 to 4 are those of `grid`, which has accepted the
+-- description.
 unfoldable pub logCommitCauses : DexelStockSpec → (g : DexelGrid) → Capacity → Type 0 → Sets g → ℕ → Commit → List Cause
 unfolding LogBuffersShort LogInputBad NamesNoRay TooManyRays TooManyIntervals
 logCommitCauses spec g b Unsound s n c =

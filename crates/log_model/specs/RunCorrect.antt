@@ -37,7 +37,7 @@ pub record StoresAgree (g : DexelGrid) (R : StoreView g) (t u : R .Store) : Type
 
 -- DEMAND 3, whole: of every run from a sound store, and of every two that are alike in the hits of their accepted logs
 pub record RunCorrect (spec : DexelStockSpec) (g : DexelGrid) (R : StoreView g) : Type 0 where
-  pub settles : (s t : R .Store) (cs : List Commit) (vs : List LogAnswer) → R .Sound s → Run spec g R s cs vs t
+  pub meets-model : (s t : R .Store) (cs : List Commit) (vs : List LogAnswer) → R .Sound s → Run spec g R s cs vs t
       → RunMeetsModel spec g R s cs vs t
   pub agrees : (s t u : R .Store) (cs ds : List Commit) (vs ws : List LogAnswer) → R .Sound s → Run spec g R s cs vs t
       → Run spec g R s ds ws u

@@ -3,7 +3,7 @@ use mathlib.Core.List.{List}
 use lib.Ieee.{Float}
 use Rattle.spans.specs.Spans.{ListOf}
 use Rattle.grid.specs.declared.DexelGrid.{DexelGrid}
-use Rattle.log_model.specs.Logs.{Entry}
+use Rattle.log_model.specs.declared.Entry.{Entry}
 use Rattle.log_model.specs.Model.{setsAfter}
 use Rattle.log_model.specs.Updates.{listSets}
 use Rattle.grid.specs.Rays.{Ray}

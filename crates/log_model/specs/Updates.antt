@@ -9,7 +9,8 @@ use Rattle.grid.specs.declared.DexelStockSpec.{DexelStockSpec}
 use Rattle.grid.specs.declared.DexelGrid.{DexelGrid}
 use Rattle.store.specs.Updates.{Update, update, applied, pairsFreed, pairsLaid}
 use Rattle.stock.specs.Stock.{Stock, Kind, Possible, Certain}
-use Rattle.log_model.specs.Logs.{Entry, outer, inner, hitsOnRay}
+use Rattle.log_model.specs.declared.Entry.{Entry}
+use Rattle.log_model.specs.Logs.{outer, inner, hitsOnRay}
 use Rattle.log_model.specs.Model.{Sets, RayChanges}
 use Rattle.spans.specs.Rays.{MergedExactly}
 

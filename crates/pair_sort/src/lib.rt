@@ -191,27 +191,14 @@ fn quicksort(s: &mut [f64], l: usize, r: usize, budget: usize)
     quicksort(s, j, r, less);
 }
 
-// Whether no first number of n pairs is below the one before it.
-fn ascends(s: &[f64], n: usize) -> bool
-    requires { ⌜ 2 * n ≤ length (now s) ⌝ }
+// Whether the first numbers of n pairs never fall (i = 0 and j = 2), or never rise (i = 2 and j = 0): the cells i and j before each pair
+// from the second on are compared.
+fn never_below(s: &[f64], n: usize, i: usize, j: usize) -> bool
+    requires { ⌜ (2 * n ≤ length (now s)) × (i ≤ 2) × (j ≤ 2) ⌝ }
 {
     let mut k = 1;
     while k < n {
-        if s[2 * k] < s[2 * k - 2] {
-            return false;
-        }
-        k += 1;
-    }
-    true
-}
-
-// Whether no first number of n pairs is above the one before it.
-fn descends(s: &[f64], n: usize) -> bool
-    requires { ⌜ 2 * n ≤ length (now s) ⌝ }
-{
-    let mut k = 1;
-    while k < n {
-        if s[2 * k - 2] < s[2 * k] {
+        if s[2 * k - i] < s[2 * k - j] {
             return false;
         }
         k += 1;
@@ -230,7 +217,8 @@ fn reverse(s: &mut [f64], n: usize)
     }
 }
 
-// Sorts the pairs by their first number; a last double that is no pair stays.
+// Sorts the pairs by their first number; a last double that is no pair stays. Pairs that ascend are left as they are, those that descend
+// are reversed.
 pub fn sort_pairs(s: &mut [f64])
     ensures { λ _. ⌜ SamePairs (now (s .entry)) (now (s .exit)) ⌝ }
 {
@@ -239,10 +227,10 @@ pub fn sort_pairs(s: &mut [f64])
         insertion(s, 0, n);
         return;
     }
-    if ascends(s, n) {
+    if never_below(s, n, 0, 2) {
         return;
     }
-    if descends(s, n) {
+    if never_below(s, n, 2, 0) {
         reverse(s, n);
         return;
     }

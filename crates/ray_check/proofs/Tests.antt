@@ -1,16 +1,12 @@
 -- What the tests of a ray tell, one after the other.
-use mathlib.Core.Path.{_≡_, refl, sym, _∙_}
+use mathlib.Core.Path.{_≡_, refl}
 use mathlib.Core.Bool.{Bool, true, false, not}
 use mathlib.Core.List.{List}
 use lib.Ieee.{Float}
-use Rattle.logic.proofs.Bools.{not-true, not-false, clash}
+use Rattle.logic.proofs.Bools.{found-not, clash}
 use Rattle.spans.specs.Spans.{holds, sound, Within}
 use Rattle.span_cover.specs.Cover.{Covers}
 use Rattle.spans.specs.Rays.{bounded, ValidRay}
-
--- a test of b that passes
-pub passes : (b r : Bool) → r ≡ b → not r ≡ false → b ≡ true
-passes b r e n = sym e ∙ not-false r n
 
 -- a comparison tells whether the inner list lies within the outer one
 pub covers-tells : (outer inner : List Float) (r : Bool) → Covers outer inner r
@@ -20,23 +16,9 @@ covers-tells outer inner false f = ((λ e. absurd (clash false e refl)), (λ w. 
 
 module _ (lo hi : Float) (p q : List Float) where
   -- a test fails whose b a valid ray brings with it
-  fails : (b r : Bool) → r ≡ b → not r ≡ true → (ValidRay lo hi p q → b ≡ true) → (false ≡ true → ValidRay lo hi p q)
+  pub fails : (b r : Bool) → r ≡ b → not r ≡ true → (ValidRay lo hi p q → b ≡ true) → (false ≡ true → ValidRay lo hi p q)
       × (ValidRay lo hi p q → false ≡ true)
-  fails b r e n f = ((λ t. absurd (clash false t refl)), (λ v. absurd (clash b (f v) (sym e ∙ not-true r n))))
-
-  pub possible-unsound : (r : Bool) → r ≡ sound p → not r ≡ true → (false ≡ true → ValidRay lo hi p q) × (ValidRay lo hi p q → false ≡ true)
-  possible-unsound r e n = fails (sound p) r e n (λ v. v .possible-sound)
-
-  pub certain-unsound : (r : Bool) → r ≡ sound q → not r ≡ true → (false ≡ true → ValidRay lo hi p q) × (ValidRay lo hi p q → false ≡ true)
-  certain-unsound r e n = fails (sound q) r e n (λ v. v .certain-sound)
-
-  pub possible-out : (r : Bool) → r ≡ bounded lo hi p → not r ≡ true → (false ≡ true → ValidRay lo hi p q)
-      × (ValidRay lo hi p q → false ≡ true)
-  possible-out r e n = fails (bounded lo hi p) r e n (λ v. v .possible-bounded)
-
-  pub certain-out : (r : Bool) → r ≡ bounded lo hi q → not r ≡ true → (false ≡ true → ValidRay lo hi p q)
-      × (ValidRay lo hi p q → false ≡ true)
-  certain-out r e n = fails (bounded lo hi q) r e n (λ v. v .certain-bounded)
+  fails b r e n f = ((λ t. absurd (clash false t refl)), (λ v. absurd (clash b (f v) (found-not r b e n))))
 
   pub rest-tells : (r : Bool) → sound p ≡ true → sound q ≡ true → bounded lo hi p ≡ true → bounded lo hi q ≡ true
       → Covers p q r → (r ≡ true → ValidRay lo hi p q) × (ValidRay lo hi p q → r ≡ true)

@@ -26,10 +26,7 @@ pub fn valid_ray(possible: &[f64], certain: &[f64], lo: f64, hi: f64) -> bool
     ensures { λ r. ⌜ (r ≡ true → ValidRay lo hi (now (possible .entry)) (now (certain .entry)))
         × (ValidRay lo hi (now (possible .entry)) (now (certain .entry)) → r ≡ true) ⌝ }
 {
-    if !spans::is_sound(possible) {
-        return false;
-    }
-    if !spans::is_sound(certain) {
+    if !spans::both_sound(possible, certain) {
         return false;
     }
     if !is_bounded(possible, lo, hi) {

@@ -1,5 +1,4 @@
-// The one-ray merge: possible loses the inner hits, certain the outer and the inner ones.
-// The lists of a ray after a merge: the caller's own, or the new ones in the work buffer.
+// The one-ray merge, in which possible loses the inner hits and certain the outer and the inner ones, and a ray's lists after it.
 ghost use mathlib.Core.Path.{_≡_};
 ghost use Prim.Native.Nat.{_+_, _-_, _*_, _/_, _%_, _≤_, _<_};
 ghost use lib.ListN.{length};
@@ -7,7 +6,8 @@ ghost use Rattle.ray_merge.specs.Merge.{MergePost};
 ghost use Rattle.ray_subtract.specs.Steps.{PlacedAt, NormalizedAt, MergeInputs, MergeListsPost};
 ghost use mathlib.Core.Bool.{false};
 ghost use Rattle.ray_subtract.specs.Subtract.{handedBack};
-ghost use Rattle.ray_merge.specs.Handed.{possibleHanded, certainHanded, PossibleStays, CertainStays, ListMoved, PossibleMoved, CertainMoved};
+ghost use Rattle.ray_merge.specs.Handed.{possibleHanded, certainHanded, PossibleStays, CertainStays};
+ghost use Rattle.ray_merge.specs.Handed.{ListMoved, PossibleMoved, CertainMoved};
 use ray_subtract::MergedList;
 use ray_subtract::MergedLists;
 

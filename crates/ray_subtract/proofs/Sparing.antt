@@ -34,16 +34,9 @@ equal-self : (a : List Float) → sound a ≡ true → equal a a ≡ true
 equal-self a s = same-set a a s s (λ p n. refl)
 
 module _ (a l : List Float) (hit : Float → Bool) (left : ListOf (setMinus (holds a) hit) l) where
-  -- where no boundary moves, no point is hit; where one does, some point is
+  -- where no boundary moves, no point is hit
   pub still-unhit : equal a l ≡ true → (p : Float) → holds a p ≡ true → hit p ≡ false
   still-unhit e p h = not-true (hit p) (and-right (holds a p) (not (hit p)) (sym (left .points p) ∙ sym (equal-holds a l e p) ∙ h))
-
-  pub moved-hit : sound a ≡ true → equal a l ≡ false → ¬ ((p : Float) → holds a p ≡ true → hit p ≡ false)
-  moved-hit s e f = clash (equal a l) (same-set a l s (left .isSound) (λ p n. same (holds a p) (hit p) (f p) ∙ sym (left .points p))) e
-    where
-      same : (x y : Bool) → (x ≡ true → y ≡ false) → x ≡ (x && not y)
-      same true y f = sym (ap not (f refl))
-      same false y f = refl
 
 -- less the outer and then the inner hits: the points in neither
 pub less-both-list : (a o i : List Float) → sound a ≡ true → sound o ≡ true → sound i ≡ true

@@ -1,19 +1,16 @@
 -- Document 01's example: the contract of `run` allows its output alone. The hits are normalised to themselves, so each end of the new lists
 -- is one that was read.
-use mathlib.Core.Path.{_≡_, refl, sym, _∙_, ap₂, subst}
-use mathlib.Core.Bool.{true, not, false≢true}
-use mathlib.Core.List.{List, [], _∷_, List·Memᴰ, List·Memᴰ·head, List·Memᴰ·tail}
+use mathlib.Core.Path.{_≡_, refl, _∙_, ap₂, subst}
+use mathlib.Core.Bool.{true, not}
+use mathlib.Core.List.{List, [], _∷_}
 use mathlib.Core.Logic.{inl, inr}
 use Prim.Native.Nat.{ℕ}
 use lib.Ieee.{Float, binary64, ofBits, toBits, lt, le, eq}
 use Rattle.refusal.specs.Refusal.{Due}
 use Rattle.hex_text.specs.Hex.{hexDigit, hexAt}
-use Rattle.logic.proofs.Bools.{and-left, and-right, clash}
-use Rattle.doubles.proofs.Order.{lt-irrefl, lt-eq-right}
-use Rattle.spans.specs.Spans.{All, rising, sound, equal, NormalOf}
-use Rattle.spans.proofs.Ends.{Above, rising-above, rising-tail}
-use Rattle.spans.proofs.Sets.{same-set, sound-rising}
-use Rattle.spans.proofs.Normal.{retained-sound}
+use Rattle.logic.proofs.Bools.{clash}
+use Rattle.spans.specs.Spans.{rising, sound, equal}
+use Rattle.spans.proofs.Normal.{normal-self}
 use Rattle.spans.specs.Overlay.{cutBy, lessOf}
 use Rattle.spans.specs.Rays.{bounded, ValidRay}
 use Rattle.ray_input.specs.Format.{eachBelow, isLine, count, few, textPairs, readable}
@@ -33,44 +30,6 @@ use Rattle.ray_text.specs.Run.{
   written,
 }
 use Rattle.ray_text.specs.Example.{exampleInput, exampleOutput, ExamplePrinted}
-
--- ---- a sound list is normalised to itself
-not-itself : (x : Float) → lt x x ≡ true → ⊥
-not-itself x h = clash (lt x x) h (lt-irrefl x)
-
--- an end above x of a list that starts with x stands past it
-past-first : (x : Float) (s l : List Float) → Above x l → All (λ e. List·Memᴰ e (x ∷ s)) l → All (λ e. List·Memᴰ e s) l
-past-first x s [] up d = tt
-past-first x s (e ∷ l) up d = (go (d .0), past-first x s l (up .1) (d .1))
-  where
-    go : List·Memᴰ e (x ∷ s) → List·Memᴰ e s
-    go (List·Memᴰ·head q) = absurd (not-itself x (subst (λ (z : Float). lt x z ≡ true) q (up .0)))
-    go (List·Memᴰ·tail m) = m
-
-above-in : (x : Float) (s : List Float) → Above x s → (e : Float) → List·Memᴰ e s → lt x e ≡ true
-above-in x (y ∷ s) up e (List·Memᴰ·head q) = subst (λ (z : Float). lt x z ≡ true) (sym q) (up .0)
-above-in x (y ∷ s) up e (List·Memᴰ·tail m) = above-in x s (up .1) e m
-
--- rising lists that are equal as numbers are one list where each end of the one is an end of the other
-same-ends : (s l : List Float) → rising s ≡ true → rising l ≡ true → equal l s ≡ true → All (λ e. List·Memᴰ e s) l → l ≡ s
-unfolding equal
-same-ends [] [] rs rl h d = refl
-same-ends [] (e ∷ l) rs rl h d = absurd (false≢true h)
-same-ends (x ∷ s) [] rs rl h d = absurd (false≢true h)
-same-ends (x ∷ s) (e ∷ l) rs rl h d =
-    let first : e ≡ x = go (d .0) in
-    ap₂ _∷_ first (same-ends s l (rising-tail x s rs) (rising-tail e l rl) (and-right (eq e x) (equal l s) h)
-    (past-first x s l (subst (λ (z : Float). Above z l) first (rising-above e l rl)) (d .1)))
-  where
-    go : List·Memᴰ e (x ∷ s) → e ≡ x
-    go (List·Memᴰ·head q) = q
-    go (List·Memᴰ·tail m) =
-        absurd (not-itself x (sym (lt-eq-right e x x (and-left (eq e x) (equal l s) h)) ∙ above-in x s (rising-above x s rs) e m))
-
-normal-self : (s l : List Float) → sound s ≡ true → NormalOf s l → l ≡ s
-normal-self s l ss n =
-    same-ends s l (sound-rising s ss) (sound-rising l (n .list .isSound)) (same-set l s (n .list .isSound) ss (λ p k. n .list .points p))
-    (rw (retained-sound s ss) at (n .drawn))
 
 -- ---- the lists of the input
 abbrev zero· : Float

@@ -54,7 +54,7 @@ fn counted() -> RowCounts {
     let mut turns = u64::MAX;
     while turns > 0 {
         let mut head = [0u8; 10];
-        if !vector_rows::read_row(&mut head) {
+        if io::read_full(libc::STDIN_FILENO, &mut head) == 0 {
             break;
         }
         t = vector_rows::count(t, compared(&head));

@@ -1,7 +1,7 @@
 -- How each case of an answer is shown.
 use mathlib.Core.Path.{_≡_, refl}
 use mathlib.Core.Logic.{inl, inr}
-use mathlib.Core.Bool.{true}
+use mathlib.Core.Bool.{Bool, true}
 use mathlib.Core.List.{List, _++_}
 use Prim.Native.Nat.{ℕ, _+_, _-_, _/_, _≤_, _<_}
 use native.Mathlib.Omega.{arith}
@@ -9,11 +9,11 @@ use lib.ListN.{length, take, replicate}
 use lib.Ieee.{Float}
 use Rattle.doubles.specs.Constants.{plusZero}
 use Rattle.refusal.specs.Refusal.{Due, NoneDue}
-use Rattle.spans.specs.Spans.{sound}
+use Rattle.spans.specs.Spans.{sound, ListOf}
 use Rattle.spans.specs.Results.{ListPost, listCauses}
 use Rattle.spans.specs.Steps.{FilledFront}
 use Rattle.spans.specs.declared.ListAnswer.the-variants.{Pairs, Refused}
-use Rattle.span_combine.specs.Combine.{combineCauses}
+use Rattle.span_combine.specs.Combine.{combineCauses, ExactListOf}
 use Rattle.logic.proofs.Bools.{and-false, by-cases}
 use Rattle.spans.proofs.Answers.{laid}
 use Rattle.spans.proofs.Sets.{sound-mod}
@@ -43,10 +43,15 @@ module _ (a b before : List Float) (k : ℕ) (c : CombineCheckPost (combineCause
       pub filled-fits : n ≤ length mid
       filled-fits = omega (arith, checked-lists .2, f .most, f .size)
 
-      pub accept-filled : (P : List Float → Type 0) → sound list ≡ true → P list → (after : List Float)
+      pub accept-filled : (s : Float → Bool) → (sound a ≡ true → sound b ≡ true → ListOf s list) → (after : List Float)
           → after ≡ take n mid ++ replicate (length mid - n) plusZero
-          → ListPost P (combineCauses a b (length before)) before after (Pairs (n / 2))
-      accept-filled P s l after z = (c .0 e, laid P mid after n filled-fits (rw (f .list) s) (rw (f .list) l) z)
+          → ListPost (ExactListOf s list) (combineCauses a b (length before)) before after (Pairs (n / 2))
+      accept-filled s law after z =
+          let l = law (checked-lists .0) (checked-lists .1) in (
+            c .0 e,
+            laid (ExactListOf s list) mid after n filled-fits (rw (f .list) (l .isSound))
+                (rw (f .list) (record { list = l; ends = refl })) z,
+          )
 
 -- the number of a refusal, found before anything is written
 module _ (short bad : Type 0) where

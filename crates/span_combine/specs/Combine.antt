@@ -1,6 +1,6 @@
 -- What is asked of two lists and a buffer, and what the lists leave of each other.
 use mathlib.Core.Path.{_≡_}
-use mathlib.Core.Bool.{false, _&&_}
+use mathlib.Core.Bool.{Bool, false, _&&_}
 use mathlib.Core.List.{List}
 use Prim.Native.Nat.{ℕ, _+_, _/_, _<_}
 use lib.ListN.{length}
@@ -14,12 +14,14 @@ use Rattle.spans.specs.Overlay.{lessOf, commonOf}
 abbrev pub combineCauses : List Float → List Float → ℕ → List Cause
 combineCauses a b room = listCauses (room / 2 < length a / 2 + length b / 2) ((sound a && sound b) ≡ false)
 
--- the sound list of a less b, end by end: which zero stands at an end is settled too
-pub record LessOf (a b l : List Float) : Type 0 where
-  pub list : ListOf (less a b) l
-  pub ends : l ≡ lessOf a b
+-- the sound list of a set, end by end: which zero stands at an end is settled too
+pub record ExactListOf (s : Float → Bool) (exact l : List Float) : Type 0 where
+  pub list : ListOf s l
+  pub ends : l ≡ exact
 
--- the sound list of the points in both, end by end
-pub record CommonOf (a b l : List Float) : Type 0 where
-  pub list : ListOf (common a b) l
-  pub ends : l ≡ commonOf a b
+-- a less b; the points in both
+abbrev pub LessOf : List Float → List Float → List Float → Type 0
+LessOf a b l = ExactListOf (less a b) (lessOf a b) l
+
+abbrev pub CommonOf : List Float → List Float → List Float → Type 0
+CommonOf a b l = ExactListOf (common a b) (commonOf a b) l

@@ -12,10 +12,7 @@ fn checked(a: &[f64], b: &[f64], room: usize) -> u32
     if room / 2 < a.len() / 2 + b.len() / 2 {
         return 12;
     }
-    if !spans::is_sound(a) {
-        return 11;
-    }
-    if !spans::is_sound(b) {
+    if !spans::both_sound(a, b) {
         return 11;
     }
     0

@@ -1,6 +1,6 @@
 // Two span lists compared: whether one has all points of the other, and whether they have one in common.
 ghost use Rattle.span_compare.specs.Verdicts.{ComparePost, compareCauses, Contains, Overlaps};
-use spans::is_sound;
+use spans::both_sound;
 
 // Whether something holds of two lists, or why the call is refused.
 pub enum BoolAnswer {
@@ -14,10 +14,7 @@ pub fn contains(outer: &[f64], inner: &[f64]) -> BoolAnswer
     ensures { λ r. ⌜ ComparePost (compareCauses (now (outer .entry)) (now (inner .entry)))
         (Contains (now (outer .entry)) (now (inner .entry))) r ⌝ }
 {
-    if !is_sound(outer) {
-        return BoolAnswer::Refused(11);
-    }
-    if !is_sound(inner) {
+    if !both_sound(outer, inner) {
         return BoolAnswer::Refused(11);
     }
     if span_cover::covers(outer, inner) {
@@ -30,10 +27,7 @@ pub fn contains(outer: &[f64], inner: &[f64]) -> BoolAnswer
 pub fn overlaps(a: &[f64], b: &[f64]) -> BoolAnswer
     ensures { λ r. ⌜ ComparePost (compareCauses (now (a .entry)) (now (b .entry))) (Overlaps (now (a .entry)) (now (b .entry))) r ⌝ }
 {
-    if !is_sound(a) {
-        return BoolAnswer::Refused(11);
-    }
-    if !is_sound(b) {
+    if !both_sound(a, b) {
         return BoolAnswer::Refused(11);
     }
     if span_cover::meets(a, b) {

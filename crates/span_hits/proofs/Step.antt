@@ -1,4 +1,4 @@
--- Laws of `hitOf`: where two cells are left it is a test on them, and else it is the end.
+-- Laws of `nextHit`: where two cells are left it is a test on them, and else it is the end.
 use mathlib.Core.Path.{_≡_, refl, ap}
 use mathlib.Core.Bool.{cond}
 use mathlib.Core.List.{List, [], _∷_}

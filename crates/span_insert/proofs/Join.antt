@@ -45,7 +45,6 @@ use Rattle.spans.proofs.Ends.{
   all-at,
   Over,
   Under,
-  AtMost,
   Past,
   From,
   Above,
@@ -65,9 +64,19 @@ use Rattle.spans.proofs.Ends.{
   rising-at,
   rising-before,
 }
-use Rattle.spans.proofs.Points.{or-false, or-true, or-assoc, holds-more, put-list, below-by-last}
+use Rattle.spans.proofs.Points.{
+  or-false,
+  or-true,
+  or-assoc,
+  numbers-of,
+  holds-more,
+  put-list,
+  below-by-last,
+  upTo-last,
+  rising-front,
+}
 use Rattle.spans.proofs.Normal.{all-in, normal-pair}
-use Rattle.spans.proofs.Sets.{oddN-mod, mod-oddN, sound-rising, sound-even, sound-mod, sound-numbers, sound-holds, make-sound}
+use Rattle.spans.proofs.Sets.{oddN-mod, mod-oddN, sound-rising, sound-even, sound-mod, sound-holds, make-sound}
 
 pub even-odd : (n : ℕ) → eqb (n % 2) 0 ≡ not (oddN n)
 even-odd n = elim (by-cases (oddN n)) [
@@ -119,7 +128,7 @@ module _ (l : List Float) (lo hi : Float) (i j : ℕ) (up : rising l ≡ true) (
       all-append (From lo) (endIf (eqb (i % 2) 0) lo) (endIf (eqb (j % 2) 0) hi ++ drop j l)
       (all-endIf (From lo) (eqb (i % 2) 0) lo (le-refl lo (lt-number lo hi up-pair .0)))
       (all-map (Over lo) (From lo) (λ e h. lt→le lo e h) (endIf (eqb (j % 2) 0) hi ++ drop j l) above-lo) in
-      rising-append (take i l) rest (rising-left (take i l) (drop i l) (rw take-append-drop up)) rest-up
+      rising-append (take i l) rest (rising-front l i up) rest-up
       (all-map (Under lo) (λ x. Above x rest)
       (λ x h. all-map (From lo) (Over x) (λ e k. lt-le-trans x lo e h k) rest rest-from) (take i l) below)
 
@@ -211,23 +220,11 @@ module _ (b : List Float) (n : ℕ) (lo hi : Float) (i j : ℕ) (n-fits : n ≤ 
   size : length (take n b) ≡ n
   size = length-take-le n b n-fits
 
-  numbers : All Number (take n b)
-  numbers = sound-numbers (take n b) (sound-rising (take n b) is-sound) (sound-even (take n b) is-sound)
+  up : rising (take n b) ≡ true
+  up = sound-rising (take n b) is-sound
 
   number-at : (k : ℕ) → k < n → Number (getD b k nan)
-  number-at k h = subst Number (getD-take n b k nan h) (all-at Number (take n b) k numbers (omega (arith, size)))
-
-  rises-at : (a c : ℕ) → a < c → c < n → lt (getD b a nan) (getD b c nan) ≡ true
-  rises-at a c h g =
-      rw (getD-take n b a nan (omega arith), getD-take n b c nan g)
-      at (rising-at (take n b) a c (sound-rising (take n b) is-sound) h (omega (arith, size)))
-
-  -- what a part of the list has at a place
-  all-of-take : (P : Float → Type 0) (k : ℕ) → k ≤ n → ((q : ℕ) → q < k → P (getD b q nan)) → All P (take k (take n b))
-  all-of-take P k g h =
-      all-by-place P (take k (take n b)) (λ q f.
-      let small : q < k = omega (arith, length-take-le k (take n b) (omega (arith, size))) in
-      rw (getD-take k (take n b) q nan small, getD-take n b q nan (omega arith)) (h q small))
+  number-at k h = subst Number (getD-take n b k nan h) (all-at Number (take n b) k (numbers-of (take n b) is-sound) (omega (arith, size)))
 
   all-of-drop : (P : Float → Type 0) (k : ℕ) → k ≤ n → ((q : ℕ) → k ≤ q → q < n → P (getD b q nan)) → All P (drop k (take n b))
   all-of-drop P k g h =
@@ -242,25 +239,12 @@ module _ (b : List Float) (n : ℕ) (lo hi : Float) (i j : ℕ) (n-fits : n ≤ 
   found-above = all-of-drop (Over hi) j (to-hi .most) above-at
 
   found-up-to : UpTo hi (take j (take n b))
-  found-up-to = all-of-take (AtMost hi) j (to-hi .most) (λ q h. elim (decLt q (j - 1)) [
-    | yes a ↦ lt→le (getD b q nan) hi
-        (lt-le-trans (getD b q nan) (getD b (j - 1) nan) hi (rises-at q (j - 1) a (omega (arith, to-hi .most)))
-        (to-hi .last (omega arith)))
-    | no a ↦ subst (λ (m : ℕ). le (getD b m nan) hi ≡ true) (same j q a h) (to-hi .last (omega arith))
-  ])
-    where
-      same : (j q : ℕ) → (q < j - 1 → ⊥) → q < j → j - 1 ≡ q
-      same j q a h = omega arith
+  found-up-to = upTo-last (take n b) j hi (omega (arith, size, to-hi .most)) up
+      (λ h. rw (getD-take n b (j - 1) nan (omega (arith, to-hi .most))) (to-hi .last h))
 
   found-below : Below lo (take i (take n b))
-  found-below = all-of-take (Under lo) i (omega (arith, to-hi .most, to-lo .most)) (λ q h. elim (decLt q (i - 1)) [
-    | yes a ↦ lt-trans (getD b q nan) (getD b (i - 1) nan) lo
-        (rises-at q (i - 1) a (omega (arith, to-hi .most, to-lo .most))) (to-lo .last (omega arith))
-    | no a ↦ subst (λ (m : ℕ). lt (getD b m nan) lo ≡ true) (same i q a h) (to-lo .last (omega arith))
-  ])
-    where
-      same : (j q : ℕ) → (q < j - 1 → ⊥) → q < j → j - 1 ≡ q
-      same j q a h = omega arith
+  found-below = below-by-last (take n b) i lo (omega (arith, size, to-lo .most)) (rising-front (take n b) i up)
+      (λ h. rw (getD-take n b (i - 1) nan (omega (arith, to-lo .most))) (to-lo .last h))
 
   found-from : All (From lo) (drop i (take n b))
   found-from = all-of-drop (From lo) i (to-lo .most)

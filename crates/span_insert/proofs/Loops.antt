@@ -1,10 +1,11 @@
 -- The invariants of the small loops, and that a turn keeps them.
 use mathlib.Core.Path.{_≡_, refl, sym, _∙_, ap, subst}
-use mathlib.Core.Bool.{Bool, false}
+use mathlib.Core.Bool.{Bool, true, false}
 use mathlib.Core.List.{List, [], _∷_, _++_, append-assoc}
 use Prim.Native.Nat.{ℕ, suc, _+_, _-_, _%_, _≤_, _<_}
 use native.Mathlib.Omega.{arith}
 use native.Mathlib.Decide.{decLt}
+use mathlib.Core.Logic.{_⊎_, inl, inr}
 use lib.Dec.{eqb}
 use lib.ListN.{length, getD, take, drop, set, length-set, length-append, length-drop}
 use lib.Seq.{
@@ -24,121 +25,70 @@ use lib.Seq.{
 }
 use lib.Ieee.{Float, nan}
 use Rattle.spans.specs.Steps.{SameFrom}
-use Rattle.span_insert.specs.Steps.{CellsMoved, SplicePost, endIf}
+use Rattle.span_insert.specs.Steps.{EndsCounted, CellsMoved, SplicePost, endIf}
 
 -- ---- a search from the high end
--- the ends from i to n fail the test
-abbrev pub Past : (Float → Bool) → List Float → ℕ → ℕ → Type 0
-Past test l i n = (k : ℕ) → i ≤ k → k < n → test (getD l k nan) ≡ false
+-- of the first n ends those from i on fail the test
+pub record Searched (test : Float → Bool) (l : List Float) (n i : ℕ) : Type 0 where
+  pub most : i ≤ n
+  pub past : (k : ℕ) → i ≤ k → k < n → test (getD l k nan) ≡ false
 
-pub past-none : (test : Float → Bool) (l : List Float) (n : ℕ) → Past test l n n
-past-none test l n k h g = absurd (omega arith)
+pub searched-start : (test : Float → Bool) (l : List Float) (n : ℕ) → Searched test l n n
+searched-start test l n = record { most = omega arith; past = λ k h g. absurd (omega arith) }
 
-pub past-down : (test : Float → Bool) (l : List Float) (i n : ℕ) → Past test l i n → test (getD l (i - 1) nan) ≡ false
-    → Past test l (i - 1) n
-past-down test l i n h t k g f = elim (decLt k i) [
-  | yes a ↦ subst (λ (m : ℕ). test (getD l m nan) ≡ false) (same k i a g) t
-  | no a ↦ h k (omega arith) f
-]
+pub searched-turn : (test : Float → Bool) (l : List Float) (n i : ℕ) → Searched test l n i → test (getD l (i - 1) nan) ≡ false
+    → Searched test l n (i - 1)
+searched-turn test l n i s t = record {
+  most = omega (arith, s .most);
+  past = λ k g f. elim (decLt k i) [
+    | yes a ↦ subst (λ (m : ℕ). test (getD l m nan) ≡ false) (same k i a g) t
+    | no a ↦ s .past k (omega arith) f
+  ];
+}
   where
     same : (k i : ℕ) → k < i → i - 1 ≤ k → i - 1 ≡ k
     same k i a g = omega arith
 
+pub searched-found : (test : Float → Bool) (l : List Float) (n i : ℕ) → Searched test l n i → (0 < i → test (getD l (i - 1) nan) ≡ true)
+    → EndsCounted test l n i
+searched-found test l n i s t = record { most = s .most; past = s .past; last = t }
+
 -- ---- moves
--- moving down, k cells are done: what is still to be read is as it was
-pub record Down (b₀ : List Float) (from to count k : ℕ) (b : List Float) : Type 0 where
+-- of the cells to be moved, those from lo to hi are done; every place but theirs is as it was
+pub record Moving (b₀ : List Float) (from to lo hi : ℕ) (b : List Float) : Type 0 where
   pub size : length b ≡ length b₀
-  pub most : k ≤ count
-  pub front : (q : ℕ) → q < to → getD b q nan ≡ getD b₀ q nan
-  pub cells : (q : ℕ) → q < k → getD b (to + q) nan ≡ getD b₀ (from + q) nan
-  pub unread : (q : ℕ) → k ≤ q → getD b (from + q) nan ≡ getD b₀ (from + q) nan
-  pub rest : SameFrom (to + count) b₀ b
+  pub cells : (q : ℕ) → lo ≤ q → q < hi → getD b (to + q) nan ≡ getD b₀ (from + q) nan
+  pub front : (q : ℕ) → q < to + lo → getD b q nan ≡ getD b₀ q nan
+  pub rest : SameFrom (to + hi) b₀ b
 
-pub down-start : (b : List Float) (from to count : ℕ) → Down b from to count 0 b
-down-start b from to count = record {
-  size = refl;
-  most = omega arith;
-  front = λ q h. refl;
-  cells = λ q h. absurd (omega arith);
-  unread = λ q h. refl;
-  rest = λ q h. refl;
-}
+pub moving-start : (b : List Float) (from to k : ℕ) → Moving b from to k k b
+moving-start b from to k = record { size = refl; cells = λ q h g. absurd (omega arith); front = λ q h. refl; rest = λ q h. refl }
 
-pub down-step : (b₀ : List Float) (from to count k : ℕ) (b : List Float) → to ≤ from → from + count ≤ length b₀ → k < count
-    → Down b₀ from to count k b → Down b₀ from to count (k + 1) (set b (to + k) (getD b (from + k) nan))
-down-step b₀ from to count k b d r h s =
-    let v = getD b (from + k) nan in
-    let fit : to + k < length b = omega (arith, s .size) in
-    record {
-      size = length-set b (to + k) v ∙ s .size;
-      most = omega arith;
-      front = λ q g. getD-set-other b (to + k) q v nan (λ e. omega arith) ∙ s .front q g;
-      cells = λ q g. elim (decLt q k) [
-        | yes a ↦ getD-set-other b (to + k) (to + q) v nan (λ e. omega arith) ∙ s .cells q a
-        | no a ↦ subst (λ (m : ℕ). getD (set b (to + k) v) (to + m) nan ≡ getD b₀ (from + m) nan) (same k q a g)
-            (getD-set-same b (to + k) v nan fit ∙ s .unread k (omega arith))
-      ];
-      unread = λ q g. getD-set-other b (to + k) (from + q) v nan (λ e. omega arith) ∙ s .unread q (omega arith);
-      rest = λ q g. getD-set-other b (to + k) q v nan (λ e. omega arith) ∙ s .rest q g;
-    }
-  where
-    same : (k q : ℕ) → (q < k → ⊥) → q < k + 1 → k ≡ q
-    same k q a g = omega arith
-
-pub down-done : (b₀ : List Float) (from to count k : ℕ) (b : List Float) → count ≤ k → Down b₀ from to count k b
-    → CellsMoved b₀ from to count b
-down-done b₀ from to count k b h s = record {
-  size = s .size;
-  front = λ q g f. s .front q f;
-  cells = λ q g. s .cells q (omega arith);
-  rest = s .rest;
-}
-
--- moving up, the cells from k on are done
-pub record Up (b₀ : List Float) (from to count k : ℕ) (b : List Float) : Type 0 where
-  pub size : length b ≡ length b₀
-  pub most : k ≤ count
-  pub cells : (q : ℕ) → k ≤ q → q < count → getD b (to + q) nan ≡ getD b₀ (from + q) nan
-  pub unread : (q : ℕ) → q < to + k → getD b q nan ≡ getD b₀ q nan
-  pub rest : SameFrom (to + count) b₀ b
-
-pub up-start : (b : List Float) (from to count : ℕ) → Up b from to count count b
-up-start b from to count = record {
-  size = refl;
-  most = omega arith;
-  cells = λ q h g. absurd (omega arith);
-  unread = λ q h. refl;
-  rest = λ q h. refl;
-}
-
-pub up-step : (b₀ : List Float) (from to count k : ℕ) (b : List Float) → from ≤ to → to + count ≤ length b₀ → 0 < k
-    → Up b₀ from to count k b → Up b₀ from to count (k - 1) (set b (to + (k - 1)) (getD b (from + (k - 1)) nan))
-up-step b₀ from to count k b d r h s =
-    let j = k - 1 in
+-- the cell j, next to those that are done, is not written over yet
+pub moving-turn : (b₀ : List Float) (from to lo hi j lo′ hi′ : ℕ) (b : List Float) → Moving b₀ from to lo hi b → to + j < length b₀
+    → getD b (from + j) nan ≡ getD b₀ (from + j) nan → lo′ ≤ lo → hi ≤ hi′ → lo′ ≤ j → j < hi′
+    → ((q : ℕ) → lo′ ≤ q → q < hi′ → (j ≡ q) ⊎ ((j ≡ q → ⊥) × (lo ≤ q) × (q < hi)))
+    → Moving b₀ from to lo′ hi′ (set b (to + j) (getD b (from + j) nan))
+moving-turn b₀ from to lo hi j lo′ hi′ b s fit unread below above least most among =
     let v = getD b (from + j) nan in
-    let fit : to + j < length b = omega (arith, s .size, s .most) in
     record {
       size = length-set b (to + j) v ∙ s .size;
-      most = omega (arith, s .most);
-      cells = λ q g f. elim (decLt j q) [
-        | yes a ↦ getD-set-other b (to + j) (to + q) v nan (λ e. omega arith) ∙ s .cells q (omega arith) f
-        | no a ↦ subst (λ (m : ℕ). getD (set b (to + j) v) (to + m) nan ≡ getD b₀ (from + m) nan) (same j q a g)
-            (getD-set-same b (to + j) v nan fit ∙ s .unread (from + j) (omega arith))
+      cells = λ q g f. elim (among q g f) [
+        | inl e ↦ subst (λ (m : ℕ). getD (set b (to + j) v) (to + m) nan ≡ getD b₀ (from + m) nan) e
+            (getD-set-same b (to + j) v nan (omega (arith, s .size)) ∙ unread)
+        | inr e ↦ getD-set-other b (to + j) (to + q) v nan (λ d. e .0 (omega arith)) ∙ s .cells q (e .1) (e .2)
       ];
-      unread = λ q g. getD-set-other b (to + j) q v nan (λ e. omega arith) ∙ s .unread q (omega arith);
-      rest = λ q g. getD-set-other b (to + j) q v nan (λ e. omega (arith, s .most)) ∙ s .rest q g;
+      front = λ q g. getD-set-other b (to + j) q v nan (λ e. omega arith) ∙ s .front q (omega arith);
+      rest = λ q g. getD-set-other b (to + j) q v nan (λ e. omega arith) ∙ s .rest q (omega arith);
     }
-  where
-    same : (k q : ℕ) → (k < q → ⊥) → k ≤ q → k ≡ q
-    same k q a g = omega arith
 
-pub up-done : (b₀ : List Float) (from to count k : ℕ) (b : List Float) → k ≤ 0 → from ≤ to → Up b₀ from to count k b
-    → CellsMoved b₀ from to count b
-up-done b₀ from to count k b h d s = record {
+pub moving-done : (b₀ : List Float) (from to lo hi count : ℕ) (b : List Float) → lo ≤ 0 → count ≤ hi → hi ≤ count
+    → Moving b₀ from to lo hi b → CellsMoved b₀ from to count b
+moving-done b₀ from to lo hi count b l h g s = record {
   size = s .size;
-  front = λ q g f. s .unread q (omega arith);
-  cells = λ q g. s .cells q (omega arith) g;
-  rest = s .rest;
+  front = λ q a c. s .front q (omega arith);
+  cells = λ q a. s .cells q (omega arith) (omega arith);
+  rest = λ q a. s .rest q (omega arith);
 }
 
 -- ---- a run of ends in front of cells that were moved

@@ -1,16 +1,18 @@
 -- What the passes over the pairs of a list keep.
 use mathlib.Core.Path.{_≡_, refl, sym, _∙_, ap, subst}
+use mathlib.Core.Bool.{true}
 use mathlib.Core.List.{List, [], _∷_, _++_, append-nil, append-assoc}
 use Prim.Native.Nat.{ℕ, _+_, _-_, _%_, _≤_, _<_}
 use native.Mathlib.Omega.{arith}
 use lib.ListN.{length, getD, take, drop, length-drop, drop-of-length-le}
 use lib.Seq.{length-take-le}
 use lib.Ieee.{Float, nan}
-use Rattle.spans.specs.Spans.{retained, NormalOf}
+use Rattle.spans.specs.Spans.{sound, retained, NormalOf}
 use Rattle.spans.specs.Steps.{SameFrom, PutPairPost, FilledFront}
+use Rattle.spans.specs.declared.Place.{Place}
 use Rattle.span_insert.specs.Steps.{InsertPost}
 use Rattle.span_hits.proofs.Reading.{HitAt}
-use Rattle.span_join.specs.Steps.{JoinedFromFront, JoinedFromBack, ListInFront}
+use Rattle.span_join.specs.Steps.{JoinedPart, JoinedFromFront, JoinedFromBack, ListInFront}
 use Rattle.spans.proofs.Points.{take-pair, drop-pair}
 use Rattle.spans.proofs.Normal.{normal-none, normal-then, normal-swap}
 use Rattle.spans.proofs.Sets.{sound-mod}
@@ -89,6 +91,14 @@ gather-all spans b₀ b at n k fit h s = gather-done spans b₀ b at n k fit s (
 pub filled-even : (pairs b₀ b : List Float) (limit n : ℕ) → limit ≤ length b₀ → FilledFront (NormalOf pairs) b₀ limit b n → n % 2 ≡ 0
 filled-even pairs b₀ b limit n fit s =
     omega (arith, sound-mod (take n b) (s .list .list .isSound), length-take-le n b (omega (arith, s .most, s .size)))
+
+-- the part so far, of which a buffer that takes all pairs has room: it may be read, and takes a pair more
+module _ (part : List Float) (limit : ℕ) (spans b₀ b : List Float) (r : Place) (s : JoinedPart part limit spans b₀ b r) where
+  pub part-read : limit ≤ length b₀ → (r .end % 2 ≡ 0) × (r .end ≤ length b)
+  part-read fit = (filled-even part b₀ b limit (r .end) fit (s .filled), omega (arith, s .filled .size, s .filled .most))
+
+  pub part-room : limit + 2 ≤ length b₀ → (r .end + 2 ≤ length b) × (sound (take (r .end) b) ≡ true)
+  part-room fit = (omega (arith, s .filled .size, s .filled .most), s .filled .list .list .isSound)
 
 -- no pairs yet
 filled-none : (b : List Float) → FilledFront (NormalOf []) b 0 b 0

@@ -14,13 +14,15 @@ pub record ListInFront (list before after : List Float) (r : ℕ) : Type 0 where
   pub count : r ≡ length list
   pub ends : take r after ≡ list
 
--- the first cells are what normalising makes of the first `passed` ends; of those from `passed` on
-pub record JoinedFromFront (spans before after : List Float) (r : Place) : Type 0 where
+-- the first cells are what normalising makes of a part of the pairs, which has `limit` ends
+pub record JoinedPart (part : List Float) (limit : ℕ) (spans before after : List Float) (r : Place) : Type 0 where
   pub passedMost : r .passed ≤ length spans
   pub passedEven : r .passed % 2 ≡ 0
-  pub filled : FilledFront (NormalOf (take (r .passed) spans)) before (r .passed) after (r .end)
+  pub filled : FilledFront (NormalOf part) before limit after (r .end)
 
-pub record JoinedFromBack (spans before after : List Float) (r : Place) : Type 0 where
-  pub passedMost : r .passed ≤ length spans
-  pub passedEven : r .passed % 2 ≡ 0
-  pub filled : FilledFront (NormalOf (drop (r .passed) spans)) before (length spans - r .passed) after (r .end)
+-- the part is the first `passed` ends; those from `passed` on
+abbrev pub JoinedFromFront : List Float → List Float → List Float → Place → Type 0
+JoinedFromFront spans before after r = JoinedPart (take (r .passed) spans) (r .passed) spans before after r
+
+abbrev pub JoinedFromBack : List Float → List Float → List Float → Place → Type 0
+JoinedFromBack spans before after r = JoinedPart (drop (r .passed) spans) (length spans - r .passed) spans before after r

@@ -1,7 +1,7 @@
 -- The laws of `NormalOf`: it depends on the pairs only as a set of pairs, and pairs may be normalised in parts.
 use mathlib.Core.Path.{_≡_, refl, sym, _∙_, ap, ap₂, subst}
 use mathlib.Core.Logic.{_⊎_, inl, inr}
-use mathlib.Core.Bool.{Bool, true, false, _||_, or-comm, true≢false}
+use mathlib.Core.Bool.{Bool, true, false, _||_, or-comm, true≢false, false≢true}
 use mathlib.Core.List.{
   List,
   [],
@@ -19,11 +19,12 @@ use mathlib.Core.List.{
 use Prim.Native.Nat.{_%_, _≤_}
 use native.Mathlib.Omega.{arith}
 use lib.ListN.{length}
-use lib.Ieee.{Float, lt}
-use Rattle.spans.specs.Spans.{All, within, holds, rising, sound, retained, ListOf, NormalOf, pairIf}
-use Rattle.logic.proofs.Bools.{by-cases}
-use Rattle.spans.proofs.Ends.{not-not, oddN, all-map, rising-above, rising-tail}
-use Rattle.spans.proofs.Sets.{oddN-mod, sound-rising, sound-even, sound-mod}
+use lib.Ieee.{Float, lt, eq}
+use Rattle.spans.specs.Spans.{All, within, holds, rising, sound, equal, retained, ListOf, NormalOf, pairIf}
+use Rattle.logic.proofs.Bools.{and-left, and-right, by-cases, clash}
+use Rattle.doubles.proofs.Order.{lt-irrefl, lt-eq-right}
+use Rattle.spans.proofs.Ends.{Over, Above, not-not, oddN, all-map, rising-above, rising-tail}
+use Rattle.spans.proofs.Sets.{oddN-mod, same-set, sound-rising, sound-even, sound-mod}
 use Rattle.spans.proofs.Points.{or-false, retained-holds, holds-append}
 
 -- ---- each end of a list is in it, and what holds of each end holds of one that is in it
@@ -31,7 +32,7 @@ pub all-in : (l : List Float) → All (λ e. List·Memᴰ e l) l
 all-in [] = tt
 all-in (x ∷ l) = (List·Memᴰ·head refl, all-map (λ e. List·Memᴰ e l) (λ e. List·Memᴰ e (x ∷ l)) (λ e h. List·Memᴰ·tail h) l (all-in l))
 
-all-of : (P : Float → Type 0) (l : List Float) → All P l → (e : Float) → List·Memᴰ e l → P e
+pub all-of : (P : Float → Type 0) (l : List Float) → All P l → (e : Float) → List·Memᴰ e l → P e
 all-of P (x ∷ l) h e (List·Memᴰ·head q) = subst P (sym q) (h .0)
 all-of P (x ∷ l) h e (List·Memᴰ·tail m) = all-of P l (h .1) e m
 
@@ -157,3 +158,34 @@ normal-pair l m lo hi s is d = record {
     kept : retained (l ++ (lo ∷ hi ∷ [])) ≡ l ++ pairIf lo hi
     kept = retained-append l (lo ∷ hi ∷ []) (sound-mod l s)
         ∙ ap₂ _++_ (retained-sound l s) (retained-cons lo hi [] ∙ append-nil (pairIf lo hi))
+
+-- ---- a sound list is normalised to itself
+-- an end above x of a list that starts with x stands past it
+past-first : (x : Float) (s l : List Float) → Above x l → All (λ e. List·Memᴰ e (x ∷ s)) l → All (λ e. List·Memᴰ e s) l
+past-first x s [] up d = tt
+past-first x s (e ∷ l) up d = (go (d .0), past-first x s l (up .1) (d .1))
+  where
+    go : List·Memᴰ e (x ∷ s) → List·Memᴰ e s
+    go (List·Memᴰ·head q) = absurd (clash (lt x x) (subst (Over x) q (up .0)) (lt-irrefl x))
+    go (List·Memᴰ·tail m) = m
+
+-- rising lists that are equal as numbers are one list where each end of the one is an end of the other
+rising-same : (s l : List Float) → rising s ≡ true → rising l ≡ true → equal l s ≡ true → All (λ e. List·Memᴰ e s) l → l ≡ s
+unfolding equal
+rising-same [] [] rs rl h d = refl
+rising-same [] (e ∷ l) rs rl h d = absurd (false≢true h)
+rising-same (x ∷ s) [] rs rl h d = absurd (false≢true h)
+rising-same (x ∷ s) (e ∷ l) rs rl h d =
+    let first : e ≡ x = go (d .0) in
+    ap₂ _∷_ first (rising-same s l (rising-tail x s rs) (rising-tail e l rl) (and-right (eq e x) (equal l s) h)
+    (past-first x s l (subst (λ (z : Float). Above z l) first (rising-above e l rl)) (d .1)))
+  where
+    go : List·Memᴰ e (x ∷ s) → e ≡ x
+    go (List·Memᴰ·head q) = q
+    go (List·Memᴰ·tail m) = absurd (clash (lt x x)
+        (sym (lt-eq-right e x x (and-left (eq e x) (equal l s) h)) ∙ all-of (Over x) s (rising-above x s rs) e m) (lt-irrefl x))
+
+pub normal-self : (s l : List Float) → sound s ≡ true → NormalOf s l → l ≡ s
+normal-self s l ss n =
+    rising-same s l (sound-rising s ss) (sound-rising l (n .list .isSound)) (same-set l s (n .list .isSound) ss (λ p k. n .list .points p))
+    (rw (retained-sound s ss) at (n .drawn))

@@ -1,4 +1,4 @@
--- Valid rays, and the test of containment that reads two lists once.
+-- Valid rays, and the lists of a ray after a merge.
 use mathlib.Core.Path.{_≡_}
 use mathlib.Core.Bool.{Bool, true, _&&_}
 use mathlib.Core.List.{List, [], _∷_}

@@ -7,8 +7,6 @@
 // number of the first row that differs.
 use span_compare::BoolAnswer;
 use spans::ListAnswer;
-use vector_rows::RowCounts;
-use vector_rows::RowOutcome;
 
 // A refusal's number or 0, and the number of pairs, or 1 for yes.
 struct Reply {
@@ -100,29 +98,11 @@ fn agrees(w: &[u64; 35]) -> bool {
     vector_rows::cells_agree(&out, w, 20, ends_of(w[0], r), 15)
 }
 
-fn compared(text: &[u8]) -> RowOutcome {
-    let mut w = [0; 35];
-    if !vector_rows::read_words(text, 0, &mut w) {
-        return RowOutcome::Unread;
-    }
-    vector_rows::told(w[0], 5, agrees(&w))
-}
-
-// The turns are counted down, since a proved loop has to end and nothing says that the input does.
-fn counted() -> RowCounts {
-    let mut t = vector_rows::start();
-    let mut turns = u64::MAX;
-    while turns > 0 {
-        let mut text = [0u8; 595];
-        if !vector_rows::read_row(&mut text) {
-            break;
-        }
-        t = vector_rows::count(t, compared(&text));
-        turns -= 1;
-    }
-    t
-}
-
 fn main() {
-    vector_rows::print(b"normalize subtract intersect contains overlaps", counted());
+    let mut w = [0; 35];
+    let mut r = vector_rows::first_row(16, &mut w);
+    while r.left > 0 {
+        r = vector_rows::next_row(r, w[0], 5, agrees(&w), 16, &mut w);
+    }
+    vector_rows::print(b"normalize subtract intersect contains overlaps", r.counts);
 }

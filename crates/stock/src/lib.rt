@@ -43,14 +43,14 @@ fn check_ray(
     ensures { λ r. ⌜ Decides (ValidAt spec g (cells (now (spans .entry)) (now (links .entry)) (now (heads .entry))) ray) r ⌝ }
 {
     let n = spec.max_intervals as usize;
-    let j = 2 * (ray as usize);
+    let head = store::ray_heads(heads, ray as usize);
     let bounds = grid_rays::ray_bounds(spec, g, ray);
     store_read::valid_ray_at(
         spans,
         links,
         n,
-        heads[j],
-        heads[j + 1],
+        head.possible,
+        head.certain,
         bounds.lo,
         bounds.hi,
     )

@@ -10,8 +10,6 @@ use ray_subtract::MergedList;
 use stock_fill::FillAnswer;
 use stock_volume::DexelVolume;
 use stock_volume::VolumeAnswer;
-use vector_rows::RowCounts;
-use vector_rows::RowOutcome;
 
 // Words 1 to 5: the cells of possible, certain, outer, inner and the work buffer; 6, 7: the bounds; the lists from 8, 14, 20 and 26 on.
 fn merge_on(w: &[u64; 87], work: &mut [f64]) -> MergeAnswer {
@@ -193,29 +191,11 @@ fn agrees(w: &[u64; 87]) -> bool {
     volume_agrees(w)
 }
 
-fn compared(text: &[u8]) -> RowOutcome {
-    let mut w = [0; 87];
-    if !vector_rows::read_words(text, 0, &mut w) {
-        return RowOutcome::Unread;
-    }
-    vector_rows::told(w[0], 3, agrees(&w))
-}
-
-// The turns are counted down, since a proved loop has to end and nothing says that the input does.
-fn counted() -> RowCounts {
-    let mut t = vector_rows::start();
-    let mut turns = u64::MAX;
-    while turns > 0 {
-        let mut text = [0u8; 1479];
-        if !vector_rows::read_row(&mut text) {
-            break;
-        }
-        t = vector_rows::count(t, compared(&text));
-        turns -= 1;
-    }
-    t
-}
-
 fn main() {
-    vector_rows::print(b"merge fill volume", counted());
+    let mut w = [0; 87];
+    let mut r = vector_rows::first_row(16, &mut w);
+    while r.left > 0 {
+        r = vector_rows::next_row(r, w[0], 3, agrees(&w), 16, &mut w);
+    }
+    vector_rows::print(b"merge fill volume", r.counts);
 }

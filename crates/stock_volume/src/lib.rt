@@ -61,14 +61,14 @@ fn add_ray(
     ensures { λ r. ⌜ AddVolumePost spec g (cells (now (spans .entry)) (now (links .entry)) (now (heads .entry))) area ray v r ⌝ }
 {
     let n = spec.max_intervals as usize;
-    let j = 2 * (ray as usize);
+    let head = store::ray_heads(heads, ray as usize);
     let bounds = grid_rays::ray_bounds(spec, g, ray);
     let r = store_read::measure_ray(
         spans,
         links,
         n,
-        heads[j],
-        heads[j + 1],
+        head.possible,
+        head.certain,
         bounds.lo,
         bounds.hi,
     );

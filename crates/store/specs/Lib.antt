@@ -1,4 +1,5 @@
 pub mod Store
+pub mod Layout
 pub mod Walks
 pub mod Fills
 pub mod Updates

@@ -1,11 +1,54 @@
-// The lent store, and its check in linear time with no memory of its own.
+// The lent store: what its cells hold for a ray and for a record, and its check in linear time with no memory of its own.
 ghost use mathlib.Core.Path.{_≡_};
 ghost use mathlib.Core.Bool.{true};
 ghost use Prim.Native.Nat.{_+_, _-_, _*_, _<_, _≤_};
 ghost use lib.ListN.{length};
 ghost use Rattle.store.specs.Store.{isPlusZero, usedAt, ChainsSound, cells};
+ghost use Rattle.store.specs.Layout.{headsOf, recordOf};
 ghost use Rattle.store.specs.Walks.{walkFrom, walkAll};
 ghost use Rattle.logic.specs.Logic.{countTo};
+
+// The numbers of the first records of a ray's two lists, zero for an empty one.
+pub struct RayHeads {
+    pub possible: u64,
+    pub certain: u64,
+}
+
+pub fn ray_heads(heads: &[u64], ray: usize) -> RayHeads
+    requires { ⌜ 2 * ray + 1 < length (now heads) ⌝ }
+    ensures { λ r. ⌜ r ≡ headsOf (now (heads .entry)) ray ⌝ }
+{
+    RayHeads {
+        possible: heads[2 * ray],
+        certain: heads[2 * ray + 1],
+    }
+}
+
+// The head of a ray's possible list alone: who reads no more asks for no more cells.
+pub fn possible_head(heads: &[u64], ray: usize) -> u64
+    requires { ⌜ 2 * ray < length (now heads) ⌝ }
+    ensures { λ r. ⌜ r ≡ headsOf (now (heads .entry)) ray .possible ⌝ }
+{
+    heads[2 * ray]
+}
+
+// A record as a reader of its list sees it: its pair, and the number of the next record.
+pub struct Record {
+    pub lo: f64,
+    pub hi: f64,
+    pub next: u64,
+}
+
+pub fn record_at(spans: &[f64], links: &[u64], i: usize) -> Record
+    requires { ⌜ (2 * i + 1 < length (now spans)) × (2 * i < length (now links)) ⌝ }
+    ensures { λ r. ⌜ r ≡ recordOf (now (spans .entry)) (now (links .entry)) i ⌝ }
+{
+    Record {
+        lo: spans[2 * i],
+        hi: spans[2 * i + 1],
+        next: links[2 * i],
+    }
+}
 
 fn plus_zero(x: f64) -> bool
     ensures { λ r. ⌜ r ≡ isPlusZero x ⌝ }

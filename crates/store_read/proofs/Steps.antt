@@ -1,7 +1,7 @@
 -- One record of a chain that is read: its pair, and the list from the next record on.
 use mathlib.Core.Path.{_≡_, refl, ap}
 use mathlib.Core.List.{List, [], _∷_}
-use Prim.Native.Nat.{ℕ, suc, _-_, _*_, _≤_, _<_}
+use Prim.Native.Nat.{ℕ, suc, _+_, _-_, _*_, _≤_, _<_}
 use native.Mathlib.Omega.{arith}
 use lib.Ieee.{Float}
 use lib.ListN.{length, getD}
@@ -41,6 +41,12 @@ step {n} {spans} {links} {k} r ne =
       next = record { in-spans = r .in-spans; linked = s .next };
       less = s .less;
     }
+
+-- the record's cells are there
+pub record-there : {n : ℕ} {spans : List Float} {links : List ℕ} {k : ℕ} → Readable n spans links k → (k ≡ 0 → ⊥)
+    → (2 * (k - 1) + 1 < length spans) × (2 * (k - 1) < length links)
+record-there r ne = let h = link-step (r .linked) ne .counted in
+    (omega (arith, h, r .in-spans), omega (arith, h, r .linked .in-links))
 
 pub no-ends : (n : ℕ) (spans : List Float) (links : List ℕ) (k : ℕ) → k ≡ 0 → listFrom n spans links k ≡ []
 unfolding endsAt

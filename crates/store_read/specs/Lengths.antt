@@ -1,4 +1,4 @@
--- The length of a list, and what the functions that test and measure a ray of the store answer.
+-- The length of a list.
 use mathlib.Core.List.{List, [], _∷_}
 use lib.Ieee.{Float, binary64, add, sub}
 

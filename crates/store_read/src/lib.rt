@@ -1,26 +1,88 @@
-// Tests and measures the rays of a lent store on their chains, with no memory of its own.
-// Reads the lists of a lent store off their chains, with no memory of its own.
+// Reads the lists of a lent store off their chains, and tests and measures its rays there, with no memory of its own.
 ghost use mathlib.Core.Path.{_≡_};
 ghost use mathlib.Core.Bool.{true, not, _&&_};
-ghost use Prim.Native.Nat.{_+_, _*_, _<_, _≤_};
+ghost use Prim.Native.Nat.{_+_, _≤_};
 ghost use lib.ListN.{length};
 ghost use lib.Ieee.{lt, le};
 ghost use Rattle.spans.specs.Spans.{sound, equal};
-ghost use Rattle.store.specs.Store.{loAt, hiAt, listFrom, places};
+ghost use Rattle.store.specs.Store.{listFrom, places};
 ghost use Rattle.spans.specs.Rays.{ValidRay, bounded};
 ghost use Rattle.store_read.specs.Reading.{Readable, Linked, ReadListPost};
 ghost use Rattle.spans.specs.Containment.{covers, contained};
 ghost use Rattle.store_read.specs.Steps.{startsIn, ListSumPost, RaySumsPost, ReachPost};
+use store::Record;
 
-// Whether the pair at place i does not begin at x or below, and has lo < hi.
-fn follows(spans: &[f64], i: usize, x: f64) -> bool
-    requires { ⌜ 2 * i + 1 < length (now spans) ⌝ }
-    ensures { λ r. ⌜ r ≡ (not (le (loAt (now (spans .entry)) i) x) && lt (loAt (now (spans .entry)) i) (hiAt (now (spans .entry)) i)) ⌝ }
+// How many pairs the list has.
+pub fn list_pairs(links: &[u64], n: usize, head: u64) -> usize
+    requires { ⌜ Linked n (now links) head ⌝ }
+    ensures { λ r. ⌜ r ≡ length (places (now (links .entry)) n head) ⌝ }
 {
-    if spans[2 * i] <= x {
+    let mut c: usize = 0;
+    let mut k = head;
+    while k != 0 {
+        let i = (k - 1) as usize;
+        k = links[2 * i];
+        c += 1;
+    }
+    c
+}
+
+// Copies the list into the buffer from cell `at` on, and says which cell is past it.
+pub fn read_list(
+    spans: &[f64],
+    links: &[u64],
+    n: usize,
+    head: u64,
+    out: &mut [f64],
+    at: usize,
+) -> usize
+    requires { ⌜ Readable n (now spans) (now links) head × (at + length (listFrom n (now spans) (now links) head) ≤ length (now out)) ⌝ }
+    ensures { λ r. ⌜ ReadListPost (listFrom n (now (spans .entry)) (now (links .entry)) head) (now (out .entry)) at (now (out .exit)) r ⌝ }
+{
+    let mut t = at;
+    let mut k = head;
+    while k != 0 {
+        let r = store::record_at(spans, links, (k - 1) as usize);
+        out[t] = r.lo;
+        out[t + 1] = r.hi;
+        k = r.next;
+        t += 2;
+    }
+    t
+}
+
+// Whether the list has these ends, as numbers.
+pub fn list_is(spans: &[f64], links: &[u64], n: usize, head: u64, pairs: &[f64]) -> bool
+    requires { ⌜ Readable n (now spans) (now links) head ⌝ }
+    ensures { λ r. ⌜ r ≡ equal (listFrom n (now (spans .entry)) (now (links .entry)) head) (now (pairs .entry)) ⌝ }
+{
+    let mut t: usize = 0;
+    let mut k = head;
+    while k != 0 {
+        if pairs.len() - t < 2 {
+            return false;
+        }
+        let r = store::record_at(spans, links, (k - 1) as usize);
+        if !(r.lo == pairs[t]) {
+            return false;
+        }
+        if !(r.hi == pairs[t + 1]) {
+            return false;
+        }
+        k = r.next;
+        t += 2;
+    }
+    t == pairs.len()
+}
+
+// Whether the record's pair does not begin at x or below, and has lo < hi.
+fn follows(pair: Record, x: f64) -> bool
+    ensures { λ r. ⌜ r ≡ (not (le (pair .lo) x) && lt (pair .lo) (pair .hi)) ⌝ }
+{
+    if pair.lo <= x {
         return false;
     }
-    spans[2 * i] < spans[2 * i + 1]
+    pair.lo < pair.hi
 }
 
 // Whether the list is empty or does not begin below `low`.
@@ -31,8 +93,8 @@ fn starts_within(spans: &[f64], links: &[u64], n: usize, head: u64, low: f64) ->
     if head == 0 {
         return true;
     }
-    let first = (head - 1) as usize;
-    low <= spans[2 * first]
+    let first = store::record_at(spans, links, (head - 1) as usize);
+    low <= first.lo
 }
 
 // Whether a list passes a test, and if so the sum of its pairs' lengths.
@@ -59,16 +121,16 @@ fn sound_between(spans: &[f64], links: &[u64], n: usize, head: u64, low: f64, hi
     let mut last = 0.0 / 0.0;
     let mut k = head;
     while k != 0 {
-        let i = (k - 1) as usize;
-        if !follows(spans, i, last) {
+        let r = store::record_at(spans, links, (k - 1) as usize);
+        if !follows(r, last) {
             return ListSum {
                 good: false,
                 length: sum,
             };
         }
-        last = spans[2 * i + 1];
-        sum = sum + (last - spans[2 * i]);
-        k = links[2 * i];
+        last = r.hi;
+        sum = sum + (r.hi - r.lo);
+        k = r.next;
     }
     if head == 0 {
         return ListSum {
@@ -89,27 +151,26 @@ fn first_reaching(spans: &[f64], links: &[u64], n: usize, head: u64, x: f64) -> 
 {
     let mut k = head;
     while k != 0 {
-        let i = (k - 1) as usize;
-        if !(spans[2 * i + 1] < x) {
+        let r = store::record_at(spans, links, (k - 1) as usize);
+        if !(r.hi < x) {
             return k;
         }
-        k = links[2 * i];
+        k = r.next;
     }
     k
 }
 
-// Whether the first pair from record number `outer` on reaches over the pair at place i.
-fn reaches_over(spans: &[f64], links: &[u64], n: usize, outer: u64, i: usize) -> bool
-    requires { ⌜ Readable n (now spans) (now links) outer × (2 * i + 1 < length (now spans)) ⌝ }
-    ensures { λ r. ⌜ r ≡ covers (listFrom n (now (spans .entry)) (now (links .entry)) outer)
-        (loAt (now (spans .entry)) i) (hiAt (now (spans .entry)) i) ⌝ }
+// Whether the first pair from record number `outer` on reaches over the record's pair.
+fn reaches_over(spans: &[f64], links: &[u64], n: usize, outer: u64, pair: Record) -> bool
+    requires { ⌜ Readable n (now spans) (now links) outer ⌝ }
+    ensures { λ r. ⌜ r ≡ covers (listFrom n (now (spans .entry)) (now (links .entry)) outer) (pair .lo) (pair .hi) ⌝ }
 {
     if outer == 0 {
         return false;
     }
-    let q = (outer - 1) as usize;
-    if spans[2 * q] <= spans[2 * i] {
-        return spans[2 * i + 1] <= spans[2 * q + 1];
+    let over = store::record_at(spans, links, (outer - 1) as usize);
+    if over.lo <= pair.lo {
+        return pair.hi <= over.hi;
     }
     false
 }
@@ -127,23 +188,23 @@ fn sound_within(spans: &[f64], links: &[u64], n: usize, outer: u64, inner: u64) 
     let mut o = outer;
     let mut k = inner;
     while k != 0 {
-        let i = (k - 1) as usize;
-        if !follows(spans, i, last) {
+        let r = store::record_at(spans, links, (k - 1) as usize);
+        if !follows(r, last) {
             return ListSum {
                 good: false,
                 length: sum,
             };
         }
-        last = spans[2 * i + 1];
+        last = r.hi;
         o = first_reaching(spans, links, n, o, last);
-        if !reaches_over(spans, links, n, o, i) {
+        if !reaches_over(spans, links, n, o, r) {
             return ListSum {
                 good: false,
                 length: sum,
             };
         }
-        sum = sum + (last - spans[2 * i]);
-        k = links[2 * i];
+        sum = sum + (r.hi - r.lo);
+        k = r.next;
     }
     ListSum {
         good: true,
@@ -206,67 +267,4 @@ pub fn valid_ray_at(
 {
     let r = measure_ray(spans, links, n, possible, certain, low, high);
     r.valid
-}
-
-// How many pairs the list has.
-pub fn list_pairs(links: &[u64], n: usize, head: u64) -> usize
-    requires { ⌜ Linked n (now links) head ⌝ }
-    ensures { λ r. ⌜ r ≡ length (places (now (links .entry)) n head) ⌝ }
-{
-    let mut c: usize = 0;
-    let mut k = head;
-    while k != 0 {
-        let i = (k - 1) as usize;
-        k = links[2 * i];
-        c += 1;
-    }
-    c
-}
-
-// Copies the list into the buffer from cell `at` on, and says which cell is past it.
-pub fn read_list(
-    spans: &[f64],
-    links: &[u64],
-    n: usize,
-    head: u64,
-    out: &mut [f64],
-    at: usize,
-) -> usize
-    requires { ⌜ Readable n (now spans) (now links) head × (at + length (listFrom n (now spans) (now links) head) ≤ length (now out)) ⌝ }
-    ensures { λ r. ⌜ ReadListPost (listFrom n (now (spans .entry)) (now (links .entry)) head) (now (out .entry)) at (now (out .exit)) r ⌝ }
-{
-    let mut t = at;
-    let mut k = head;
-    while k != 0 {
-        let i = (k - 1) as usize;
-        out[t] = spans[2 * i];
-        out[t + 1] = spans[2 * i + 1];
-        k = links[2 * i];
-        t += 2;
-    }
-    t
-}
-
-// Whether the list has these ends, as numbers.
-pub fn list_is(spans: &[f64], links: &[u64], n: usize, head: u64, pairs: &[f64]) -> bool
-    requires { ⌜ Readable n (now spans) (now links) head ⌝ }
-    ensures { λ r. ⌜ r ≡ equal (listFrom n (now (spans .entry)) (now (links .entry)) head) (now (pairs .entry)) ⌝ }
-{
-    let mut t: usize = 0;
-    let mut k = head;
-    while k != 0 {
-        if pairs.len() - t < 2 {
-            return false;
-        }
-        let i = (k - 1) as usize;
-        if !(spans[2 * i] == pairs[t]) {
-            return false;
-        }
-        if !(spans[2 * i + 1] == pairs[t + 1]) {
-            return false;
-        }
-        k = links[2 * i];
-        t += 2;
-    }
-    t == pairs.len()
 }

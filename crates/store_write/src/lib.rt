@@ -1,5 +1,4 @@
-// Lays lists in the lowest free records of a store: one list, and both lists of a ray.
-// Frees the lists of a store: one list, and both lists of a ray.
+// Lays lists in the lowest free records of a lent store and frees them: one list, and both lists of a ray.
 ghost use mathlib.Core.Path.{_≡_};
 ghost use Prim.Native.Nat.{_+_, _-_, _*_, _<_, _≤_};
 ghost use lib.ListN.{length};
@@ -109,33 +108,6 @@ fn lay_list(
     filled.cursor
 }
 
-// Lays both lists of a ray, which stand end to end in the pairs from cell `at` on. None before place `from` is free.
-pub fn lay_ray(
-    spans: &mut [f64],
-    links: &mut [u64],
-    heads: &mut [u64],
-    n: usize,
-    from: usize,
-    ray: usize,
-    pairs: &[f64],
-    at: usize,
-    possible: usize,
-    certain: usize,
-) -> usize
-    requires { ⌜ (at + 2 * possible + 2 * certain ≤ length (now pairs)) × FreeCursor n (now spans) (now links) from
-        × LayRayPre n (cells (now spans) (now links) (now heads)) ray (pairsFrom (now pairs) at possible)
-        (pairsFrom (now pairs) (at + 2 * possible) certain) ⌝ }
-    ensures { λ r. ⌜ LayRayPost n (cells (now (spans .entry)) (now (links .entry)) (now (heads .entry))) ray
-        (pairsFrom (now (pairs .entry)) at possible) (pairsFrom (now (pairs .entry)) (at + 2 * possible) certain)
-        r (cells (now (spans .exit)) (now (links .exit)) (now (heads .exit))) ⌝ }
-{
-    let j = 2 * ray;
-    let e = at + 2 * possible;
-    let f = e + 2 * certain;
-    let next = lay_list(spans, links, heads, n, from, j, &pairs[at..e]);
-    lay_list(spans, links, heads, n, next, j + 1, &pairs[e..f])
-}
-
 // Frees the records of a chain.
 fn free_chain(spans: &mut [f64], links: &mut [u64], n: usize, owner: u64, head: u64)
     requires { ⌜ (2 * n ≤ length (now spans)) × (2 * n ≤ length (now links))
@@ -163,6 +135,33 @@ fn free_list(spans: &mut [f64], links: &mut [u64], heads: &mut [u64], n: usize, 
     let head = heads[j];
     free_chain(spans, links, n, (j as u64) + 1, head);
     heads[j] = 0;
+}
+
+// Lays both lists of a ray, which stand end to end in the pairs from cell `at` on. None before place `from` is free.
+pub fn lay_ray(
+    spans: &mut [f64],
+    links: &mut [u64],
+    heads: &mut [u64],
+    n: usize,
+    from: usize,
+    ray: usize,
+    pairs: &[f64],
+    at: usize,
+    possible: usize,
+    certain: usize,
+) -> usize
+    requires { ⌜ (at + 2 * possible + 2 * certain ≤ length (now pairs)) × FreeCursor n (now spans) (now links) from
+        × LayRayPre n (cells (now spans) (now links) (now heads)) ray (pairsFrom (now pairs) at possible)
+        (pairsFrom (now pairs) (at + 2 * possible) certain) ⌝ }
+    ensures { λ r. ⌜ LayRayPost n (cells (now (spans .entry)) (now (links .entry)) (now (heads .entry))) ray
+        (pairsFrom (now (pairs .entry)) at possible) (pairsFrom (now (pairs .entry)) (at + 2 * possible) certain)
+        r (cells (now (spans .exit)) (now (links .exit)) (now (heads .exit))) ⌝ }
+{
+    let j = 2 * ray;
+    let e = at + 2 * possible;
+    let f = e + 2 * certain;
+    let next = lay_list(spans, links, heads, n, from, j, &pairs[at..e]);
+    lay_list(spans, links, heads, n, next, j + 1, &pairs[e..f])
 }
 
 // Frees both lists of a ray.

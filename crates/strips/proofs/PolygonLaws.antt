@@ -1,7 +1,7 @@
--- Lists of corners: the length of a struct's array field, and laws of `widenAll` and `edges`.
+-- Lists of corners: the length of a struct's array field, and laws of `widenAll`, `edge` and `edges`.
 use mathlib.Core.Path.{_≡_, refl, sym, _∙_}
 use mathlib.Core.List.{List, [], _∷_, _++_, map}
-use mathlib.Core.Bool.{Bool}
+use mathlib.Core.Bool.{Bool, cond}
 use Prim.Native.Nat.{ℕ, zero, suc, _+_, _<_, _≤_}
 use native.Mathlib.Omega.{arith}
 use native.Mathlib.Numerals.{add-one}
@@ -10,7 +10,7 @@ use lib.Seq.{length-take-le, drop-cons, getD-take}
 use lib.Ieee.{Float}
 use Rattle.strips.specs.declared.Point.{Point}
 use Rattle.strips.specs.declared.Extent.{Extent}
-use Rattle.strips.specs.Polygon.{widenAll, widen, edges, clip, edge, headOr}
+use Rattle.strips.specs.Polygon.{inside, crossing, widenAll, widen, edges, clip, edge, headOr}
 
 pub length-field : (X Y : Type 0) (f : X → Y) (l : List X) (n : ℕ) → length (map f l) ≡ n → length l ≡ n
 length-field X Y f l n e = sym (length-map l f) ∙ e
@@ -19,6 +19,12 @@ pub widen-append : (e : Extent) (l r : List Point) → widenAll e (l ++ r) ≡ w
 unfolding widenAll
 widen-append e [] r = refl
 widen-append e (p ∷ l) r = widen-append (widen e p) l r
+
+-- what an edge adds, by what tests r and s of its ends found
+pub edge-by : (above : Bool) (b : Float) (p q : Point) {r s x y : Bool} → r ≡ inside above b p → r ≡ x → s ≡ inside above b q → s ≡ y
+    → edge above b p q ≡ cond x (cond y (p ∷ []) (p ∷ crossing b p q ∷ [])) (cond y (crossing b p q ∷ []) [])
+unfolding edge
+edge-by above b p q e h f k = rw (← e, h, ← f, k)
 
 -- the corner after the one at j - 1, of the first n of a buffer
 pub next-in : (f d : Point) (at : List Point) (n j : ℕ) → j < n → n ≤ length at → headOr f (drop j (take n at)) ≡ getD at j d

@@ -33,7 +33,7 @@ use Rattle.sweep_visits.specs.declared.VisitCursor.{VisitCursor}
 use Rattle.sweep_visits.specs.declared.Progress.{Progress}
 use Rattle.sweep_visits.specs.declared.Progress.the-variants.{At, Stopped}
 use Rattle.sweep_visits.proofs.Walks.{walk-done, walk-stop, stop-is, done-no-stop}
-use Rattle.sweep_model.specs.ChordLimits.{chordsFit}
+use Rattle.sweep_model.specs.ChordLimits.{BadChords}
 use Rattle.sweep_model.specs.SweepEntries.{Setting, setting, sweepEntries, logOf}
 use Rattle.sweep.specs.Answer.{SweepInputBad, settingCauses, walkOf, visitCauses, causesIn, sweepCauses, refusedLog, SweepPost}
 use Rattle.sweep.specs.declared.SweepAnswer.{SweepAnswer}
@@ -52,7 +52,7 @@ use Rattle.store.specs.Store.{Cells}
 -- ---- the check of a setting
 module _ (s : Setting) (intervals : ℕ) (chords : List Float) where
   abbrev chordCauses : List Cause
-  chordCauses = cause 7 (chordsFit (s .kernel .frame) (s .kernel .guard) chords ≡ false) ∷ []
+  chordCauses = cause 7 (BadChords (s .kernel .frame) (s .kernel .guard) chords) ∷ []
 
   pub check-short : (r : Bool) → r ≡ isShort (s .spec) (s .grid) (s .cells) → r ≡ true → SweepCheckPost s intervals chords (Declined 12)
   check-short r e t = first _ _ (sym e ∙ t)
@@ -89,12 +89,12 @@ module _ (s : Setting) (intervals : ℕ) (chords : List Float) where
             (subst (ToolCheckPost (s .profile .shape) (s .profile .cutter)) h c)))
 
         module _ (tool : ToolCheck) (c : ToolCheckPost (s .profile .shape) (s .profile .cutter) tool)
-            (h : tool ≡ Usable) (q : Bool) (f : q ≡ chordsFit (s .kernel .frame) (s .kernel .guard) chords) where
+            (h : tool ≡ Usable) (q : Bool) (f : Decides (BadChords (s .kernel .frame) (s .kernel .guard) chords) (not q)) where
           pub check-chords-bad : q ≡ false → SweepCheckPost s intervals chords (Declined 7)
           check-chords-bad n =
               later _ _ 7 long (later _ _ 7 fine
               (due-second (toolCauses (s .profile .shape) (s .profile .cutter)) chordCauses 7
-              (subst (ToolCheckPost (s .profile .shape) (s .profile .cutter)) h c) (first _ _ (sym f ∙ n))))
+              (subst (ToolCheckPost (s .profile .shape) (s .profile .cutter)) h c) (first _ _ (f .0 (ap not n)))))
 
           pub check-good : GridFacts (s .spec) (s .grid) → q ≡ true → SweepCheckPost s intervals chords Admitted
           unfolding NoneDue
@@ -105,8 +105,7 @@ module _ (s : Setting) (intervals : ℕ) (chords : List Float) where
                 fine,
                 none-in-both (toolCauses (s .profile .shape) (s .profile .cutter)) chordCauses
                     (subst (ToolCheckPost (s .profile .shape) (s .profile .cutter)) h c) (
-                      (λ (n : chordsFit (s .kernel .frame) (s .kernel .guard) chords ≡ false). clash
-                          (chordsFit (s .kernel .frame) (s .kernel .guard) chords) (sym f ∙ y) n),
+                      (λ (bad : BadChords (s .kernel .frame) (s .kernel .guard) chords). clash q y (not-true q (f .1 bad))),
                       tt,
                     ),
               ),

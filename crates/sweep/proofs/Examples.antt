@@ -19,7 +19,7 @@ use Rattle.grid.specs.Rays.{rayCount, raysAlong, offset, rayAxis, boundsOf, cel
 use Rattle.frame.specs.declared.Axis.the-variants.{PosZ}
 use Rattle.frame.specs.Frame.{frameOf, axisDigit, worldAxisOf, localAxisOf, signAlong, localAt, localOf, turned, worldOf}
 use Rattle.cutter.specs.Cutter.{isFinite, cuttingRadius, offTool, radiusAt, cutRadius, cutMax, cutMin}
-use Rattle.cutter.specs.Limits.{
+use Rattle.cutter.specs.Steps.{
   aboveZero,
   fromZero,
   isNotNan,
@@ -32,6 +32,7 @@ use Rattle.cutter.specs.Limits.{
   isBeam,
 }
 use Rattle.cutter.specs.declared.CutterShape.the-variants.{Flat}
+use Rattle.cutter.proofs.Limits.{beam-tells, fit-tool}
 use Rattle.strips.specs.Strip.{bandDistance, halfChord, chordStrip, diskStrip, stadiumStrip, hull, sideStrip}
 use Rattle.store.specs.Store.{places, endsAt}
 use Rattle.stock.specs.Stock.{SoundCells, isShort}
@@ -47,7 +48,9 @@ use Rattle.sweep_model.specs.Entries.{entryOf, entryFor, rayEntry, each, rowEnt
 use Rattle.sweep_model.specs.Walk.{walk}
 use Rattle.sweep_visits.proofs.Walks.{done-no-stop}
 use Rattle.sweep_model.specs.Chords.{chordOf}
-use Rattle.sweep_model.specs.ChordLimits.{guardFits, endsFit, planSize, lengthFits, numbersFit, chordFits, every, chordsFit}
+use Rattle.sweep_model.specs.ChordLimits.{planSize}
+use Rattle.sweep_model.specs.Steps.{guardFits, endsFit, lengthFits, numbersFit, chordFits, every, chordsFit}
+use Rattle.sweep_model.proofs.ChordLimits.{fit-chords}
 use Rattle.sweep_model.specs.SweepEntries.{trackOf, axisEntries, firstAxis, secondAxis, chordEntries, sweepEntries, visitTotal}
 use Rattle.sweep.specs.Answer.{SweepInputBad, causesIn, sweepCauses}
 use Rattle.sweep.specs.Examples.{SweepExamplesRight, halves, lent, blank, flat, sweeping, threeChords, fourEntries, sweepExamples}
@@ -118,11 +121,11 @@ example-accepted =
       (
         sound,
         (
-          (λ e. clash false e refl),
+          (λ e. clash false (beam-tells Flat e) refl),
           (
-            (λ e. clash _ tool-fits e),
+            fit-tool Flat flat tool-fits,
             (
-              (λ e. clash _ chords-fit e),
+              fit-chords (frameOf PosZ) (halves 1) threeChords chords-fit,
               (
                 (λ e. done-no-stop _ 5 8 fourEntries (examples-right .0) e),
                 ((λ e. done-no-stop _ 5 16 fourEntries (examples-right .0) e), tt),

@@ -1,6 +1,6 @@
 -- What a sweep answers, and what it leaves in the log.
 use mathlib.Core.Path.{_≡_}
-use mathlib.Core.Bool.{true, false, cond, _||_}
+use mathlib.Core.Bool.{true, cond, _||_}
 use mathlib.Core.List.{List, [], _∷_, _++_}
 use mathlib.Core.Logic.{_⊎_}
 use Prim.Native.Nat.{ℕ, _-_, _%_}
@@ -20,7 +20,7 @@ use Rattle.stock.specs.Stock.{SoundCells, isShort}
 use Rattle.sweep_model.specs.Kernel.{profileOf}
 use Rattle.sweep_model.specs.Entries.{loggedEntries}
 use Rattle.sweep_model.specs.Walk.{Walked, Stop, walk}
-use Rattle.sweep_model.specs.ChordLimits.{chordsFit}
+use Rattle.sweep_model.specs.ChordLimits.{BadChords}
 use Rattle.sweep_model.specs.SweepEntries.{Setting, setting, sweepEntries, logOf, visitTotal}
 use Rattle.sweep.specs.declared.Totals.{Totals}
 use Rattle.sweep.specs.declared.SweepAnswer.{SweepAnswer}
@@ -42,7 +42,7 @@ settingCauses s intervals chords =
     cause 12 (isShort (s .spec) (s .grid) (s .cells) ≡ true)
     ∷ cause 11 (SweepInputBad s intervals chords)
     ∷ (toolCauses (s .profile .shape) (s .profile .cutter)
-    ++ (cause 7 (chordsFit (s .kernel .frame) (s .kernel .guard) chords ≡ false) ∷ []))
+    ++ (cause 7 (BadChords (s .kernel .frame) (s .kernel .guard) chords) ∷ []))
 
 -- the walk over all rays, with a log of `len` cells
 abbrev pub walkOf : Setting → (chords : List Float) → (budget len : ℕ) → Walked

@@ -1,55 +1,33 @@
--- Document 01's limits for chords and for the guard. A NaN fails every test.
-use mathlib.Core.Bool.{Bool, true, _&&_}
+-- Refusal 7: document 01's limits for the guard and the chords.
 use mathlib.Core.List.{List}
-use Prim.Native.Nat.{ℕ, zero, suc, _/_}
-use lib.Ieee.{Float, binary64, ofBits, neg, sub, mul, lt, le}
-use lib.ListN.{length}
+use Prim.Native.Nat.{ℕ, _+_, _*_, _/_, _<_}
+use lib.Ieee.{Float, nan, binary64, ofBits, neg, sub, mul}
+use lib.ListN.{length, getD}
 use Rattle.doubles.specs.Constants.{one, plusZero, two}
 use Rattle.doubles.specs.Doubles.{largerOf, absOf}
-use Rattle.grid.specs.Grid.{isBetween, allBetween}
+use Rattle.doubles.specs.Ranges.{OutOf, OutOfPositive}
 use Rattle.frame.specs.declared.Frame.{Frame}
 use Rattle.sweep_model.specs.declared.Chord.{Chord}
-use Rattle.sweep_model.specs.Chords.{fromAt, toAt, chordOf}
+use Rattle.sweep_model.specs.Chords.{chordOf}
 
--- 2e6 and 1000
+-- 2e6
 abbrev pub twoMillion : Float
 twoMillion = ofBits binary64 0x413e_8480_0000_0000
 
+-- 1000
 abbrev pub thousand : Float
 thousand = ofBits binary64 0x408f_4000_0000_0000
 
--- the guard is in (0, 1]
-unfoldable pub guardFits : Float → Bool
-guardFits guard = lt plusZero guard && le guard one
-
--- each coordinate is finite and not beyond ±2e6
-unfoldable pub endsFit : List Float → ℕ → Bool
-endsFit chords i = allBetween (fromAt chords i) (neg twoMillion) twoMillion && allBetween (toAt chords i) (neg twoMillion) twoMillion
-
--- the larger of the sizes of the two local plan differences
+-- the larger of the two local plan differences' sizes
 unfoldable pub planSize : Chord → Float
 planSize c = largerOf (absOf (sub binary64 (c .b .x) (c .a .x))) (absOf (sub binary64 (c .b .y) (c .a .y)))
 
--- the plan length is at least that and at most twice that
-unfoldable pub lengthFits : Chord → Bool
-unfolding planSize
-lengthFits c = isBetween (c .length) (planSize c) (mul binary64 two (planSize c))
-
--- e is in [0, 1000], and the plan length fits
-unfoldable pub numbersFit : Chord → Bool
-unfolding lengthFits
-numbersFit c = isBetween (c .e) plusZero thousand && lengthFits c
-
-unfoldable pub chordFits : Frame → List Float → ℕ → Bool
-unfolding endsFit numbersFit chordOf
-chordFits f chords i = endsFit chords i && numbersFit (chordOf f chords i)
-
--- the test holds of the first n
-unfoldable pub every : (ℕ → Bool) → ℕ → Bool
-every test zero = true
-every test (suc n) = every test n && test n
-
--- the guard and all chords fit; where not, 7 is the refusal
-unfoldable pub chordsFit : Frame → (guard : Float) → List Float → Bool
-unfolding guardFits chordFits every
-chordsFit f guard chords = guardFits guard && every (chordFits f chords) (length chords / 8)
+-- 7 chord: a constructor for each clause of document 01. The first six doubles of a chord are its coordinates.
+pub data BadChords (f : Frame) (guard : Float) (chords : List Float) : Type 0 where
+  guard-out : OutOfPositive one guard → BadChords f guard chords
+  coordinate-out : (i j : ℕ) → i < length chords / 8 → j < 6
+      → OutOf (neg twoMillion) twoMillion (getD chords (8 * i + j) nan) → BadChords f guard chords
+  error-out : (i : ℕ) → i < length chords / 8 → OutOf plusZero thousand (chordOf f chords i .e) → BadChords f guard chords
+  plan-length-out : (i : ℕ) → i < length chords / 8
+      → OutOf (planSize (chordOf f chords i)) (mul binary64 two (planSize (chordOf f chords i))) (chordOf f chords i .length)
+      → BadChords f guard chords

@@ -12,19 +12,12 @@ use Rattle.sweep_model.specs.declared.Chord.{Chord}
 abbrev pub pointAt : List Float → ℕ → Vec3
 pointAt l i = record { x = getD l i nan; y = getD l (i + 1) nan; z = getD l (i + 2) nan }
 
--- the world ends of chord i
-abbrev pub fromAt : List Float → ℕ → Vec3
-fromAt chords i = pointAt chords (8 * i)
-
-abbrev pub toAt : List Float → ℕ → Vec3
-toAt chords i = pointAt chords (8 * i + 3)
-
--- chord i with its ends turned by `local`
+-- chord i with its ends turned by `local` (sweep.rs 487-491 and 497-501); its plan length is an input here
 unfoldable pub chordOf : Frame → List Float → ℕ → Chord
 chordOf f chords i =
     record {
-      a = localOf f (fromAt chords i);
-      b = localOf f (toAt chords i);
+      a = localOf f (pointAt chords (8 * i));
+      b = localOf f (pointAt chords (8 * i + 3));
       e = getD chords (8 * i + 6) nan;
       length = getD chords (8 * i + 7) nan;
     }

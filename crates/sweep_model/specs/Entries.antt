@@ -1,4 +1,4 @@
--- The rays of a rectangle, in order, each with its log entry: none, or six doubles (sweep.rs: `Kernel::rays`, `across`).
+-- The rays of a rectangle, in order, each with its log entry: none, or six doubles (sweep.rs 345-373 and 929-965).
 use mathlib.Core.List.{List, [], _∷_, _++_}
 use Prim.Native.Nat.{ℕ, zero, suc, _+_, _-_, _*_}
 use lib.Ieee.{Float}
@@ -18,22 +18,24 @@ use Rattle.sweep_model.specs.declared.RayHit.the-variants.{On, Off}
 use Rattle.sweep_model.specs.declared.AxisRays.{AxisRays}
 use Rattle.store.specs.Store.{listFrom}
 
--- document 01's log entry: axis, index, outer, inner
+-- document 01's log entry, in place of what sweep.rs 961-963 push: axis, index, outer, inner
 unfoldable pub entryOf : WorldAxis → (index : ℕ) → HitPairs → List Float
 entryOf axis index h = whole (axis .0) ∷ whole index ∷ h .outer .lo ∷ h .outer .hi ∷ h .inner .lo ∷ h .inner .hi ∷ []
 
+-- one entry for a hit ray, none for another (sweep.rs 930-963)
 unfoldable pub entryFor : WorldAxis → (index : ℕ) → RayHit → List Float
 entryFor axis index Off = []
 entryFor axis index (On h) = entryOf axis index h
 
--- a ray's index is iv · cells[u] + iu, and its possible list is the first of its two
+-- a ray's index is iv · cells[u] + iu (sweep.rs 367)
 abbrev pub indexOf : AxisRays → (u v : ℕ) → ℕ
 indexOf t u v = v * t .row + u
 
+-- its possible list is the first of its two (sweep.rs 376-378)
 abbrev pub possibleAt : (n : ℕ) → AxisRays → List Float → (links heads : List ℕ) → (u v : ℕ) → List Float
 possibleAt n t spans links heads u v = listFrom n spans links (getD heads (2 * (t .first + indexOf t u v)) 0)
 
--- what the ray at the cells u and v adds to the log
+-- what the ray at the cells u and v adds to the log (sweep.rs 355-371)
 unfoldable pub rayEntry : (n : ℕ) → AxisRays → Profile → ChordOnAxis → List Float → (links heads : List ℕ) → (u v : ℕ) → List Float
 rayEntry n t p l spans links heads u v =
     entryFor (t .axis) (indexOf t u v) (rayHitOf p l (sectionOf l u v) (possibleAt n t spans links heads u v))
@@ -43,19 +45,20 @@ unfoldable pub each : (ℕ → List (List Float)) → (from count : ℕ) → Lis
 each f from zero = []
 each f from (suc count) = f from ++ each f (suc from) count
 
--- v outside and u inside
+-- v outside and u inside (sweep.rs 345-373): the rays of a row
 unfoldable pub rowEntries : ((u v : ℕ) → List Float) → RayRange → (v : ℕ) → List (List Float)
 rowEntries f r v = each (λ u. f u v ∷ []) (r .u0) (r .u1 + 1 - r .u0)
 
+-- the rows of a rectangle
 unfoldable pub rectEntries : ((u v : ℕ) → List Float) → RayRange → List (List Float)
 rectEntries f r = each (rowEntries f r) (r .v0) (r .v1 + 1 - r .v0)
 
--- a rectangle that misses the blank counts none
+-- a rectangle that misses the blank has no rays (sweep.rs 335-337)
 abbrev pub rectangleEntries : ((u v : ℕ) → List Float) → RayRect → List (List Float)
 rectangleEntries f NoRays = []
 rectangleEntries f (Rays r) = rectEntries f r
 
--- how many rays a rectangle has; one that misses the blank counts none
+-- how many rays a rectangle has; one that misses the blank counts none (sweep.rs 348)
 unfoldable pub raysIn : RayRect → ℕ
 raysIn NoRays = 0
 raysIn (Rays r) = (r .v1 + 1 - r .v0) * (r .u1 + 1 - r .u0)

@@ -1,5 +1,6 @@
 pub mod Chords
 pub mod ChordLimits
+pub mod Steps
 pub mod Kernel
 pub mod Meets
 pub mod Section

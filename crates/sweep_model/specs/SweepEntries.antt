@@ -21,7 +21,7 @@ use Rattle.sweep_model.specs.declared.AxisRays.{AxisRays}
 use Rattle.sweep_model.specs.Chords.{chordOf}
 use Rattle.store.specs.Store.{Cells}
 
--- the rays of a world axis: the number of the first, the cells of a row and the rows
+-- the rays of a world axis: the number of the first, the cells of a row and the rows (dexel.rs 73-79)
 unfoldable pub trackOf : DexelGrid → WorldAxis → AxisRays
 trackOf g a = record { axis = a; first = offset g a; row = cellsAlong g (crossOf a .u); rows = cellsAlong g (crossOf a .v) }
 
@@ -33,9 +33,11 @@ pub record Setting : Type 0 where
   pub profile : Profile
   pub cells : Cells
 
+-- a setting by its parts
 abbrev pub setting : DexelStockSpec → DexelGrid → Kernel → Profile → Cells → Setting
 setting spec g k p c = record { spec = spec; grid = g; kernel = k; profile = p; cells = c }
 
+-- the chord as the rays of a world axis see it
 abbrev pub laneIn : Setting → Chord → WorldAxis → ChordOnAxis
 laneIn s c a = laneOf (s .spec) (s .grid) (s .kernel) (s .profile) c a
 
@@ -43,7 +45,7 @@ laneIn s c a = laneOf (s .spec) (s .grid) (s .kernel) (s .profile) c a
 abbrev pub rectangleIn : Setting → Chord → WorldAxis → RayRect
 rectangleIn s c a = rectangleOf (s .spec) (s .grid) (s .profile) (laneIn s c a) a
 
--- the rays along a world axis that a chord visits
+-- the rays along a world axis that a chord visits (sweep.rs 929-965)
 unfoldable pub axisEntries : Setting → Chord → WorldAxis → List (List Float)
 axisEntries s c a =
     rectangleEntries
@@ -51,20 +53,23 @@ axisEntries s c a =
     (s .cells .links) (s .cells .heads))
     (rectangleIn s c a)
 
--- the two world axes other than the tool's, ascending
+-- the two world axes other than the tool's, ascending (sweep.rs 578-585)
 unfoldable pub firstAxis : Frame → WorldAxis
 firstAxis f = byDigit (worldAxisOf f (localAxis 2) .0) (worldAxis 1) (worldAxis 0) (worldAxis 0)
 
+-- the second of them
 unfoldable pub secondAxis : Frame → WorldAxis
 secondAxis f = byDigit (worldAxisOf f (localAxis 2) .0) (worldAxis 2) (worldAxis 2) (worldAxis 1)
 
+-- a chord's rays along both (sweep.rs 578-587, without the columns)
 unfoldable pub chordEntries : Setting → Chord → List (List Float)
 chordEntries s c = axisEntries s c (firstAxis (s .kernel .frame)) ++ axisEntries s c (secondAxis (s .kernel .frame))
 
+-- chord i in the tool's frame
 abbrev pub chordIn : Setting → List Float → ℕ → Chord
 chordIn s chords i = chordOf (s .kernel .frame) chords i
 
--- chords in order
+-- chords in order (sweep.rs 577-588)
 unfoldable pub sweepEntries : Setting → (chords : List Float) → List (List Float)
 sweepEntries s chords = each (λ i. chordEntries s (chordIn s chords i)) 0 (length chords / 8)
 
@@ -72,9 +77,10 @@ sweepEntries s chords = each (λ i. chordEntries s (chordIn s chords i)) 0 (leng
 unfoldable pub logOf : Setting → (chords : List Float) → List Float
 logOf s chords = joined (sweepEntries s chords)
 
--- document 01's visit total: the number of rays in the clamped rectangles of all chords, two for each
+-- document 01's visit total: the number of rays in the clamped rectangles, two for each chord
 abbrev pub chordVisits : Setting → Chord → ℕ
 chordVisits s c = raysIn (rectangleIn s c (firstAxis (s .kernel .frame))) + raysIn (rectangleIn s c (secondAxis (s .kernel .frame)))
 
+-- the sum over all chords (`visits`, sweep.rs 348 and 589)
 unfoldable pub visitTotal : Setting → (chords : List Float) → ℕ
 visitTotal s chords = sumEach (λ i. chordVisits s (chordIn s chords i)) 0 (length chords / 8)

@@ -1,4 +1,5 @@
--- The walk over the visited rays: 8 where the budget is used up, then the ray's entry, or 16 where the log has no room for it.
+-- The walk over the visited rays: 8 where the budget is used up (sweep.rs 348-354), then the ray's entry, or 16, which is
+-- added, where the log has no room for it.
 use mathlib.Core.Bool.{cond}
 use mathlib.Core.List.{List, [], _∷_, _++_}
 use Prim.Native.Nat.{ℕ, _+_}

@@ -5,10 +5,7 @@
 // compared as numbers, all other cells bit for bit; every cell of the log is 7 before the call. For accepted and for
 // refused sweeps it writes how many rows agree and how many differ, then how many can't be read, and the number of
 // the first row that differs.
-use frame::Axis;
 use sweep::SweepAnswer;
-use vector_rows::RowCounts;
-use vector_rows::RowOutcome;
 
 // A sweep's answer as numbers, 0 for no refusal, and whether the store and the chords are as they were.
 struct Answer {
@@ -22,27 +19,7 @@ fn byte_of(n: u64) -> u8 {
     (n % 256) as u8
 }
 
-// Word 18: the axis, in the order of the declarations.
-fn axis_of(n: u64) -> Axis {
-    if n == 0 {
-        return Axis::PosX;
-    }
-    if n == 1 {
-        return Axis::NegX;
-    }
-    if n == 2 {
-        return Axis::PosY;
-    }
-    if n == 3 {
-        return Axis::NegY;
-    }
-    if n == 4 {
-        return Axis::PosZ;
-    }
-    Axis::NegZ
-}
-
-// Words 0 and 5 to 13: the description; 1 to 4: the units; 17: the interval total; 19 to 30: the shape and the
+// Words 0 and 5 to 13: the description; 1 to 4: the units; 17: the interval total; 18: the axis; 19 to 30: the shape and the
 // cutter; 31: the guard; 33: the budget; 34: the cells of the log.
 fn sweep_on(
     w: &[u64; 243],
@@ -53,7 +30,7 @@ fn sweep_on(
     log: &mut [f64],
 ) -> SweepAnswer {
     let units = [byte_of(w[2]), byte_of(w[3]), byte_of(w[4])];
-    let axis = axis_of(w[18]);
+    let axis = enum_codes::axis_of(w[18]);
     let shape = vector_rows::shape_at(w, 19);
     sweep::sweep(
         vector_rows::spec_at(w, 0, 5),
@@ -190,29 +167,11 @@ fn kind_of(refusal: u64) -> u64 {
     1
 }
 
-fn compared(text: &[u8]) -> RowOutcome {
-    let mut w = [0; 243];
-    if !vector_rows::read_words(text, 0, &mut w) {
-        return RowOutcome::Unread;
-    }
-    vector_rows::told(kind_of(w[35]), 2, agrees(&w))
-}
-
-// The turns are counted down, since a proved loop has to end and nothing says that the input does.
-fn counted() -> RowCounts {
-    let mut t = vector_rows::start();
-    let mut turns = u64::MAX;
-    while turns > 0 {
-        let mut text = [0u8; 4131];
-        if !vector_rows::read_row(&mut text) {
-            break;
-        }
-        t = vector_rows::count(t, compared(&text));
-        turns -= 1;
-    }
-    t
-}
-
 fn main() {
-    vector_rows::print(b"accepted refused", counted());
+    let mut w = [0; 243];
+    let mut r = vector_rows::first_row(16, &mut w);
+    while r.left > 0 {
+        r = vector_rows::next_row(r, kind_of(w[35]), 2, agrees(&w), 16, &mut w);
+    }
+    vector_rows::print(b"accepted refused", r.counts);
 }

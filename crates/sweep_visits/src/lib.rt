@@ -66,7 +66,7 @@ fn visit_ray(
     let next = c.visits + 1;
     let index = v * t.row + u;
     let ray = (t.first + index) as usize;
-    let head = heads[2 * ray];
+    let head = store::possible_head(heads, ray);
     let h = sweep_ray::ray_hit(spans, links, n, head, p, l, u, v);
     match h {
         RayHit::Off => {

@@ -2,7 +2,7 @@
 ghost use Rattle.commit_changes.specs.ChangeCommit.{ChangesPost};
 ghost use Rattle.commit_log.specs.LogCommit.{LogCommitPost};
 ghost use Rattle.stock.specs.declared.CommitAnswer.{CommitAnswer};
-ghost use Rattle.c_results.specs.Numbers.{AnsweredBy, committedNumbers};
+ghost use Rattle.c_results.specs.Numbers.{AnsweredBy, commitNumbers};
 ghost use Rattle.stock.specs.Stock.{stock};
 use grid::DexelStockSpec;
 
@@ -21,7 +21,7 @@ pub extern "C" fn tridexel_commit_changes(
     pairs: &[f64],
     changed: &mut u64,
 ) -> u32
-    ensures { λ r. ⌜ AnsweredBy committedNumbers CommitAnswer.Refused
+    ensures { λ r. ⌜ AnsweredBy commitNumbers CommitAnswer.Refused
         (ChangesPost spec (now (units .entry)) base (now (changes .entry)) (now (pairs .entry))
         (stock (now (spans .entry)) (now (links .entry)) (now (heads .entry)) (now (generation .entry)) (now (intervals .entry)))
         (stock (now (spans .exit)) (now (links .exit)) (now (heads .exit)) (now (generation .exit)) (now (intervals .exit)))) r
@@ -42,7 +42,7 @@ pub extern "C" fn tridexel_commit_changes(
     *generation = done.generation;
     *intervals = done.intervals;
     let a = done.answer;
-    c_results::hand_committed(a, changed)
+    c_results::hand_commit(a, changed)
 }
 
 // `commit_log::commit_log`; `changed` becomes the number of changed rays.
@@ -60,10 +60,11 @@ pub extern "C" fn tridexel_commit_log(
     work: &mut [f64],
     changed: &mut u64,
 ) -> u32
-    ensures { λ r. ⌜ AnsweredBy committedNumbers CommitAnswer.Refused (λ a. LogCommitPost spec (now (units .entry))
-        (stock (now (spans .entry)) (now (links .entry)) (now (heads .entry)) (now (generation .entry)) (now (intervals .entry))) (now (log .entry)) allowance (now (work .entry)) a
-        (stock (now (spans .exit)) (now (links .exit)) (now (heads .exit)) (now (generation .exit)) (now (intervals .exit))) (now (work .exit))) r
-        (now (changed .entry)) (now (changed .exit)) ⌝ }
+    ensures { λ r. ⌜ AnsweredBy commitNumbers CommitAnswer.Refused (λ a. LogCommitPost spec (now (units .entry))
+        (stock (now (spans .entry)) (now (links .entry)) (now (heads .entry)) (now (generation .entry)) (now (intervals .entry)))
+        (now (log .entry)) allowance (now (work .entry)) a
+        (stock (now (spans .exit)) (now (links .exit)) (now (heads .exit)) (now (generation .exit)) (now (intervals .exit)))
+        (now (work .exit))) r (now (changed .entry)) (now (changed .exit)) ⌝ }
 {
     let done = commit_log::commit_log_on(
         *generation,
@@ -80,5 +81,5 @@ pub extern "C" fn tridexel_commit_log(
     *generation = done.generation;
     *intervals = done.intervals;
     let a = done.answer;
-    c_results::hand_committed(a, changed)
+    c_results::hand_commit(a, changed)
 }

@@ -15,29 +15,29 @@ ghost use Rattle.span_compare.specs.declared.BoolAnswer.{BoolAnswer};
 ghost use Rattle.ray_merge.specs.Merge.{MergePost};
 ghost use Rattle.ray_merge.specs.declared.MergeAnswer.{MergeAnswer};
 ghost use Rattle.spans.specs.declared.ListAnswer.{ListAnswer};
-ghost use Rattle.c_results.specs.Numbers.{AnsweredBy, listedNumbers, toldNumbers, mergedNumbers, partCells};
+ghost use Rattle.c_results.specs.Numbers.{AnsweredBy, listNumbers, boolNumbers, mergeNumbers, partCells};
 
 // `span_normalize::normalize`; `pairs` becomes the number of pairs.
 #[no_mangle]
 pub extern "C" fn tridexel_normalize(spans: &[f64], out: &mut [f64], pairs: &mut usize) -> u32
-    ensures { λ r. ⌜ AnsweredBy listedNumbers ListAnswer.Refused
+    ensures { λ r. ⌜ AnsweredBy listNumbers ListAnswer.Refused
         (ListPost (NormalOf (now (spans .entry))) (normalizeCauses (now (spans .entry)) (length (now (out .entry))))
         (now (out .entry)) (now (out .exit)))
         r (now (pairs .entry)) (now (pairs .exit)) ⌝ }
 {
     let l = span_normalize::normalize(spans, out);
-    c_results::hand_listed(l, pairs)
+    c_results::hand_list(l, pairs)
 }
 
 // `span_combine::subtract`; `pairs` becomes the number of pairs.
 #[no_mangle]
 pub extern "C" fn tridexel_subtract(a: &[f64], b: &[f64], out: &mut [f64], pairs: &mut usize) -> u32
-    ensures { λ r. ⌜ AnsweredBy listedNumbers ListAnswer.Refused (ListPost (LessOf (now (a .entry)) (now (b .entry)))
+    ensures { λ r. ⌜ AnsweredBy listNumbers ListAnswer.Refused (ListPost (LessOf (now (a .entry)) (now (b .entry)))
         (combineCauses (now (a .entry)) (now (b .entry)) (length (now (out .entry)))) (now (out .entry)) (now (out .exit)))
         r (now (pairs .entry)) (now (pairs .exit)) ⌝ }
 {
     let l = span_combine::subtract(a, b, out);
-    c_results::hand_listed(l, pairs)
+    c_results::hand_list(l, pairs)
 }
 
 // `span_combine::intersect`; `pairs` becomes the number of pairs.
@@ -48,34 +48,34 @@ pub extern "C" fn tridexel_intersect(
     out: &mut [f64],
     pairs: &mut usize,
 ) -> u32
-    ensures { λ r. ⌜ AnsweredBy listedNumbers ListAnswer.Refused (ListPost (CommonOf (now (a .entry)) (now (b .entry)))
+    ensures { λ r. ⌜ AnsweredBy listNumbers ListAnswer.Refused (ListPost (CommonOf (now (a .entry)) (now (b .entry)))
         (combineCauses (now (a .entry)) (now (b .entry)) (length (now (out .entry)))) (now (out .entry)) (now (out .exit)))
         r (now (pairs .entry)) (now (pairs .exit)) ⌝ }
 {
     let l = span_combine::intersect(a, b, out);
-    c_results::hand_listed(l, pairs)
+    c_results::hand_list(l, pairs)
 }
 
 // `span_compare::contains`; `yes` becomes 1 or 0.
 #[no_mangle]
 pub extern "C" fn tridexel_contains(outer: &[f64], inner: &[f64], yes: &mut u32) -> u32
-    ensures { λ r. ⌜ AnsweredBy toldNumbers BoolAnswer.Refused (ComparePost (compareCauses (now (outer .entry)) (now (inner .entry)))
+    ensures { λ r. ⌜ AnsweredBy boolNumbers BoolAnswer.Refused (ComparePost (compareCauses (now (outer .entry)) (now (inner .entry)))
         (Contains (now (outer .entry)) (now (inner .entry))))
         r (now (yes .entry)) (now (yes .exit)) ⌝ }
 {
     let t = span_compare::contains(outer, inner);
-    c_results::hand_told(t, yes)
+    c_results::hand_bool(t, yes)
 }
 
 // `span_compare::overlaps`; `yes` becomes 1 or 0.
 #[no_mangle]
 pub extern "C" fn tridexel_overlaps(a: &[f64], b: &[f64], yes: &mut u32) -> u32
-    ensures { λ r. ⌜ AnsweredBy toldNumbers BoolAnswer.Refused (ComparePost (compareCauses (now (a .entry)) (now (b .entry)))
+    ensures { λ r. ⌜ AnsweredBy boolNumbers BoolAnswer.Refused (ComparePost (compareCauses (now (a .entry)) (now (b .entry)))
         (Overlaps (now (a .entry)) (now (b .entry))))
         r (now (yes .entry)) (now (yes .exit)) ⌝ }
 {
     let t = span_compare::overlaps(a, b);
-    c_results::hand_told(t, yes)
+    c_results::hand_bool(t, yes)
 }
 
 // `ray_merge::merge`; for possible and certain, in this order, `moved` becomes 1 where the list is a new one in the
@@ -92,10 +92,10 @@ pub extern "C" fn tridexel_merge(
     moved: &mut [u32; 2],
     pairs: &mut [usize; 2],
 ) -> u32
-    ensures { λ r. ⌜ AnsweredBy mergedNumbers MergeAnswer.Refused (MergePost lo hi (now (possible .entry)) (now (certain .entry))
+    ensures { λ r. ⌜ AnsweredBy mergeNumbers MergeAnswer.Refused (MergePost lo hi (now (possible .entry)) (now (certain .entry))
         (now (outer .entry)) (now (inner .entry)) (now (work .entry)) (now (work .exit))) r
         (partCells (now (moved .entry)) (now (pairs .entry))) (partCells (now (moved .exit)) (now (pairs .exit))) ⌝ }
 {
     let m = ray_merge::merge(possible, certain, lo, hi, outer, inner, work);
-    c_results::hand_merged(m, moved, pairs)
+    c_results::hand_merge(m, moved, pairs)
 }

@@ -5,7 +5,7 @@ ghost use Rattle.stock_fill.specs.Uncut.{FillPost, fillCauses};
 ghost use Rattle.stock_volume.specs.Volume.{VolumePost, volumeCauses};
 ghost use Rattle.stock_fill.specs.declared.FillAnswer.{FillAnswer};
 ghost use Rattle.stock_volume.specs.declared.VolumeAnswer.{VolumeAnswer};
-ghost use Rattle.c_results.specs.Numbers.{AnsweredBy, gridNumbers, gridCells, filledNumbers, tally, volumeNumbers};
+ghost use Rattle.c_results.specs.Numbers.{AnsweredBy, gridNumbers, gridCells, fillNumbers, tally, volumeNumbers};
 ghost use Rattle.store.specs.Store.{cells};
 use grid::DexelStockSpec;
 
@@ -35,13 +35,14 @@ pub extern "C" fn tridexel_fill(
     generation: &mut u64,
     intervals: &mut u64,
 ) -> u32
-    ensures { λ r. ⌜ AnsweredBy filledNumbers FillAnswer.Refused
-        (FillPost (fillCauses spec (now (units .entry)) (cells (now (spans .entry)) (now (links .entry)) (now (heads .entry)))) spec (gridIn spec)
-        (cells (now (spans .entry)) (now (links .entry)) (now (heads .entry))) (cells (now (spans .exit)) (now (links .exit)) (now (heads .exit)))) r
+    ensures { λ r. ⌜ AnsweredBy fillNumbers FillAnswer.Refused
+        (FillPost (fillCauses spec (now (units .entry)) (cells (now (spans .entry)) (now (links .entry)) (now (heads .entry))))
+        spec (gridIn spec) (cells (now (spans .entry)) (now (links .entry)) (now (heads .entry)))
+        (cells (now (spans .exit)) (now (links .exit)) (now (heads .exit)))) r
         (tally (now (generation .entry)) (now (intervals .entry))) (tally (now (generation .exit)) (now (intervals .exit))) ⌝ }
 {
     let f = stock_fill::fill(spec, units, spans, links, heads);
-    c_results::hand_filled(f, generation, intervals)
+    c_results::hand_fill(f, generation, intervals)
 }
 
 // `stock_volume::volume`; `volume` becomes the ten numbers of the Rust's `DexelVolume`, in its order.
@@ -56,10 +57,11 @@ pub extern "C" fn tridexel_volume(
     volume: &mut [f64; 10],
 ) -> u32
     ensures { λ r. ⌜ AnsweredBy volumeNumbers VolumeAnswer.Refused
-        (VolumePost (volumeCauses spec (now (units .entry)) (cells (now (spans .entry)) (now (links .entry)) (now (heads .entry))) intervals)
+        (VolumePost (volumeCauses spec (now (units .entry))
+        (cells (now (spans .entry)) (now (links .entry)) (now (heads .entry))) intervals)
         spec (gridIn spec) (cells (now (spans .entry)) (now (links .entry)) (now (heads .entry))) intervals) r
         (now (volume .entry)) (now (volume .exit)) ⌝ }
 {
     let m = stock_volume::volume(spec, units, spans, links, heads, intervals);
-    c_results::hand_measured(m, volume)
+    c_results::hand_volume(m, volume)
 }

@@ -3,7 +3,7 @@ ghost use lib.ListN.{length};
 ghost use Rattle.sweep.specs.Answer.{settingOf, sweepCauses, SweepPost};
 ghost use Rattle.sweep.specs.declared.SweepAnswer.{SweepAnswer};
 ghost use Rattle.enum_codes.specs.Codes.{axisOf, shapeOf};
-ghost use Rattle.c_results.specs.Numbers.{AnsweredBy, sweptNumbers, totals};
+ghost use Rattle.c_results.specs.Numbers.{AnsweredBy, sweepNumbers, totals};
 ghost use Rattle.store.specs.Store.{cells};
 use cutter::PreparedCutter;
 use grid::DexelStockSpec;
@@ -29,13 +29,15 @@ pub extern "C" fn tridexel_sweep(
     entries: &mut usize,
     visits: &mut u64,
 ) -> u32
-    ensures { λ r. ⌜ AnsweredBy sweptNumbers SweepAnswer.Refused
+    ensures { λ r. ⌜ AnsweredBy sweepNumbers SweepAnswer.Refused
         (SweepPost (sweepCauses (now (units .entry))
         (settingOf spec (axisOf axis) (shapeOf axis kind m n) cutter guard
         (cells (now (spans .entry)) (now (links .entry)) (now (heads .entry)))) intervals (now (chords .entry)) budget
         (length (now (log .entry))))
-        (settingOf spec (axisOf axis) (shapeOf axis kind m n) cutter guard (cells (now (spans .entry)) (now (links .entry)) (now (heads .entry)))) intervals (now (chords .entry)) (now (log .entry)) (now (log .exit)))
-        r (totals (now (entries .entry)) (now (visits .entry))) (totals (now (entries .exit)) (now (visits .exit))) ⌝ }
+        (settingOf spec (axisOf axis) (shapeOf axis kind m n) cutter guard
+        (cells (now (spans .entry)) (now (links .entry)) (now (heads .entry)))) intervals (now (chords .entry))
+        (now (log .entry)) (now (log .exit))) r
+        (totals (now (entries .entry)) (now (visits .entry))) (totals (now (entries .exit)) (now (visits .exit))) ⌝ }
 {
     let a = enum_codes::axis_of(axis);
     let shape = enum_codes::shape_of(axis, kind, m, n);
@@ -54,5 +56,5 @@ pub extern "C" fn tridexel_sweep(
         budget,
         log,
     );
-    c_results::hand_swept(s, entries, visits)
+    c_results::hand_sweep(s, entries, visits)
 }

@@ -1,10 +1,10 @@
 -- The loop that reads a row: the first i numbers stand in the buffer.
-use mathlib.Core.Path.{_≡_, refl, sym, ap, subst, _∙_}
+use mathlib.Core.Path.{_≡_, refl, sym, ap, _∙_}
 use mathlib.Core.Bool.{true, false, true≢false, false≢true}
 use mathlib.Core.List.{List}
-use native.Mathlib.Decide.{decLt}
 use native.Mathlib.Omega.{arith}
 use Prim.Native.Nat.{ℕ, _+_, _*_, _≤_, _<_}
+use borrow.Author.Count.{below-none, below-more}
 use lib.ListN.{length, length-set, getD, set}
 use lib.Seq.{getD-set-same, getD-set-other}
 use Rattle.hex_text.specs.Hex.{hexAt}
@@ -18,10 +18,7 @@ pub record ReadTo (text : List ℕ) (at size : ℕ) (out : List ℕ) (i : ℕ) :
   pub read : (j : ℕ) → j < i → hexAt text (at + 17 * j) 16 ≡ Value (getD out j 0)
 
 pub none-read : (text : List ℕ) (at : ℕ) (out : List ℕ) → ReadTo text at (length out) out 0
-none-read text at out = record { same = refl; most = omega arith; read = λ j h. absurd (never j h) }
-  where
-    never : (j : ℕ) → j < 0 → ⊥
-    never j h = omega (arith, h)
+none-read text at out = record { same = refl; most = omega arith; read = below-none _ }
 
 -- a word that is not missing is a number
 a-value : (w : Word) → isMissing w ≡ false → w ≡ Value (valueOr w 0)
@@ -40,15 +37,10 @@ one-read text at size out i w v s h e m f =
     record {
       same = length-set out i v ∙ s .same;
       most = omega (arith, s .same);
-      read = λ j g. elim (decLt j i) [
-        | yes a ↦ s .read j a ∙ ap Value (sym (getD-set-other out i j v 0 (λ q. omega arith)))
-        | no a ↦ subst (λ (k : ℕ). hexAt text (at + 17 * k) 16 ≡ Value (getD (set out i v) k 0)) (last i j a g)
-            (sym e ∙ (a-value w m ∙ ap Value (sym (getD-set-same out i v 0 h ∙ f))))
-      ];
+      read = below-more (λ (j : ℕ). hexAt text (at + 17 * j) 16 ≡ Value (getD (set out i v) j 0)) i
+          (λ j a. s .read j a ∙ ap Value (sym (getD-set-other out i j v 0 (λ q. omega arith))))
+          (sym e ∙ (a-value w m ∙ ap Value (sym (getD-set-same out i v 0 h ∙ f))));
     }
-  where
-    last : (i j : ℕ) → (j < i → ⊥) → j < i + 1 → i ≡ j
-    last i j a g = omega arith
 
 pub read-stops : (text : List ℕ) (at : ℕ) (out : List ℕ) (i : ℕ) (w : Word) → i < length out
     → w ≡ hexAt text (at + 17 * i) 16 → isMissing w ≡ true → Reads text at out false

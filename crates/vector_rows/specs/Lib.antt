@@ -3,3 +3,4 @@ pub mod Words
 pub mod Agreement
 pub mod Tallies
 pub mod ReadWords
+pub mod Replays

@@ -1,14 +1,15 @@
-// What the words of a recorded row say, and whether the cells of a buffer are the recorded ones. Past the row every word is 0.
-// What programs that replay recorded answers share: the counts of their rows, and how they are printed.
+// What programs that replay recorded answers share: the rows of the input, what their words say, whether the cells of a buffer are
+// the recorded ones, the counts of the rows, and how they are printed. Past a row every word is 0.
 ghost use mathlib.Core.Path.{_≡_};
 ghost use lib.Ieee.{nan};
 ghost use lib.ListN.{length, take};
 ghost use Rattle.enum_codes.specs.Codes.{namedShape};
 ghost use Rattle.vector_rows.specs.Words.{wordOf, doubleOf, CellsFilled, specOf, unitsOf, cutterOf};
 ghost use Rattle.vector_rows.specs.Agreement.{cellAgrees, numberAgrees, cellRight, numberRight, Every};
-ghost use Prim.Native.Nat.{_+_, _*_, _^_, _<_};
+ghost use Prim.Native.Nat.{_+_, _*_, _^_, _<_, _≤_};
 ghost use Rattle.vector_rows.specs.Tallies.{none, up, firstDiffering, agreed, differed, missed, counted, outcomeOf};
 ghost use Rattle.vector_rows.specs.ReadWords.{valueOr, isMissing, Reads};
+ghost use Rattle.vector_rows.specs.Replays.{RowPre, NextRowPost};
 use cutter::CutterShape;
 use cutter::PreparedCutter;
 use grid::DexelStockSpec;
@@ -375,9 +376,106 @@ pub fn read_words(text: &[u8], at: usize, out: &mut [u64]) -> bool
     true
 }
 
-// Reads the next row of standard input, and answers whether there was one. Where the input ends within it, the rest of `text` stays.
-pub fn read_row(text: &mut [u8]) -> bool {
-    io::read_full(libc::STDIN_FILENO, text) != 0
+// What was found of a row.
+enum RowFound {
+    Words,
+    Unread,
+    End,
+}
+
+// Reads the bytes from `start` to `end` from the input, and answers how many there were.
+fn read_text(text: &mut [u8], start: usize, end: usize) -> usize
+    requires { ⌜ (start ≤ end) × (end ≤ length (now text)) ⌝ }
+    ensures { λ r. ⌜ r ≤ end ⌝ }
+{
+    io::read_full(libc::STDIN_FILENO, &mut text[start..end])
+}
+
+// Reads the next row, a word for each cell of `out`. The first word has `head` digits, and is read behind zeros, so that each has 16.
+// The byte behind the last word may be missing.
+fn read_row(head: usize, out: &mut [u64]) -> RowFound
+    requires { ⌜ RowPre head (length (now out)) ⌝ }
+{
+    let mut text = [b'0'; 4131];
+    let start = 16 - head;
+    let end = 17 * out.len();
+    let got = read_text(&mut text, start, end);
+    if got == 0 {
+        return RowFound::End;
+    }
+    if start + got + 1 < end {
+        return RowFound::Unread;
+    }
+    if read_words(&text, 0, out) {
+        return RowFound::Words;
+    }
+    RowFound::Unread
+}
+
+// A replay: the counts so far, and how many more rows it may read, 0 where no row is at hand. A proved loop has to end, and nothing
+// says that the input does.
+pub struct Replay {
+    pub counts: RowCounts,
+    pub left: u64,
+}
+
+// Reads on to the next row that can be read, and counts those that can't be.
+fn read_on(r: Replay, head: usize, out: &mut [u64]) -> Replay
+    requires { ⌜ RowPre head (length (now out)) × (0 < r .left) ⌝ }
+    ensures { λ s. ⌜ NextRowPost (r .counts) (r .left) s ⌝ }
+{
+    let mut t = r.counts;
+    let mut left = r.left;
+    while left > 0 {
+        let found = read_row(head, out);
+        left -= 1;
+        match found {
+            RowFound::Words => {
+                return Replay {
+                    counts: t,
+                    left: left,
+                };
+            }
+            RowFound::End => {
+                break;
+            }
+            RowFound::Unread => {
+                t = with_missed(t);
+            }
+        }
+    }
+    Replay { counts: t, left: 0 }
+}
+
+// A replay at its first row: word 0 of each row has `head` digits, the others have 16.
+pub fn first_row(head: usize, out: &mut [u64]) -> Replay
+    requires { ⌜ RowPre head (length (now out)) ⌝ }
+    ensures { λ s. ⌜ NextRowPost none 18446744073709551615 s ⌝ }
+{
+    let r = Replay {
+        counts: start(),
+        left: u64::MAX,
+    };
+    read_on(r, head, out)
+}
+
+// Counts whether the row at hand, of function k of so many, agrees, and goes on to the next.
+pub fn next_row(
+    r: Replay,
+    k: u64,
+    functions: u64,
+    agrees: bool,
+    head: usize,
+    out: &mut [u64],
+) -> Replay
+    requires { ⌜ RowPre head (length (now out)) × (0 < r .left) ⌝ }
+    ensures { λ s. ⌜ NextRowPost (counted (r .counts) (outcomeOf k functions agrees)) (r .left) s ⌝ }
+{
+    let next = Replay {
+        counts: count(r.counts, told(k, functions, agrees)),
+        left: r.left,
+    };
+    read_on(next, head, out)
 }
 
 fn print_number(name: &[u8], n: u64) {

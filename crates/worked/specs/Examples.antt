@@ -7,6 +7,7 @@ use Prim.Native.Nat.{ℕ, _*_}
 use lib.Ieee.{Float, nan, neg}
 use Rattle.spans.specs.Spans.{NormalOf, Within, Outside}
 use Rattle.spans.specs.Overlay.{lessOf, commonOf}
+use Rattle.grid.specs.Grid.{whole}
 use Rattle.grid.specs.Rays.{rayCount}
 use Rattle.grid.specs.declared.Vec3.{Vec3}
 use Rattle.grid.specs.declared.DexelStockSpec.{DexelStockSpec}
@@ -33,7 +34,7 @@ pub data WorkedExample : Type 0 where
   grids : (to size : Float) (cells : ℕ) (step : Float) (rays : ℕ) → WorkedExample
   disk : (x y radius y0 y1 lo hi : Float) → WorkedExample
   radius-at : (shape : CutterShape) (cutter : PreparedCutter) (height want : Float) → WorkedExample
-  turns : (sign : Float) (examplePair want : Pair) → WorkedExample
+  turns : (sign : Float) (given want : Pair) → WorkedExample
 
 abbrev pub corner : Float → Vec3
 corner x = record { x = x; y = x; z = x }
@@ -63,29 +64,25 @@ RowRight (contains outer inner false) = Outside outer inner
 RowRight (grids to size cells step rays) = (gridOf (box to size rays) mm ≡ Accepted (even cells step)) × (rayCount (even cells step) ≡ rays)
 RowRight (disk x y radius y0 y1 lo hi) = diskStrip (record { x = x; y = y }) radius y0 y1 ≡ Hit lo hi
 RowRight (radius-at shape cutter height want) = radiusAt shape cutter height ≡ Cutting want
-RowRight (turns sign examplePair want) = worldOf (frame 0 sign) (localAxis 1) examplePair ≡ want
+RowRight (turns sign given want) = worldOf (frame 0 sign) (localAxis 1) given ≡ want
 
 abbrev pub WorkedRight : List WorkedExample → Type 0
 WorkedRight [] = Unit {0}
 WorkedRight (e ∷ es) = RowRight e × WorkedRight es
 
--- a whole number as a double
-abbrev pub num : ℕ → Float
-num n = ratio n 1
-
 -- radius 5 and tip height 5, on a shank of diameter 8
 abbrev pub ball : PreparedCutter
 ball =
     record {
-      «diameter_mm» = num 10;
-      «cutting_length_mm» = num 10;
-      «overall_length_mm» = num 50;
-      «neck_diameter_mm» = num 8;
-      «shank_diameter_mm» = num 8;
-      radius = num 5;
-      «tip_height» = num 5;
-      slope = num 0;
-      shoulder = num 10;
+      «diameter_mm» = whole 10;
+      «cutting_length_mm» = whole 10;
+      «overall_length_mm» = whole 50;
+      «neck_diameter_mm» = whole 8;
+      «shank_diameter_mm» = whole 8;
+      radius = whole 5;
+      «tip_height» = whole 5;
+      slope = whole 0;
+      shoulder = whole 10;
     }
 
 abbrev pub examplePair : (lo hi : Float) → Pair
@@ -94,17 +91,17 @@ examplePair lo hi = record { lo = lo; hi = hi }
 unfoldable pub workedExamples : List WorkedExample
 unfolding ratio neg
 workedExamples =
-    normalizes (num 3 ∷ num 4 ∷ num 1 ∷ num 2 ∷ num 2 ∷ num 3 ∷ []) (num 1 ∷ num 4 ∷ [])
-    ∷ normalizes (num 1 ∷ num 1 ∷ nan ∷ num 2 ∷ num 2 ∷ num 1 ∷ []) []
-    ∷ normalizes (num 1 ∷ num 2 ∷ num 3 ∷ num 4 ∷ []) (num 1 ∷ num 2 ∷ num 3 ∷ num 4 ∷ [])
-    ∷ subtracts (num 0 ∷ num 2 ∷ num 3 ∷ num 5 ∷ []) (num 1 ∷ num 4 ∷ []) (num 0 ∷ num 1 ∷ num 4 ∷ num 5 ∷ [])
-    ∷ subtracts (num 0 ∷ num 1 ∷ []) (num 1 ∷ num 2 ∷ []) (num 0 ∷ num 1 ∷ [])
-    ∷ subtracts (num 0 ∷ num 10 ∷ []) (num 0 ∷ num 10 ∷ []) []
-    ∷ intersects (num 0 ∷ num 2 ∷ num 3 ∷ num 5 ∷ []) (num 1 ∷ num 4 ∷ []) (num 1 ∷ num 2 ∷ num 3 ∷ num 4 ∷ [])
-    ∷ contains (num 0 ∷ num 2 ∷ num 3 ∷ num 5 ∷ []) (num 1 ∷ num 4 ∷ []) false
-    ∷ contains (num 0 ∷ num 2 ∷ num 3 ∷ num 5 ∷ []) [] true
-    ∷ grids (num 10) (num 3) 4 (ratio 5 2) 48
-    ∷ disk (num 0) (num 0) (num 5) (num 3) (num 7) (neg (num 4)) (num 4)
-    ∷ radius-at Ball ball (num 2) (num 4)
-    ∷ turns (neg (num 1)) (examplePair (num 1) (num 2)) (examplePair (neg (num 2)) (neg (num 1)))
+    normalizes (whole 3 ∷ whole 4 ∷ whole 1 ∷ whole 2 ∷ whole 2 ∷ whole 3 ∷ []) (whole 1 ∷ whole 4 ∷ [])
+    ∷ normalizes (whole 1 ∷ whole 1 ∷ nan ∷ whole 2 ∷ whole 2 ∷ whole 1 ∷ []) []
+    ∷ normalizes (whole 1 ∷ whole 2 ∷ whole 3 ∷ whole 4 ∷ []) (whole 1 ∷ whole 2 ∷ whole 3 ∷ whole 4 ∷ [])
+    ∷ subtracts (whole 0 ∷ whole 2 ∷ whole 3 ∷ whole 5 ∷ []) (whole 1 ∷ whole 4 ∷ []) (whole 0 ∷ whole 1 ∷ whole 4 ∷ whole 5 ∷ [])
+    ∷ subtracts (whole 0 ∷ whole 1 ∷ []) (whole 1 ∷ whole 2 ∷ []) (whole 0 ∷ whole 1 ∷ [])
+    ∷ subtracts (whole 0 ∷ whole 10 ∷ []) (whole 0 ∷ whole 10 ∷ []) []
+    ∷ intersects (whole 0 ∷ whole 2 ∷ whole 3 ∷ whole 5 ∷ []) (whole 1 ∷ whole 4 ∷ []) (whole 1 ∷ whole 2 ∷ whole 3 ∷ whole 4 ∷ [])
+    ∷ contains (whole 0 ∷ whole 2 ∷ whole 3 ∷ whole 5 ∷ []) (whole 1 ∷ whole 4 ∷ []) false
+    ∷ contains (whole 0 ∷ whole 2 ∷ whole 3 ∷ whole 5 ∷ []) [] true
+    ∷ grids (whole 10) (whole 3) 4 (ratio 5 2) 48
+    ∷ disk (whole 0) (whole 0) (whole 5) (whole 3) (whole 7) (neg (whole 4)) (whole 4)
+    ∷ radius-at Ball ball (whole 2) (whole 4)
+    ∷ turns (neg (whole 1)) (examplePair (whole 1) (whole 2)) (examplePair (neg (whole 2)) (neg (whole 1)))
     ∷ []

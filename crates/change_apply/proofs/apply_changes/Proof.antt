@@ -1,3 +1,4 @@
+-- `change_apply::apply_changes` meets its contract: all lists freed, then all laid, is what the store calls applied.
 use borrow.Author.Needs.{needs}
 use mathlib.Core.Path.{ap, _∙_}
 use Rattle.store.specs.Updates.{laidAll}

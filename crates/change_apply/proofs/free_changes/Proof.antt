@@ -1,3 +1,4 @@
+-- `change_apply::free_changes` meets its contract: before each turn the lists of the first k changes are freed.
 use borrow.Author.Needs.{needs}
 use native.Mathlib.Omega.{arith}
 use mathlib.Core.Path.{_≡_, refl, ap, _∙_}

@@ -1,3 +1,5 @@
+-- `change_apply::lay_changes` meets its contract: before each turn the lists of the first k changes are laid, and no
+-- record before the place is free, so the next list goes to the lowest free records.
 use borrow.Author.Needs.{needs}
 use native.Mathlib.Omega.{arith}
 use mathlib.Core.Path.{_≡_, refl, sym, ap, _∙_}

@@ -1,3 +1,5 @@
+-- `change_list::check_changes` meets its contract: `Passed` holds before each turn: all changes are good exactly when
+-- those from the cursor on are, and the sums so far are those of the changes before it.
 use borrow.Author.Needs.{needs}
 use native.Mathlib.Omega.{arith}
 use Prim.Native.Nat.{_-_, _/_, _^_, _<_}

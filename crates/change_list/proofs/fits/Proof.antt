@@ -1,3 +1,4 @@
+-- `change_list::fits` meets its contract: what is left falls by each list, so no sum can pass 64 bits.
 use Rattle.change_list.proofs.ListTests.{fits-1, fits-2, fits-3, fits-4}
 use Rattle.change_list.proofs.fits.Statement.{statement}
 use Rattle.change_list.proofs.fits.Tie as tie

@@ -1,3 +1,4 @@
+-- `change_list::head` meets its contract.
 use borrow.Author.Needs.{needs}
 use Rattle.change_list.specs.Changes.{headAt}
 use mathlib.Core.Path.{refl}

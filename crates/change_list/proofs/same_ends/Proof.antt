@@ -1,3 +1,5 @@
+-- `change_list::same_ends` meets its contract: the ends before k agree, so what is left to compare are the rests from
+-- k on.
 use borrow.Author.Needs.{needs}
 use native.Mathlib.Omega.{arith}
 use Prim.Native.Nat.{_-_, _≤_}

@@ -3,8 +3,8 @@ use native.Mathlib.Omega.{arith}
 use mathlib.Core.Path.{_≡_}
 use mathlib.Core.Bool.{true}
 use Prim.Native.Nat.{_-_, _≤_}
-use Rattle.sweep_model.specs.ChordLimits.{chordFits, every}
-use Rattle.chords.proofs.Fitting.{every-none, every-more, guard-out, chord-out, all-fit}
+use Rattle.sweep_model.specs.Steps.{chordFits, every}
+use Rattle.chords.proofs.Fitting.{every-none, every-more, guard-unfit, chord-unfit, all-fit}
 use Rattle.chords.proofs.check_chords.Statement.{statement}
 use Rattle.chords.proofs.check_chords.Tie as tie
 
@@ -15,7 +15,7 @@ abbrev μ-loop : tie.MeasureT-loop
 μ-loop f guard chords n i₀ i = n - i
 
 returns : tie.Need-returns Inv-loop μ-loop
-returns c = guard-out _ _ _ (c .before .guard-fits .result) (c .before .guard-fits .ensures) (c .if1 .taken)
+returns c = guard-unfit _ _ _ (c .before .guard-fits .result) (c .before .guard-fits .ensures) (c .if1 .taken)
 
 loop-holds : tie.Need-loop-holds Inv-loop μ-loop
 loop-holds c = (omega arith, every-none _)
@@ -24,7 +24,7 @@ chord-fits-requires : tie.Need-chord-fits-requires Inv-loop μ-loop
 chord-fits-requires c κs = omega (arith, c .loop-test .taken)
 
 returns-2 : tie.Need-returns-2 Inv-loop μ-loop
-returns-2 c = chord-out _ _ _ (c .before .before .before .loop .i) (c .before .chord-fits .result)
+returns-2 c = chord-unfit _ _ _ (c .before .before .before .loop .i) (c .before .chord-fits .result)
     (c .before .before .loop-test .taken) (c .before .chord-fits .ensures) (c .if2 .taken)
 
 loop-less : tie.Need-loop-less Inv-loop μ-loop

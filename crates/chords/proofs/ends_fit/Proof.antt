@@ -1,4 +1,4 @@
-use Rattle.sweep_model.specs.ChordLimits.{endsFit}
+use Rattle.sweep_model.specs.Steps.{endsFit}
 use borrow.Author.Needs.{needs}
 use Rattle.chords.proofs.ends_fit.Statement.{statement}
 use Rattle.chords.proofs.ends_fit.Tie as tie

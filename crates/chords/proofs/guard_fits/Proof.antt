@@ -1,4 +1,4 @@
-use Rattle.sweep_model.specs.ChordLimits.{guardFits}
+use Rattle.sweep_model.specs.Steps.{guardFits}
 use Rattle.chords.proofs.guard_fits.Statement.{statement}
 use Rattle.chords.proofs.guard_fits.Tie as tie
 

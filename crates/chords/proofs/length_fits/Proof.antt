@@ -1,4 +1,4 @@
-use Rattle.sweep_model.specs.ChordLimits.{lengthFits}
+use Rattle.sweep_model.specs.Steps.{lengthFits}
 use borrow.Author.Needs.{needs}
 use Rattle.chords.proofs.length_fits.Statement.{statement}
 use Rattle.chords.proofs.length_fits.Tie as tie

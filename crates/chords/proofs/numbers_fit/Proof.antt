@@ -1,4 +1,4 @@
-use Rattle.sweep_model.specs.ChordLimits.{numbersFit}
+use Rattle.sweep_model.specs.Steps.{numbersFit}
 use borrow.Author.Needs.{needs}
 use Rattle.chords.proofs.numbers_fit.Statement.{statement}
 use Rattle.chords.proofs.numbers_fit.Tie as tie

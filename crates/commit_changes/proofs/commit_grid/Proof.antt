@@ -1,6 +1,8 @@
+-- `commit_changes::commit_grid` meets its contract: by the verdict, which says that no cause is present or which one
+-- is due.
 use borrow.Author.Needs.{needs}
 use native.Mathlib.Omega.{arith}
-use Rattle.commit_changes.proofs.Answers.{judged-no, judged-fitting, generation-steps, judged-fits}
+use Rattle.commit_changes.proofs.Answers.{verdict-refused, verdict-fitting, generation-steps, verdict-fits}
 use Rattle.commit_changes.proofs.commit_grid.Statement.{statement}
 use Rattle.stock.specs.Stock.{stock}
 use Rattle.commit_changes.proofs.commit_grid.Tie as tie
@@ -13,7 +15,7 @@ apply-changes-requires c κs = let a =
     c .before .before .before .before .before .before .before .before .before .before .before .before .before .before
     .before .args in (
       a .intervals,
-      judged-fitting (a .spec) (a .g)
+      verdict-fitting (a .spec) (a .g)
           (stock (a .spans .now) (a .links .now) (a .heads .now) (a .generation) (a .intervals)) (a .changes .now)
           (a .pairs .now) (a .base) _ (c .before .before .before .before .before .before .judge .ensures) _
           (c .before .before .before .before .total .given .1),
@@ -41,7 +43,7 @@ returns : tie.Need-returns
 returns c =
     let a = c .before .before .before .before .before .before .before .before .before .before .before .before .before
     .before .before .before .before .before .before .before .before .before .args in
-    judged-fits (a .spec) (a .g) (stock (a .spans .now) (a .links .now) (a .heads .now) (a .generation)
+    verdict-fits (a .spec) (a .g) (stock (a .spans .now) (a .links .now) (a .heads .now) (a .generation)
     (a .intervals)) (a .changes .now) (a .pairs .now) (a .base) _
     (c .before .before .before .before .before .before .before .before .before .before .before .before .before
     .judge .ensures) _ (c .before .before .before .before .before .before .before .before .before .before .before
@@ -49,7 +51,7 @@ returns c =
 
 returns-2 : tie.Need-returns-2
 returns-2 c = let a = c .before .before .before .before .before .before .before .before .before .before .before
-    .before .args in judged-no (a .spec) (a .g)
+    .before .args in verdict-refused (a .spec) (a .g)
     (stock (a .spans .now) (a .links .now) (a .heads .now) (a .generation) (a .intervals)) (a .changes .now)
     (a .pairs .now) (a .base) _ (c .before .before .before .judge .ensures) _ (c .before .k .given .1)
 

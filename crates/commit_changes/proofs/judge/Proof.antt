@@ -1,9 +1,11 @@
+-- `commit_changes::judge` meets its contract: each test that fails gives its number, which is due since the tests
+-- before it were passed.
 use borrow.Author.Needs.{needs}
 use mathlib.Core.Path.{sym, _∙_}
 use mathlib.Core.Logic.{inl, inr}
 use Rattle.stock.proofs.Causes.{room-of}
 use Rattle.stock.proofs.Rays.{tells-good}
-use Rattle.commit_changes.proofs.Verdicts.{too-short, unsound, store-unsound, other-base, list-judged}
+use Rattle.commit_changes.proofs.Verdicts.{too-short, unsound, store-unsound, other-base, list-verdict}
 use Rattle.commit_changes.proofs.judge.Statement.{statement}
 use Rattle.stock.specs.Stock.{stock}
 use Rattle.store.specs.Store.{cells}
@@ -65,7 +67,7 @@ judge-list-requires c κs =
 returns-6 : tie.Need-returns-6
 returns-6 c =
     let a = c .before .before .before .before .before .before .before .before .before .before .before .before .before .args in
-    list-judged (a .spec) (a .g) (stock (a .spans .now) (a .links .now) (a .heads .now) (a .generation)
+    list-verdict (a .spec) (a .g) (stock (a .spans .now) (a .links .now) (a .heads .now) (a .generation)
     (a .intervals)) (a .changes .now) (a .pairs .now) (a .base)
     (sym (c .before .before .before .before .before .before .before .is-short .ensures)
     ∙ c .before .before .before .before .before .before .if1 .left)

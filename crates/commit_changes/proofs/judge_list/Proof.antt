@@ -1,3 +1,5 @@
+-- `commit_changes::judge_list` meets its contract: the sums of the check are the pairs that the changes free and lay,
+-- so the total is the number of intervals after them and needs no more than 64 bits.
 use borrow.Author.Needs.{needs}
 use native.Mathlib.Omega.{arith}
 use Rattle.commit_changes.proofs.Verdicts.{bad-list, freed-fewer, total-fits, over-budget, last-generation, list-fits}

@@ -1,3 +1,5 @@
+-- `commit_log::commit_grid` meets its contract: a number other than 0 is the refusal that is due; past 0 the tests
+-- have found all that applying the log asks, and the records in use are counted anew.
 use borrow.Author.Needs.{needs}
 use native.Mathlib.Omega.{arith}
 use Rattle.commit_log.proofs.Answers.{refuse, ready, accept}
@@ -7,8 +9,8 @@ use Rattle.commit_log.proofs.commit_grid.Tie as tie
 returns : tie.Need-returns
 returns c = refuse _ _ _ _ _ _ _ (c .before .refusal .ensures) (c .if1 .taken)
 
-cut-lists-requires : tie.Need-cut-lists-requires
-cut-lists-requires c κs = ready _ _ _ _ _ _
+apply-log-requires : tie.Need-apply-log-requires
+apply-log-requires c κs = ready _ _ _ _ _ _
     (c .before .before .before .before .before .before .before .before .before .before .before .before .before .before
     .before .pre) _ (c .before .before .before .before .before .refusal .ensures)
     (c .before .before .before .before .if1 .left)
@@ -31,14 +33,14 @@ add-t39 c = omega (
 
 returns-2 : tie.Need-returns-2
 returns-2 c =
-    let judged = c .before .before .before .before .before .before .before .before .before .before .before .before
+    let checked = c .before .before .before .before .before .before .before .before .before .before .before .before
     .before .before .before .before .before in
-    accept _ _ _ _ _ _ _ (judged .refusal .ensures)
+    accept _ _ _ _ _ _ _ (checked .refusal .ensures)
     (c .before .before .before .before .before .before .before .before .before .before .before .before .before .before
     .before .before .if1 .left)
-    (judged .before .before .before .before .before .before .before .before .before .slice-known .given)
-    (judged .before .before .before .before .before .before .shared-slice-known .given) _ _ _
-    (c .before .before .before .before .before .before .before .before .before .before .before .cut-lists .ensures) _
+    (checked .before .before .before .before .before .before .before .before .before .slice-known .given)
+    (checked .before .before .before .before .before .before .shared-slice-known .given) _ _ _
+    (c .before .before .before .before .before .before .before .before .before .before .before .apply-log .ensures) _
     (c .count-used .ensures)
 
 pub commit-grid-spec : {M : Type 1} → statement M
@@ -51,7 +53,7 @@ commit-grid-spec =
     (λ c. search needs)
     (λ c. search needs)
     returns
-    cut-lists-requires
+    apply-log-requires
     count-used-requires
     add-t39
     (λ c. search needs)

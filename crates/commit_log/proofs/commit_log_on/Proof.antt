@@ -1,3 +1,4 @@
+-- `commit_log::commit_log_on` meets its contract: by the answer of `grid`.
 use borrow.Author.Needs.{needs}
 use mathlib.Core.Path.{sym, _∙_}
 use Rattle.grid.proofs.Facts.{grid-facts}

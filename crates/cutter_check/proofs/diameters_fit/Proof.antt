@@ -1,4 +1,4 @@
-use Rattle.cutter.specs.Limits.{diametersFit}
+use Rattle.cutter.specs.Steps.{diametersFit}
 use borrow.Author.Needs.{needs}
 use Rattle.cutter_check.proofs.diameters_fit.Statement.{statement}
 use Rattle.cutter_check.proofs.diameters_fit.Tie as tie

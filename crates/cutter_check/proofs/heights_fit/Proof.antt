@@ -1,4 +1,4 @@
-use Rattle.cutter.specs.Limits.{heightsFit}
+use Rattle.cutter.specs.Steps.{heightsFit}
 use borrow.Author.Needs.{needs}
 use Rattle.cutter_check.proofs.heights_fit.Statement.{statement}
 use Rattle.cutter_check.proofs.heights_fit.Tie as tie

@@ -1,4 +1,4 @@
-use Rattle.cutter.specs.Limits.{aboveZero}
+use Rattle.cutter.specs.Steps.{aboveZero}
 use Rattle.cutter_check.proofs.is_above_zero.Statement.{statement}
 use Rattle.cutter_check.proofs.is_above_zero.Tie as tie
 

@@ -1,4 +1,4 @@
-use Rattle.cutter.specs.Limits.{isBeam}
+use Rattle.cutter.specs.Steps.{isBeam}
 use borrow.Author.Needs.{needs}
 use Rattle.cutter_check.proofs.is_beam.Statement.{statement}
 use Rattle.cutter_check.proofs.is_beam.Tie as tie

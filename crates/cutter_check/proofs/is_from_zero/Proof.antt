@@ -1,4 +1,4 @@
-use Rattle.cutter.specs.Limits.{fromZero}
+use Rattle.cutter.specs.Steps.{fromZero}
 use Rattle.cutter_check.proofs.is_from_zero.Statement.{statement}
 use Rattle.cutter_check.proofs.is_from_zero.Tie as tie
 

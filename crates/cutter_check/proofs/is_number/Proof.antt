@@ -1,4 +1,4 @@
-use Rattle.cutter.specs.Limits.{isNotNan}
+use Rattle.cutter.specs.Steps.{isNotNan}
 use Rattle.doubles.proofs.Order.{ne-self}
 use Rattle.cutter_check.proofs.is_number.Statement.{statement}
 use Rattle.cutter_check.proofs.is_number.Tie as tie

@@ -1,4 +1,4 @@
-use Rattle.cutter.specs.Limits.{lengthsFit}
+use Rattle.cutter.specs.Steps.{lengthsFit}
 use Rattle.cutter_check.proofs.lengths_fit.Statement.{statement}
 use Rattle.cutter_check.proofs.lengths_fit.Tie as tie
 

@@ -1,4 +1,4 @@
-use Rattle.cutter.specs.Limits.{shapeFits}
+use Rattle.cutter.specs.Steps.{shapeFits}
 use borrow.Author.Needs.{needs}
 use Rattle.cutter_check.proofs.shape_fits.Statement.{statement}
 use Rattle.cutter_check.proofs.shape_fits.Tie as tie

@@ -1,4 +1,4 @@
-use Rattle.cutter.specs.Limits.{sizesFit}
+use Rattle.cutter.specs.Steps.{sizesFit}
 use borrow.Author.Needs.{needs}
 use Rattle.cutter_check.proofs.sizes_fit.Statement.{statement}
 use Rattle.cutter_check.proofs.sizes_fit.Tie as tie

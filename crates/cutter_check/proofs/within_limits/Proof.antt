@@ -1,4 +1,4 @@
-use Rattle.cutter.specs.Limits.{withinLimits}
+use Rattle.cutter.specs.Steps.{withinLimits}
 use borrow.Author.Needs.{needs}
 use Rattle.cutter_check.proofs.within_limits.Statement.{statement}
 use Rattle.cutter_check.proofs.within_limits.Tie as tie

@@ -1,4 +1,4 @@
--- `hex_text::digit` meets its contract: its tests are those of `digitOf`. Assumes nothing.
+-- `hex_text::digit` meets its contract: its tests are those of `hexDigit`. Assumes nothing.
 use borrow.Author.Needs.{needs}
 use borrow.Author.Tests.{lt-ltb, le-ltb}
 use Rattle.hex_text.specs.Hex.{hexDigit}

@@ -13,24 +13,41 @@ use Rattle.log_count.proofs.Asking.{list-readable, list-sound}
 use Rattle.log_count.proofs.Prefixes.{ray-addable, ray-added}
 use Rattle.log_count.proofs.Onward.{TakenTo, onward-start, onward-next, onward-falls, onward-counted}
 use Rattle.log_count.proofs.count_long.Statement.{statement}
+use Rattle.store.specs.Layout.{headsOf}
 use Rattle.log_count.proofs.count_long.Tie as tie
 
 abbrev Inv-loop : tie.InvT-loop
-Inv-loop g spans links heads log ray keys₀ buffer₀ t n top h k w₀ keys buffer w =
-    TakenTo g n spans links log ray h k keys₀ keys buffer₀ buffer w
+Inv-loop g spans links heads log ray keys₀ buffer₀ t n top head w₀ keys buffer w =
+    TakenTo g n spans links log ray (headsOf heads ray .possible) (headsOf heads ray .certain) keys₀ keys buffer₀ buffer w
 
 abbrev μ-loop : tie.MeasureT-loop
-μ-loop g spans links heads log ray keys₀ buffer₀ t n top h k w₀ keys buffer w = length (pairsPast (w .end) (losesOf g log ray true))
+μ-loop g spans links heads log ray keys₀ buffer₀ t n top head w₀ keys buffer w = length (pairsPast (w .end) (losesOf g log ray true))
+
+ray-heads-requires : tie.Need-ray-heads-requires Inv-loop μ-loop
+ray-heads-requires c κs =
+    let asked = c .before .before .before .before .before .before .pre .0 in
+    omega (arith, asked .counting .countable .room .in-heads, asked .inside)
+
+start-requires : tie.Need-start-requires Inv-loop μ-loop
+start-requires c κs =
+    let asked = c .before .before .before .before .before .before .before .pre .0 in
+    rw (c .ray-heads .ensures) (list-readable asked false)
+
+start-requires-2 : tie.Need-start-requires-2 Inv-loop μ-loop
+start-requires-2 c κs =
+    let asked = c .before .before .before .before .before .before .before .before .pre .0 in
+    rw (c .before .ray-heads .ensures) (list-readable asked true)
 
 loop-holds : tie.Need-loop-holds Inv-loop μ-loop
 loop-holds c =
-    let asked = c .before .before .before .before .before .before .before .before .before .before .pre .0 in
-    onward-start (list-sound asked false) (list-sound asked true) (c .before .start .ensures) (c .start2 .ensures)
+    let asked = c .before .before .before .before .before .before .before .before .before .pre .0 in
+    let e = c .before .before .ray-heads .ensures in
+    onward-start (list-sound asked false) (list-sound asked true) (rw e at (c .before .start .ensures)) (rw e at (c .start2 .ensures))
 
 take-part-requires : tie.Need-take-part-requires Inv-loop μ-loop
 take-part-requires c κs =
     let inv = c .before .before .loop .inv in
-    let start = c .before .before .before .before .before .before .before .before .before .before .before .before .before in
+    let start = c .before .before .before .before .before .before .before .before .before .before .before .before in
     let asked = start .pre .0 in
     record {
       few = few-rays (asked .counting .countable);
@@ -54,24 +71,28 @@ loop-again c =
 end-list-requires : tie.Need-end-list-requires Inv-loop μ-loop
 end-list-requires c κs =
     let part = c .before .before .before .before .before .before in
-    let start = part .before .before .before .before .before .before .before .before .before .before .before .before .before .before in
-    (list-readable (start .pre .0) false, part .take-part .ensures .readable false)
+    let heads = part .before .before .before .before .before .before in
+    let asked = heads .before .before .before .before .before .before .before .pre .0 in
+    (rw (heads .ray-heads .ensures) (list-readable asked false), part .take-part .ensures .readable false)
 
 end-list-requires-2 : tie.Need-end-list-requires-2 Inv-loop μ-loop
 end-list-requires-2 c κs =
     let part = c .before .before .before .before .before .before .before in
-    let start = part .before .before .before .before .before .before .before .before .before .before .before .before .before .before in
-    (list-readable (start .pre .0) true, part .take-part .ensures .readable true)
+    let heads = part .before .before .before .before .before .before in
+    let asked = heads .before .before .before .before .before .before .before .pre .0 in
+    (rw (heads .ray-heads .ensures) (list-readable asked true), part .take-part .ensures .readable true)
 
 add-ray-requires : tie.Need-add-ray-requires Inv-loop μ-loop
 add-ray-requires c κs =
     let part = c .before .before .before .before .before .before .before .before in
-    let start = part .before .before .before .before .before .before .before .before .before .before .before .before .before .before in
+    let heads = part .before .before .before .before .before .before in
+    let start = heads .before .before .before .before .before .before .before in
     let asked = start .pre .0 in
-    let inv = part .before .before .before .loop .inv in
-    let told = onward-counted inv (part .take-part .ensures) (not-true _ (c .before .before .if1 .taken)) in
+    let e = heads .ray-heads .ensures in
+    let told = onward-counted (part .before .before .before .loop .inv) (part .take-part .ensures) (not-true _ (c .before .before .if1 .taken)) in
     ray-addable asked (omega (arith, asked .counting .countable .room .in-spans, start .good, start .fits))
-    (told false _ (list-sound asked false) (c .before .end-list .ensures)) (told true _ (list-sound asked true) (c .end-list2 .ensures))
+    (told false _ (list-sound asked false) (rw e at (c .before .end-list .ensures)))
+    (told true _ (list-sound asked true) (rw e at (c .end-list2 .ensures)))
 
 same-length : tie.Need-same-length Inv-loop μ-loop
 same-length c =
@@ -86,16 +107,18 @@ same-length-2 c =
 returns : tie.Need-returns Inv-loop μ-loop
 returns c =
     let part = c .before .before .before .before .before .before .before .before .before in
-    let start = part .before .before .before .before .before .before .before .before .before .before .before .before .before .before in
+    let heads = part .before .before .before .before .before .before in
+    let start = heads .before .before .before .before .before .before .before in
     let asked = start .pre .0 in
+    let e = heads .ray-heads .ensures in
     let inv = part .before .before .before .loop .inv in
     let told = onward-counted inv (part .take-part .ensures) (not-true _ (c .before .before .before .if1 .taken)) in (
       same-length c,
       record {
         size = same-length-2 c;
         prefixed = ray-added asked (omega (arith, asked .counting .countable .room .in-spans, start .good, start .fits))
-            (told false _ (list-sound asked false) (c .before .before .end-list .ensures))
-            (told true _ (list-sound asked true) (c .before .end-list2 .ensures)) _ (c .add-ray .ensures);
+            (told false _ (list-sound asked false) (rw e at (c .before .before .end-list .ensures)))
+            (told true _ (list-sound asked true) (rw e at (c .before .end-list2 .ensures))) _ (c .add-ray .ensures);
       },
     )
 
@@ -105,15 +128,9 @@ count-long-spec =
     (tie.spec
     Inv-loop
     μ-loop
-    (λ c. search needs)
-    (λ c. search needs)
-    (λ c. search needs)
-    (λ c. search needs)
-    (λ c. search needs)
-    (λ c. search needs)
-    (λ c. search needs)
-    (λ c κs. list-readable (c .before .before .before .before .before .before .before .before .pre .0) false)
-    (λ c κs. list-readable (c .before .before .before .before .before .before .before .before .before .pre .0) true)
+    ray-heads-requires
+    start-requires
+    start-requires-2
     loop-holds
     take-part-requires
     loop-less

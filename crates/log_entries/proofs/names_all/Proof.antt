@@ -1,4 +1,4 @@
-use mathlib.Core.Path.{_≡_, sym, _∙_}
+use mathlib.Core.Path.{_≡_, sym, ap, _∙_}
 use mathlib.Core.Bool.{true, true≢false, false≢true}
 use borrow.Author.Count.{below-more}
 use Prim.Native.Nat.{ℕ, _≤_, _<_, _-_}
@@ -21,24 +21,31 @@ abbrev μ-loop : tie.MeasureT-loop
 loop-holds : tie.Need-loop-holds Inv-loop μ-loop
 loop-holds c = (omega arith, λ j h. absurd (omega arith))
 
+-- what is told of the entry at place i
+told : (c : tie.After-named Inv-loop μ-loop)
+    → let loop = c .before .before .before in
+    let given = loop .before .before .before .args in
+    namesSomeRay (given .g) (entryAt (given .log .now) (loop .loop .i)) ≡ c .named .result
+told c = sym (c .named .ensures ∙ ap (namesSomeRay _) (c .before .entry-at .ensures))
+
 returns : tie.Need-returns Inv-loop μ-loop
 unfolding EachNamed NamesNoRay
-returns c = record {
-  yes = λ h. absurd (false≢true h);
-  no = λ _. (
-    entryAt (c .before .before .before .before .before .args .log .now)
-        (c .before .before .before .loop .i),
-    entry-in (c .before .before .before .before .before .args .log .now)
-        (c .before .before .before .loop .i) (omega arith),
-    sym (c .before .named .ensures) ∙ not-true _ (c .if1 .taken),
-  );
-}
+returns c =
+    let loop = c .before .before .before .before in
+    let log = loop .before .before .before .args .log .now in
+    record {
+      yes = λ h. absurd (false≢true h);
+      no = λ _. (
+        entryAt log (loop .loop .i),
+        entry-in log (loop .loop .i) (omega arith),
+        told (c .before) ∙ not-true _ (c .if1 .taken),
+      );
+    }
 
 loop-again : tie.Need-loop-again Inv-loop μ-loop
 loop-again c = (
   omega arith,
-  below-more _ _ (c .before .before .before .loop .inv .1)
-      (sym (c .before .named .ensures) ∙ not-false _ (c .if1 .left)),
+  below-more _ _ (c .before .before .before .before .loop .inv .1) (told (c .before) ∙ not-false _ (c .if1 .left)),
 )
 
 returns-2 : tie.Need-returns-2 Inv-loop μ-loop
@@ -51,7 +58,9 @@ names-all-spec =
     (tie.spec
     Inv-loop
     μ-loop
+    (λ c κs. search needs)
     loop-holds
+    (λ c κs. search needs)
     (λ c κs. search needs)
     returns
     (λ c. search needs)

@@ -5,79 +5,75 @@ use mathlib.Core.Path.{ap}
 use Prim.Native.Nat.{_-_}
 use lib.ListN.{length, length-set}
 use Rattle.log_group.specs.Groups.{hitKindOf}
-use Rattle.log_group.proofs.Gathering.{Gathering, Turn, turn, gathers, gathered, again, column-most}
+use Rattle.log_group.proofs.Gathering.{Gathering, Turn, turn, gathers, gathered, again}
 use Rattle.log_group.proofs.gather_hits.Statement.{statement}
 use Rattle.log_group.proofs.gather_hits.Tie as tie
 
 abbrev Inv-loop : tie.InvT-loop
-Inv-loop log work₀ ray inner at rays c t₀ k₀ work t k = Gathering rays log (hitKindOf inner) ray at work₀ work t k
+Inv-loop log work₀ ray inner at rays t₀ k₀ work t k = Gathering rays log (hitKindOf inner) ray at work₀ work t k
 
 abbrev μ-loop : tie.MeasureT-loop
-μ-loop log work₀ ray inner at rays c t₀ k₀ work t k = length work₀ - t
+μ-loop log work₀ ray inner at rays t₀ k₀ work t k = length work₀ - t
 
 turned-at : (c : tie.In-loop Inv-loop μ-loop)
-    → let a = c .before .before .before .before .before .before .before .before .args in
-    Turn (c .before .before .before .before .before .total-rays .result) (a .log .now) (hitKindOf (a .inner)) (a .ray)
-    (a .at) (a .work .now) (c .before .loop .work) (c .before .loop .t) (c .before .loop .k)
+    → let m = c .before .before .before .before in
+    let a = m .before .before .before .args in
+    Turn (m .total-rays .result) (a .log .now) (hitKindOf (a .inner)) (a .ray) (a .at) (a .work .now)
+    (c .before .loop .work) (c .before .loop .t) (c .before .loop .k)
 turned-at c =
-    let a = c .before .before .before .before .before .before .before .before .args in
-    turn (c .before .before .before .before .before .total-rays .result) (a .log .now) (hitKindOf (a .inner)) (a .ray)
-    (a .at) (a .work .now) (c .before .loop .work) (c .before .loop .t) (c .before .loop .k)
-    (c .loop-test .taken) (c .before .loop .inv)
+    let m = c .before .before .before .before in
+    let a = m .before .before .before .args in
+    turn (m .total-rays .result) (a .log .now) (hitKindOf (a .inner)) (a .ray) (a .at) (a .work .now)
+    (c .before .loop .work) (c .before .loop .t) (c .before .loop .k) (c .loop-test .taken) (c .before .loop .inv)
 
 loop-holds : tie.Need-loop-holds Inv-loop μ-loop
 loop-holds c =
-    let m = c .before .before .before in
+    let m = c .before .before in
     let b = m .before .before .before in
     let a = b .args in
     gathers (a .g) (a .log .now) (a .work .now) (b .pre .0) (a .ray) (b .pre .1) (m .total-rays .result)
     (m .total-rays .ensures) (hitKindOf (a .inner)) (a .at) (b .pre .3) (b .pre .2)
     (c .number-at .result) (c .number-at .ensures)
 
+entry-at-requires : tie.Need-entry-at-requires Inv-loop μ-loop
+entry-at-requires c κs = turned-at c .below
+
 put-hit-requires : tie.Need-put-hit-requires Inv-loop μ-loop
 put-hit-requires c κs =
-    let t = turned-at (c .before) in
-    let m = c .before .before .before .before .before in
-    let l = c .before .before in (
-      omega (
-        arith,
-        t .below,
-        m .column .ensures,
-        column-most (hitKindOf (m .before .before .before .before .args .inner)),
-      ),
-      omega (arith, t .room, l .loop .inv .size),
-    )
+    let turned = c .before .before in
+    omega (arith, turned-at turned .room, turned .before .loop .inv .size)
 
 add-number-at : tie.Need-add-number-at Inv-loop μ-loop
 add-number-at c =
-    let t = turned-at (c .before .before .before .before .before) in
-    let p = c .before .before .before in
-    let l = p .before .before .before in
-    omega (arith, t .below, l .loop .inv .past, t .room)
+    let turned = c .before .before .before .before .before .before in
+    let t = turned-at turned in
+    omega (arith, t .below, turned .before .loop .inv .past, t .room)
 
 number-at-requires-2 : tie.Need-number-at-requires-2 Inv-loop μ-loop
 number-at-requires-2 c κs =
-    let t = turned-at (c .before .before .before .before .before) in
-    let p = c .before .before .before in
-    let l = p .before .before .before in
-    omega (arith, t .below, l .loop .inv .past, t .room, l .loop .inv .size, simp length-set at (ap length (p .put-hit .ensures)))
+    let put = c .before .before .before in
+    let turned = put .before .before .before in
+    let t = turned-at turned in
+    let inv = turned .before .loop .inv in
+    omega (arith, t .below, inv .past, t .room, inv .size, simp length-set at (ap length (put .put-hit .ensures)))
 
 add-t : tie.Need-add-t Inv-loop μ-loop
-add-t c = omega (arith, turned-at (c .before .before .before .before .before .before) .room)
+add-t c = omega (arith, turned-at (c .before .before .before .before .before .before .before) .room)
 
 loop-less : tie.Need-loop-less Inv-loop μ-loop
-loop-less c = omega (arith, turned-at (c .before .before .before .before .before .before) .room)
+loop-less c = omega (arith, turned-at (c .before .before .before .before .before .before .before) .room)
 
 loop-again : tie.Need-loop-again Inv-loop μ-loop
 loop-again c =
-    let p = c .before .before .before .before in
-    let l = p .before .before .before in
+    let put = c .before .before .before .before in
+    let read = put .before .before .entry-at in
+    let turned = put .before .before .before in
+    let l = turned .before in
     let m = l .before .before .before in
-    let t = turned-at (c .before .before .before .before .before .before) in
-    let a = m .before .before .before .before .args in
-    again (m .before .total-rays .result) (a .log .now) (hitKindOf (a .inner)) (a .ray) (a .at) (a .work .now)
-    (l .loop .work) (l .loop .t) (l .loop .k) (m .column .result) (p .put-hit .last .1 .1 .1 .0)
-    (c .number-at2 .result) (m .column .ensures) (p .put-hit .ensures) (c .number-at2 .ensures) (t .again)
+    let a = m .before .before .before .args in
+    again (m .total-rays .result) (a .log .now) (hitKindOf (a .inner)) (a .ray) (a .at) (a .work .now)
+    (l .loop .work) (l .loop .t) (l .loop .k) (read .result) (put .put-hit .last .1 .1 .0)
+    (c .number-at2 .result) (read .ensures) (put .put-hit .ensures) (c .number-at2 .ensures) (turned-at turned .again)
 
 same-length : tie.Need-same-length Inv-loop μ-loop
 same-length c = c .before .loop .inv .size
@@ -85,7 +81,7 @@ same-length c = c .before .loop .inv .size
 returns : tie.Need-returns Inv-loop μ-loop
 returns c =
     let l = c .before in
-    let m = l .before .before .before .before in
+    let m = l .before .before .before in
     let b = m .before .before .before in
     let a = b .args in
     gathered (a .g) (a .log .now) (a .work .now) (b .pre .0) (a .ray) (b .pre .1) (m .total-rays .result)
@@ -100,9 +96,9 @@ gather-hits-spec =
     μ-loop
     (λ c κs. search needs)
     (λ c κs. search needs)
-    (λ c κs. search needs)
     loop-holds
     (λ c. search needs)
+    entry-at-requires
     put-hit-requires
     add-number-at
     number-at-requires-2

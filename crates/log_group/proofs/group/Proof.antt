@@ -49,18 +49,18 @@ slice-aggregate-clear-from c =
 
 loop-holds : tie.Need-loop-holds Inv-loop μ-loop
 loop-holds c =
-    let y = c .before .before in
+    let y = c .before .before .before in
     let t = y .before .before in
     let a = t .before .before .before in
     let e = t .total-rays .ensures in
-    grouping-start (a .args .g) (a .args .log .now) (begun y) (begun y) (omega (arith, a .pre .1, begun-size y)) refl
+    rw (c .entry-count .ensures) (grouping-start (a .args .g) (a .args .log .now) (begun y) (begun y) (omega (arith, a .pre .1, begun-size y)) refl
     (λ q h. cleared-none (t .total-rays .result) (a .args .work .now) (y .clear-from .last .0) (fits t)
-    (y .clear-from .ensures) q (omega arith)) (λ q h. refl)
+    (y .clear-from .ensures) q (omega arith)) (λ q h. refl))
 
 ray-at-requires : tie.Need-ray-at-requires Inv-loop μ-loop
 ray-at-requires c κs =
     let l = c .before in
-    let a = c .before .before .before .before .before .before .before .before .before in (
+    let a = c .before .before .before .before .before .before .before .before .before .before in (
       omega (arith, a .pre .1),
       omega (arith, c .loop-test .taken, l .loop .inv .most),
       named (a .args .g) (a .args .log .now) (l .loop .i - 1) (a .pre .0)
@@ -70,10 +70,10 @@ ray-at-requires c κs =
 link-requires : tie.Need-link-requires Inv-loop μ-loop
 link-requires c κs =
     let l = c .before .before .before in
-    let t = l .before .before .before .before .before in
+    let t = l .before .before .before .before .before .before in
     let a = t .before .before .before in
     let r = c .before in
-    let y = l .before .before .before in
+    let y = l .before .before .before .before in
     let below : l .loop .i - 1 < entryCount (a .args .log .now) =
     omega (arith, c .before .before .loop-test .taken, l .loop .inv .most) in (
       omega (
@@ -93,7 +93,7 @@ loop-again c =
     let k = c .before .before in
     let r = k .before .before in
     let l = r .before .before in
-    let y = l .before .before .before in
+    let y = l .before .before .before .before in
     let t = y .before .before in
     let a = t .before .before .before in
     let below : l .loop .i - 1 < entryCount (a .args .log .now) = omega (arith, r .before .loop-test .taken, l .loop .inv .most) in
@@ -105,12 +105,12 @@ loop-again c =
     (t .total-rays .result) (t .total-rays .ensures) (omega arith) (k .link .last .0) (k .link .ensures)
 
 same-length : tie.Need-same-length Inv-loop μ-loop
-same-length c = let l = c .before in l .loop .inv .size ∙ begun-size (l .before .before .before)
+same-length c = let l = c .before in l .loop .inv .size ∙ begun-size (l .before .before .before .before)
 
 returns : tie.Need-returns Inv-loop μ-loop
 returns c =
     let l = c .before in
-    let y = l .before .before .before in
+    let y = l .before .before .before .before in
     let t = y .before .before in
     let a = t .before .before .before in
     grouping-done (a .args .g) (a .args .log .now) (begun y) (l .loop .work) (omega (arith, a .pre .1, begun-size y))
@@ -127,6 +127,7 @@ group-spec =
     (λ c κs. search needs)
     (λ c. search needs)
     slice-aggregate-clear-from
+    (λ c κs. search needs)
     (λ c κs. search needs)
     loop-holds
     (λ c. search needs)

@@ -1,3 +1,4 @@
+-- `log_lay::free_all` meets its contract: before each turn the lists of the first rays are freed.
 use borrow.Author.Needs.{needs}
 use native.Mathlib.Omega.{arith}
 use Prim.Native.Nat.{_-_}
@@ -16,8 +17,8 @@ abbrev μ-loop : tie.MeasureT-loop
 loop-holds : tie.Need-loop-holds Inv-loop μ-loop
 loop-holds c = freed-start _ _ _ _ _ (c .before .before .before .before .pre)
 
-free-ray-requires : tie.Need-free-ray-requires Inv-loop μ-loop
-free-ray-requires c κs = turn-freeable _ _ _ _ _ _ (c .before .before .before .before .loop .inv .still)
+free-if-changed-requires : tie.Need-free-if-changed-requires Inv-loop μ-loop
+free-if-changed-requires c κs = turn-freeable _ _ _ _ _ _ (c .before .before .before .before .loop .inv .still)
     (c .before .before .before .loop-test .taken)
 
 loop-less : tie.Need-loop-less Inv-loop μ-loop
@@ -27,7 +28,7 @@ loop-again : tie.Need-loop-again Inv-loop μ-loop
 loop-again c = freed-next _ _ _ _ _ _ _
     (c .before .before .before .before .before .before .before .before .before .before .before .loop .inv)
     (c .before .before .before .before .before .before .before .before .before .before .loop-test .taken) _
-    (c .before .before .before .before .before .before .free-ray .ensures)
+    (c .before .before .before .before .before .before .free-if-changed .ensures)
 
 same-length : tie.Need-same-length Inv-loop μ-loop
 same-length c = c .before .loop .inv .kept .spans-size
@@ -48,7 +49,7 @@ free-all-spec =
     Inv-loop
     μ-loop
     loop-holds
-    free-ray-requires
+    free-if-changed-requires
     (λ c. search needs)
     loop-less
     loop-again

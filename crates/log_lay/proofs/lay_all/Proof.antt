@@ -1,3 +1,4 @@
+-- `log_lay::lay_all` meets its contract: before each turn the new lists of the first rays are laid.
 use borrow.Author.Needs.{needs}
 use native.Mathlib.Omega.{arith}
 use Prim.Native.Nat.{_-_}
@@ -16,8 +17,8 @@ abbrev μ-loop : tie.MeasureT-loop
 loop-holds : tie.Need-loop-holds Inv-loop μ-loop
 loop-holds c = laid-start _ _ _ _ _ _ (c .before .before .before .before .pre)
 
-lay-ray-requires : tie.Need-lay-ray-requires Inv-loop μ-loop
-lay-ray-requires c κs = turn-layable _ _ _ _ _ _
+lay-if-changed-requires : tie.Need-lay-if-changed-requires Inv-loop μ-loop
+lay-if-changed-requires c κs = turn-layable _ _ _ _ _ _
     (c .before .before .before .before .before .before .before .before .before .pre) _ _ _
     (c .before .before .before .before .loop .inv) (c .before .before .before .loop-test .taken)
 
@@ -29,7 +30,7 @@ loop-again c = laid-next _ _ _ _ _ _
     (c .before .before .before .before .before .before .before .before .before .before .before .before .before .before
     .before .before .pre) _ _ _ (c .before .before .before .before .before .before .before .before .before .before
     .before .loop .inv) (c .before .before .before .before .before .before .before .before .before .before .loop-test
-    .taken) _ _ (c .before .before .before .before .before .before .lay-ray .ensures) (search needs) (search needs)
+    .taken) _ _ (c .before .before .before .before .before .before .lay-if-changed .ensures) (search needs) (search needs)
     (search needs)
 
 same-length : tie.Need-same-length Inv-loop μ-loop
@@ -51,7 +52,7 @@ lay-all-spec =
     Inv-loop
     μ-loop
     loop-holds
-    lay-ray-requires
+    lay-if-changed-requires
     (λ c. search needs)
     loop-less
     loop-again

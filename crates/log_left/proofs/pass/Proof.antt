@@ -8,7 +8,7 @@ use lib.Ieee.{Float, le}
 use Rattle.logic.proofs.Bools.{not-true, not-false}
 use Rattle.store.specs.Store.{places}
 use Rattle.store_read.specs.Reading.{Readable}
-use Rattle.store_read.proofs.Steps.{step}
+use Rattle.store_read.proofs.Steps.{step, record-there}
 use Rattle.log_left.specs.ListLeft.{ListWalked}
 use Rattle.log_left.proofs.Walking.{walked-later, closes}
 use Rattle.log_left.proofs.pass.Statement.{statement}
@@ -25,19 +25,25 @@ abbrev μ-loop : tie.MeasureT-loop
 loop-holds : tie.Need-loop-holds Inv-loop μ-loop
 loop-holds c = (c .before .before .pre, λ l s last. walked-later last (c .before .before .args .lo))
 
+record-at-requires : tie.Need-record-at-requires Inv-loop μ-loop
+record-at-requires c κs = record-there (c .before .before .loop .inv .0) (c .if1 .taken)
+
+close-pair-requires : tie.Need-close-pair-requires Inv-loop μ-loop
+close-pair-requires c κs = let at-test = c .before .before .before in (at-test .before .before .loop .inv .0, at-test .if1 .taken)
+
 loop-less : tie.Need-loop-less Inv-loop μ-loop
 loop-less c =
-    let at-test = c .before .before .before in
+    let at-test = c .before .before .before .before in
     rw (c .close-pair .ensures .at-is) (step (at-test .before .before .loop .inv .0) (at-test .if1 .taken) .less)
 
 loop-again : tie.Need-loop-again Inv-loop μ-loop
 loop-again c =
-    let at-test = c .before .before .before in
+    let at-test = c .before .before .before .before in
     let loop = at-test .before .before in
     let inv = loop .loop .inv in
     let closed = c .close-pair .ensures in
     let lo = loop .before .before .before .args .lo in
-    let below = not-false _ (c .before .if2 .left) in (
+    let below = not-false _ (rw (c .before .before .before .record-at .ensures) at (c .before .if2 .left)) in (
       rw (closed .at-is) (step (inv .0) (at-test .if1 .taken) .next),
       λ l s last h w. closes lo (loop .loop .t) (c .close-pair .result) (inv .0) (at-test .if1 .taken) below closed (inv .1 l s last h w),
     )
@@ -49,8 +55,8 @@ returns c =
 
 returns-2 : tie.Need-returns-2 Inv-loop μ-loop
 returns-2 c =
-    let inv = c .before .before .before .before .loop .inv in
-    record { readable = inv .0; beyond = λ ne. not-true _ (c .if2 .taken); walked = inv .1 }
+    let inv = c .before .before .before .before .before .loop .inv in
+    record { readable = inv .0; beyond = λ ne. not-true _ (rw (c .before .before .record-at .ensures) at (c .if2 .taken)); walked = inv .1 }
 
 pub pass-spec : {M : Type 1} → statement M
 pass-spec =
@@ -60,11 +66,8 @@ pass-spec =
     μ-loop
     loop-holds
     (λ c. search needs)
-    (λ c. let h = step (c .before .before .loop .inv .0) (c .if1 .taken) .counted in search needs)
-    (λ c. let h = step (c .before .before .loop .inv .0) (c .if1 .taken) .counted in search needs)
-    (λ c. let h = step (c .before .before .loop .inv .0) (c .if1 .taken) .counted in search needs)
-    (λ c. let h = step (c .before .before .before .loop .inv .0) (c .before .if1 .taken) .counted in search needs)
-    (λ c κs. let at-test = c .before .before in (at-test .before .before .loop .inv .0, at-test .if1 .taken))
+    record-at-requires
+    close-pair-requires
     loop-less
     loop-again
     returns

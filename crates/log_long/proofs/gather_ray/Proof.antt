@@ -21,9 +21,10 @@ loop-holds c = (omega arith, refl, gathers-start _ _ _ _ _)
 
 add-entry-requires : tie.Need-add-entry-requires Inv-loop μ-loop
 add-entry-requires c κs =
-    let asked = c .before .before .before .before .before .pre in
+    let count = c .before .before .before in
+    let asked = count .before .before .before .pre in
     let inv = c .before .before .loop .inv in
-    (asked .0, asked .1, omega (arith, asked .2, inv .1), c .before .loop-test .taken, inv .2)
+    (asked .0, asked .1, omega (arith, asked .2, inv .1), omega (arith, c .before .loop-test .taken, count .entry-count .ensures), inv .2)
 
 loop-again : tie.Need-loop-again Inv-loop μ-loop
 loop-again c =
@@ -33,7 +34,9 @@ loop-again c =
 returns : tie.Need-returns Inv-loop μ-loop
 returns c =
     let loop = c .before .loop in
-    let passed : entryCount (c .before .before .before .before .args .log .now) ≡ loop .i = omega (arith, loop .inv .0) in
+    let count = c .before .before in
+    let passed : entryCount (count .before .before .before .args .log .now) ≡ loop .i =
+        omega (arith, loop .inv .0, count .entry-count .ensures) in
     (loop .inv .1, rw passed (loop .inv .2))
 
 pub gather-ray-spec : {M : Type 1} → statement M
@@ -42,6 +45,7 @@ gather-ray-spec =
     (tie.spec
     Inv-loop
     μ-loop
+    (λ c κs. search needs)
     loop-holds
     add-entry-requires
     (λ c. search needs)

@@ -1,14 +1,13 @@
 -- `log_long::keep_below` meets its contract. The loop's invariant: of the first i keys those below u are kept.
 use borrow.Author.Needs.{needs}
 use native.Mathlib.Omega.{arith}
-use mathlib.Core.Path.{_≡_, ap}
+use mathlib.Core.Path.{_≡_, ap, _∙_}
 use Prim.Native.Nat.{_≤_, _-_}
 use lib.Ieee.{Float, lt}
 use Rattle.log_model.specs.Logs.{entryAt}
 use Rattle.log_keys.specs.KeysKept.{KeysKept}
 use Rattle.log_keys.proofs.Keeping.{kept-start, kept-turn}
 use Rattle.log_long.specs.Long.{leastPast}
-use Rattle.log_long.proofs.Stretching.{place-fits}
 use Rattle.log_long.proofs.keep_below.Statement.{statement}
 use Rattle.log_long.proofs.keep_below.Tie as tie
 
@@ -21,18 +20,19 @@ abbrev μ-loop : tie.MeasureT-loop
 loop-holds : tie.Need-loop-holds Inv-loop μ-loop
 loop-holds c = (kept-start _ _, omega arith)
 
-least-past-requires : tie.Need-least-past-requires Inv-loop μ-loop
-least-past-requires c κs =
-    let inv = c .before .before .loop .inv in
-    rw (inv .0 .rest (c .before .before .loop .i) (omega arith))
-    (place-fits (c .before .before .before .before .before .pre) (c .before .before .loop .i) (c .before .loop-test .taken))
+entry-at-requires : tie.Need-entry-at-requires Inv-loop μ-loop
+entry-at-requires c κs =
+    let loop = c .before .before .loop in
+    rw (loop .inv .0 .rest (loop .i) (omega arith))
+    (c .before .before .before .before .before .pre .places (loop .i) (c .before .loop-test .taken))
 
 loop-again : tie.Need-loop-again Inv-loop μ-loop
 loop-again c =
-    let inv = c .before .before .before .before .before .before .before .loop .inv in
-    let u = c .before .before .before .before .before .before .before .before .before .before .args .u in (
-      kept-turn _ _ _ _ _ (inv .0) (search needs) _ _ _
-          (ap (λ (x : Float). lt x u) (c .before .before .before .before .least-past .ensures))
+    let least = c .before .before .before .before in
+    let loop = least .before .before .before .before in
+    let given = loop .before .before .before .args in
+    let begins = least .least-past .ensures ∙ ap (leastPast (given .b)) (least .before .entry-at .ensures) in (
+      kept-turn _ _ _ _ _ (loop .loop .inv .0) (search needs) _ _ _ (ap (λ (x : Float). lt x (given .u)) begins)
           (c .before .before .keep .ensures),
       search needs,
     )
@@ -51,7 +51,8 @@ keep-below-spec =
     loop-holds
     (λ c. search needs)
     (λ c. search needs)
-    least-past-requires
+    entry-at-requires
+    (λ c κs. search needs)
     (λ c κs. search needs)
     (λ c. search needs)
     (λ c. search needs)

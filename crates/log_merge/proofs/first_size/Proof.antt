@@ -1,6 +1,5 @@
 -- `log_merge::first_size` meets its contract.
 use borrow.Author.Needs.{needs}
-use borrow.Author.Needs.{needs}
 use Rattle.log_merge.proofs.first_size.Statement.{statement}
 use Rattle.log_merge.proofs.first_size.Tie as tie
 

@@ -153,7 +153,7 @@ add-changed c =
           .loop-test .taken,
       count-most (c .before .before .before .before .before .before .before .before .before
           .merge-ray .result .changed),
-      c .count .ensures,
+      c .one-if-changed .ensures,
     )
 
 loop-less : tie.Need-loop-less Inv-loop μ-loop
@@ -173,9 +173,9 @@ loop-again c =
     (omega (arith, b .good .1 .1 .1 .1 .1 .1 .0 .1))
     (c .before .before .before .before .before .before .before .before .before .merge-ray .last .1 .1 .1 .1 .1 .1
     .0) (c .before .before .before .before .before .put-sizes .last .0)
-    (c .before .before .before .before .before .before .before .before .before .merge-ray .result) (c .count .result)
+    (c .before .before .before .before .before .before .before .before .before .merge-ray .result) (c .one-if-changed .result)
     (c .before .before .before .before .before .before .before .before .before .merge-ray .ensures)
-    (c .before .before .before .before .before .put-sizes .ensures) (c .count .ensures)
+    (c .before .before .before .before .before .put-sizes .ensures) (c .one-if-changed .ensures)
 
 same-length : tie.Need-same-length Inv-loop μ-loop
 same-length c = c .before .loop .inv .size

@@ -1,7 +1,6 @@
 -- `log_merge::merge_ray` meets its contract.
 use borrow.Author.Needs.{needs}
 use native.Mathlib.Omega.{arith}
-use borrow.Author.Needs.{needs}
 use mathlib.Core.Path.{sym, _∙_}
 use Rattle.log_merge.proofs.Rays.{ray-same, cut-ready, ray-merged}
 use Rattle.log_merge.proofs.merge_ray.Statement.{statement}
@@ -26,8 +25,8 @@ cut-ray-requires c κs =
     let t = y .before .before .before .before .before .before .before .before .before .before in
     let a = t .args in
     cut-ready (a .spec) (a .g) (cells (a .spans .now) (a .links .now) (a .heads .now)) (a .log .now) (a .work .now)
-    (a .ray) (a .q) (a .s) (t .pre .0) (t .pre .1) (y .bring .last .1 .1 .1 .1 .1 .1 .0) (y .bring .result)
-    (y .bring .ensures)
+    (a .ray) (a .q) (a .s) (t .pre .0) (t .pre .1) (y .load-ray .last .1 .1 .1 .1 .1 .1 .0) (y .load-ray .result)
+    (y .load-ray .ensures)
 
 returns-2 : tie.Need-returns-2
 returns-2 c =
@@ -36,8 +35,8 @@ returns-2 c =
     let t = y .before .before .before .before .before .before .before .before .before .before in
     let a = t .args in
     ray-merged (a .spec) (a .g) (cells (a .spans .now) (a .links .now) (a .heads .now)) (a .log .now) (a .work .now)
-    (a .ray) (a .q) (a .s) (t .pre .0) (t .pre .1) (y .bring .last .1 .1 .1 .1 .1 .1 .0) (y .bring .result)
-    (y .bring .ensures)
+    (a .ray) (a .q) (a .s) (t .pre .0) (t .pre .1) (y .load-ray .last .1 .1 .1 .1 .1 .1 .0) (y .load-ray .result)
+    (y .load-ray .ensures)
     (z .cut-ray .last .0) (z .cut-ray .result) (z .cut-ray .kept .0) (z .cut-ray .ensures)
 
 pub merge-ray-spec : {M : Type 1} → statement M

@@ -1,4 +1,4 @@
--- `ray_lists::certain_of` meets its contract.
+-- `ray_merge::certain_of` meets its contract.
 use mathlib.Core.Path.{refl}
 use Prim.Native.Nat.{_*_}
 use Rattle.ray_merge.proofs.Lists.{handed-short}

@@ -1,4 +1,4 @@
--- `ray_lists::handed_back` meets its contract.
+-- `ray_merge::handed_back` meets its contract.
 use mathlib.Core.Path.{_≡_, refl, ap}
 use Prim.Native.Nat.{ℕ, _+_, _-_, _*_}
 use Rattle.logic.proofs.Bools.{not-true, not-false, clash}

@@ -1,4 +1,4 @@
--- `ray_lists::possible_of` meets its contract.
+-- `ray_merge::possible_of` meets its contract.
 use mathlib.Core.Path.{refl}
 use borrow.Author.Needs.{needs}
 use Rattle.ray_merge.proofs.possible_of.Statement.{statement}

@@ -1,5 +1,4 @@
 -- `span_combine::subtract` meets its contract.
-use mathlib.Core.Path.{refl}
 use Rattle.span_overlay.proofs.Less.{less-list}
 use Rattle.span_combine.specs.Combine.{LessOf}
 use Rattle.span_combine.proofs.Answers.{refuse-checked, checked-lists, filled-fits, accept-filled}
@@ -28,12 +27,8 @@ returns-2 : tie.Need-returns-2
 returns-2 c =
     let d = c .before .before .before .before .before .before in
     let a = d .before .before .before .before .before .before .before .args in
-    let k = d .before .before .before .checked .ensures in
-    let e = d .before .before .if1 .left in
-    let both = checked-lists (a .a .now) (a .b .now) (a .out .now) _ k e in
-    let l = less-list (a .a .now) (a .b .now) (both .0) (both .1) in
-    accept-filled (a .a .now) (a .b .now) (a .out .now) _ k e _ _ _ (d .subtract-into .ensures) (LessOf (a .a .now) (a .b .now))
-    (l .isSound) (record { list = l; ends = refl }) _ (c .before .before .clear-from .ensures)
+    accept-filled (a .a .now) (a .b .now) (a .out .now) _ (d .before .before .before .checked .ensures) (d .before .before .if1 .left) _ _ _
+    (d .subtract-into .ensures) _ (less-list (a .a .now) (a .b .now)) _ (c .before .before .clear-from .ensures)
 
 pub subtract-spec : {M : Type 1} → statement M
 subtract-spec =

@@ -1,29 +1,25 @@
 -- `span_insert::count_below` meets its contract.
 use borrow.Author.Needs.{needs}
 use native.Mathlib.Omega.{arith}
-use Prim.Native.Nat.{_≤_}
 use lib.Ieee.{lt}
-use Rattle.span_insert.proofs.Loops.{Past, past-none, past-down}
+use Rattle.span_insert.proofs.Loops.{Searched, searched-start, searched-turn, searched-found}
 use Rattle.span_insert.proofs.count_below.Statement.{statement}
 use Rattle.span_insert.proofs.count_below.Tie as tie
 
 abbrev Inv-loop : tie.InvT-loop
-Inv-loop s n x i₀ i = (i ≤ n) × Past (λ e. lt e x) s i n
+Inv-loop s n x i₀ i = Searched (λ e. lt e x) s n i
 
 abbrev μ-loop : tie.MeasureT-loop
 μ-loop s n x i₀ i = i
 
 loop-holds : tie.Need-loop-holds Inv-loop μ-loop
-loop-holds c = (omega arith, past-none (λ e. lt e (c .args .x)) (c .args .s .now) (c .args .n))
+loop-holds c = searched-start _ _ _
 
 loop-again : tie.Need-loop-again Inv-loop μ-loop
-loop-again c =
-    let at-loop = c .before .before .before in
-    let a = at-loop .before .args in
-    (omega arith, past-down (λ e. lt e (a .x)) (a .s .now) (at-loop .loop .i) (a .n) (at-loop .loop .inv .1) (c .if1 .left))
+loop-again c = searched-turn _ _ _ _ (c .before .before .before .loop .inv) (c .if1 .left)
 
 returns-2 : tie.Need-returns-2 Inv-loop μ-loop
-returns-2 c = record { most = omega arith; past = c .before .loop .inv .1; last = λ h. absurd (omega arith) }
+returns-2 c = searched-found _ _ _ _ (c .before .loop .inv) (λ h. absurd (omega arith))
 
 pub count-below-spec : {M : Type 1} → statement M
 count-below-spec =

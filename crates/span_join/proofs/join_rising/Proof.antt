@@ -4,7 +4,7 @@ use native.Mathlib.Omega.{arith}
 use Prim.Native.Nat.{_-_}
 use lib.ListN.{length}
 use Rattle.span_join.specs.Steps.{JoinedFromFront}
-use Rattle.span_join.proofs.Passes.{begun-start, begun-step, filled-even}
+use Rattle.span_join.proofs.Passes.{begun-start, begun-step, part-read, part-room}
 use Rattle.span_join.proofs.join_rising.Statement.{statement}
 use Rattle.span_join.proofs.join_rising.Tie as tie
 
@@ -20,16 +20,13 @@ loop-holds c = begun-start _ _
 falls-requires : tie.Need-falls-requires Inv-loop μ-loop
 falls-requires c κs =
     let l = c .before .before .before .before in
-    let i = l .loop .inv in
-    let room = l .before .before .before .pre .1 in
-    (filled-even _ _ _ _ _ (omega (arith, i .passedMost, room)) (i .filled), omega (arith, i .filled .size, i .filled .most, room))
+    part-read _ _ _ _ _ _ (l .loop .inv) (omega (arith, l .loop .inv .passedMost, l .before .before .before .pre .1))
 
 insert-requires : tie.Need-insert-requires Inv-loop μ-loop
 insert-requires c κs =
     let l = c .before .before .before .before .before .before .before in
-    let i = l .loop .inv in
     let asked = l .before .before .before .pre in
-    (omega (arith, i .filled .size, i .filled .most, i .passedEven, asked .0, asked .1), i .filled .list .list .isSound)
+    part-room _ _ _ _ _ _ (l .loop .inv) (omega (arith, l .loop .inv .passedMost, l .loop .inv .passedEven, asked .0, asked .1))
 
 loop-again : tie.Need-loop-again Inv-loop μ-loop
 loop-again c =

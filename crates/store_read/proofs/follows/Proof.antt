@@ -1,4 +1,3 @@
-use borrow.Author.Needs.{needs}
 use Rattle.store_read.proofs.Bounds.{begins-before, begins-past}
 use Rattle.store_read.proofs.follows.Statement.{statement}
 use Rattle.store_read.proofs.follows.Tie as tie
@@ -7,21 +6,7 @@ returns : tie.Need-returns
 returns c = begins-before _ _ (c .if1 .taken)
 
 returns-2 : tie.Need-returns-2
-returns-2 c = begins-past _ _ (c .before .before .if1 .left)
+returns-2 c = begins-past _ _ (c .before .if1 .left)
 
 pub follows-spec : {M : Type 1} → statement M
-follows-spec =
-    tie.close
-    (tie.spec
-    (λ c. search needs)
-    (λ c. search needs)
-    (λ c. search needs)
-    returns
-    (λ c. search needs)
-    (λ c. search needs)
-    (λ c. search needs)
-    (λ c. search needs)
-    (λ c. search needs)
-    (λ c. search needs)
-    (λ c. search needs)
-    returns-2)
+follows-spec = tie.close (tie.spec returns returns-2)

@@ -5,7 +5,7 @@ use Rattle.doubles.specs.Constants.{plusZero}
 use Rattle.store.specs.Store.{places, listFrom}
 use Rattle.store_read.specs.Reading.{Readable}
 use Rattle.store_read.specs.Lengths.{lengthFrom}
-use Rattle.store_read.proofs.Steps.{step}
+use Rattle.store_read.proofs.Steps.{step, record-there}
 use Rattle.store_read.proofs.RayLoops.{length-step, length-end}
 use Rattle.store_read.proofs.Bounds.{
   after,
@@ -42,79 +42,29 @@ returns c = sum-bad _ _ _ (starts-bad _ _ _ _ (c .before .starts-within .ensures
 loop-holds : tie.Need-loop-holds Inv-loop μ-loop
 loop-holds c = (c .before .before .before .before .pre, refl, refl, refl)
 
-sub-i : tie.Need-sub-i Inv-loop μ-loop
-sub-i c = let h = step (c .before .loop .inv .0) (c .loop-test .taken) .counted in let r = c .before .loop .inv .0 in search needs
-
-follows-requires : tie.Need-follows-requires Inv-loop μ-loop
-follows-requires c κs = let h = step (c .before .loop .inv .0) (c .loop-test .taken) .counted in
-    let r = c .before .loop .inv .0 in search needs
+record-at-requires : tie.Need-record-at-requires Inv-loop μ-loop
+record-at-requires c κs = record-there (c .before .loop .inv .0) (c .loop-test .taken)
 
 returns-2 : tie.Need-returns-2 Inv-loop μ-loop
-returns-2 c = sum-bad _ _ _ (left-bad _ _
-    (sound-after _ _ zero-nan ∙ c .before .before .before .loop .inv .1
-    ∙ after-bad _ _ _ _ _ _ (step (c .before .before .before .loop .inv .0) (c .before .before .loop-test .taken))
-    (c .before .follows .ensures) (c .if2 .taken)))
-
-mul-last : tie.Need-mul-last Inv-loop μ-loop
-mul-last c = let h = step (c .before .before .before .loop .inv .0) (c .before .before .loop-test .taken) .counted in
-    let r = c .before .before .before .loop .inv .0 in search needs
-
-add-last : tie.Need-add-last Inv-loop μ-loop
-add-last c = let h = step (c .before .before .before .loop .inv .0) (c .before .before .loop-test .taken) .counted in
-    let r = c .before .before .before .loop .inv .0 in search needs
-
-mul-last-2 : tie.Need-mul-last-2 Inv-loop μ-loop
-mul-last-2 c = let h = step (c .before .before .before .loop .inv .0) (c .before .before .loop-test .taken) .counted
-    in let r = c .before .before .before .loop .inv .0 in search needs
-
-shared-slice-read-last : tie.Need-shared-slice-read-last Inv-loop μ-loop
-shared-slice-read-last c = let h =
-    step (c .before .before .before .before .loop .inv .0) (c .before .before .before .loop-test .taken) .counted in
-    let r = c .before .before .before .before .loop .inv .0 in search needs
-
-mul-sum : tie.Need-mul-sum Inv-loop μ-loop
-mul-sum c = let h = step (c .before .before .before .before .loop .inv .0)
-    (c .before .before .before .loop-test .taken) .counted in
-    let r = c .before .before .before .before .loop .inv .0 in search needs
-
-mul-sum-2 : tie.Need-mul-sum-2 Inv-loop μ-loop
-mul-sum-2 c = let h = step (c .before .before .before .before .loop .inv .0)
-    (c .before .before .before .loop-test .taken) .counted in
-    let r = c .before .before .before .before .loop .inv .0 in search needs
-
-shared-slice-read-sum : tie.Need-shared-slice-read-sum Inv-loop μ-loop
-shared-slice-read-sum c = let h =
-    step (c .before .before .before .before .before .loop .inv .0)
-    (c .before .before .before .before .loop-test .taken) .counted in
-    let r = c .before .before .before .before .before .loop .inv .0 in search needs
-
-mul-k : tie.Need-mul-k Inv-loop μ-loop
-mul-k c = let h = step (c .before .before .before .before .before .loop .inv .0)
-    (c .before .before .before .before .loop-test .taken) .counted in
-    let r = c .before .before .before .before .before .loop .inv .0 in search needs
-
-mul-k-2 : tie.Need-mul-k-2 Inv-loop μ-loop
-mul-k-2 c = let h = step (c .before .before .before .before .before .loop .inv .0)
-    (c .before .before .before .before .loop-test .taken) .counted in
-    let r = c .before .before .before .before .before .loop .inv .0 in search needs
-
-shared-slice-read-k : tie.Need-shared-slice-read-k Inv-loop μ-loop
-shared-slice-read-k c = let h =
-    step (c .before .before .before .before .before .before .loop .inv .0)
-    (c .before .before .before .before .before .loop-test .taken) .counted in
-    let r = c .before .before .before .before .before .before .loop .inv .0 in search needs
+returns-2 c =
+    let read = c .before .before in
+    let inv = read .before .before .loop .inv in
+    sum-bad _ _ _ (left-bad _ _ (sound-after _ _ zero-nan ∙ inv .1
+    ∙ after-bad _ _ _ _ _ _ (step (inv .0) (read .before .loop-test .taken))
+    (rw (read .record-at .ensures) at (c .before .follows .ensures)) (c .if2 .taken)))
 
 loop-less : tie.Need-loop-less Inv-loop μ-loop
-loop-less c = step (c .before .before .before .before .before .before .loop .inv .0)
-    (c .before .before .before .before .before .loop-test .taken) .less
+loop-less c = let read = c .before .before .before in
+    rw (read .record-at .ensures) (step (read .before .before .loop .inv .0) (read .before .loop-test .taken) .less)
 
 loop-again : tie.Need-loop-again Inv-loop μ-loop
 loop-again c =
-    let inv = c .before .before .before .before .before .before .loop .inv in
-    let s = step (inv .0) (c .before .before .before .before .before .loop-test .taken) in (
+    let read = c .before .before .before in
+    let inv = read .before .before .loop .inv in
+    let s = step (inv .0) (read .before .loop-test .taken) in
+    rw (read .record-at .ensures) (
       s .next,
-      inv .1 ∙ after-good _ _ _ _ _ _ s (c .before .before .before .before .follows .ensures)
-          (c .before .before .before .if2 .left),
+      inv .1 ∙ after-good _ _ _ _ _ _ s (rw (read .record-at .ensures) at (c .before .before .follows .ensures)) (c .before .if2 .left),
       inv .2 ∙ last-step _ _ _ _ _ s,
       inv .3 ∙ length-step s _,
     )
@@ -142,19 +92,10 @@ sound-between-spec =
     (λ c κs. search needs)
     returns
     loop-holds
-    sub-i
-    follows-requires
+    (λ c. search needs)
+    record-at-requires
+    (λ c κs. search needs)
     returns-2
-    mul-last
-    add-last
-    mul-last-2
-    shared-slice-read-last
-    mul-sum
-    mul-sum-2
-    shared-slice-read-sum
-    mul-k
-    mul-k-2
-    shared-slice-read-k
     loop-less
     loop-again
     returns-3

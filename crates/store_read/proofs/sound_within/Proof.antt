@@ -1,7 +1,6 @@
 use borrow.Author.Needs.{needs}
 use mathlib.Core.Path.{_≡_, refl, _∙_}
 use mathlib.Core.Bool.{_&&_}
-use native.Mathlib.Omega.{arith}
 use lib.ListN.{length}
 use Rattle.spans.specs.Spans.{sound}
 use Rattle.doubles.specs.Constants.{plusZero}
@@ -9,7 +8,7 @@ use Rattle.store.specs.Store.{places, listFrom}
 use Rattle.logic.proofs.Bools.{both}
 use Rattle.store_read.specs.Reading.{Readable}
 use Rattle.store_read.specs.Lengths.{lengthFrom}
-use Rattle.store_read.proofs.Steps.{step}
+use Rattle.store_read.proofs.Steps.{step, record-there}
 use Rattle.store_read.proofs.RayLoops.{length-step, length-end, all-contained, lies-out, lies-in}
 use Rattle.store_read.proofs.Bounds.{
   after,
@@ -42,101 +41,48 @@ abbrev μ-loop : tie.MeasureT-loop
 loop-holds : tie.Need-loop-holds Inv-loop μ-loop
 loop-holds c = (c .before .before .pre .0, c .before .before .pre .1, left-same _ _ _ (sound-after _ _ zero-nan), refl)
 
-sub-i : tie.Need-sub-i Inv-loop μ-loop
-sub-i c = let h = step (c .before .loop .inv .1) (c .loop-test .taken) .counted in let r = c .before .loop .inv .1 in search needs
-
-follows-requires : tie.Need-follows-requires Inv-loop μ-loop
-follows-requires c κs = let h = step (c .before .loop .inv .1) (c .loop-test .taken) .counted in
-    let r = c .before .loop .inv .1 in search needs
+record-at-requires : tie.Need-record-at-requires Inv-loop μ-loop
+record-at-requires c κs = record-there (c .before .loop .inv .1) (c .loop-test .taken)
 
 returns : tie.Need-returns Inv-loop μ-loop
-returns c = sum-bad _ _ _ (c .before .before .before .loop .inv .2
-    ∙ left-bad _ _ (after-bad _ _ _ _ _ _
-    (step (c .before .before .before .loop .inv .1) (c .before .before .loop-test .taken))
-    (c .before .follows .ensures) (c .if1 .taken)))
-
-mul-last : tie.Need-mul-last Inv-loop μ-loop
-mul-last c = let h = step (c .before .before .before .loop .inv .1) (c .before .before .loop-test .taken) .counted in
-    let r = c .before .before .before .loop .inv .1 in search needs
-
-add-last : tie.Need-add-last Inv-loop μ-loop
-add-last c = let h = step (c .before .before .before .loop .inv .1) (c .before .before .loop-test .taken) .counted in
-    let r = c .before .before .before .loop .inv .1 in search needs
-
-mul-last-2 : tie.Need-mul-last-2 Inv-loop μ-loop
-mul-last-2 c = let h = step (c .before .before .before .loop .inv .1) (c .before .before .loop-test .taken) .counted
-    in let r = c .before .before .before .loop .inv .1 in search needs
-
-shared-slice-read-last : tie.Need-shared-slice-read-last Inv-loop μ-loop
-shared-slice-read-last c = let h =
-    step (c .before .before .before .before .loop .inv .1) (c .before .before .before .loop-test .taken) .counted in
-    let r = c .before .before .before .before .loop .inv .1 in search needs
+returns c =
+    let read = c .before .before in
+    let inv = read .before .before .loop .inv in
+    sum-bad _ _ _ (inv .2 ∙ left-bad _ _ (after-bad _ _ _ _ _ _ (step (inv .1) (read .before .loop-test .taken))
+    (rw (read .record-at .ensures) at (c .before .follows .ensures)) (c .if1 .taken)))
 
 first-reaching-requires : tie.Need-first-reaching-requires Inv-loop μ-loop
 first-reaching-requires c κs = c .before .before .before .before .loop .inv .0
 
 reaches-over-requires : tie.Need-reaches-over-requires Inv-loop μ-loop
-reaches-over-requires c κs = let h =
-    step (c .before .before .before .before .before .loop .inv .1)
-    (c .before .before .before .before .loop-test .taken) .counted in
-    let r = c .before .before .before .before .before .loop .inv .1 in
-    (c .first-reaching .ensures .readable, omega (arith, h, r .in-spans))
+reaches-over-requires c κs = c .first-reaching .ensures .readable
 
 returns-2 : tie.Need-returns-2 Inv-loop μ-loop
-returns-2 c = sum-bad _ _ _ (c .before .before .before .before .before .before .before .loop .inv .2
-    ∙ out-bad (c .before .before .before .before .before .before .before .loop .last) _ _
-    (lies-out (c .before .before .first-reaching .ensures)
-    (step (c .before .before .before .before .before .before .before .loop .inv .1)
-    (c .before .before .before .before .before .before .loop-test .taken)) _ (c .before .reaches-over .ensures)
-    (c .if2 .taken)))
-
-mul-sum : tie.Need-mul-sum Inv-loop μ-loop
-mul-sum c = let h = step (c .before .before .before .before .before .before .before .loop .inv .1)
-    (c .before .before .before .before .before .before .loop-test .taken) .counted in
-    let r = c .before .before .before .before .before .before .before .loop .inv .1 in search needs
-
-mul-sum-2 : tie.Need-mul-sum-2 Inv-loop μ-loop
-mul-sum-2 c = let h = step (c .before .before .before .before .before .before .before .loop .inv .1)
-    (c .before .before .before .before .before .before .loop-test .taken) .counted in
-    let r = c .before .before .before .before .before .before .before .loop .inv .1 in search needs
-
-shared-slice-read-sum : tie.Need-shared-slice-read-sum Inv-loop μ-loop
-shared-slice-read-sum c = let h =
-    step (c .before .before .before .before .before .before .before .before .loop .inv .1)
-    (c .before .before .before .before .before .before .before .loop-test .taken) .counted in
-    let r = c .before .before .before .before .before .before .before .before .loop .inv .1 in search needs
-
-mul-k : tie.Need-mul-k Inv-loop μ-loop
-mul-k c = let h = step (c .before .before .before .before .before .before .before .before .loop .inv .1)
-    (c .before .before .before .before .before .before .before .loop-test .taken) .counted in
-    let r = c .before .before .before .before .before .before .before .before .loop .inv .1 in search needs
-
-mul-k-2 : tie.Need-mul-k-2 Inv-loop μ-loop
-mul-k-2 c = let h = step (c .before .before .before .before .before .before .before .before .loop .inv .1)
-    (c .before .before .before .before .before .before .before .loop-test .taken) .counted in
-    let r = c .before .before .before .before .before .before .before .before .loop .inv .1 in search needs
-
-shared-slice-read-k : tie.Need-shared-slice-read-k Inv-loop μ-loop
-shared-slice-read-k c = let h =
-    step (c .before .before .before .before .before .before .before .before .before .loop .inv .1)
-    (c .before .before .before .before .before .before .before .before .loop-test .taken) .counted in
-    let r = c .before .before .before .before .before .before .before .before .before .loop .inv .1 in search needs
+returns-2 c =
+    let read = c .before .before .before .before .before in
+    let loop = read .before .before in
+    sum-bad _ _ _ (loop .loop .inv .2 ∙ out-bad (loop .loop .last) _ _
+    (lies-out (rw (read .record-at .ensures) at (c .before .before .first-reaching .ensures))
+    (step (loop .loop .inv .1) (read .before .loop-test .taken)) _
+    (rw (read .record-at .ensures) at (c .before .reaches-over .ensures)) (c .if2 .taken)))
 
 loop-less : tie.Need-loop-less Inv-loop μ-loop
-loop-less c = step (c .before .before .before .before .before .before .before .before .before .loop .inv .1)
-    (c .before .before .before .before .before .before .before .before .loop-test .taken) .less
+loop-less c = let read = c .before .before .before .before .before .before in
+    rw (read .record-at .ensures) (step (read .before .before .loop .inv .1) (read .before .loop-test .taken) .less)
 
 loop-again : tie.Need-loop-again Inv-loop μ-loop
 loop-again c =
-    let inv = c .before .before .before .before .before .before .before .before .before .loop .inv in
-    let s = step (inv .1) (c .before .before .before .before .before .before .before .before .loop-test .taken) in (
-      c .before .before .before .before .first-reaching .ensures .readable,
+    let read = c .before .before .before .before .before .before in
+    let inv = read .before .before .loop .inv in
+    let s = step (inv .1) (read .before .loop-test .taken) in
+    rw (read .record-at .ensures) (
+      c .before .before .before .first-reaching .ensures .readable,
       s .next,
-      inv .2 ∙ both-same _ _ _ _ (after-good _ _ _ _ _ _ s
-          (c .before .before .before .before .before .before .before .follows .ensures)
-          (c .before .before .before .before .before .before .if1 .left))
-          (lies-in (c .before .before .before .before .first-reaching .ensures) s _
-          (c .before .before .before .reaches-over .ensures) (c .before .before .if2 .left)),
+      inv .2 ∙ both-same _ _ _ _
+          (after-good _ _ _ _ _ _ s (rw (read .record-at .ensures) at
+          (c .before .before .before .before .before .follows .ensures)) (c .before .before .before .before .if1 .left))
+          (lies-in (rw (read .record-at .ensures) at (c .before .before .before .first-reaching .ensures)) s _
+          (rw (read .record-at .ensures) at (c .before .before .reaches-over .ensures)) (c .before .if2 .left)),
       inv .3 ∙ length-step s _,
     )
 
@@ -152,22 +98,13 @@ sound-within-spec =
     Inv-loop
     μ-loop
     loop-holds
-    sub-i
-    follows-requires
+    (λ c. search needs)
+    record-at-requires
+    (λ c κs. search needs)
     returns
-    mul-last
-    add-last
-    mul-last-2
-    shared-slice-read-last
     first-reaching-requires
     reaches-over-requires
     returns-2
-    mul-sum
-    mul-sum-2
-    shared-slice-read-sum
-    mul-k
-    mul-k-2
-    shared-slice-read-k
     loop-less
     loop-again
     returns-3)

@@ -21,32 +21,26 @@ add-index c = let h = c .before .before .before .before .before .before .before 
 add-ray : tie.Need-add-ray
 add-ray c = let h = c .before .before .before .before .before .before .before .before .before .pre .0 .few in search needs
 
-mul-head : tie.Need-mul-head
-mul-head c = let h = c .before .before .before .before .before .before .before .before .before .pre .0 .few in search needs
-
-mul-head-2 : tie.Need-mul-head-2
-mul-head-2 c = let h = c .before .before .before .before .before .before .before .before .before .pre .0 .few in search needs
-
-shared-slice-read-head : tie.Need-shared-slice-read-head
-shared-slice-read-head c = c .before .before .before .before .before .before .before .before .before .before .pre .0 .ray .in-heads
+possible-head-requires : tie.Need-possible-head-requires
+possible-head-requires c κs = c .before .before .before .before .before .before .before .before .before .pre .0 .ray .in-heads
 
 ray-hit-requires : tie.Need-ray-hit-requires
-ray-hit-requires c κs = (
-  c .before .before .before .before .before .before .before .before .before .before .pre .0
-      .ray .readable,
-  c .before .before .before .before .before .before .before .before .before .before .pre .0 .ray .isSound,
-)
+ray-hit-requires c κs = let ray =
+    c .before .before .before .before .before .before .before .before .before .before .pre .0 .ray in
+    rw (c .possible-head .ensures) (ray .readable, ray .isSound)
 
 returns-2 : tie.Need-returns-2
 returns-2 c = went-off (c .before .before .before .before .before .before .before .before .before .before .before
     .before .before .pre .1) (entry-off _ _ _ _ _ _ _ _ _
-    (sym (c .before .before .ray-hit .ensures) ∙ c .enum-told .given .1))
+    (sym (rw (c .before .before .before .possible-head .ensures) at (c .before .before .ray-hit .ensures)) ∙ c .enum-told .given .1))
     (c .before .before .before .before .before .before .before .if1 .left)
 
 returns-3 : tie.Need-returns-3
 returns-3 c = halt-full (c .before .before .before .before .before .before .before .before .before .before .before
     .before .before .before .before .before .pre .1) _
-    (entry-on _ _ _ _ _ _ _ _ _ _ (sym (c .before .before .before .before .before .ray-hit .ensures)
+    (entry-on _ _ _ _ _ _ _ _ _ _ (sym
+    (rw (c .before .before .before .before .before .before .possible-head .ensures) at
+    (c .before .before .before .before .before .ray-hit .ensures))
     ∙ c .before .before .before .h .given .1)) (entry-length _ _ _)
     (c .before .before .before .before .before .before .before .before .before .before .if1 .left) (c .if2 .taken)
 
@@ -62,7 +56,8 @@ returns-4 c =
     let pre = c .before .before .before .before .before .before .before .before .before .before .before .before
     .before .before .before .before .before .before .before .before .before .pre in
     let e = entry-on _ _ _ _ _ _ _ _ _ _
-    (sym (c .before .before .before .before .before .before .before .before .before .before .ray-hit .ensures)
+    (sym (rw (c .before .before .before .before .before .before .before .before .before .before .before .possible-head
+    .ensures) at (c .before .before .before .before .before .before .before .before .before .before .ray-hit .ensures))
     ∙ c .before .before .before .before .before .before .before .before .h .given .1) in
     went-on (pre .1) 6 (ap length e ∙ entry-length _ _ _) _
     (c .before .before .before .before .before .before .before .before .before .before .before .before .before
@@ -78,9 +73,7 @@ visit-ray-spec =
     mul-index
     add-index
     add-ray
-    mul-head
-    mul-head-2
-    shared-slice-read-head
+    possible-head-requires
     ray-hit-requires
     (λ c. search needs)
     returns-2

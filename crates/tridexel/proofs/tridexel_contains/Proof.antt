@@ -7,13 +7,13 @@ use Rattle.tridexel.proofs.tridexel_contains.Tie as tie
 contains-requires : tie.Need-contains-requires
 contains-requires c κs = search needs
 
-hand-told-requires : tie.Need-hand-told-requires
-hand-told-requires c κs = search needs
+hand-bool-requires : tie.Need-hand-bool-requires
+hand-bool-requires c κs = search needs
 
 returns : tie.Need-returns
 returns c =
     answered _ _ _ (c .before .before .contains .result) _ _ _ (λ k p. compare-above _ _ k p)
-    (c .before .before .contains .ensures) (c .hand-told .ensures)
+    (c .before .before .contains .ensures) (c .hand-bool .ensures)
 
 pub tridexel-contains-spec : {M : Type 1} → statement M
-tridexel-contains-spec = tie.close (tie.spec contains-requires hand-told-requires returns)
+tridexel-contains-spec = tie.close (tie.spec contains-requires hand-bool-requires returns)

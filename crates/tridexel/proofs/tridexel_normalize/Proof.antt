@@ -7,8 +7,8 @@ use Rattle.tridexel.proofs.tridexel_normalize.Tie as tie
 normalize-requires : tie.Need-normalize-requires
 normalize-requires c κs = search needs
 
-hand-listed-requires : tie.Need-hand-listed-requires
-hand-listed-requires c κs = search needs
+hand-list-requires : tie.Need-hand-list-requires
+hand-list-requires c κs = search needs
 
 same-length : tie.Need-same-length
 same-length c = search needs
@@ -16,8 +16,8 @@ same-length c = search needs
 returns : tie.Need-returns
 returns c =
     answered _ _ _ (c .before .before .before .before .normalize .result) _ _ _ (λ k p. list-above _ _ k (p .0))
-    (c .before .before .before .before .normalize .ensures) (c .hand-listed .ensures)
+    (c .before .before .before .before .normalize .ensures) (c .hand-list .ensures)
 
 pub tridexel-normalize-spec : {M : Type 1} → statement M
 tridexel-normalize-spec =
-    tie.close (tie.spec normalize-requires hand-listed-requires same-length returns)
+    tie.close (tie.spec normalize-requires hand-list-requires same-length returns)

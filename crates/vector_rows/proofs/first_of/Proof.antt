@@ -1,16 +1,9 @@
--- `vector_replay::first_of` meets its contract.
+-- `vector_rows::first_of` meets its contract.
 use Rattle.vector_rows.specs.Tallies.{firstDiffering}
 use borrow.Author.Tests.{eq-eqb, ne-eqb}
 use Rattle.vector_rows.proofs.first_of.Statement.{statement}
 use Rattle.vector_rows.proofs.first_of.Tie as tie
 
-returns : tie.Need-returns
-unfolding firstDiffering
-returns c = simp (eq-eqb _ _ (c .if1 .taken))
-
-returns-2 : tie.Need-returns-2
-unfolding firstDiffering
-returns-2 c = simp (ne-eqb _ _ (c .if1 .left))
-
 pub first-of-spec : {M : Type 1} → statement M
-first-of-spec = tie.close (tie.spec returns returns-2)
+unfolding firstDiffering
+first-of-spec = tie.close (tie.spec (λ c. simp (eq-eqb _ _ (c .if1 .taken))) (λ c. simp (ne-eqb _ _ (c .if1 .left))))

@@ -1,20 +1,10 @@
--- `vector_replay::one_more` meets its contract.
+-- `vector_rows::one_more` meets its contract.
 use Rattle.vector_rows.specs.Tallies.{up}
 use borrow.Author.Tests.{eq-eqb, ne-eqb}
 use borrow.Author.Needs.{needs}
 use Rattle.vector_rows.proofs.one_more.Statement.{statement}
 use Rattle.vector_rows.proofs.one_more.Tie as tie
 
-returns : tie.Need-returns
-unfolding up
-returns c = simp (eq-eqb _ _ (c .if1 .taken))
-
-add-result : tie.Need-add-result
-add-result c = search needs
-
-returns-2 : tie.Need-returns-2
-unfolding up
-returns-2 c = simp (ne-eqb _ _ (c .if1 .left))
-
 pub one-more-spec : {M : Type 1} → statement M
-one-more-spec = tie.close (tie.spec returns add-result returns-2)
+unfolding up
+one-more-spec = tie.close (tie.spec (λ c. simp (eq-eqb _ _ (c .if1 .taken))) (λ c. search needs) (λ c. simp (ne-eqb _ _ (c .if1 .left))))

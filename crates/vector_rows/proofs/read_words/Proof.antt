@@ -1,4 +1,4 @@
--- `vector_replay::read_words` meets its contract.
+-- `vector_rows::read_words` meets its contract.
 use mathlib.Core.Path.{sym, _∙_}
 use Prim.Native.Nat.{_-_}
 use lib.ListN.{length}
@@ -13,45 +13,14 @@ Inv-loop text at out₀ i₀ out i = ReadTo text at (length out₀) out i
 abbrev μ-loop : tie.MeasureT-loop
 μ-loop text at out₀ i₀ out i = length out₀ - i
 
-loop-holds : tie.Need-loop-holds Inv-loop μ-loop
-loop-holds c = none-read _ _ _
-
-same-length : tie.Need-same-length Inv-loop μ-loop
-same-length c = c .before .before .before .before .loop .inv .same
-
-returns : tie.Need-returns Inv-loop μ-loop
-returns c = read-stops _ _ _ _ _ (c .before .before .before .loop-test .taken) (c .before .before .word-at .ensures)
-    (sym (c .before .is-missing .ensures) ∙ c .if1 .taken)
-
-loop-again : tie.Need-loop-again Inv-loop μ-loop
-loop-again c = one-read _ _ _ _ _ _ _ (c .before .before .before .before .before .loop .inv)
-    (c .before .before .before .before .loop-test .taken) (c .before .before .before .word-at .ensures)
-    (sym (c .before .before .is-missing .ensures) ∙ c .before .if1 .left) (c .value-or .ensures)
-
-same-length-2 : tie.Need-same-length-2 Inv-loop μ-loop
-same-length-2 c = c .before .loop .inv .same
-
-returns-2 : tie.Need-returns-2 Inv-loop μ-loop
-returns-2 c = read-ends _ _ _ _ _ (c .before .loop .inv) (c .loop-test .left)
-
 pub read-words-spec : {M : Type 1} → statement M
 read-words-spec =
-    tie.close
-    (tie.spec
-    Inv-loop
-    μ-loop
-    loop-holds
-    (λ c. search needs)
-    (λ c. search needs)
-    (λ c κs. search needs)
-    (λ c κs. search needs)
-    same-length
-    returns
-    (λ c κs. search needs)
-    (λ c. search needs)
-    (λ c. search needs)
-    (λ c. search needs)
-    (λ c. search needs)
-    loop-again
-    same-length-2
-    returns-2)
+    tie.close (tie.spec Inv-loop μ-loop (λ c. none-read _ _ _) (λ c. search needs) (λ c. search needs) (λ c κs. search needs)
+    (λ c κs. search needs) (λ c. c .before .before .before .before .loop .inv .same)
+    (λ c. read-stops _ _ _ _ _ (c .before .before .before .loop-test .taken) (c .before .before .word-at .ensures)
+    (sym (c .before .is-missing .ensures) ∙ c .if1 .taken))
+    (λ c κs. search needs) (λ c. search needs) (λ c. search needs) (λ c. search needs) (λ c. search needs)
+    (λ c. let word = c .before .before .before in
+    one-read _ _ _ _ _ _ _ (word .before .before .loop .inv) (word .before .loop-test .taken) (word .word-at .ensures)
+    (sym (c .before .before .is-missing .ensures) ∙ c .before .if1 .left) (c .value-or .ensures))
+    (λ c. c .before .loop .inv .same) (λ c. read-ends _ _ _ _ _ (c .before .loop .inv) (c .loop-test .left)))

@@ -1,12 +1,9 @@
--- `vector_replay::start` meets its contract.
+-- `vector_rows::start` meets its contract.
 use Rattle.vector_rows.specs.Tallies.{none}
 use mathlib.Core.Path.{refl}
 use Rattle.vector_rows.proofs.start.Statement.{statement}
 use Rattle.vector_rows.proofs.start.Tie as tie
 
-returns : tie.Need-returns
-unfolding none
-returns c = refl
-
 pub start-spec : {M : Type 1} → statement M
-start-spec = tie.close (tie.spec returns)
+unfolding none
+start-spec = tie.close (tie.spec (λ c. refl))

@@ -1,4 +1,4 @@
--- `vector_replay::told` meets its contract.
+-- `vector_rows::told` meets its contract.
 use Rattle.vector_rows.specs.Tallies.{outcomeOf}
 use borrow.Author.Tests.{le-leb, lt-leb}
 use Rattle.vector_rows.proofs.told.Statement.{statement}

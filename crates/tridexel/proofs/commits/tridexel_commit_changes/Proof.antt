@@ -8,8 +8,8 @@ use Rattle.tridexel.proofs.commits.tridexel_commit_changes.Tie as tie
 commit-changes-on-requires : tie.Need-commit-changes-on-requires
 commit-changes-on-requires c κs = search needs
 
-hand-committed-requires : tie.Need-hand-committed-requires
-hand-committed-requires c κs = search needs
+hand-commit-requires : tie.Need-hand-commit-requires
+hand-commit-requires c κs = search needs
 
 same-length : tie.Need-same-length
 same-length c = search needs
@@ -29,8 +29,8 @@ returns c =
     (stock (a .spans .now) (a .links .now) (a .heads .now) (a .generation .now) (a .intervals .now))
     (a .changes .now) (a .pairs .now) k (p .0))
     (c .before .before .before .before .before .before .before .before .commit-changes-on .ensures)
-    (c .hand-committed .ensures)
+    (c .hand-commit .ensures)
 
 pub tridexel-commit-changes-spec : {M : Type 1} → statement M
 tridexel-commit-changes-spec =
-    tie.close (tie.spec commit-changes-on-requires hand-committed-requires same-length same-length-2 same-length-3 returns)
+    tie.close (tie.spec commit-changes-on-requires hand-commit-requires same-length same-length-2 same-length-3 returns)

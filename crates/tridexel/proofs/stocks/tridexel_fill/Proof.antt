@@ -7,8 +7,8 @@ use Rattle.tridexel.proofs.stocks.tridexel_fill.Tie as tie
 fill-requires : tie.Need-fill-requires
 fill-requires c κs = search needs
 
-hand-filled-requires : tie.Need-hand-filled-requires
-hand-filled-requires c κs = search needs
+hand-fill-requires : tie.Need-hand-fill-requires
+hand-fill-requires c κs = search needs
 
 same-length : tie.Need-same-length
 same-length c = search needs
@@ -23,9 +23,9 @@ returns : tie.Need-returns
 returns c =
     answered _ _ _ (c .before .before .before .before .before .before .before .before .before .fill .result) _ _ _
     (λ k p. fill-above _ _ _ k (p .0))
-    (c .before .before .before .before .before .before .before .before .before .fill .ensures) (c .hand-filled .ensures)
+    (c .before .before .before .before .before .before .before .before .before .fill .ensures) (c .hand-fill .ensures)
 
 pub tridexel-fill-spec : {M : Type 1} → statement M
 tridexel-fill-spec =
     tie.close
-    (tie.spec fill-requires hand-filled-requires same-length same-length-2 same-length-3 returns)
+    (tie.spec fill-requires hand-fill-requires same-length same-length-2 same-length-3 returns)

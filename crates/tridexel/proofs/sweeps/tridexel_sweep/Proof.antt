@@ -1,6 +1,6 @@
 -- `tridexel::sweeps::tridexel_sweep` meets its contract.
 use borrow.Author.Needs.{needs}
-use Rattle.c_results.proofs.Sweeping.{swept-by}
+use Rattle.c_results.proofs.SweepResults.{sweep-answered}
 use Rattle.tridexel.proofs.sweeps.tridexel_sweep.Statement.{statement}
 use Rattle.store.specs.Store.{cells}
 use Rattle.tridexel.proofs.sweeps.tridexel_sweep.Tie as tie
@@ -14,8 +14,8 @@ shape-of-requires c κs = search needs
 sweep-requires : tie.Need-sweep-requires
 sweep-requires c κs = search needs
 
-hand-swept-requires : tie.Need-hand-swept-requires
-hand-swept-requires c κs = search needs
+hand-sweep-requires : tie.Need-hand-sweep-requires
+hand-sweep-requires c κs = search needs
 
 same-length : tie.Need-same-length
 same-length c = search needs
@@ -23,7 +23,7 @@ same-length c = search needs
 returns : tie.Need-returns
 returns c =
     let a = c .before .before .before .before .before .before .before .before .before .before .before .before .before .before .before in
-    swept-by (a .args .spec) (a .args .units .now)
+    sweep-answered (a .args .spec) (a .args .units .now)
     (cells (a .args .spans .now) (a .args .links .now) (a .args .heads .now)) (a .args .intervals)
     (a .args .cutter) (a .args .guard) (a .args .chords .now) (a .args .budget) (a .args .log .now) _
     (c .before .before .before .before .before .before .before .before .axis-of .result) _
@@ -31,7 +31,7 @@ returns c =
     (c .before .before .before .before .before .sweep .result) _ _ _
     (c .before .before .before .before .before .before .before .before .axis-of .ensures)
     (c .before .before .before .before .before .before .before .shape-of .ensures)
-    (c .before .before .before .before .before .sweep .ensures) (c .hand-swept .ensures)
+    (c .before .before .before .before .before .sweep .ensures) (c .hand-sweep .ensures)
 
 pub tridexel-sweep-spec : {M : Type 1} → statement M
-tridexel-sweep-spec = tie.close (tie.spec axis-of-requires shape-of-requires sweep-requires hand-swept-requires same-length returns)
+tridexel-sweep-spec = tie.close (tie.spec axis-of-requires shape-of-requires sweep-requires hand-sweep-requires same-length returns)
