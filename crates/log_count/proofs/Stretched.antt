@@ -17,18 +17,8 @@ use Rattle.spans.specs.Spans.{within, holds}
 use Rattle.log_model.specs.Logs.{entryAt, entryCount, entryRay, HitKind, outer, inner, hitLo, hitHi}
 use Rattle.log_entries.specs.Named.{EachNamed}
 use Rattle.log_keys.specs.Keys.{entryOfKey, hitsTo, pairsPast, Stretch}
-use Rattle.log_keys.proofs.Hits.{
-  LosesKind,
-  inner-hit,
-  outer-hit,
-  hits-struck,
-  struck-hits,
-  losesOf,
-  Lost,
-  lost-holds,
-  lost-past,
-  holds-lost,
-}
+use Rattle.log_keys.proofs.Hits.{LosesKind, inner-hit, outer-hit, hits-struck, struck-hits, losesOf, Lost, lost-holds, lost-past}
+use Rattle.log_keys.proofs.Hits.{holds-lost}
 use Rattle.log_long.specs.Long.{leastPast, FrontReach, GatherRayPost}
 use Rattle.log_long.specs.declared.LongPart.{LongPart}
 use Rattle.log_count.proofs.Fronts.{Begun, least-before, least-is, kindFront, frontOf, below-front, front-is}

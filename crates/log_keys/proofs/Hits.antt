@@ -16,20 +16,8 @@ use Rattle.spans.specs.Spans.{within, holds}
 use Rattle.spans.proofs.Sets.{oddN-mod}
 use Rattle.spans.proofs.Points.{holds-append}
 use Rattle.log_model.specs.declared.Entry.{Entry}
-use Rattle.log_model.specs.Logs.{
-  entryAt,
-  entriesFrom,
-  entryCount,
-  entries,
-  namesSomeRay,
-  entryRay,
-  HitKind,
-  outer,
-  inner,
-  hitLo,
-  hitHi,
-  hitsOnRay,
-}
+use Rattle.log_model.specs.Logs.{entryAt, entriesFrom, entryCount, entries, namesSomeRay, entryRay, HitKind, outer, inner, hitLo}
+use Rattle.log_model.specs.Logs.{hitHi, hitsOnRay}
 use Rattle.log_entries.specs.Named.{EachNamed}
 use Rattle.log_entries.proofs.Places.{AllFrom, all-first, all-rest}
 use Rattle.log_entries.proofs.Sizes.{named-even}

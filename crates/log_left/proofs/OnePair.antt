@@ -13,21 +13,8 @@ use Rattle.logic.proofs.Bools.{and-left, and-right, and-true, and-false, or-lef
 use Rattle.doubles.proofs.Order.{lt-number, le-number, le-refl, lt→le, lt-not-le, le-trans, lt-le-trans, lt-trans}
 use Rattle.spans.specs.Spans.{within, holds, rising, sound, ListOf, pairIf}
 use Rattle.spans.specs.Steps.{UpTo}
-use Rattle.spans.proofs.Ends.{
-  AtMost,
-  Over,
-  Above,
-  all-append,
-  all-map,
-  above-less,
-  upTo-more,
-  rising-tail,
-  rising-above,
-  rising-append,
-  rising-left,
-  rising-right,
-  rising-before,
-}
+use Rattle.spans.proofs.Ends.{AtMost, Over, Above, all-append, all-map, above-less, upTo-more, rising-tail, rising-above}
+use Rattle.spans.proofs.Ends.{rising-append, rising-left, rising-right, rising-before}
 use Rattle.spans.proofs.Sets.{oddN-mod, sound-rising, sound-mod, make-sound}
 use Rattle.spans.proofs.Points.{or-false, holds-append, holds-upTo, holds-above}
 use Rattle.spans.specs.Overlay.{higherOf}

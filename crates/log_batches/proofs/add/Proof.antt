@@ -70,17 +70,5 @@ pub add-spec : {M : Type 1} → statement M
 add-spec =
     tie.close
     (tie.spec
-    (λ c κs. search needs)
-    returns
-    (λ c κs. search needs)
-    (λ c. search needs)
-    returns-2
-    (λ c. search needs)
-    returns-3
-    mul-keys
-    add-keys
-    mul-keys-2
-    slice-write-keys
-    add-count
-    (λ c. search needs)
-    returns-4)
+    (λ c κs. search needs) returns (λ c κs. search needs) (λ c. search needs) returns-2 (λ c. search needs) returns-3
+    mul-keys add-keys mul-keys-2 slice-write-keys add-count (λ c. search needs) returns-4)

@@ -3,14 +3,8 @@ use Prim.Native.Nat.{_-_}
 use native.Mathlib.Omega.{arith}
 use borrow.Author.Needs.{needs}
 use Rattle.log_entries.specs.Named.{EachNamed}
-use Rattle.log_batches.proofs.Gathered.{
-  GatherRaysLoop,
-  gathering-widthed,
-  gathering-start,
-  gathering-turn,
-  gathering-done,
-  gathering-full,
-}
+use Rattle.log_batches.proofs.Gathered.{GatherRaysLoop, gathering-widthed, gathering-start, gathering-turn, gathering-done}
+use Rattle.log_batches.proofs.Gathered.{gathering-full}
 use Rattle.log_batches.proofs.gather_rays.Statement.{statement}
 use Rattle.log_batches.proofs.gather_rays.Tie as tie
 
@@ -54,15 +48,5 @@ pub gather-rays-spec : {M : Type 1} → statement M
 gather-rays-spec =
     tie.close
     (tie.spec
-    Inv-loop
-    μ-loop
-    loop-holds
-    ray-at-requires
-    add-requires
-    (λ c. search needs)
-    (λ c. search needs)
-    loop-again
-    (λ c. search needs)
-    returns
-    (λ c. search needs)
-    returns-2)
+    Inv-loop μ-loop loop-holds ray-at-requires add-requires (λ c. search needs) (λ c. search needs) loop-again
+    (λ c. search needs) returns (λ c. search needs) returns-2)

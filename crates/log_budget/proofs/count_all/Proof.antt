@@ -97,21 +97,6 @@ pub count-all-spec : {M : Type 1} → statement M
 count-all-spec =
     tie.close
     (tie.spec
-    Inv-loop
-    μ-loop
-    total-rays-requires
-    loop-holds
-    (λ c. search needs)
-    fit-width-requires
-    count-next-requires
-    (λ c. search needs)
-    (λ c. search needs)
-    returns
-    loop-less
-    loop-again
-    (λ c. search needs)
-    (λ c. search needs)
-    returns-2
-    (λ c. search needs)
-    (λ c. search needs)
-    returns-3)
+    Inv-loop μ-loop total-rays-requires loop-holds (λ c. search needs) fit-width-requires count-next-requires
+    (λ c. search needs) (λ c. search needs) returns loop-less loop-again (λ c. search needs) (λ c. search needs)
+    returns-2 (λ c. search needs) (λ c. search needs) returns-3)

@@ -95,20 +95,6 @@ pub count-batch-spec : {M : Type 1} → statement M
 count-batch-spec =
     tie.close
     (tie.spec
-    Inv-loop
-    μ-loop
-    loop-holds
-    mul-ray
-    shared-slice-read-ray
-    div-ray
-    add-ray
-    end-of-ray-requires
-    mul-count-ray
-    (λ c. search needs)
-    part-count-ray-start
-    part-count-ray-end
-    count-ray-requires
-    (λ c. search needs)
-    loop-again
-    (λ c. search needs)
-    returns)
+    Inv-loop μ-loop loop-holds mul-ray shared-slice-read-ray div-ray add-ray end-of-ray-requires mul-count-ray
+    (λ c. search needs) part-count-ray-start part-count-ray-end count-ray-requires (λ c. search needs) loop-again
+    (λ c. search needs) returns)

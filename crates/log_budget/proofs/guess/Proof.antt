@@ -25,10 +25,5 @@ pub guess-spec : {M : Type 1} → statement M
 guess-spec =
     tie.close
     (tie.spec
-    (λ c κs. search needs)
-    (λ c. search needs)
-    (λ c. search needs)
-    mul-next-2
-    (λ c. search needs)
-    add-result
+    (λ c κs. search needs) (λ c. search needs) (λ c. search needs) mul-next-2 (λ c. search needs) add-result
     (λ c. search needs))

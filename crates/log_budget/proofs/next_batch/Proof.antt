@@ -58,12 +58,5 @@ pub next-batch-spec : {M : Type 1} → statement M
 next-batch-spec =
     tie.close
     (tie.spec
-    (λ c κs. search needs)
-    (λ c. search needs)
-    returns
-    sort-keys-requires
-    ascends-requires
-    (λ c. search needs)
-    returns-2
-    (λ c. search needs)
-    returns-3)
+    (λ c κs. search needs) (λ c. search needs) returns sort-keys-requires ascends-requires (λ c. search needs)
+    returns-2 (λ c. search needs) returns-3)

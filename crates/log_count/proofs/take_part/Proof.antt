@@ -35,14 +35,6 @@ pub take-part-spec : {M : Type 1} → statement M
 take-part-spec =
     tie.close
     (tie.spec
-    (λ c κs. search needs)
-    (λ c κs. search needs)
-    (λ c. search needs)
-    slice-aggregate-take-hits
-    (λ c κs. search needs)
-    (λ c. search needs)
-    slice-aggregate-take-hits-2
-    take-hits-requires-2
-    (λ c. search needs)
-    (λ c. search needs)
+    (λ c κs. search needs) (λ c κs. search needs) (λ c. search needs) slice-aggregate-take-hits (λ c κs. search needs)
+    (λ c. search needs) slice-aggregate-take-hits-2 take-hits-requires-2 (λ c. search needs) (λ c. search needs)
     returns)

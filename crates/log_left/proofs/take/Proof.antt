@@ -79,12 +79,4 @@ pub take-spec : {M : Type 1} → statement M
 take-spec =
     tie.close
     (tie.spec
-    Inv-loop
-    μ-loop
-    (λ c κs. search needs)
-    loop-holds
-    cut-pair-requires
-    loop-less
-    loop-again
-    returns
-    returns-2)
+    Inv-loop μ-loop (λ c κs. search needs) loop-holds cut-pair-requires loop-less loop-again returns returns-2)
