@@ -10,34 +10,10 @@ use Rattle.grid.specs.declared.DexelStockSpec.{DexelStockSpec}
 use Rattle.grid.specs.declared.DexelGrid.{DexelGrid}
 use Rattle.store.specs.Fills.{FreeCursor}
 use Rattle.store.specs.Updates.{Update, update, pairsFrom, freedList, freedAll, laidList, laidAll, applied, pairsFreed, pairsLaid}
-use Rattle.store.proofs.Updating.{
-  FreedAll,
-  freed-all,
-  freed-append,
-  LaidAll,
-  laid-all,
-  laid-append,
-  all-empty,
-  half-freed,
-  half-laid,
-  kept-room,
-}
-use Rattle.change_list.specs.Changes.{
-  headAt,
-  end2,
-  end3,
-  end4,
-  Change,
-  changeBy,
-  changesFrom,
-  changesOf,
-  changeRay,
-  Names,
-  Good,
-  AllGood,
-  updatesOf,
-  updatesIn,
-}
+use Rattle.store.proofs.Updating.{FreedAll, freed-all, freed-append, LaidAll, laid-all, laid-append, all-empty, half-freed}
+use Rattle.store.proofs.Updating.{half-laid, kept-room}
+use Rattle.change_list.specs.Changes.{headAt, end2, end3, end4, Change, changeBy, changesFrom, changesOf, changeRay, Names, Good}
+use Rattle.change_list.specs.Changes.{AllGood, updatesOf, updatesIn}
 use Rattle.change_list.specs.declared.ChangeHead.{ChangeHead}
 use Rattle.change_list.proofs.Sums.{rest-is}
 use Rattle.change_list.proofs.Applying.{good-ascend}

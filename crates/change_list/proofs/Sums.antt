@@ -15,21 +15,8 @@ use Rattle.grid.specs.declared.DexelGrid.{DexelGrid}
 use Rattle.store.specs.Store.{placesOf, Cells}
 use Rattle.store.specs.Updates.{pairsFrom, pairsFreed, pairsLaid}
 use Rattle.store_read.proofs.Steps.{ends-length}
-use Rattle.change_list.specs.Changes.{
-  headAt,
-  end1,
-  end2,
-  end3,
-  end4,
-  Change,
-  changeBy,
-  changesFrom,
-  changesOf,
-  changeRay,
-  Good,
-  AllGood,
-  updatesOf,
-}
+use Rattle.change_list.specs.Changes.{headAt, end1, end2, end3, end4, Change, changeBy, changesFrom, changesOf, changeRay}
+use Rattle.change_list.specs.Changes.{Good, AllGood, updatesOf}
 use Rattle.change_list.specs.Steps.{onward, cursorOf, Stands, CheckChangePost, CheckChangesPost}
 use Rattle.change_list.specs.declared.ChangeHead.{ChangeHead}
 use Rattle.change_list.specs.declared.ChangeCursor.{ChangeCursor}

@@ -23,19 +23,8 @@ use Rattle.log_model.specs.Model.{LogAnswer, changed, refused, modelAfter}
 use Rattle.log_model.specs.Runs.{modelStart}
 use Rattle.log_model.specs.View.{lentStore, CommitOnAnyGrid}
 use Rattle.commit_log.specs.LogCommit.{answerOf, LogCellsOnAnyGrid}
-use Rattle.commit_run.specs.RunLogs.{
-  commitsTo,
-  answerBy,
-  answersTo,
-  answerCode,
-  answerNumber,
-  answered,
-  CommitsTo,
-  none,
-  more,
-  RunOnGridPost,
-  RunLogsPost,
-}
+use Rattle.commit_run.specs.RunLogs.{commitsTo, answerBy, answersTo, answerCode, answerNumber, answered, CommitsTo, none}
+use Rattle.commit_run.specs.RunLogs.{more, RunOnGridPost, RunLogsPost}
 use Rattle.commit_run.proofs.Turns.{answer-at}
 use Rattle.commit_run.specs.Refused.{AllRefused}
 use Rattle.grid.specs.Rays.{Ray}

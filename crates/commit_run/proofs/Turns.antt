@@ -24,23 +24,8 @@ use Rattle.log_model.proofs.RunCorrect.{extend}
 use Rattle.log_model.proofs.Doubles.{DoubleCells, list-doubles}
 use Rattle.log_model.proofs.View.{run-correct-lent}
 use Rattle.commit_log.specs.LogCommit.{answerOf}
-use Rattle.commit_run.specs.RunLogs.{
-  beginOf,
-  logFrom,
-  commitAt,
-  commitsTo,
-  answerBy,
-  answersTo,
-  answerCode,
-  answerNumber,
-  answered,
-  RunStepPost,
-  CommitsTo,
-  none,
-  more,
-  RunOnGridPost,
-  RunLogsPost,
-}
+use Rattle.commit_run.specs.RunLogs.{beginOf, logFrom, commitAt, commitsTo, answerBy, answersTo, answerCode, answerNumber}
+use Rattle.commit_run.specs.RunLogs.{answered, RunStepPost, CommitsTo, none, more, RunOnGridPost, RunLogsPost}
 
 -- the two numbers of an answer tell it
 by-numbers : (a : CommitAnswer) → answerBy (answerCode a) (answerNumber a) ≡ answerOf a

@@ -13,36 +13,11 @@ use Rattle.doubles.proofs.Ranges.{out-of, not-out, out-of-positive, not-out-pos
 use Rattle.cutter.specs.declared.CutterShape.{CutterShape}
 use Rattle.cutter.specs.declared.CutterShape.the-variants.{Flat, Ball, Bull, Drill, Chamfer, Beam, Probe, Lollipop, Dovetail}
 use Rattle.cutter.specs.declared.PreparedCutter.{PreparedCutter}
-use Rattle.cutter.specs.Limits.{
-  BadTool,
-  diameter-out,
-  cutting-length-out,
-  radius-out,
-  tip-height-out,
-  slope-out,
-  shoulder-out,
-  corner-out,
-  drill-angle-out,
-  chamfer-angle-out,
-  chamfer-tip-out,
-  dovetail-angle-out,
-  overall-length-out,
-  dovetail-slope-low,
-  neck-nan,
-  shank-nan,
-}
-use Rattle.cutter.specs.Steps.{
-  aboveZero,
-  fromZero,
-  isNotNan,
-  sizesFit,
-  heightsFit,
-  lengthsFit,
-  diametersFit,
-  shapeFits,
-  withinLimits,
-  isBeam,
-}
+use Rattle.cutter.specs.Limits.{BadTool, diameter-out, cutting-length-out, radius-out, tip-height-out, slope-out}
+use Rattle.cutter.specs.Limits.{shoulder-out, corner-out, drill-angle-out, chamfer-angle-out, chamfer-tip-out}
+use Rattle.cutter.specs.Limits.{dovetail-angle-out, overall-length-out, dovetail-slope-low, neck-nan, shank-nan}
+use Rattle.cutter.specs.Steps.{aboveZero, fromZero, isNotNan, sizesFit, heightsFit, lengthsFit, diametersFit, shapeFits}
+use Rattle.cutter.specs.Steps.{withinLimits, isBeam}
 
 -- ---- the beam
 

@@ -3,17 +3,8 @@
 use mathlib.Core.Path.{_≡_, refl, sym, ap, _∙_, subst}
 use mathlib.Core.Bool.{Bool, true, false, true≢false}
 use Prim.Native.Nat.{ℕ, _+_, _*_, _/_, _%_, _≤_, _<_, zero-le}
-use native.Mathlib.Nat.{
-  le-trans,
-  le-of-eq,
-  mul-one,
-  mul-right-comm,
-  mul-le-mul-right,
-  le-of-mul-le-mul-right,
-  le-div-iff-mul-le,
-  mul-mod-left,
-  zero-mul,
-}
+use native.Mathlib.Nat.{le-trans, le-of-eq, mul-one, mul-right-comm, mul-le-mul-right, le-of-mul-le-mul-right, le-div-iff-mul-le}
+use native.Mathlib.Nat.{mul-mod-left, zero-mul}
 use native.Mathlib.Omega.{arith}
 use lib.Dec.{T}
 use lib.IntN.{ℤ}

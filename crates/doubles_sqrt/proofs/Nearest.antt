@@ -2,65 +2,19 @@
 -- (`nearest-root`), in either format. Assumes nothing.
 use mathlib.Core.Path.{_≡_, refl, sym, ap, _∙_, subst}
 use Prim.Native.Nat.{ℕ, zero, suc, _+_, _-_, _*_, _/_, _^_, _≤_, _<_, compare, Ordering, Ordering·lt, Ordering·eq, Ordering·gt}
-use native.Mathlib.Nat.{
-  le-refl,
-  le-trans,
-  le-of-mul-le-mul-right,
-  le-of-eq,
-  le-of-lt,
-  le-of-suc-le-suc,
-  sub-add-cancel,
-  lt-of-lt-of-le,
-  lt-of-le-of-lt,
-  lt-of-not-le,
-  not-le-of-lt,
-  lt-irrefl,
-  mul-pos,
-  mul-le-mul-right,
-  mul-lt-mul-of-pos-right,
-  lt-of-mul-lt-mul-right,
-  mul-mul-mul-comm,
-  mul-assoc,
-  mul-one,
-  one-mul,
-  add-mul,
-  mul-comm,
-  mul-right-comm,
-  zero-lt-suc,
-  le-div-iff-mul-le,
-  div-lt-iff-lt-mul,
-  eq-of-mul-eq-mul-right,
-  div-one,
-  mul-div-cancel,
-}
+use native.Mathlib.Nat.{le-refl, le-trans, le-of-mul-le-mul-right, le-of-eq, le-of-lt, le-of-suc-le-suc, sub-add-cancel}
+use native.Mathlib.Nat.{lt-of-lt-of-le, lt-of-le-of-lt, lt-of-not-le, not-le-of-lt, lt-irrefl, mul-pos, mul-le-mul-right}
+use native.Mathlib.Nat.{mul-lt-mul-of-pos-right, lt-of-mul-lt-mul-right, mul-mul-mul-comm, mul-assoc, mul-one, one-mul, add-mul}
+use native.Mathlib.Nat.{mul-comm, mul-right-comm, zero-lt-suc, le-div-iff-mul-le, div-lt-iff-lt-mul, eq-of-mul-eq-mul-right}
+use native.Mathlib.Nat.{div-one, mul-div-cancel}
 use native.Mathlib.Omega.{arith}
 use native.Mathlib.Decide.{decLe}
 use mathlib.Core.Bool.{true, false}
 use lib.IntN.{ℤ, pos, negsuc}
 use lib.Dec.{T, lit≤}
 use lib.Pow.{pow-add, pow-pos, pow-mono, pow-lt, shl-lt}
-use lib.Ieee.{
-  Float,
-  nan,
-  inf,
-  fin,
-  Format,
-  binary32,
-  binary64,
-  prec,
-  emax,
-  low,
-  up,
-  down,
-  size,
-  nearest,
-  units,
-  fits,
-  hid,
-  ofBits,
-  toBits,
-  le,
-}
+use lib.Ieee.{Float, nan, inf, fin, Format, binary32, binary64, prec, emax, low, up, down, size, nearest, units, fits, hid}
+use lib.Ieee.{ofBits, toBits, le}
 use lib.Ieee.Order.{le-of-values}
 use lib.Ieee.Bits.{ofBits-toBits}
 use lib.Ieee.Digits.{size-lt}

@@ -3,26 +3,9 @@
 use mathlib.Core.Path.{_≡_, refl, sym, ap, _∙_, subst}
 use mathlib.Core.Logic.{_⊎_, inl, inr}
 use Prim.Native.Nat.{ℕ, zero, suc, _+_, _-_, _*_, _/_, _%_, _^_, _≤_, _<_}
-use native.Mathlib.Nat.{
-  le-trans,
-  le-of-eq,
-  le-refl,
-  lt-of-lt-of-le,
-  lt-of-le-of-lt,
-  not-le-of-lt,
-  lt-irrefl,
-  eq-or-lt-of-le,
-  mod-eq-of-lt,
-  zero-add,
-  zero-mul,
-  mul-assoc,
-  mul-comm,
-  mul-pos,
-  mul-le-mul-right,
-  mul-lt-mul-of-pos-right,
-  mul-div-cancel,
-  pow-succ',
-}
+use native.Mathlib.Nat.{le-trans, le-of-eq, le-refl, lt-of-lt-of-le, lt-of-le-of-lt, not-le-of-lt, lt-irrefl, eq-or-lt-of-le}
+use native.Mathlib.Nat.{mod-eq-of-lt, zero-add, zero-mul, mul-assoc, mul-comm, mul-pos, mul-le-mul-right, mul-lt-mul-of-pos-right}
+use native.Mathlib.Nat.{mul-div-cancel, pow-succ'}
 use native.Mathlib.Omega.{arith}
 use mathlib.Core.Bool.{Bool, true, false, cond, true≢false}
 use lib.IntN.{ℤ}

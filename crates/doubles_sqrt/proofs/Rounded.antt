@@ -3,25 +3,9 @@
 -- is the root s of 4 A, rounded to its half, with h digits after it (`rounded`). Assumes nothing.
 use mathlib.Core.Path.{_≡_, refl, sym, ap, _∙_, subst}
 use Prim.Native.Nat.{ℕ, zero, suc, _+_, _-_, _*_, _/_, _%_, _^_, _≤_, _<_, compare, Ordering, Ordering·lt, Ordering·eq, Ordering·gt}
-use native.Mathlib.Nat.{
-  le-trans,
-  le-of-eq,
-  le-of-suc-le-suc,
-  lt-of-lt-of-le,
-  lt-of-le-of-lt,
-  lt-of-not-le,
-  not-le-of-lt,
-  le-antisymm,
-  lt-suc-self,
-  mul-pos,
-  mul-le-mul-right,
-  mul-lt-mul-of-pos-right,
-  mul-mul-mul-comm,
-  mul-assoc,
-  div-mul-le-self,
-  div-lt-iff-lt-mul,
-  le-div-iff-mul-le,
-}
+use native.Mathlib.Nat.{le-trans, le-of-eq, le-of-suc-le-suc, lt-of-lt-of-le, lt-of-le-of-lt, lt-of-not-le, not-le-of-lt}
+use native.Mathlib.Nat.{le-antisymm, lt-suc-self, mul-pos, mul-le-mul-right, mul-lt-mul-of-pos-right, mul-mul-mul-comm, mul-assoc}
+use native.Mathlib.Nat.{div-mul-le-self, div-lt-iff-lt-mul, le-div-iff-mul-le}
 use native.Mathlib.Omega.{arith}
 use mathlib.Core.Bool.{false, not}
 use lib.Dec.{T, isLe, isEq, eqb, leb→le, nleb→lt, eqb→eq, eqb-refl}

@@ -1,19 +1,8 @@
 -- Squares of whole numbers: they keep the order, and `wholeRoot n` is the one r with r * r ≤ n < (r + 1) * (r + 1). Assumes nothing.
 use mathlib.Core.Path.{_≡_, ap, _∙_, subst}
 use Prim.Native.Nat.{ℕ, zero, suc, _+_, _*_, _/_, _^_, _≤_, _<_}
-use native.Mathlib.Nat.{
-  le-of-suc-le-suc,
-  lt-of-lt-of-le,
-  lt-of-le-of-lt,
-  lt-of-not-le,
-  not-le-of-lt,
-  le-antisymm,
-  mul-le-mul,
-  le-add-right,
-  add-suc,
-  suc-add,
-  pow-suc,
-}
+use native.Mathlib.Nat.{le-of-suc-le-suc, lt-of-lt-of-le, lt-of-le-of-lt, lt-of-not-le, not-le-of-lt, le-antisymm, mul-le-mul}
+use native.Mathlib.Nat.{le-add-right, add-suc, suc-add, pow-suc}
 use native.Mathlib.Omega.{arith}
 use mathlib.Core.Bool.{Bool, true, false, not, cond}
 use lib.Dec.{T, leb, leb→le, nleb→lt}

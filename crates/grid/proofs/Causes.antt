@@ -15,18 +15,8 @@ use Rattle.grid.specs.Axes.{byDigit, worldAxis, alongOf, cellsAlong}
 use Rattle.grid.specs.Grid.{whole}
 use Rattle.grid.specs.FromSpec.{anyAbove, isMm, sizesOf, extentsOf, misdescribed, raysOf, tooFine, gridOver, gridOf}
 use Rattle.grid.specs.Rays.{rayCount}
-use Rattle.grid.specs.Causes.{
-  Misdescribed,
-  Crowded,
-  OverBudget,
-  TooFine,
-  dimsIn,
-  gridIn,
-  gridCauses,
-  ByCauses,
-  GridPost,
-  units-not-mm,
-}
+use Rattle.grid.specs.Causes.{Misdescribed, Crowded, OverBudget, TooFine, dimsIn, gridIn, gridCauses, ByCauses, GridPost}
+use Rattle.grid.specs.Causes.{units-not-mm}
 use Rattle.grid.specs.declared.Vec3.{Vec3}
 use Rattle.grid.specs.declared.WorldAxis.{WorldAxis}
 use Rattle.grid.specs.declared.DexelStockSpec.{DexelStockSpec}

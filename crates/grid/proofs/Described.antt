@@ -19,19 +19,8 @@ use Rattle.doubles.proofs.Ranges.{finite-number, out-of, not-out}
 use Rattle.grid.specs.Axes.{byDigit, byAxis, worldAxis, alongOf}
 use Rattle.grid.specs.Grid.{isBetween, allBetween}
 use Rattle.grid.specs.FromSpec.{leastSize, anyBelow, anyAbove, isMm, extentsOf, misdescribed}
-use Rattle.grid.specs.Causes.{
-  mm,
-  Misdescribed,
-  version-not-1,
-  units-not-mm,
-  min-out,
-  max-out,
-  size-out,
-  no-rays,
-  too-many-rays,
-  no-intervals,
-  thin,
-}
+use Rattle.grid.specs.Causes.{mm, Misdescribed, version-not-1, units-not-mm, min-out, max-out, size-out, no-rays}
+use Rattle.grid.specs.Causes.{too-many-rays, no-intervals, thin}
 use Rattle.grid.specs.declared.Vec3.{Vec3}
 use Rattle.grid.specs.declared.WorldAxis.{WorldAxis}
 use Rattle.grid.specs.declared.DexelStockSpec.{DexelStockSpec}

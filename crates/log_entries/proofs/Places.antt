@@ -9,18 +9,7 @@ use lib.Ieee.{Float}
 use Rattle.logic.proofs.Bools.{clash}
 use Rattle.grid.specs.Rays.{rayCount, Ray}
 use Rattle.grid.specs.declared.DexelGrid.{DexelGrid}
-use Rattle.log_model.specs.Logs.{
-  entryAt,
-  entriesFrom,
-  entryCount,
-  entries,
-  namesSomeRay,
-  entryRay,
-  HitKind,
-  hitLo,
-  hitHi,
-  hitsOnRay,
-}
+use Rattle.log_model.specs.Logs.{entryAt, entriesFrom, entryCount, entries, namesSomeRay, entryRay, HitKind, hitLo, hitHi, hitsOnRay}
 use Rattle.log_model.specs.Model.{NamesNoRay}
 use Rattle.log_model.proofs.Entries.{entry-at}
 use Rattle.log_model.proofs.Naming.{named-below}

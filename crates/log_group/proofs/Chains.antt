@@ -6,20 +6,8 @@ use Prim.Native.Nat.{ℕ, suc, _+_, _-_, _≤_, _<_}
 use native.Mathlib.Omega.{arith}
 use borrow.Author.Tests.{eqb-true, eqb-false}
 use lib.Dec.{eqb}
-use lib.ListN.{
-  length,
-  getD,
-  set,
-  take,
-  drop,
-  replicate,
-  length-set,
-  length-replicate,
-  getD-replicate,
-  length-append,
-  length-drop,
-  List·getD-append,
-}
+use lib.ListN.{length, getD, set, take, drop, replicate, length-set, length-replicate, getD-replicate, length-append, length-drop}
+use lib.ListN.{List·getD-append}
 use lib.Seq.{length-take-le, getD-set-same, getD-set-other, getD-append-add, getD-drop}
 use lib.Ieee.{Float, nan, binary64, toBits}
 use Rattle.doubles.specs.Constants.{plusZero}

@@ -12,17 +12,8 @@ use Rattle.store_write.specs.LayRays.{LayRayPre, LayRayPost}
 use Rattle.log_lay.specs.Updates.{firstSize, updatesFrom, listsEnd}
 use Rattle.log_lay.specs.Steps.{EachLayable, LayRaysPre, LayRaysPost}
 use Rattle.log_lay.specs.declared.LayPlace.{LayPlace}
-use Rattle.log_lay.proofs.Lists.{
-  updates-none,
-  end-none,
-  pastRay,
-  firstUpdate,
-  secondUpdate,
-  updates-same,
-  updates-new,
-  end-same,
-  end-new,
-}
+use Rattle.log_lay.proofs.Lists.{updates-none, end-none, pastRay, firstUpdate, secondUpdate, updates-same, updates-new}
+use Rattle.log_lay.proofs.Lists.{end-same, end-new}
 use Rattle.store.specs.Steps.{LayListPre}
 use Rattle.store.specs.Store.{Cells}
 

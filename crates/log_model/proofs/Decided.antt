@@ -20,45 +20,11 @@ use Rattle.grid.specs.Rays.{rayCount, Ray}
 use Rattle.grid.specs.declared.DexelStockSpec.{DexelStockSpec}
 use Rattle.grid.specs.declared.DexelGrid.{DexelGrid}
 use Rattle.log_model.specs.declared.Entry.{Entry}
-use Rattle.log_model.specs.Logs.{
-  entries,
-  isWholeLog,
-  workNeeded,
-  namesSomeRay,
-  namesRay,
-  HitKind,
-  outer,
-  inner,
-  hitLo,
-  hitHi,
-  hitsOnRay,
-  removed,
-  Commit,
-}
-use Rattle.log_model.specs.Model.{
-  Sets,
-  setsAfter,
-  RayChanges,
-  Count,
-  none,
-  counted,
-  skipped,
-  sumTo,
-  sumOver,
-  pairTotal,
-  IntervalTotal,
-  Capacity,
-  LogBuffersShort,
-  LogInputBad,
-  NamesNoRay,
-  TooManyRays,
-  TooManyIntervals,
-  logCommitCauses,
-  LogAnswer,
-  changed,
-  refused,
-  AnswerDue,
-}
+use Rattle.log_model.specs.Logs.{entries, isWholeLog, workNeeded, namesSomeRay, namesRay, HitKind, outer, inner, hitLo}
+use Rattle.log_model.specs.Logs.{hitHi, hitsOnRay, removed, Commit}
+use Rattle.log_model.specs.Model.{Sets, setsAfter, RayChanges, Count, none, counted, skipped, sumTo, sumOver, pairTotal}
+use Rattle.log_model.specs.Model.{IntervalTotal, Capacity, LogBuffersShort, LogInputBad, NamesNoRay, TooManyRays}
+use Rattle.log_model.specs.Model.{TooManyIntervals, logCommitCauses, LogAnswer, changed, refused, AnswerDue}
 use Rattle.log_model.specs.Counts.{isHitBy, startsLeft, hitsOnList, isRayChanged, changedRayCount, pairsAfter}
 use Rattle.log_model.proofs.Unique.{count-unique, intervals-unique, intervals-points}
 use Rattle.log_model.proofs.Meets.{kept-unhit, unhit-points}

@@ -11,19 +11,7 @@ use Rattle.grid.specs.declared.DexelGrid.{DexelGrid}
 use Rattle.store.specs.Store.{placesOf, endsAt}
 use Rattle.stock.specs.Stock.{Stock, Kind, Possible, Certain, rayList, listNumber}
 use Rattle.log_model.specs.declared.Entry.{Entry}
-use Rattle.log_model.specs.Logs.{
-  entryAt,
-  entriesFrom,
-  entryCount,
-  entries,
-  namesRay,
-  HitKind,
-  outer,
-  inner,
-  hitLo,
-  hitHi,
-  hitsOnRay,
-}
+use Rattle.log_model.specs.Logs.{entryAt, entriesFrom, entryCount, entries, namesRay, HitKind, outer, inner, hitLo, hitHi, hitsOnRay}
 use Rattle.log_model.specs.Counts.{hitsOnList}
 use Rattle.log_model.proofs.Less.{piece, lower, higher, lessPair, less}
 use Rattle.grid.specs.Rays.{Ray}

@@ -26,20 +26,8 @@ use Rattle.log_model.specs.Logs.{entries, namesSomeRay, hitLo, hitHi, Co
 use Rattle.log_model.specs.Model.{LogAnswer, changed, refused, logCommitCauses, AnswerDue, acceptedLogs}
 use Rattle.log_model.specs.Counts.{hitsOnList, changedRayCount}
 use Rattle.log_model.specs.Runs.{pointSets, CommitEffect, CommitStep, Run, done, next, RunMeetsModel}
-use Rattle.log_model.specs.Examples.{
-  exampleBox,
-  exampleGrid,
-  exampleStock,
-  exampleHit,
-  exampleCommit,
-  notAllowed,
-  innerWider,
-  threeLogs,
-  threeAnswers,
-  exampleListAfter,
-  AtEnd,
-  RunRight,
-}
+use Rattle.log_model.specs.Examples.{exampleBox, exampleGrid, exampleStock, exampleHit, exampleCommit, notAllowed}
+use Rattle.log_model.specs.Examples.{innerWider, threeLogs, threeAnswers, exampleListAfter, AtEnd, RunRight}
 use Rattle.stock.specs.Stock.{Stock, ValidAt, SoundStock, Kind, Possible, Certain, rayList}
 use Rattle.stock_fill.specs.Uncut.{uncut as uncutCells, uncutSpans, uncutLinks, uncutHeads, recordAt}
 use Rattle.log_model.specs.View.{lentStore}
@@ -138,7 +126,8 @@ cut-generation = refl
 abbrev cut : Stock
 cut = record {
   cells = record {
-    spans = whole 0 ∷ whole 10 ∷ whole 0 ∷ whole 10 ∷ whole 0 ∷ whole 2 ∷ whole 3 ∷ whole 10 ∷ whole 0 ∷ whole 10 ∷ whole 0 ∷ whole 10 ∷ whole 0
+    spans = whole 0 ∷ whole 10 ∷ whole 0 ∷ whole 10 ∷ whole 0 ∷ whole 2 ∷ whole 3 ∷ whole 10 ∷ whole 0 ∷ whole 10
+        ∷ whole 0 ∷ whole 10 ∷ whole 0
         ∷ whole 1 ∷ whole 4 ∷ whole 10 ∷ [];
     links = 0 ∷ 1 ∷ 0 ∷ 2 ∷ 4 ∷ 3 ∷ 0 ∷ 3 ∷ 0 ∷ 5 ∷ 0 ∷ 6 ∷ 8 ∷ 4 ∷ 0 ∷ 4 ∷ [];
     heads = 1 ∷ 2 ∷ 3 ∷ 7 ∷ 5 ∷ 6 ∷ [];
@@ -151,7 +140,8 @@ cut = record {
 abbrev cut-again : Stock
 cut-again = record {
   cells = record {
-    spans = whole 0 ∷ whole 10 ∷ whole 0 ∷ whole 10 ∷ whole 0 ∷ whole 2 ∷ whole 3 ∷ whole 4 ∷ whole 0 ∷ whole 10 ∷ whole 0 ∷ whole 10 ∷ whole 0
+    spans = whole 0 ∷ whole 10 ∷ whole 0 ∷ whole 10 ∷ whole 0 ∷ whole 2 ∷ whole 3 ∷ whole 4 ∷ whole 0 ∷ whole 10
+        ∷ whole 0 ∷ whole 10 ∷ whole 0
         ∷ whole 1 ∷ whole 0 ∷ whole 0 ∷ [];
     links = 0 ∷ 1 ∷ 0 ∷ 2 ∷ 4 ∷ 3 ∷ 0 ∷ 3 ∷ 0 ∷ 5 ∷ 0 ∷ 6 ∷ 0 ∷ 4 ∷ 0 ∷ 0 ∷ [];
     heads = 1 ∷ 2 ∷ 3 ∷ 7 ∷ 5 ∷ 6 ∷ [];

@@ -15,30 +15,10 @@ use Rattle.spans.proofs.Sets.{same-points}
 use Rattle.grid.specs.declared.DexelStockSpec.{DexelStockSpec}
 use Rattle.grid.specs.declared.DexelGrid.{DexelGrid}
 use Rattle.log_model.specs.Logs.{inner, outer, InHit, entries, removed, Commit}
-use Rattle.log_model.specs.Model.{
-  Sets,
-  Capacity,
-  LogAnswer,
-  changed,
-  refused,
-  Model,
-  modelStep,
-  ModelAnswers,
-  modelAfter,
-  acceptedLogs,
-}
-use Rattle.log_model.specs.Runs.{
-  StoreView,
-  pointSets,
-  AcceptedEffect,
-  CommitEffect,
-  CommitStep,
-  Run,
-  done,
-  next,
-  modelStart,
-  RunMeetsModel,
-}
+use Rattle.log_model.specs.Model.{Sets, Capacity, LogAnswer, changed, refused, Model, modelStep, ModelAnswers, modelAfter}
+use Rattle.log_model.specs.Model.{acceptedLogs}
+use Rattle.log_model.specs.Runs.{StoreView, pointSets, AcceptedEffect, CommitEffect, CommitStep, Run, done, next}
+use Rattle.log_model.specs.Runs.{modelStart, RunMeetsModel}
 use Rattle.log_model.proofs.Hits.{removedBy, removedBy-none, removedBy-more, to-inner, of-inner, to-either, of-either, alike-removed}
 use Rattle.log_model.proofs.Unique.{one-list, pairs-same, answer-due-sound, modelled-unique}
 use Rattle.log_model.specs.RunCorrect.{Alike, SoundView, StoresAgree, RunCorrect}

@@ -11,26 +11,8 @@ use lib.ListN.{length}
 use lib.Ieee.{Float, lt, le, eq}
 use Rattle.doubles.specs.Doubles.{Number}
 use Rattle.logic.proofs.Bools.{or-cases, or-left, or-right, and-left, and-right, both, by-cases, clash, not-true}
-use Rattle.doubles.proofs.Order.{
-  lt-number,
-  le-refl,
-  le-trans,
-  le-total,
-  lt→le,
-  not-lt→le,
-  not-le→lt,
-  le-lt-trans,
-  lt-le-trans,
-  lt→not-le,
-  le→not-lt,
-  lt-trans,
-  eq→le,
-  eq→ge,
-  eq-refl,
-  eq-sym,
-  eq-trans,
-  le-cases,
-}
+use Rattle.doubles.proofs.Order.{lt-number, le-refl, le-trans, le-total, lt→le, not-lt→le, not-le→lt, le-lt-trans, lt-le-trans}
+use Rattle.doubles.proofs.Order.{lt→not-le, le→not-lt, lt-trans, eq→le, eq→ge, eq-refl, eq-sym, eq-trans, le-cases}
 use Rattle.spans.specs.Spans.{within, holds, rising, sound, ListOf}
 use Rattle.spans.proofs.Ends.{All, Above, all-map, rising-tail, rising-above, rising-cons}
 use Rattle.spans.proofs.Sets.{one-point, sound-rising}

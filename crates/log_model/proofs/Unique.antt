@@ -15,25 +15,8 @@ use Rattle.grid.specs.Rays.{rayCount, Ray}
 use Rattle.grid.specs.declared.DexelStockSpec.{DexelStockSpec}
 use Rattle.grid.specs.declared.DexelGrid.{DexelGrid}
 use Rattle.log_model.specs.Logs.{Commit}
-use Rattle.log_model.specs.Model.{
-  Sets,
-  Count,
-  none,
-  counted,
-  skipped,
-  sumOver,
-  pairTotal,
-  IntervalTotal,
-  Capacity,
-  LogAnswer,
-  changed,
-  refused,
-  logCommitCauses,
-  AnswerDue,
-  Model,
-  modelStep,
-  ModelAnswers,
-}
+use Rattle.log_model.specs.Model.{Sets, Count, none, counted, skipped, sumOver, pairTotal, IntervalTotal, Capacity}
+use Rattle.log_model.specs.Model.{LogAnswer, changed, refused, logCommitCauses, AnswerDue, Model, modelStep, ModelAnswers}
 use Rattle.stock.specs.Stock.{Kind, Possible, Certain}
 
 -- the one sound list of a set, as numbers

@@ -10,20 +10,8 @@ use Rattle.spans.specs.Spans.{All, Double, Point, holds, sound, equal, ListOf}
 use Rattle.grid.specs.declared.DexelStockSpec.{DexelStockSpec}
 use Rattle.grid.specs.declared.DexelGrid.{DexelGrid}
 use Rattle.log_model.specs.Logs.{outer, inner, InHit, entries, Commit}
-use Rattle.log_model.specs.Model.{
-  Sets,
-  setsAfter,
-  pairTotal,
-  Capacity,
-  LogAnswer,
-  changed,
-  refused,
-  AnswerDue,
-  Model,
-  ModelAnswers,
-  modelAfter,
-  acceptedLogs,
-}
+use Rattle.log_model.specs.Model.{Sets, setsAfter, pairTotal, Capacity, LogAnswer, changed, refused, AnswerDue, Model}
+use Rattle.log_model.specs.Model.{ModelAnswers, modelAfter, acceptedLogs}
 use Rattle.grid.specs.Rays.{Ray}
 use Rattle.stock.specs.Stock.{Kind, Possible, Certain}
 

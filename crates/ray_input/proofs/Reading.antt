@@ -11,28 +11,9 @@ use lib.Dec.{leb, eqb}
 use lib.ListN.{length, getD, length-append}
 use lib.Ieee.{Float, binary64, ofBits}
 use Rattle.logic.proofs.Bools.{and-false, both}
-use Rattle.ray_input.specs.Format.{
-  space,
-  newline,
-  letterB,
-  letterP,
-  letterC,
-  letterO,
-  letterI,
-  isLetter,
-  eachBelow,
-  isNumber,
-  bitsAt,
-  isLine,
-  lines,
-  letterOf,
-  count,
-  pairAt,
-  textPairs,
-  few,
-  total,
-  readable,
-}
+use Rattle.ray_input.specs.Format.{space, newline, letterB, letterP, letterC, letterO, letterI, isLetter, eachBelow}
+use Rattle.ray_input.specs.Format.{isNumber, bitsAt, isLine, lines, letterOf, count, pairAt, textPairs, few, total}
+use Rattle.ray_input.specs.Format.{readable}
 
 module _ (test : ℕ → Bool) where
   pub each-none : eachBelow test 0 ≡ true

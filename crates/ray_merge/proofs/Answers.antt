@@ -15,16 +15,8 @@ use Rattle.spans.specs.Spans.{holds, Within}
 use Rattle.spans.specs.Rays.{ValidRay, MergedExactly}
 use Rattle.ray_subtract.specs.Subtract.{eitherHit, newCells, handedBack, ListAfterHits}
 use Rattle.ray_merge.specs.Merge.{MergePre, workPairs, MergePost}
-use Rattle.ray_subtract.specs.Steps.{
-  cellsFrom,
-  newList,
-  MergeWithinPre,
-  MergeWithinPost,
-  PlacedAt,
-  NormalizedAt,
-  MergeInputs,
-  MergeListsPost,
-}
+use Rattle.ray_subtract.specs.Steps.{cellsFrom, newList, MergeWithinPre, MergeWithinPost, PlacedAt, NormalizedAt, MergeInputs}
+use Rattle.ray_subtract.specs.Steps.{MergeListsPost}
 use Rattle.spans.specs.Overlay.{lessOf}
 use Rattle.span_overlay.proofs.Less.{less-list}
 use Rattle.ray_subtract.specs.declared.MergedList.{MergedList}

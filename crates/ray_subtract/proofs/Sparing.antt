@@ -14,17 +14,8 @@ use Rattle.spans.specs.Overlay.{lessOf}
 use Rattle.span_overlay.proofs.Less.{less-list, less-apart, less-moves}
 use Rattle.span_cover.specs.Cover.{Meets}
 use Rattle.ray_subtract.specs.Subtract.{eitherHit, newCells, ListAfterHits}
-use Rattle.ray_subtract.specs.Steps.{
-  cellsFrom,
-  SoundListAt,
-  WrittenAt,
-  lessHits,
-  Becomes,
-  newList,
-  ReducePost,
-  MergeWithinPre,
-  MergeWithinPost,
-}
+use Rattle.ray_subtract.specs.Steps.{cellsFrom, SoundListAt, WrittenAt, lessHits, Becomes, newList, ReducePost}
+use Rattle.ray_subtract.specs.Steps.{MergeWithinPre, MergeWithinPost}
 use Rattle.ray_subtract.specs.declared.MergedList.{MergedList}
 use Rattle.ray_subtract.proofs.Places.{part-length, part-past, part-front, between-both, between-same, lies-past}
 

@@ -12,18 +12,8 @@ use Rattle.spans.specs.declared.Place.{Place}
 use Rattle.spans.proofs.Sets.{sound-mod}
 use Rattle.spans.specs.Overlay.{higherOf, lessOf}
 use Rattle.span_overlay.specs.Steps.{OverlayCutPre as CutReady}
-use Rattle.span_overlay.proofs.Cutting.{
-  Cutting,
-  cut-start,
-  cut-last,
-  cut-end,
-  cut-step,
-  Lessening,
-  less-start,
-  less-ready,
-  less-step,
-  less-done,
-}
+use Rattle.span_overlay.proofs.Cutting.{Cutting, cut-start, cut-last, cut-end, cut-step, Lessening, less-start, less-ready}
+use Rattle.span_overlay.proofs.Cutting.{less-step, less-done}
 use Rattle.ray_subtract.specs.Steps.{cellsFrom, SoundListAt, CutAt, WrittenAt}
 use Rattle.ray_subtract.proofs.Places.{part-length, part-cell}
 

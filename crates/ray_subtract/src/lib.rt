@@ -7,7 +7,8 @@ ghost use Rattle.spans.specs.Spans.{equal};
 ghost use Rattle.ray_subtract.specs.Subtract.{newCells};
 ghost use Rattle.spans.specs.Overlay.{lessOf};
 ghost use Rattle.span_overlay.specs.Steps.{OverlayCutPre as CutReady};
-ghost use Rattle.ray_subtract.specs.Steps.{cellsFrom, SoundListAt, CutAt, WrittenAt, lessHits, ReducePost, MergeWithinPre, MergeWithinPost};
+ghost use Rattle.ray_subtract.specs.Steps.{cellsFrom, SoundListAt, CutAt, WrittenAt, lessHits, ReducePost, MergeWithinPre};
+ghost use Rattle.ray_subtract.specs.Steps.{MergeWithinPost};
 use spans::Place;
 
 // One list after a merge: whether it moved, and how many pairs it has.

@@ -16,19 +16,8 @@ use Rattle.spans.specs.Rays.{bounded, ValidRay}
 use Rattle.ray_input.specs.Format.{eachBelow, isLine, count, few, textPairs, readable}
 use Rattle.ray_input.specs.Steps.{Appended}
 use Rattle.ray_output.specs.Output.{hex, lineText, linesText, endText, answerText}
-use Rattle.ray_text.specs.Run.{
-  boundLo,
-  boundHi,
-  textPossible,
-  textCertain,
-  textOuter,
-  textInner,
-  runCauses,
-  Written,
-  Result,
-  refused,
-  written,
-}
+use Rattle.ray_text.specs.Run.{boundLo, boundHi, textPossible, textCertain, textOuter, textInner, runCauses, Written}
+use Rattle.ray_text.specs.Run.{Result, refused, written}
 use Rattle.ray_text.specs.Example.{exampleInput, exampleOutput, ExamplePrinted}
 
 -- ---- the lists of the input

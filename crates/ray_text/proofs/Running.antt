@@ -16,22 +16,8 @@ use Rattle.ray_merge.specs.Merge.{MergeEffect, mergeCauses}
 use Rattle.ray_subtract.specs.declared.MergedList.{MergedList}
 use Rattle.ray_input.specs.Format.{letterB, letterP, letterC, letterO, letterI, lines, letterOf, count, textPairs, few, total, readable}
 use Rattle.ray_output.specs.Output.{linesText, endText, refusedText}
-use Rattle.ray_text.specs.Run.{
-  boundLo,
-  boundHi,
-  textPossible,
-  textCertain,
-  textOuter,
-  textInner,
-  rayCauses,
-  runCauses,
-  Result,
-  refused,
-  written,
-  Printed,
-  ProgramRan,
-  Small,
-}
+use Rattle.ray_text.specs.Run.{boundLo, boundHi, textPossible, textCertain, textOuter, textInner, rayCauses, runCauses}
+use Rattle.ray_text.specs.Run.{Result, refused, written, Printed, ProgramRan, Small}
 use Rattle.ray_input.specs.Steps.{Appended}
 use Rattle.logic.proofs.Bools.{and-left, and-right}
 use Rattle.ray_input.proofs.Reading.{pairs-length}

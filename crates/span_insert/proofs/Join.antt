@@ -16,65 +16,13 @@ use Rattle.spans.specs.Steps.{PutPairPost}
 use Rattle.span_insert.specs.Steps.{EndsCounted, SplicePost, InsertPost, endIf, joinAt}
 use Rattle.doubles.specs.Doubles.{Number}
 use Rattle.logic.proofs.Bools.{and-left, and-right, and-true, and-false, both, by-cases, clash}
-use Rattle.doubles.proofs.Order.{
-  lt-number,
-  le-number,
-  lt-not-le,
-  lt→le,
-  not-lt→le,
-  not-le→lt,
-  le-lt-trans,
-  lt-trans,
-  lt-le-trans,
-  le-refl,
-  le-trans,
-}
-use Rattle.spans.proofs.Ends.{
-  flip,
-  flip-false,
-  not-not,
-  oddN,
-  odd,
-  odd-append,
-  All,
-  all-append,
-  all-left,
-  all-right,
-  all-map,
-  all-by-place,
-  all-at,
-  Over,
-  Under,
-  Past,
-  From,
-  Above,
-  Below,
-  UpTo,
-  odd-all,
-  odd-none,
-  odd-past,
-  above-less,
-  upTo-more,
-  below-upTo,
-  oddN-add,
-  rising-cons,
-  rising-append,
-  rising-left,
-  rising-right,
-  rising-at,
-  rising-before,
-}
-use Rattle.spans.proofs.Points.{
-  or-false,
-  or-true,
-  or-assoc,
-  numbers-of,
-  holds-more,
-  put-list,
-  below-by-last,
-  upTo-last,
-  rising-front,
-}
+use Rattle.doubles.proofs.Order.{lt-number, le-number, lt-not-le, lt→le, not-lt→le, not-le→lt, le-lt-trans, lt-trans, lt-le-trans}
+use Rattle.doubles.proofs.Order.{le-refl, le-trans}
+use Rattle.spans.proofs.Ends.{flip, flip-false, not-not, oddN, odd, odd-append, All, all-append, all-left, all-right, all-map}
+use Rattle.spans.proofs.Ends.{all-by-place, all-at, Over, Under, Past, From, Above, Below, UpTo, odd-all, odd-none, odd-past}
+use Rattle.spans.proofs.Ends.{above-less, upTo-more, below-upTo, oddN-add, rising-cons, rising-append, rising-left, rising-right}
+use Rattle.spans.proofs.Ends.{rising-at, rising-before}
+use Rattle.spans.proofs.Points.{or-false, or-true, or-assoc, numbers-of, holds-more, put-list, below-by-last, upTo-last, rising-front}
 use Rattle.spans.proofs.Normal.{all-in, normal-pair}
 use Rattle.spans.proofs.Sets.{oddN-mod, mod-oddN, sound-rising, sound-even, sound-mod, sound-holds, make-sound}
 

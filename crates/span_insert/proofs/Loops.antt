@@ -8,21 +8,8 @@ use native.Mathlib.Decide.{decLt}
 use mathlib.Core.Logic.{_⊎_, inl, inr}
 use lib.Dec.{eqb}
 use lib.ListN.{length, getD, take, drop, set, length-set, length-append, length-drop}
-use lib.Seq.{
-  getD-set-same,
-  getD-set-other,
-  getD-take,
-  getD-drop,
-  ext-getD,
-  length-take-le,
-  take-take,
-  take-add,
-  take-at,
-  drop-at,
-  sets,
-  sets-eq,
-  length-sets,
-}
+use lib.Seq.{getD-set-same, getD-set-other, getD-take, getD-drop, ext-getD, length-take-le, take-take, take-add, take-at, drop-at}
+use lib.Seq.{sets, sets-eq, length-sets}
 use lib.Ieee.{Float, nan}
 use Rattle.spans.specs.Steps.{SameFrom}
 use Rattle.span_insert.specs.Steps.{EndsCounted, CellsMoved, SplicePost, endIf}

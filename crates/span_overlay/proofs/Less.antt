@@ -11,33 +11,10 @@ use Rattle.spans.specs.Spans.{within, holds, rising, sound, equal, less, ListOf
 use Rattle.spans.specs.Overlay.{higherOf, lowerOf, cutBy, lessOf}
 use Rattle.doubles.specs.Doubles.{Number}
 use Rattle.logic.proofs.Bools.{or-left, or-right, or-neither, and-left, and-right, and-true, both, by-cases, clash}
-use Rattle.doubles.proofs.Order.{
-  lt-number,
-  le-number,
-  lt→le,
-  lt→not-le,
-  le→not-lt,
-  not-lt→le,
-  le-refl,
-  le-trans,
-  le-lt-trans,
-  lt-trans,
-  lt-le-trans,
-}
-use Rattle.spans.proofs.Ends.{
-  not-not,
-  oddN,
-  All,
-  all-append,
-  all-map,
-  Over,
-  AtMost,
-  Above,
-  above-less,
-  rising-tail,
-  rising-above,
-  rising-append,
-}
+use Rattle.doubles.proofs.Order.{lt-number, le-number, lt→le, lt→not-le, le→not-lt, not-lt→le, le-refl, le-trans, le-lt-trans}
+use Rattle.doubles.proofs.Order.{lt-trans, lt-le-trans}
+use Rattle.spans.proofs.Ends.{not-not, oddN, All, all-append, all-map, Over, AtMost, Above, above-less, rising-tail, rising-above}
+use Rattle.spans.proofs.Ends.{rising-append}
 use Rattle.spans.proofs.Sets.{oddN-mod, equal-holds, sound-rising, sound-even, make-sound}
 use Rattle.spans.proofs.Points.{or-false, holds-append, holds-above, empty-pair, numbers-of}
 

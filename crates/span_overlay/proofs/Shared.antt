@@ -15,20 +15,8 @@ use Rattle.doubles.proofs.Order.{lt→le, le→not-lt, le-trans, lt-trans, lt-l
 use Rattle.spans.proofs.Ends.{All, all-append, all-map, Over, AtMost, Above, above-less, rising-tail, rising-above, rising-append}
 use Rattle.spans.proofs.Sets.{oddN-mod, sound-rising, make-sound}
 use Rattle.spans.proofs.Points.{holds-append, numbers-of}
-use Rattle.span_overlay.proofs.Less.{
-  higher-first,
-  higher-second,
-  higher-both,
-  lower-first,
-  lower-second,
-  lower-both,
-  pair-all,
-  pair-even,
-  pair-rising,
-  pair-holds,
-  pair-none,
-  either,
-}
+use Rattle.span_overlay.proofs.Less.{higher-first, higher-second, higher-both, lower-first, lower-second, lower-both}
+use Rattle.span_overlay.proofs.Less.{pair-all, pair-even, pair-rising, pair-holds, pair-none, either}
 
 -- of two numbers, Rust's `max` and `min`
 pub larger-is : (x y : Float) → Number x → largerOf x y ≡ higherOf x y

@@ -21,22 +21,8 @@ use Rattle.spans.specs.Spans.{rising, sound}
 use Rattle.grid.specs.Rays.{rayCount, rayAxis, boundsOf}
 use Rattle.grid.specs.declared.DexelStockSpec.{DexelStockSpec}
 use Rattle.grid.specs.declared.DexelGrid.{DexelGrid}
-use Rattle.store.specs.Store.{
-  loAt,
-  hiAt,
-  ownerAt,
-  usedAt,
-  RecordChain,
-  ends,
-  more,
-  placesOf,
-  chained,
-  endsAt,
-  ChainsSound,
-  Cells,
-  storeList,
-  cells,
-}
+use Rattle.store.specs.Store.{loAt, hiAt, ownerAt, usedAt, RecordChain, ends, more, placesOf, chained, endsAt, ChainsSound, Cells}
+use Rattle.store.specs.Store.{storeList, cells}
 use Rattle.store.specs.Updates.{CellsPastKept}
 use Rattle.store.proofs.Records.{Written, written-same, put-other, put-here, Within, within-none, within-then, within-put, free-used}
 use Rattle.store.proofs.Chains.{chain-places}

@@ -10,37 +10,12 @@ use lib.Ieee.{Float}
 use lib.ListN.{length, getD, set, length-set}
 use lib.Seq.{getD-set-other, getD-set-same, drop-set-lt}
 use Rattle.doubles.specs.Constants.{plusZero}
-use Rattle.store.specs.Store.{
-  nextAt,
-  places,
-  placesOf,
-  RecordChain,
-  ends,
-  freeSpan,
-  freeLink,
-  freedSpans,
-  freedLinks,
-  Cells,
-  cells,
-  ChainsSound,
-}
+use Rattle.store.specs.Store.{nextAt, places, placesOf, RecordChain, ends, freeSpan, freeLink, freedSpans, freedLinks}
+use Rattle.store.specs.Store.{Cells, cells, ChainsSound}
 use Rattle.store.specs.Updates.{CellsPastKept, freedList}
 use Rattle.store.proofs.Counting.{Distinct}
-use Rattle.store.proofs.Records.{
-  Same,
-  same-refl,
-  same-trans,
-  written-same,
-  put-other,
-  put-here,
-  Free,
-  free-used,
-  among,
-  Within,
-  within-none,
-  within-put,
-  within-then,
-}
+use Rattle.store.proofs.Records.{Same, same-refl, same-trans, written-same, put-other, put-here, Free, free-used, among}
+use Rattle.store.proofs.Records.{Within, within-none, within-put, within-then}
 use Rattle.store.proofs.Chains.{chain-owner, chain-distinct, chain-places, chain-step}
 use Rattle.store.proofs.Replacing.{Replaces, Replaced, replaced, chain-kept}
 use Rattle.store.specs.Steps.{Room, FreeListPre}

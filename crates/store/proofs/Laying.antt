@@ -10,40 +10,13 @@ use native.Mathlib.Omega.{arith}
 use lib.Ieee.{Float, nan}
 use lib.ListN.{length, getD, set, take, drop, length-set, length-drop}
 use lib.Seq.{getD-set-other, getD-set-same, drop-set-lt}
-use Rattle.store.specs.Store.{
-  usedAt,
-  placesOf,
-  RecordChain,
-  ends,
-  more,
-  endsAt,
-  freeFrom,
-  headOf,
-  filledLinks,
-  filledSpans,
-  putSpan,
-  putLink,
-  Cells,
-  cells,
-  ChainsSound,
-  storeList,
-}
+use Rattle.store.specs.Store.{usedAt, placesOf, RecordChain, ends, more, endsAt, freeFrom, headOf, filledLinks, filledSpans}
+use Rattle.store.specs.Store.{putSpan, putLink, Cells, cells, ChainsSound, storeList}
 use Rattle.store.specs.Updates.{Update, update, pairsFrom, CellsPastKept, lowestFree, laidList}
 use Rattle.store.specs.Fills.{FreeCursor, FillListPost}
 use Rattle.store.proofs.Counting.{Distinct}
-use Rattle.store.proofs.Records.{
-  Same,
-  same-refl,
-  same-trans,
-  put-other,
-  put-here,
-  written-same,
-  owned-used,
-  Within,
-  within-none,
-  within-put,
-  within-then,
-}
+use Rattle.store.proofs.Records.{Same, same-refl, same-trans, put-other, put-here, written-same, owned-used, Within}
+use Rattle.store.proofs.Records.{within-none, within-put, within-then}
 use Rattle.store.proofs.Chains.{chain-owner}
 use Rattle.store.proofs.FreePlaces.{free-records, lowest-free, lowest-distinct, lowest-length}
 use Rattle.store.proofs.Replacing.{Replaces, Replaced, replaced}

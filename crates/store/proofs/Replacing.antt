@@ -3,38 +3,15 @@
 use mathlib.Core.Path.{_≡_, refl, sym, ap, _∙_, subst}
 use mathlib.Core.Bool.{true}
 use mathlib.Core.Logic.{⊎-elim}
-use mathlib.Core.List.{
-  List,
-  [],
-  _∷_,
-  _++_,
-  List·Memᴰ,
-  List·Memᴰ·head,
-  List·Memᴰ·tail,
-  List·Memᴰ·not-nil,
-  List·Memᴰ·append-cases,
-  Memᴰ·append-left,
-  Memᴰ·append-right,
-}
+use mathlib.Core.List.{List, [], _∷_, _++_, List·Memᴰ, List·Memᴰ·head, List·Memᴰ·tail, List·Memᴰ·not-nil, List·Memᴰ·append-cases}
+use mathlib.Core.List.{Memᴰ·append-left, Memᴰ·append-right}
 use Prim.Native.Nat.{ℕ, zero, suc, _+_, _≤_, _<_}
 use native.Mathlib.Decide.{ℕ-discrete}
 use native.Mathlib.Omega.{arith}
 use lib.Ieee.{Float}
 use lib.ListN.{length, getD, length-append}
-use Rattle.store.specs.Store.{
-  nextAt,
-  ownerAt,
-  usedAt,
-  RecordChain,
-  ends,
-  more,
-  placesOf,
-  chained,
-  endsAt,
-  Cells,
-  ChainsSound,
-  storeList,
-}
+use Rattle.store.specs.Store.{nextAt, ownerAt, usedAt, RecordChain, ends, more, placesOf, chained, endsAt, Cells}
+use Rattle.store.specs.Store.{ChainsSound, storeList}
 use Rattle.store.proofs.Records.{Same, same-used, among}
 use Rattle.store.proofs.Chains.{chain-owner, chain-places}
 

@@ -5,19 +5,8 @@
 --     half-freed, half-laid    what the functions that do one update ask of the store half-way
 use mathlib.Core.Path.{_≡_, refl, sym, ap, _∙_, subst}
 use mathlib.Core.Bool.{Bool, false, cond}
-use mathlib.Core.List.{
-  List,
-  [],
-  _∷_,
-  _++_,
-  List·Memᴰ,
-  List·Memᴰ·head,
-  List·Memᴰ·tail,
-  List·Memᴰ·cases-cons,
-  List·Memᴰ·not-nil,
-  Memᴰ·append-left,
-  Memᴰ·append-right,
-}
+use mathlib.Core.List.{List, [], _∷_, _++_, List·Memᴰ, List·Memᴰ·head, List·Memᴰ·tail, List·Memᴰ·cases-cons, List·Memᴰ·not-nil}
+use mathlib.Core.List.{Memᴰ·append-left, Memᴰ·append-right}
 use mathlib.Core.Logic.{⊎-elim}
 use Prim.Native.Nat.{ℕ, _+_, _-_, _/_, _%_, _≤_, _<_}
 use native.Mathlib.Decide.{ℕ-discrete}
@@ -27,18 +16,8 @@ use lib.Ieee.{Float}
 use lib.ListN.{length}
 use borrow.Author.Tests.{eq-eqb, ne-eqb}
 use Rattle.store.specs.Store.{placesOf, endsAt, freeFrom, Cells, ChainsSound, storeList}
-use Rattle.store.specs.Updates.{
-  Update,
-  CellsPastKept,
-  pairsFreed,
-  pairsLaid,
-  freedList,
-  freedAll,
-  lowestFree,
-  laidList,
-  laidAll,
-  applied,
-}
+use Rattle.store.specs.Updates.{Update, CellsPastKept, pairsFreed, pairsLaid, freedList, freedAll, lowestFree, laidList}
+use Rattle.store.specs.Updates.{laidAll, applied}
 use Rattle.store.proofs.Replacing.{Replaced}
 use Rattle.store.proofs.Freeing.{freed-list, freed-kept}
 use Rattle.store.proofs.FreePlaces.{free-records}

@@ -19,18 +19,8 @@ use Rattle.grid.specs.Rays.{rayCount, raysAlong, offset, rayAxis, boundsOf, cel
 use Rattle.frame.specs.declared.Axis.the-variants.{PosZ}
 use Rattle.frame.specs.Frame.{frameOf, axisDigit, worldAxisOf, localAxisOf, signAlong, localAt, localOf, turned, worldOf}
 use Rattle.cutter.specs.Cutter.{isFinite, cuttingRadius, offTool, radiusAt, cutRadius, cutMax, cutMin}
-use Rattle.cutter.specs.Steps.{
-  aboveZero,
-  fromZero,
-  isNotNan,
-  sizesFit,
-  heightsFit,
-  lengthsFit,
-  diametersFit,
-  shapeFits,
-  withinLimits,
-  isBeam,
-}
+use Rattle.cutter.specs.Steps.{aboveZero, fromZero, isNotNan, sizesFit, heightsFit, lengthsFit, diametersFit, shapeFits}
+use Rattle.cutter.specs.Steps.{withinLimits, isBeam}
 use Rattle.cutter.specs.declared.CutterShape.the-variants.{Flat}
 use Rattle.cutter.proofs.Limits.{beam-tells, fit-tool}
 use Rattle.strips.specs.Strip.{bandDistance, halfChord, chordStrip, diskStrip, stadiumStrip, hull, sideStrip}

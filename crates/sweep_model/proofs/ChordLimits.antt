@@ -18,16 +18,8 @@ use Rattle.grid.specs.Grid.{isBetween, allBetween}
 use Rattle.frame.specs.declared.Frame.{Frame}
 use Rattle.sweep_model.specs.declared.Chord.{Chord}
 use Rattle.sweep_model.specs.Chords.{pointAt, chordOf}
-use Rattle.sweep_model.specs.ChordLimits.{
-  twoMillion,
-  thousand,
-  planSize,
-  BadChords,
-  guard-out,
-  coordinate-out,
-  error-out,
-  plan-length-out,
-}
+use Rattle.sweep_model.specs.ChordLimits.{twoMillion, thousand, planSize, BadChords, guard-out, coordinate-out, error-out}
+use Rattle.sweep_model.specs.ChordLimits.{plan-length-out}
 use Rattle.sweep_model.specs.Steps.{guardFits, endsFit, lengthFits, numbersFit, chordFits, every, chordsFit}
 
 -- ---- a test of the first n

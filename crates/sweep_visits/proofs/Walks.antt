@@ -27,21 +27,8 @@ use Rattle.sweep_model.specs.declared.RayRect.{RayRect}
 use Rattle.sweep_model.specs.declared.RayRect.the-variants.{Rays, NoRays}
 use Rattle.sweep_model.specs.declared.RayHit.{RayHit}
 use Rattle.sweep_model.specs.declared.RayHit.the-variants.{On, Off}
-use Rattle.sweep_model.specs.Entries.{
-  entryOf,
-  entryFor,
-  indexOf,
-  possibleAt,
-  rayEntry,
-  each,
-  sumEach,
-  rowEntries,
-  rectEntries,
-  rectangleEntries,
-  raysIn,
-  joined,
-  loggedEntries,
-}
+use Rattle.sweep_model.specs.Entries.{entryOf, entryFor, indexOf, possibleAt, rayEntry, each, sumEach, rowEntries, rectEntries}
+use Rattle.sweep_model.specs.Entries.{rectangleEntries, raysIn, joined, loggedEntries}
 use Rattle.sweep_model.specs.Walk.{Walked, Done, Stop, walk}
 use Rattle.sweep_visits.proofs.Cells.{put-take, put-length}
 use Rattle.sweep_visits.specs.Steps.{Went, Halted, WalkPost, RayReady, AxisReady}

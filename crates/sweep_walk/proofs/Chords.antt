@@ -11,38 +11,11 @@ use Rattle.sweep_model.specs.Entries.{each, rayEntry, raysIn, loggedEntries}
 use Rattle.sweep_visits.specs.declared.VisitCursor.{VisitCursor}
 use Rattle.sweep_visits.specs.declared.Progress.{Progress}
 use Rattle.sweep_visits.specs.declared.Progress.the-variants.{At, Stopped}
-use Rattle.sweep_visits.proofs.Walks.{
-  went-then,
-  went-halt,
-  halt-before,
-  Sweeping,
-  sweeping-next,
-  sweeping-halt,
-  sweeping-all,
-  each-length,
-  sum-same,
-  rectangle-length,
-  Sixes,
-  sixes-append,
-  sixes-each,
-  rectangle-sixes,
-  sixes-count,
-}
-use Rattle.sweep_model.specs.SweepEntries.{
-  Setting,
-  trackOf,
-  laneIn,
-  rectangleIn,
-  axisEntries,
-  firstAxis,
-  secondAxis,
-  chordEntries,
-  chordIn,
-  sweepEntries,
-  logOf,
-  chordVisits,
-  visitTotal,
-}
+use Rattle.sweep_visits.proofs.Walks.{went-then, went-halt, halt-before, Sweeping, sweeping-next, sweeping-halt, sweeping-all}
+use Rattle.sweep_visits.proofs.Walks.{each-length, sum-same, rectangle-length, Sixes, sixes-append, sixes-each, rectangle-sixes}
+use Rattle.sweep_visits.proofs.Walks.{sixes-count}
+use Rattle.sweep_model.specs.SweepEntries.{Setting, trackOf, laneIn, rectangleIn, axisEntries, firstAxis, secondAxis}
+use Rattle.sweep_model.specs.SweepEntries.{chordEntries, chordIn, sweepEntries, logOf, chordVisits, visitTotal}
 use Rattle.sweep_visits.specs.Steps.{WalkPost, Went, Halted}
 
 -- the log keeps its length

@@ -19,20 +19,8 @@ use Rattle.doubles_sqrt.specs.Root.{squareRoot}
 use Rattle.strips.specs.Strip.{bandDistance, halfChord, chordStrip, diskStrip}
 use Rattle.cutter.specs.Cutter.{isFinite, offTool, arcAt, cuttingRadius, radiusAt}
 use Rattle.frame.specs.Frame.{worldOf}
-use Rattle.worked.specs.Examples.{
-  WorkedExample,
-  normalizes,
-  subtracts,
-  intersects,
-  contains,
-  grids,
-  disk,
-  radius-at,
-  turns,
-  RowRight,
-  WorkedRight,
-  workedExamples,
-}
+use Rattle.worked.specs.Examples.{WorkedExample, normalizes, subtracts, intersects, contains, grids, disk, radius-at, turns}
+use Rattle.worked.specs.Examples.{RowRight, WorkedRight, workedExamples}
 
 told : (b : Bool) → b ≡ true → T b
 told b h = subst T (sym h) tt

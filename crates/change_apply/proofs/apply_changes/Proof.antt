@@ -46,9 +46,4 @@ pub apply-changes-spec : {M : Type 1} → statement M
 apply-changes-spec =
     tie.close
     (tie.spec
-    free-changes-requires
-    lay-changes-requires
-    (λ c. search needs)
-    (λ c. search needs)
-    (λ c. search needs)
-    returns)
+    free-changes-requires lay-changes-requires (λ c. search needs) (λ c. search needs) (λ c. search needs) returns)

@@ -80,16 +80,5 @@ pub free-changes-spec : {M : Type 1} → statement M
 free-changes-spec =
     tie.close
     (tie.spec
-    Inv-loop
-    μ-loop
-    loop-holds
-    head-requires
-    ray-named-requires
-    free-ray-requires
-    (λ c. search needs)
-    (λ c. search needs)
-    loop-again
-    same-length
-    same-length-2
-    same-length-3
-    returns)
+    Inv-loop μ-loop loop-holds head-requires ray-named-requires free-ray-requires (λ c. search needs)
+    (λ c. search needs) loop-again same-length same-length-2 same-length-3 returns)

@@ -7,19 +7,8 @@ use Prim.Native.Nat.{_-_, _/_, _^_, _≤_, _<_}
 use lib.ListN.{length}
 use Rattle.store.specs.Updates.{laidAll}
 use Rattle.change_apply.specs.Passes.{ChangesFreed}
-use Rattle.change_apply.proofs.Turns.{
-  all-freed,
-  LaidTo,
-  laid-none,
-  laid-good,
-  ray-layable,
-  laid-next,
-  laid-whole,
-  all-laid,
-  front-fits,
-  back-within,
-  back-fits,
-}
+use Rattle.change_apply.proofs.Turns.{all-freed, LaidTo, laid-none, laid-good, ray-layable, laid-next, laid-whole}
+use Rattle.change_apply.proofs.Turns.{all-laid, front-fits, back-within, back-fits}
 use Rattle.change_apply.proofs.lay_changes.Statement.{statement}
 use Rattle.change_list.specs.Changes.{updatesIn}
 use Rattle.store.specs.Store.{Cells, cells}
@@ -163,18 +152,6 @@ pub lay-changes-spec : {M : Type 1} → statement M
 lay-changes-spec =
     tie.close
     (tie.spec
-    Inv-loop
-    μ-loop
-    loop-holds
-    head-requires
-    ray-named-requires
-    past-lists-requires
-    lay-ray-requires
-    past-lists-requires-2
-    (λ c. search needs)
-    (λ c. search needs)
-    loop-again
-    same-length
-    same-length-2
-    same-length-3
+    Inv-loop μ-loop loop-holds head-requires ray-named-requires past-lists-requires lay-ray-requires
+    past-lists-requires-2 (λ c. search needs) (λ c. search needs) loop-again same-length same-length-2 same-length-3
     returns)

@@ -9,15 +9,8 @@ use Rattle.grid.specs.Axes.{worldAxis}
 use Rattle.grid.specs.Rays.{rayCount}
 use Rattle.grid.proofs.Numbering.{number-lt}
 use Rattle.stock.proofs.Rays.{tells-good}
-use Rattle.change_list.proofs.ListTests.{
-  cell-fits,
-  ray-fits,
-  change-long,
-  change-fits,
-  change-unnamed,
-  change-not-allowed,
-  change-done,
-}
+use Rattle.change_list.proofs.ListTests.{cell-fits, ray-fits, change-long, change-fits, change-unnamed, change-not-allowed}
+use Rattle.change_list.proofs.ListTests.{change-done}
 use Rattle.change_list.proofs.check_change.Statement.{statement}
 use Rattle.store.specs.Store.{cells}
 use Rattle.change_list.proofs.check_change.Tie as tie
@@ -104,13 +97,5 @@ pub check-change-spec : {M : Type 1} → statement M
 check-change-spec =
     tie.close
     (tie.spec
-    (λ c. search needs)
-    (λ c κs. search needs)
-    returns
-    names-ray-from-requires
-    returns-2
-    ray-named-requires
-    check-removal-at-requires
-    returns-3
-    past-requires
-    returns-4)
+    (λ c. search needs) (λ c κs. search needs) returns names-ray-from-requires returns-2 ray-named-requires
+    check-removal-at-requires returns-3 past-requires returns-4)

@@ -1,14 +1,8 @@
 -- `change_list::is_removal` meets its contract: each test decides one field of `IsRemoval`.
 use borrow.Author.Needs.{needs}
 use Rattle.stock.proofs.Rays.{tells-good}
-use Rattle.change_list.proofs.ChangeTests.{
-  covers-good,
-  removal-invalid,
-  removal-gains-possible,
-  removal-gains-certain,
-  removal-differs-possible,
-  removal-differs-certain,
-}
+use Rattle.change_list.proofs.ChangeTests.{covers-good, removal-invalid, removal-gains-possible, removal-gains-certain}
+use Rattle.change_list.proofs.ChangeTests.{removal-differs-possible, removal-differs-certain}
 use Rattle.change_list.proofs.is_removal.Statement.{statement}
 use Rattle.change_list.proofs.is_removal.Tie as tie
 
@@ -69,13 +63,5 @@ pub is-removal-spec : {M : Type 1} → statement M
 is-removal-spec =
     tie.close
     (tie.spec
-    (λ c κs. search needs)
-    returns
-    covers-requires
-    returns-2
-    covers-requires-2
-    returns-3
-    (λ c κs. search needs)
-    returns-4
-    (λ c κs. search needs)
-    returns-5)
+    (λ c κs. search needs) returns covers-requires returns-2 covers-requires-2 returns-3 (λ c κs. search needs)
+    returns-4 (λ c κs. search needs) returns-5)

@@ -48,16 +48,5 @@ pub same-ends-spec : {M : Type 1} → statement M
 same-ends-spec =
     tie.close
     (tie.spec
-    Inv-loop
-    μ-loop
-    returns
-    loop-holds
-    (λ c. search needs)
-    (λ c. search needs)
-    (λ c. search needs)
-    shared-slice-read-if2-2
-    returns-2
-    (λ c. search needs)
-    (λ c. search needs)
-    loop-again
-    returns-3)
+    Inv-loop μ-loop returns loop-holds (λ c. search needs) (λ c. search needs) (λ c. search needs)
+    shared-slice-read-if2-2 returns-2 (λ c. search needs) (λ c. search needs) loop-again returns-3)

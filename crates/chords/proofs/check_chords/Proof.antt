@@ -46,14 +46,5 @@ pub check-chords-spec : {M : Type 1} → statement M
 check-chords-spec =
     tie.close
     (tie.spec
-    Inv-loop
-    μ-loop
-    (λ c κs. search needs)
-    returns
-    loop-holds
-    chord-fits-requires
-    returns-2
-    (λ c. search needs)
-    loop-less
-    loop-again
-    returns-3)
+    Inv-loop μ-loop (λ c κs. search needs) returns loop-holds chord-fits-requires returns-2 (λ c. search needs)
+    loop-less loop-again returns-3)

@@ -101,18 +101,6 @@ pub apply-log-spec : {M : Type 1} → statement M
 apply-log-spec =
     tie.close
     (tie.spec
-    group-requires
-    merge-all-requires
-    (λ c κs. search needs)
-    (λ c κs. search needs)
-    add-sizes
-    free-all-requires
-    mul-lay-all
-    add-lay-all
-    lay-all-requires
-    (λ c κs. search needs)
-    (λ c. search needs)
-    (λ c. search needs)
-    (λ c. search needs)
-    same-length-4
-    returns)
+    group-requires merge-all-requires (λ c κs. search needs) (λ c κs. search needs) add-sizes free-all-requires
+    mul-lay-all add-lay-all lay-all-requires (λ c κs. search needs) (λ c. search needs) (λ c. search needs)
+    (λ c. search needs) same-length-4 returns)

@@ -59,16 +59,6 @@ pub commit-grid-spec : {M : Type 1} → statement M
 commit-grid-spec =
     tie.close
     (tie.spec
-    judge-requires
-    (λ c. search needs)
-    apply-changes-requires
-    add-t32
-    (λ c. search needs)
-    (λ c. search needs)
-    (λ c. search needs)
-    (λ c. search needs)
-    returns
-    (λ c. search needs)
-    (λ c. search needs)
-    (λ c. search needs)
+    judge-requires (λ c. search needs) apply-changes-requires add-t32 (λ c. search needs) (λ c. search needs)
+    (λ c. search needs) (λ c. search needs) returns (λ c. search needs) (λ c. search needs) (λ c. search needs)
     returns-2)

@@ -80,12 +80,5 @@ pub judge-spec : {M : Type 1} → statement M
 judge-spec =
     tie.close
     (tie.spec
-    (λ c κs. search needs)
-    returns
-    check-stock-requires
-    returns-2
-    returns-3
-    returns-4
-    returns-5
-    judge-list-requires
+    (λ c κs. search needs) returns check-stock-requires returns-2 returns-3 returns-4 returns-5 judge-list-requires
     returns-6)

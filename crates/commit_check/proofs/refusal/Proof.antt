@@ -7,22 +7,9 @@ use Rattle.stock.specs.Stock.{Stock, SoundStock, stock, rayLists}
 use Rattle.log_entries.specs.Named.{EachNamed}
 use Rattle.log_model.specs.Logs.{entries, WholeLog, workNeeded}
 use Rattle.log_model.proofs.Doubles.{Doubles, all-doubles}
-use Rattle.commit_check.proofs.Tests.{
-  short-due,
-  room-of-test,
-  work-due,
-  work-of-test,
-  part-due,
-  whole-of-test,
-  unsound-due,
-  sound-of-test,
-  last-due,
-  unnamed-due,
-  named-of-test,
-  rays-due,
-  intervals-due,
-  all-passed,
-}
+use Rattle.commit_check.proofs.Tests.{short-due, room-of-test, work-due, work-of-test, part-due, whole-of-test}
+use Rattle.commit_check.proofs.Tests.{unsound-due, sound-of-test, last-due, unnamed-due, named-of-test, rays-due}
+use Rattle.commit_check.proofs.Tests.{intervals-due, all-passed}
 use Rattle.commit_check.proofs.refusal.Statement.{statement}
 use Rattle.store.specs.Steps.{Room}
 use Rattle.store.specs.Store.{cells}
@@ -160,21 +147,6 @@ pub refusal-spec : {M : Type 1} → statement M
 refusal-spec =
     tie.close
     (tie.spec
-    (λ c κs. search needs)
-    returns
-    is-work-short-requires
-    returns-2
-    (λ c κs. search needs)
-    returns-3
-    check-stock-requires
-    returns-4
-    returns-5
-    names-all-requires
-    returns-6
-    budget-requires
-    (λ c. search needs)
-    (λ c. search needs)
-    (λ c. search needs)
-    returns-7
-    returns-8
-    returns-9)
+    (λ c κs. search needs) returns is-work-short-requires returns-2 (λ c κs. search needs) returns-3
+    check-stock-requires returns-4 returns-5 names-all-requires returns-6 budget-requires (λ c. search needs)
+    (λ c. search needs) (λ c. search needs) returns-7 returns-8 returns-9)

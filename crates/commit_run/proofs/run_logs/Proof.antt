@@ -84,20 +84,6 @@ pub run-logs-spec : {M : Type 1} → statement M
 run-logs-spec =
     tie.close
     (tie.spec
-    Inv-loop
-    μ-loop
-    loop-holds
-    (λ c. search needs)
-    (λ c. search needs)
-    (λ c. search needs)
-    shared-slice-read-run-one
-    run-one-requires
-    add-i
-    loop-less
-    loop-again
-    same-length
-    same-length-2
-    same-length-3
-    same-length-4
-    same-length-5
+    Inv-loop μ-loop loop-holds (λ c. search needs) (λ c. search needs) (λ c. search needs) shared-slice-read-run-one
+    run-one-requires add-i loop-less loop-again same-length same-length-2 same-length-3 same-length-4 same-length-5
     returns)

@@ -10,15 +10,8 @@ use lib.Ieee.Compare.{differs-from-itself}
 use Rattle.doubles_sqrt.specs.Root.{squareRoot}
 use Rattle.logic.proofs.Bools.{of-true}
 use Rattle.doubles.proofs.Order.{no-nan, zero-over-zero}
-use Rattle.doubles_sqrt.proofs.Result.{
-  root-of-nan,
-  root-of-zero,
-  root-of-negative-zero,
-  root-of-infinity,
-  root-of-negative,
-  finite-is-no-nan,
-  positive-under,
-}
+use Rattle.doubles_sqrt.proofs.Result.{root-of-nan, root-of-zero, root-of-negative-zero, root-of-infinity}
+use Rattle.doubles_sqrt.proofs.Result.{root-of-negative, finite-is-no-nan, positive-under}
 use Rattle.doubles_sqrt.proofs.sqrt.Statement.{statement}
 use Rattle.doubles_sqrt.proofs.sqrt.Tie as tie
 
@@ -80,12 +73,5 @@ pub sqrt-spec : {M : Type 1} → statement M
 sqrt-spec =
     tie.close
     (tie.spec
-    returns
-    float-to-bits-bits
-    returns-2
-    returns-3
-    returns-4
-    returns-5
-    root-bits-requires
-    float-from-bits-result
+    returns float-to-bits-bits returns-2 returns-3 returns-4 returns-5 root-bits-requires float-from-bits-result
     returns-6)

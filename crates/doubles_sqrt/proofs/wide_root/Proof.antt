@@ -72,17 +72,6 @@ pub wide-root-spec : {M : Type 1} → statement M
 wide-root-spec =
     tie.close
     (tie.spec
-    (λ c κs. search needs)
-    (λ c. search needs)
-    (λ c. search needs)
-    (λ c. search needs)
-    (λ c. search needs)
-    (λ c. search needs)
-    (λ c. search needs)
-    add-root
-    mul-if1
-    (λ c. search needs)
-    mul-if1-2
-    returns
-    (λ c. search needs)
+    (λ c κs. search needs) (λ c. search needs) (λ c. search needs) (λ c. search needs) (λ c. search needs)
+    (λ c. search needs) (λ c. search needs) add-root mul-if1 (λ c. search needs) mul-if1-2 returns (λ c. search needs)
     returns-2)

@@ -30,14 +30,6 @@ pub ray-center-spec : {M : Type 1} → statement M
 ray-center-spec =
     tie.close
     (tie.spec
-    (λ c κs. search needs)
-    (λ c κs. search needs)
-    rem-nearest-u64-to-f64
-    (λ c κs. search needs)
-    div-nearest-u64-to-f64
-    (λ c κs. search needs)
-    (λ c κs. search needs)
-    (λ c κs. search needs)
-    (λ c κs. search needs)
-    (λ c κs. search needs)
+    (λ c κs. search needs) (λ c κs. search needs) rem-nearest-u64-to-f64 (λ c κs. search needs) div-nearest-u64-to-f64
+    (λ c κs. search needs) (λ c κs. search needs) (λ c κs. search needs) (λ c κs. search needs) (λ c κs. search needs)
     returns)

@@ -112,20 +112,5 @@ pub hex-at-spec : {M : Type 1} → statement M
 hex-at-spec =
     tie.close
     (tie.spec
-    Inv-loop
-    μ-loop
-    returns
-    returns-2
-    sub-if3
-    returns-3
-    loop-holds
-    add-digit
-    shared-slice-read-digit
-    digit-requires
-    returns-4
-    mul-value
-    add-value
-    add-i
-    loop-less
-    loop-again
-    returns-5)
+    Inv-loop μ-loop returns returns-2 sub-if3 returns-3 loop-holds add-digit shared-slice-read-digit digit-requires
+    returns-4 mul-value add-value add-i loop-less loop-again returns-5)

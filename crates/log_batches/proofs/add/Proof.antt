@@ -61,17 +61,10 @@ pub add-spec : {M : Type 1} → statement M
 add-spec =
     tie.close
     (tie.spec
-    (λ c κs. search needs)
-    returns
-    (λ c κs. search needs)
-    (λ c. search needs)
-    returns-2
-    (λ c. search needs)
-    returns-3
+    (λ c κs. search needs) returns (λ c κs. search needs) (λ c. search needs) returns-2 (λ c. search needs) returns-3
     (λ c. omega (arith, add-keys c))
     add-keys
     (λ c. omega (arith, slice-write-keys c))
     slice-write-keys
     (λ c. omega (arith, slice-write-keys c))
-    (λ c. search needs)
-    returns-4)
+    (λ c. search needs) returns-4)

@@ -18,12 +18,6 @@ pub make-heap-spec : {M : Type 1} → statement M
 make-heap-spec =
     tie.close
     (tie.spec
-    Inv-loop
-    μ-loop
+    Inv-loop μ-loop
     (λ c. keys-refl _ _)
-    (λ c. search needs)
-    (λ c κs. search needs)
-    (λ c. search needs)
-    loop-again
-    (λ c. search needs)
-    (λ c. search needs))
+    (λ c. search needs) (λ c κs. search needs) (λ c. search needs) loop-again (λ c. search needs) (λ c. search needs))

@@ -28,17 +28,7 @@ pub sort-keys-spec : {M : Type 1} → statement M
 sort-keys-spec =
     tie.close
     (tie.spec
-    Inv-loop
-    μ-loop
-    (λ c κs. search needs)
-    (λ c. search needs)
+    Inv-loop μ-loop (λ c κs. search needs) (λ c. search needs)
     (λ c. keys-refl _ _)
-    (λ c κs. search needs)
-    loop-holds
-    (λ c. search needs)
-    (λ c κs. search needs)
-    (λ c κs. search needs)
-    (λ c. search needs)
-    loop-again
-    (λ c. search needs)
-    returns-2)
+    (λ c κs. search needs) loop-holds (λ c. search needs) (λ c κs. search needs) (λ c κs. search needs)
+    (λ c. search needs) loop-again (λ c. search needs) returns-2)

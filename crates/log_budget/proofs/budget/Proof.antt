@@ -22,12 +22,6 @@ pub budget-spec : {M : Type 1} → statement M
 budget-spec =
     tie.close
     (tie.spec
-    (λ c κs. search needs)
-    (λ c. search needs)
+    (λ c κs. search needs) (λ c. search needs)
     (λ c. let pre = c .before .before .before .before .before .before .pre in omega (arith, total-fits pre, pre .room .in-spans))
-    returns
-    returns-2
-    (λ c. search needs)
-    (λ c. search needs)
-    (λ c κs. search needs)
-    (λ c. search needs))
+    returns returns-2 (λ c. search needs) (λ c. search needs) (λ c κs. search needs) (λ c. search needs))

@@ -94,21 +94,8 @@ pub count-all-spec : {M : Type 1} → statement M
 count-all-spec =
     tie.close
     (tie.spec
-    Inv-loop
-    μ-loop
+    Inv-loop μ-loop
     (λ c κs. omega (arith, few-rays (c .before .before .before .before .before .before .pre .0)))
-    loop-holds
-    (λ c. search needs)
-    fit-width-requires
-    count-next-requires
-    (λ c. search needs)
-    (λ c. search needs)
-    returns
-    loop-less
-    loop-again
-    (λ c. search needs)
-    (λ c. search needs)
-    returns-2
-    (λ c. search needs)
-    (λ c. search needs)
-    returns-3)
+    loop-holds (λ c. search needs) fit-width-requires count-next-requires (λ c. search needs) (λ c. search needs)
+    returns loop-less loop-again (λ c. search needs) (λ c. search needs) returns-2 (λ c. search needs)
+    (λ c. search needs) returns-3)

@@ -85,20 +85,8 @@ pub count-batch-spec : {M : Type 1} → statement M
 count-batch-spec =
     tie.close
     (tie.spec
-    Inv-loop
-    μ-loop
-    loop-holds
-    mul-ray
+    Inv-loop μ-loop loop-holds mul-ray
     (λ c. let start = c .before .before .before .before .before .before .before .before .before in omega (arith, start .pre .1 .room))
-    div-ray
-    add-ray
-    end-of-ray-requires
-    mul-count-ray
-    (λ c. search needs)
+    div-ray add-ray end-of-ray-requires mul-count-ray (λ c. search needs)
     (λ c. let e = c .end-of-ray .ensures .past in omega arith)
-    part-count-ray-end
-    count-ray-requires
-    (λ c. search needs)
-    loop-again
-    (λ c. search needs)
-    returns)
+    part-count-ray-end count-ray-requires (λ c. search needs) loop-again (λ c. search needs) returns)

@@ -34,15 +34,5 @@ pub count-next-spec : {M : Type 1} → statement M
 count-next-spec =
     tie.close
     (tie.spec
-    (λ c κs. search needs)
-    (λ c κs. search needs)
-    add-t22
-    (λ c. search needs)
-    (λ c. search needs)
-    (λ c. search needs)
-    count-batch-requires
-    add-t27
-    guess-requires
-    (λ c. search needs)
-    (λ c. search needs)
-    (λ c. search needs))
+    (λ c κs. search needs) (λ c κs. search needs) add-t22 (λ c. search needs) (λ c. search needs) (λ c. search needs)
+    count-batch-requires add-t27 guess-requires (λ c. search needs) (λ c. search needs) (λ c. search needs))

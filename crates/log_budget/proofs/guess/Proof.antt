@@ -22,10 +22,6 @@ pub guess-spec : {M : Type 1} → statement M
 guess-spec =
     tie.close
     (tie.spec
-    (λ c κs. search needs)
-    (λ c. search needs)
-    (λ c. search needs)
+    (λ c κs. search needs) (λ c. search needs) (λ c. search needs)
     (λ c. omega (arith, small (c .before .smaller .result) _ (c .before .smaller .ensures .1) (c .before .before .pre .1)))
-    (λ c. search needs)
-    add-result
-    (λ c. search needs))
+    (λ c. search needs) add-result (λ c. search needs))

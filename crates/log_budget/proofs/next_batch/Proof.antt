@@ -55,12 +55,6 @@ pub next-batch-spec : {M : Type 1} → statement M
 next-batch-spec =
     tie.close
     (tie.spec
-    (λ c κs. search needs)
-    (λ c. search needs)
-    returns
+    (λ c κs. search needs) (λ c. search needs) returns
     (λ c κs. c .before .before .before .before .gather-rays .ensures .room (c .before .if1 .left))
-    ascends-requires
-    (λ c. search needs)
-    returns-2
-    (λ c. search needs)
-    returns-3)
+    ascends-requires (λ c. search needs) returns-2 (λ c. search needs) returns-3)

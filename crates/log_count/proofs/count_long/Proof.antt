@@ -126,18 +126,5 @@ pub count-long-spec : {M : Type 1} → statement M
 count-long-spec =
     tie.close
     (tie.spec
-    Inv-loop
-    μ-loop
-    ray-heads-requires
-    start-requires
-    start-requires-2
-    loop-holds
-    take-part-requires
-    loop-less
-    loop-again
-    end-list-requires
-    end-list-requires-2
-    add-ray-requires
-    same-length
-    same-length-2
-    returns)
+    Inv-loop μ-loop ray-heads-requires start-requires start-requires-2 loop-holds take-part-requires loop-less
+    loop-again end-list-requires end-list-requires-2 add-ray-requires same-length same-length-2 returns)

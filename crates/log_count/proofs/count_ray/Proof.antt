@@ -54,9 +54,4 @@ pub count-ray-spec : {M : Type 1} → statement M
 count-ray-spec =
     tie.close
     (tie.spec
-    ray-heads-requires
-    count-list-requires
-    count-list-requires-2
-    add-ray-requires
-    (λ c. search needs)
-    returns)
+    ray-heads-requires count-list-requires count-list-requires-2 add-ray-requires (λ c. search needs) returns)

@@ -40,14 +40,7 @@ pub take-part-spec : {M : Type 1} → statement M
 take-part-spec =
     tie.close
     (tie.spec
-    (λ c κs. search needs)
-    (λ c κs. search needs)
-    (λ c. search needs)
+    (λ c κs. search needs) (λ c κs. search needs) (λ c. search needs)
     (λ c. sym (length-take-le _ _ (c .before .before .before .before .before .gather-ray .ensures .1 .inLog .room)))
-    take-hits-requires
-    (λ c. search needs)
-    slice-aggregate-take-hits-2
-    take-hits-requires-2
-    (λ c. search needs)
-    (λ c. search needs)
-    returns)
+    take-hits-requires (λ c. search needs) slice-aggregate-take-hits-2 take-hits-requires-2 (λ c. search needs)
+    (λ c. search needs) returns)

@@ -41,10 +41,5 @@ pub ray-at-spec : {M : Type 1} → statement M
 ray-at-spec =
     tie.close
     (tie.spec
-    (λ c κs. search needs)
-    whole-number-requires
-    (λ c κs. search needs)
-    (λ c κs. search needs)
-    rays-before-requires
-    add-result
-    returns)
+    (λ c κs. search needs) whole-number-requires (λ c κs. search needs) (λ c κs. search needs) rays-before-requires
+    add-result returns)

@@ -92,18 +92,5 @@ pub gather-hits-spec : {M : Type 1} → statement M
 gather-hits-spec =
     tie.close
     (tie.spec
-    Inv-loop
-    μ-loop
-    (λ c κs. search needs)
-    (λ c κs. search needs)
-    loop-holds
-    (λ c. search needs)
-    entry-at-requires
-    put-hit-requires
-    add-number-at
-    number-at-requires-2
-    add-t
-    loop-less
-    loop-again
-    same-length
-    returns)
+    Inv-loop μ-loop (λ c κs. search needs) (λ c κs. search needs) loop-holds (λ c. search needs) entry-at-requires
+    put-hit-requires add-number-at number-at-requires-2 add-t loop-less loop-again same-length returns)

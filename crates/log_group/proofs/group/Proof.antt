@@ -53,7 +53,8 @@ loop-holds c =
     let t = y .before .before in
     let a = t .before .before .before in
     let e = t .total-rays .ensures in
-    rw (c .entry-count .ensures) (grouping-start (a .args .g) (a .args .log .now) (begun y) (begun y) (omega (arith, a .pre .1, begun-size y)) refl
+    rw (c .entry-count .ensures) (grouping-start (a .args .g) (a .args .log .now) (begun y) (begun y)
+    (omega (arith, a .pre .1, begun-size y)) refl
     (λ q h. cleared-none (t .total-rays .result) (a .args .work .now) (y .clear-from .last .0) (fits t)
     (y .clear-from .ensures) q (omega arith)) (λ q h. refl))
 
@@ -122,18 +123,6 @@ pub group-spec : {M : Type 1} → statement M
 group-spec =
     tie.close
     (tie.spec
-    Inv-loop
-    μ-loop
-    (λ c κs. search needs)
-    (λ c. search needs)
-    slice-aggregate-clear-from
-    (λ c κs. search needs)
-    (λ c κs. search needs)
-    loop-holds
-    (λ c. search needs)
-    ray-at-requires
-    link-requires
-    loop-less
-    loop-again
-    same-length
-    returns)
+    Inv-loop μ-loop (λ c κs. search needs) (λ c. search needs) slice-aggregate-clear-from (λ c κs. search needs)
+    (λ c κs. search needs) loop-holds (λ c. search needs) ray-at-requires link-requires loop-less loop-again
+    same-length returns)

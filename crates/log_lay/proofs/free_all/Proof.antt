@@ -46,14 +46,5 @@ pub free-all-spec : {M : Type 1} → statement M
 free-all-spec =
     tie.close
     (tie.spec
-    Inv-loop
-    μ-loop
-    loop-holds
-    free-if-changed-requires
-    (λ c. search needs)
-    loop-less
-    loop-again
-    same-length
-    same-length-2
-    same-length-3
-    returns)
+    Inv-loop μ-loop loop-holds free-if-changed-requires (λ c. search needs) loop-less loop-again same-length
+    same-length-2 same-length-3 returns)

@@ -49,14 +49,5 @@ pub lay-all-spec : {M : Type 1} → statement M
 lay-all-spec =
     tie.close
     (tie.spec
-    Inv-loop
-    μ-loop
-    loop-holds
-    lay-if-changed-requires
-    (λ c. search needs)
-    loop-less
-    loop-again
-    same-length
-    same-length-2
-    same-length-3
-    returns)
+    Inv-loop μ-loop loop-holds lay-if-changed-requires (λ c. search needs) loop-less loop-again same-length
+    same-length-2 same-length-3 returns)

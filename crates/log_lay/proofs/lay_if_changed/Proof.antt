@@ -52,21 +52,6 @@ pub lay-if-changed-spec : {M : Type 1} → statement M
 lay-if-changed-spec =
     tie.close
     (tie.spec
-    (λ c. search needs)
-    (λ c. search needs)
-    (λ c κs. search needs)
-    returns
-    (λ c. search needs)
-    (λ c. search needs)
-    (λ c. search needs)
-    (λ c κs. search needs)
-    (λ c. search needs)
-    mul-middle
-    add-middle
-    mul-end
-    add-end
-    lay-ray-requires
-    (λ c. search needs)
-    (λ c. search needs)
-    (λ c. search needs)
-    returns-2)
+    (λ c. search needs) (λ c. search needs) (λ c κs. search needs) returns (λ c. search needs) (λ c. search needs)
+    (λ c. search needs) (λ c κs. search needs) (λ c. search needs) mul-middle add-middle mul-end add-end
+    lay-ray-requires (λ c. search needs) (λ c. search needs) (λ c. search needs) returns-2)

@@ -18,8 +18,4 @@ pub close-pair-spec : {M : Type 1} → statement M
 close-pair-spec =
     tie.close
     (tie.spec
-    (λ c. search needs)
-    record-at-requires
-    (λ c κs. search needs)
-    begin-requires
-    returns)
+    (λ c. search needs) record-at-requires (λ c κs. search needs) begin-requires returns)

@@ -40,9 +40,4 @@ pub cut-pair-spec : {M : Type 1} → statement M
 cut-pair-spec =
     tie.close
     (tie.spec
-    (λ c. search needs)
-    record-at-requires
-    (λ c κs. search needs)
-    returns
-    begin-requires
-    returns-2)
+    (λ c. search needs) record-at-requires (λ c κs. search needs) returns begin-requires returns-2)

@@ -62,13 +62,5 @@ pub pass-spec : {M : Type 1} → statement M
 pass-spec =
     tie.close
     (tie.spec
-    Inv-loop
-    μ-loop
-    loop-holds
-    (λ c. search needs)
-    record-at-requires
-    close-pair-requires
-    loop-less
-    loop-again
-    returns
+    Inv-loop μ-loop loop-holds (λ c. search needs) record-at-requires close-pair-requires loop-less loop-again returns
     returns-2)

@@ -64,12 +64,6 @@ pub take-spec : {M : Type 1} → statement M
 take-spec =
     tie.close
     (tie.spec
-    Inv-loop
-    μ-loop
-    (λ c κs. search needs)
-    loop-holds
+    Inv-loop μ-loop (λ c κs. search needs) loop-holds
     (λ c κs. let at-test = c .before .before in (at-test .before .before .loop .inv .0, at-test .if1 .taken))
-    loop-less
-    loop-again
-    returns
-    returns-2)
+    loop-less loop-again returns returns-2)

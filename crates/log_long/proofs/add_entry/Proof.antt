@@ -46,11 +46,5 @@ pub add-entry-spec : {M : Type 1} → statement M
 add-entry-spec =
     tie.close
     (tie.spec
-    ray-at-requires
-    (λ c κs. search needs)
-    (λ c κs. search needs)
-    add-key-requires
-    (λ c κs. search needs)
-    (λ c. search needs)
-    returns
-    returns-2)
+    ray-at-requires (λ c κs. search needs) (λ c κs. search needs) add-key-requires (λ c κs. search needs)
+    (λ c. search needs) returns returns-2)

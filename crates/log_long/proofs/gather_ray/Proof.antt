@@ -43,13 +43,5 @@ pub gather-ray-spec : {M : Type 1} → statement M
 gather-ray-spec =
     tie.close
     (tie.spec
-    Inv-loop
-    μ-loop
-    (λ c κs. search needs)
-    loop-holds
-    add-entry-requires
-    (λ c. search needs)
-    (λ c. search needs)
-    loop-again
-    (λ c. search needs)
-    returns)
+    Inv-loop μ-loop (λ c κs. search needs) loop-holds add-entry-requires (λ c. search needs) (λ c. search needs)
+    loop-again (λ c. search needs) returns)

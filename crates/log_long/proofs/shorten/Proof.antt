@@ -38,17 +38,6 @@ shorten-spec =
     (tie.spec
     (λ c. search needs)
     (λ c κs. let start = c .before .before .before in start .pre .0 .places 0 (start .pre .1))
-    (λ c κs. search needs)
-    (λ c. search needs)
-    (λ c. search needs)
-    entry-at-requires-2
-    (λ c κs. search needs)
-    (λ c. search needs)
-    (λ c. search needs)
-    (λ c. search needs)
-    entry-at-requires-3
-    (λ c κs. search needs)
-    (λ c κs. search needs)
-    (λ c κs. search needs)
-    (λ c. search needs)
-    returns)
+    (λ c κs. search needs) (λ c. search needs) (λ c. search needs) entry-at-requires-2 (λ c κs. search needs)
+    (λ c. search needs) (λ c. search needs) (λ c. search needs) entry-at-requires-3 (λ c κs. search needs)
+    (λ c κs. search needs) (λ c κs. search needs) (λ c. search needs) returns)

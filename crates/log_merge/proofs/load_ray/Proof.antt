@@ -86,13 +86,5 @@ pub load-ray-spec : {M : Type 1} → statement M
 load-ray-spec =
     tie.close
     (tie.spec
-    ray-heads-requires
-    read-list-requires
-    read-list-requires-2
-    load-hits-requires
-    add-load-hits
-    load-hits-requires-2
-    (λ c. search needs)
-    (λ c. search needs)
-    (λ c. search needs)
-    returns)
+    ray-heads-requires read-list-requires read-list-requires-2 load-hits-requires add-load-hits load-hits-requires-2
+    (λ c. search needs) (λ c. search needs) (λ c. search needs) returns)

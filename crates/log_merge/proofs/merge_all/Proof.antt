@@ -194,29 +194,7 @@ pub merge-all-spec : {M : Type 1} → statement M
 merge-all-spec =
     tie.close
     (tie.spec
-    Inv-loop
-    μ-loop
-    (λ c κs. search needs)
-    (λ c. search needs)
-    (λ c. search needs)
-    (λ c. search needs)
-    (λ c. search needs)
-    (λ c. search needs)
-    (λ c. search needs)
-    (λ c. search needs)
-    loop-holds
-    merge-ray-requires
-    (λ c. search needs)
-    add-put-sizes
-    put-sizes-requires
-    mul-q-2
-    mul-q-3
-    add-q-2
-    add-q-3
-    (λ c κs. search needs)
-    add-changed
-    (λ c. search needs)
-    loop-less
-    loop-again
-    same-length
-    returns)
+    Inv-loop μ-loop (λ c κs. search needs) (λ c. search needs) (λ c. search needs) (λ c. search needs)
+    (λ c. search needs) (λ c. search needs) (λ c. search needs) (λ c. search needs) loop-holds merge-ray-requires
+    (λ c. search needs) add-put-sizes put-sizes-requires mul-q-2 mul-q-3 add-q-2 add-q-3 (λ c κs. search needs)
+    add-changed (λ c. search needs) loop-less loop-again same-length returns)

@@ -43,15 +43,5 @@ pub merge-ray-spec : {M : Type 1} → statement M
 merge-ray-spec =
     tie.close
     (tie.spec
-    (λ c κs. search needs)
-    (λ c. search needs)
-    returns
-    (λ c κs. search needs)
-    mul-cut-ray
-    (λ c. search needs)
-    (λ c. search needs)
-    (λ c. search needs)
-    (λ c. search needs)
-    cut-ray-requires
-    (λ c. search needs)
-    returns-2)
+    (λ c κs. search needs) (λ c. search needs) returns (λ c κs. search needs) mul-cut-ray (λ c. search needs)
+    (λ c. search needs) (λ c. search needs) (λ c. search needs) cut-ray-requires (λ c. search needs) returns-2)

@@ -53,13 +53,5 @@ pub take-hits-spec : {M : Type 1} → statement M
 take-hits-spec =
     tie.close
     (tie.spec
-    Inv-loop
-    μ-loop
-    loop-holds
-    gather-requires
-    (λ c κs. search needs)
-    take-held-requires
-    loop-less
-    loop-again
-    (λ c. search needs)
-    returns)
+    Inv-loop μ-loop loop-holds gather-requires (λ c κs. search needs) take-held-requires loop-less loop-again
+    (λ c. search needs) returns)

@@ -46,11 +46,5 @@ pub valid-ray-spec : {M : Type 1} → statement M
 valid-ray-spec =
     tie.close
     (tie.spec
-    (λ c κs. search needs)
-    returns
-    (λ c κs. search needs)
-    returns-2
-    (λ c κs. search needs)
-    returns-3
-    covers-requires
+    (λ c κs. search needs) returns (λ c κs. search needs) returns-2 (λ c κs. search needs) returns-3 covers-requires
     returns-4)

@@ -33,12 +33,5 @@ pub put-line-of-spec : {M : Type 1} → statement M
 put-line-of-spec =
     tie.close
     (tie.spec
-    (λ c. search needs)
-    returns
-    (λ c. search needs)
-    (λ c κs. search needs)
-    (λ c. search needs)
-    (λ c κs. search needs)
-    put-pair-requires
-    (λ c. search needs)
-    returns-2)
+    (λ c. search needs) returns (λ c. search needs) (λ c κs. search needs) (λ c. search needs) (λ c κs. search needs)
+    put-pair-requires (λ c. search needs) returns-2)

@@ -101,20 +101,6 @@ pub merge-spec : {M : Type 1} → statement M
 merge-spec =
     tie.close
     (tie.spec
-    (λ c. search needs)
-    (λ c. search needs)
-    (λ c. search needs)
-    (λ c. search needs)
-    (λ c. search needs)
-    returns
-    returns-2
-    returns-3
-    (λ c κs. search needs)
-    returns-4
-    merge-lists-requires
-    (λ c κs. search needs)
-    (λ c κs. search needs)
-    add-clear-from
-    (λ c κs. search needs)
-    (λ c. search needs)
-    returns-5)
+    (λ c. search needs) (λ c. search needs) (λ c. search needs) (λ c. search needs) (λ c. search needs) returns
+    returns-2 returns-3 (λ c κs. search needs) returns-4 merge-lists-requires (λ c κs. search needs)
+    (λ c κs. search needs) add-clear-from (λ c κs. search needs) (λ c. search needs) returns-5)

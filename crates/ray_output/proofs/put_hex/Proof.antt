@@ -53,15 +53,5 @@ pub put-hex-spec : {M : Type 1} → statement M
 put-hex-spec =
     tie.close
     (tie.spec
-    Inv-loop
-    μ-loop
-    loop-holds
-    (λ c. search needs)
-    (λ c κs. search needs)
-    (λ c. search needs)
-    slice-write-out
-    (λ c. search needs)
-    loop-again
-    (λ c. search needs)
-    same-length
-    returns)
+    Inv-loop μ-loop loop-holds (λ c. search needs) (λ c κs. search needs) (λ c. search needs) slice-write-out
+    (λ c. search needs) loop-again (λ c. search needs) same-length returns)

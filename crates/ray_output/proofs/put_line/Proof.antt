@@ -65,9 +65,5 @@ pub put-line-spec : {M : Type 1} → statement M
 put-line-spec =
     tie.close
     (tie.spec
-    (λ c κs. search needs)
-    (λ c κs. search needs)
-    put-field-requires-2
-    put-byte-requires-2
-    (λ c. search needs)
+    (λ c κs. search needs) (λ c κs. search needs) put-field-requires-2 put-byte-requires-2 (λ c. search needs)
     returns)

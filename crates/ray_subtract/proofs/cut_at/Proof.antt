@@ -5,16 +5,8 @@ use mathlib.Core.Path.{_≡_}
 use mathlib.Core.Logic.{⊎-elim}
 use Prim.Native.Nat.{_+_, _-_, _≤_}
 use lib.ListN.{length}
-use Rattle.ray_subtract.proofs.Sweeping.{
-  CuttingAt,
-  cutting-start,
-  cutting-room,
-  cutting-size,
-  pair-in,
-  cutting-last,
-  cutting-end,
-  cutting-step,
-}
+use Rattle.ray_subtract.proofs.Sweeping.{CuttingAt, cutting-start, cutting-room, cutting-size, pair-in, cutting-last}
+use Rattle.ray_subtract.proofs.Sweeping.{cutting-end, cutting-step}
 use Rattle.ray_subtract.proofs.cut_at.Statement.{statement}
 use Rattle.ray_subtract.proofs.cut_at.Tie as tie
 
@@ -93,23 +85,6 @@ pub cut-at-spec : {M : Type 1} → statement M
 cut-at-spec =
     tie.close
     (tie.spec
-    Inv-loop
-    μ-loop
-    loop-holds
-    (λ c. search needs)
-    (λ c. search needs)
-    slice-read-x
-    (λ c. search needs)
-    add-y-2
-    mul-y
-    slice-read-y
-    put-pair-requires
-    same-length
-    returns
-    (λ c κs. search needs)
-    (λ c. search needs)
-    (λ c. search needs)
-    loop-again
-    (λ c κs. search needs)
-    (λ c. search needs)
-    returns-2)
+    Inv-loop μ-loop loop-holds (λ c. search needs) (λ c. search needs) slice-read-x (λ c. search needs) add-y-2 mul-y
+    slice-read-y put-pair-requires same-length returns (λ c κs. search needs) (λ c. search needs) (λ c. search needs)
+    loop-again (λ c κs. search needs) (λ c. search needs) returns-2)

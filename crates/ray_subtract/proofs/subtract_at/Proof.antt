@@ -2,17 +2,8 @@
 use mathlib.Core.Path.{_≡_}
 use Prim.Native.Nat.{_+_, _-_, _≤_}
 use lib.ListN.{length}
-use Rattle.ray_subtract.proofs.Sweeping.{
-  Subtracting,
-  subtracting-start,
-  subtracting-size,
-  subtracting-most,
-  subtracting-done,
-  passed-most,
-  two-more,
-  subtracting-ready,
-  subtracting-step,
-}
+use Rattle.ray_subtract.proofs.Sweeping.{Subtracting, subtracting-start, subtracting-size, subtracting-most}
+use Rattle.ray_subtract.proofs.Sweeping.{subtracting-done, passed-most, two-more, subtracting-ready, subtracting-step}
 use borrow.Author.Needs.{needs}
 use native.Mathlib.Omega.{arith}
 use Rattle.ray_subtract.proofs.subtract_at.Statement.{statement}
@@ -96,22 +87,6 @@ pub subtract-at-spec : {M : Type 1} → statement M
 subtract-at-spec =
     tie.close
     (tie.spec
-    Inv-loop
-    μ-loop
-    loop-holds
-    (λ c. search needs)
-    (λ c. search needs)
-    slice-read-lo
-    (λ c. search needs)
-    add-hi-2
-    mul-hi
-    slice-read-hi
-    add-cut-at
-    sub-cut-at
-    cut-at-requires
-    add-j
-    (λ c. search needs)
-    (λ c. search needs)
-    loop-again
-    same-length
-    returns)
+    Inv-loop μ-loop loop-holds (λ c. search needs) (λ c. search needs) slice-read-lo (λ c. search needs) add-hi-2
+    mul-hi slice-read-hi add-cut-at sub-cut-at cut-at-requires add-j (λ c. search needs) (λ c. search needs)
+    loop-again same-length returns)

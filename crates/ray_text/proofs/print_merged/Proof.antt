@@ -171,19 +171,6 @@ pub print-merged-spec : {M : Type 1} → statement M
 print-merged-spec =
     tie.close
     (tie.spec
-    (λ c. search needs)
-    (λ c κs. search needs)
-    (λ c. search needs)
-    put-refused-requires
-    (λ c. search needs)
-    (λ c. search needs)
-    (λ c κs. search needs)
-    put-lines-requires
-    (λ c. search needs)
-    (λ c κs. search needs)
-    put-lines-requires-2
-    put-end-requires
-    (λ c. search needs)
-    returns
-    (λ c. search needs)
-    returns-2)
+    (λ c. search needs) (λ c κs. search needs) (λ c. search needs) put-refused-requires (λ c. search needs)
+    (λ c. search needs) (λ c κs. search needs) put-lines-requires (λ c. search needs) (λ c κs. search needs)
+    put-lines-requires-2 put-end-requires (λ c. search needs) returns (λ c. search needs) returns-2)

@@ -79,24 +79,8 @@ pub run-readable-spec : {M : Type 1} → statement M
 run-readable-spec =
     tie.close
     (tie.spec
-    (λ c. search needs)
-    collect-requires
-    (λ c. search needs)
-    collect-requires-2
-    (λ c. search needs)
-    collect-requires-3
-    (λ c. search needs)
-    collect-requires-4
-    (λ c. search needs)
-    slice-aggregate-print-merged
-    (λ c. search needs)
-    slice-aggregate-print-merged-2
-    (λ c κs. search needs)
-    (λ c κs. search needs)
-    (λ c. search needs)
-    slice-aggregate-print-merged-3
-    (λ c. search needs)
-    slice-aggregate-print-merged-4
-    print-merged-requires
-    (λ c. search needs)
-    returns)
+    (λ c. search needs) collect-requires (λ c. search needs) collect-requires-2 (λ c. search needs) collect-requires-3
+    (λ c. search needs) collect-requires-4 (λ c. search needs) slice-aggregate-print-merged (λ c. search needs)
+    slice-aggregate-print-merged-2 (λ c κs. search needs) (λ c κs. search needs) (λ c. search needs)
+    slice-aggregate-print-merged-3 (λ c. search needs) slice-aggregate-print-merged-4 print-merged-requires
+    (λ c. search needs) returns)

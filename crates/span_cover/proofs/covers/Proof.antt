@@ -99,35 +99,9 @@ pub covers-spec : {M : Type 1} → statement M
 covers-spec =
     tie.close
     (tie.spec
-    Inv-loop
-    μ-loop
-    loop-holds
-    returns
-    (λ c. search needs)
-    (λ c. search needs)
-    shared-slice-read-if2
-    (λ c. search needs)
-    (λ c. search needs)
-    shared-slice-read-if2-2
-    (λ c. search needs)
-    (λ c. search needs)
-    loop-again
-    (λ c. search needs)
-    (λ c. search needs)
-    (λ c. search needs)
-    (λ c. search needs)
-    returns-2
-    (λ c. search needs)
-    returns-3
-    (λ c. search needs)
-    (λ c. search needs)
-    shared-slice-read-if5
-    (λ c. search needs)
-    (λ c. search needs)
-    shared-slice-read-if5-2
-    (λ c. search needs)
-    (λ c. search needs)
-    loop-again-2
-    (λ c. search needs)
-    loop-again-3
+    Inv-loop μ-loop loop-holds returns (λ c. search needs) (λ c. search needs) shared-slice-read-if2
+    (λ c. search needs) (λ c. search needs) shared-slice-read-if2-2 (λ c. search needs) (λ c. search needs) loop-again
+    (λ c. search needs) (λ c. search needs) (λ c. search needs) (λ c. search needs) returns-2 (λ c. search needs)
+    returns-3 (λ c. search needs) (λ c. search needs) shared-slice-read-if5 (λ c. search needs) (λ c. search needs)
+    shared-slice-read-if5-2 (λ c. search needs) (λ c. search needs) loop-again-2 (λ c. search needs) loop-again-3
     returns-4)

@@ -60,25 +60,7 @@ pub meets-spec : {M : Type 1} → statement M
 meets-spec =
     tie.close
     (tie.spec
-    Inv-loop
-    μ-loop
-    loop-holds
-    returns
-    (λ c. search needs)
-    (λ c. search needs)
-    shared-slice-read-if2
-    (λ c. search needs)
-    (λ c. search needs)
-    (λ c. search needs)
-    (λ c. search needs)
-    loop-again
-    (λ c. search needs)
-    (λ c. search needs)
-    (λ c. search needs)
-    (λ c. search needs)
-    shared-slice-read-if3-2
-    returns-2
-    (λ c. search needs)
-    (λ c. search needs)
-    loop-again-2
-    returns-3)
+    Inv-loop μ-loop loop-holds returns (λ c. search needs) (λ c. search needs) shared-slice-read-if2
+    (λ c. search needs) (λ c. search needs) (λ c. search needs) (λ c. search needs) loop-again (λ c. search needs)
+    (λ c. search needs) (λ c. search needs) (λ c. search needs) shared-slice-read-if3-2 returns-2 (λ c. search needs)
+    (λ c. search needs) loop-again-2 returns-3)

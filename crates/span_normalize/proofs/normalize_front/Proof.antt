@@ -48,9 +48,5 @@ pub normalize-front-spec : {M : Type 1} → statement M
 normalize-front-spec =
     tie.close
     (tie.spec
-    (λ c. search needs)
-    slice-aggregate-sort-pairs
-    (λ c κs. search needs)
-    join-all-requires
-    (λ c. search needs)
+    (λ c. search needs) slice-aggregate-sort-pairs (λ c κs. search needs) join-all-requires (λ c. search needs)
     returns)

@@ -68,20 +68,6 @@ pub normalize-into-spec : {M : Type 1} → statement M
 normalize-into-spec =
     tie.close
     (tie.spec
-    (λ c κs. search needs)
-    (λ c. search needs)
-    returns
-    (λ c. search needs)
-    (λ c. search needs)
-    (λ c. search needs)
-    (λ c. search needs)
-    join-more-requires
-    (λ c. search needs)
-    returns-2
-    (λ c κs. search needs)
-    (λ c. search needs)
-    returns-3
-    slice-aggregate-join-more
-    join-more-requires-2
-    (λ c. search needs)
-    returns-4)
+    (λ c κs. search needs) (λ c. search needs) returns (λ c. search needs) (λ c. search needs) (λ c. search needs)
+    (λ c. search needs) join-more-requires (λ c. search needs) returns-2 (λ c κs. search needs) (λ c. search needs)
+    returns-3 slice-aggregate-join-more join-more-requires-2 (λ c. search needs) returns-4)

@@ -48,13 +48,5 @@ pub check-rays-spec : {M : Type 1} → statement M
 check-rays-spec =
     tie.close
     (tie.spec
-    Inv-loop
-    μ-loop
-    total-rays-requires
-    loop-holds
-    check-ray-requires
-    returns
-    (λ c. search needs)
-    (λ c. search needs)
-    loop-again
-    returns-2)
+    Inv-loop μ-loop total-rays-requires loop-holds check-ray-requires returns (λ c. search needs) (λ c. search needs)
+    loop-again returns-2)

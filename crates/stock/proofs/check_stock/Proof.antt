@@ -26,7 +26,4 @@ pub check-stock-spec : {M : Type 1} → statement M
 check-stock-spec =
     tie.close
     (tie.spec
-    (λ c κs. search needs)
-    returns
-    check-rays-requires
-    returns-2)
+    (λ c κs. search needs) returns check-rays-requires returns-2)

@@ -22,7 +22,4 @@ pub is-chained-spec : {M : Type 1} → statement M
 is-chained-spec =
     tie.close
     (tie.spec
-    (λ c κs. search needs)
-    (λ c. search needs)
-    check-store-requires
-    returns)
+    (λ c κs. search needs) (λ c. search needs) check-store-requires returns)

@@ -50,16 +50,6 @@ pub fill-grid-spec : {M : Type 1} → statement M
 fill-grid-spec =
     tie.close
     (tie.spec
-    (λ c κs. search needs)
-    (λ c. search needs)
-    (λ c. search needs)
-    (λ c. search needs)
-    returns
-    (λ c κs. search needs)
-    (λ c. search needs)
-    fill-records-requires
-    fill-heads-requires
-    (λ c. search needs)
-    (λ c. search needs)
-    (λ c. search needs)
-    returns-2)
+    (λ c κs. search needs) (λ c. search needs) (λ c. search needs) (λ c. search needs) returns (λ c κs. search needs)
+    (λ c. search needs) fill-records-requires fill-heads-requires (λ c. search needs) (λ c. search needs)
+    (λ c. search needs) returns-2)

@@ -32,14 +32,5 @@ pub fill-heads-spec : {M : Type 1} → statement M
 fill-heads-spec =
     tie.close
     (tie.spec
-    Inv-loop
-    μ-loop
-    loop-holds
-    (λ c. search needs)
-    (λ c. search needs)
-    slice-write-heads
-    (λ c. search needs)
-    (λ c. search needs)
-    loop-again
-    same-length
-    returns)
+    Inv-loop μ-loop loop-holds (λ c. search needs) (λ c. search needs) slice-write-heads (λ c. search needs)
+    (λ c. search needs) loop-again same-length returns)

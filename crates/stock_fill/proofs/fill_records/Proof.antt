@@ -58,14 +58,5 @@ pub fill-records-spec : {M : Type 1} → statement M
 fill-records-spec =
     tie.close
     (tie.spec
-    Inv-loop
-    μ-loop
-    loop-holds
-    uncut-record-requires
-    put-record-requires
-    (λ c. search needs)
-    (λ c. search needs)
-    loop-again
-    same-length
-    same-length-2
-    returns)
+    Inv-loop μ-loop loop-holds uncut-record-requires put-record-requires (λ c. search needs) (λ c. search needs)
+    loop-again same-length same-length-2 returns)

@@ -91,18 +91,6 @@ pub axis-volume-spec : {M : Type 1} → statement M
 axis-volume-spec =
     tie.close
     (tie.spec
-    Inv-loop
-    μ-loop
-    (λ c κs. search needs)
-    (λ c κs. search needs)
-    (λ c κs. search needs)
-    ray-offset-requires
-    rays-requires
-    loop-holds
-    add-add-ray
-    add-ray-requires
-    returns
-    (λ c. search needs)
-    (λ c. search needs)
-    loop-again
+    Inv-loop μ-loop (λ c κs. search needs) (λ c κs. search needs) (λ c κs. search needs) ray-offset-requires
+    rays-requires loop-holds add-add-ray add-ray-requires returns (λ c. search needs) (λ c. search needs) loop-again
     returns-2)

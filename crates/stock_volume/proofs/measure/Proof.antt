@@ -46,9 +46,4 @@ pub measure-spec : {M : Type 1} → statement M
 measure-spec =
     tie.close
     (tie.spec
-    (λ c κs. search needs)
-    returns
-    is-chained-requires
-    returns-2
-    measure-rays-requires
-    returns-3)
+    (λ c κs. search needs) returns is-chained-requires returns-2 measure-rays-requires returns-3)

@@ -65,12 +65,5 @@ pub measure-rays-spec : {M : Type 1} → statement M
 measure-rays-spec =
     tie.close
     (tie.spec
-    axis-volume-requires
-    returns
-    axis-volume-requires-2
-    returns-2
-    axis-volume-requires-3
-    returns-3
-    (λ c κs. search needs)
-    (λ c κs. search needs)
-    returns-4)
+    axis-volume-requires returns axis-volume-requires-2 returns-2 axis-volume-requires-3 returns-3
+    (λ c κs. search needs) (λ c κs. search needs) returns-4)

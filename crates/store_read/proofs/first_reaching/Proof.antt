@@ -54,12 +54,4 @@ pub first-reaching-spec : {M : Type 1} → statement M
 first-reaching-spec =
     tie.close
     (tie.spec
-    Inv-loop
-    μ-loop
-    loop-holds
-    (λ c. search needs)
-    record-at-requires
-    returns
-    loop-less
-    loop-again
-    returns-2)
+    Inv-loop μ-loop loop-holds (λ c. search needs) record-at-requires returns loop-less loop-again returns-2)

@@ -59,14 +59,4 @@ pub list-pairs-spec : {M : Type 1} → statement M
 list-pairs-spec =
     tie.close
     (tie.spec
-    Inv-loop
-    μ-loop
-    loop-holds
-    sub-i
-    mul-k
-    mul-k-2
-    shared-slice-read-k
-    add-c
-    loop-less
-    loop-again
-    returns)
+    Inv-loop μ-loop loop-holds sub-i mul-k mul-k-2 shared-slice-read-k add-c loop-less loop-again returns)

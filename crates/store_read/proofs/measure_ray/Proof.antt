@@ -13,7 +13,4 @@ pub measure-ray-spec : {M : Type 1} → statement M
 measure-ray-spec =
     tie.close
     (tie.spec
-    (λ c κs. search needs)
-    returns
-    (λ c κs. search needs)
-    returns-2)
+    (λ c κs. search needs) returns (λ c κs. search needs) returns-2)

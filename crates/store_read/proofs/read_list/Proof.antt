@@ -73,18 +73,5 @@ pub read-list-spec : {M : Type 1} → statement M
 read-list-spec =
     tie.close
     (tie.spec
-    Inv-loop
-    μ-loop
-    loop-holds
-    (λ c. search needs)
-    record-at-requires
-    mul-out
-    slice-write-out
-    add-out
-    mul-out-2
-    slice-write-out-2
-    add-t
-    loop-less
-    loop-again
-    same-length
-    returns)
+    Inv-loop μ-loop loop-holds (λ c. search needs) record-at-requires mul-out slice-write-out add-out mul-out-2
+    slice-write-out-2 add-t loop-less loop-again same-length returns)

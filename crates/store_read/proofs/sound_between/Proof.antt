@@ -7,23 +7,8 @@ use Rattle.store_read.specs.Reading.{Readable}
 use Rattle.store_read.specs.Lengths.{lengthFrom}
 use Rattle.store_read.proofs.Steps.{step, record-there}
 use Rattle.store_read.proofs.RayLoops.{length-step, length-end}
-use Rattle.store_read.proofs.Bounds.{
-  after,
-  lastEnd,
-  zero-nan,
-  sound-after,
-  starts-bad,
-  after-none,
-  after-bad,
-  after-good,
-  last-step,
-  last-none,
-  none-between,
-  all-between,
-  left-bad,
-  sum-bad,
-  sum-good,
-}
+use Rattle.store_read.proofs.Bounds.{after, lastEnd, zero-nan, sound-after, starts-bad, after-none, after-bad, after-good}
+use Rattle.store_read.proofs.Bounds.{last-step, last-none, none-between, all-between, left-bad, sum-bad, sum-good}
 use Rattle.store_read.proofs.sound_between.Statement.{statement}
 use Rattle.store_read.proofs.sound_between.Tie as tie
 
@@ -87,16 +72,5 @@ pub sound-between-spec : {M : Type 1} → statement M
 sound-between-spec =
     tie.close
     (tie.spec
-    Inv-loop
-    μ-loop
-    (λ c κs. search needs)
-    returns
-    loop-holds
-    (λ c. search needs)
-    record-at-requires
-    (λ c κs. search needs)
-    returns-2
-    loop-less
-    loop-again
-    returns-3
-    returns-4)
+    Inv-loop μ-loop (λ c κs. search needs) returns loop-holds (λ c. search needs) record-at-requires
+    (λ c κs. search needs) returns-2 loop-less loop-again returns-3 returns-4)

@@ -10,20 +10,8 @@ use Rattle.store_read.specs.Reading.{Readable}
 use Rattle.store_read.specs.Lengths.{lengthFrom}
 use Rattle.store_read.proofs.Steps.{step, record-there}
 use Rattle.store_read.proofs.RayLoops.{length-step, length-end, all-contained, lies-out, lies-in}
-use Rattle.store_read.proofs.Bounds.{
-  after,
-  sound-after,
-  zero-nan,
-  after-none,
-  after-bad,
-  after-good,
-  sum-bad,
-  sum-good,
-  left-bad,
-  out-bad,
-  both-same,
-  left-same,
-}
+use Rattle.store_read.proofs.Bounds.{after, sound-after, zero-nan, after-none, after-bad, after-good, sum-bad, sum-good}
+use Rattle.store_read.proofs.Bounds.{left-bad, out-bad, both-same, left-same}
 use Rattle.store_read.proofs.sound_within.Statement.{statement}
 use Rattle.spans.specs.Containment.{contained}
 use Rattle.store_read.proofs.sound_within.Tie as tie
@@ -95,16 +83,5 @@ pub sound-within-spec : {M : Type 1} → statement M
 sound-within-spec =
     tie.close
     (tie.spec
-    Inv-loop
-    μ-loop
-    loop-holds
-    (λ c. search needs)
-    record-at-requires
-    (λ c κs. search needs)
-    returns
-    first-reaching-requires
-    reaches-over-requires
-    returns-2
-    loop-less
-    loop-again
-    returns-3)
+    Inv-loop μ-loop loop-holds (λ c. search needs) record-at-requires (λ c κs. search needs) returns
+    first-reaching-requires reaches-over-requires returns-2 loop-less loop-again returns-3)

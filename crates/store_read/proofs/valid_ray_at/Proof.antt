@@ -9,5 +9,4 @@ pub valid-ray-at-spec : {M : Type 1} → statement M
 valid-ray-at-spec =
     tie.close
     (tie.spec
-    (λ c κs. search needs)
-    returns)
+    (λ c κs. search needs) returns)

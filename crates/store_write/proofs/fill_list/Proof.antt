@@ -3,17 +3,8 @@ use mathlib.Core.Path.{_∙_}
 use borrow.Author.Needs.{needs}
 use lib.ListN.{take}
 use Rattle.store.specs.Store.{freeFrom}
-use Rattle.store_write.proofs.Filling.{
-  Filling,
-  fill-some,
-  fill-start,
-  fill-turn,
-  fill-end,
-  fill-onward,
-  refill,
-  first-head,
-  cursor-same,
-}
+use Rattle.store_write.proofs.Filling.{Filling, fill-some, fill-start, fill-turn, fill-end, fill-onward, refill}
+use Rattle.store_write.proofs.Filling.{first-head, cursor-same}
 use Rattle.store_write.proofs.fill_list.Statement.{statement}
 use Rattle.store_write.proofs.fill_list.Tie as tie
 
@@ -61,35 +52,9 @@ pub fill-list-spec : {M : Type 1} → statement M
 fill-list-spec =
     tie.close
     (tie.spec
-    Inv-loop
-    μ-loop
-    next-free-requires
-    loop-holds
-    (λ c. search needs)
-    (λ c. search needs)
-    (λ c κs. search needs)
-    (λ c. search needs)
-    (λ c. search needs)
-    (λ c. search needs)
-    (λ c. search needs)
-    (λ c. search needs)
-    (λ c. search needs)
-    (λ c. search needs)
-    (λ c. search needs)
-    (λ c κs. search needs)
-    (λ c. search needs)
-    (λ c. search needs)
-    loop-again
-    (λ c. search needs)
-    (λ c. search needs)
-    (λ c. search needs)
-    (λ c. search needs)
-    (λ c. search needs)
-    (λ c. search needs)
-    (λ c. search needs)
-    (λ c κs. search needs)
-    (λ c. search needs)
-    (λ c. search needs)
-    (λ c. search needs)
-    (λ c. search needs)
-    returns)
+    Inv-loop μ-loop next-free-requires loop-holds (λ c. search needs) (λ c. search needs) (λ c κs. search needs)
+    (λ c. search needs) (λ c. search needs) (λ c. search needs) (λ c. search needs) (λ c. search needs)
+    (λ c. search needs) (λ c. search needs) (λ c. search needs) (λ c κs. search needs) (λ c. search needs)
+    (λ c. search needs) loop-again (λ c. search needs) (λ c. search needs) (λ c. search needs) (λ c. search needs)
+    (λ c. search needs) (λ c. search needs) (λ c. search needs) (λ c κs. search needs) (λ c. search needs)
+    (λ c. search needs) (λ c. search needs) (λ c. search needs) returns)

@@ -108,29 +108,6 @@ pub free-chain-spec : {M : Type 1} → statement M
 free-chain-spec =
     tie.close
     (tie.spec
-    Inv-loop
-    μ-loop
-    loop-holds
-    sub-i
-    mul-k
-    mul-k-2
-    slice-read-k
-    mul-spans
-    mul-spans-2
-    slice-write-spans
-    mul-spans-3
-    add-spans
-    mul-spans-4
-    slice-write-spans-2
-    mul-links
-    mul-links-2
-    slice-write-links
-    mul-links-3
-    add-links
-    mul-links-4
-    slice-write-links-2
-    loop-less
-    loop-again
-    (λ c. search needs)
-    (λ c. search needs)
-    returns)
+    Inv-loop μ-loop loop-holds sub-i mul-k mul-k-2 slice-read-k mul-spans mul-spans-2 slice-write-spans mul-spans-3
+    add-spans mul-spans-4 slice-write-spans-2 mul-links mul-links-2 slice-write-links mul-links-3 add-links
+    mul-links-4 slice-write-links-2 loop-less loop-again (λ c. search needs) (λ c. search needs) returns)

@@ -29,11 +29,5 @@ pub free-ray-spec : {M : Type 1} → statement M
 free-ray-spec =
     tie.close
     (tie.spec
-    (λ c. search needs)
-    (λ c κs. search needs)
-    (λ c. search needs)
-    free-list-requires-2
-    (λ c. search needs)
-    (λ c. search needs)
-    (λ c. search needs)
-    returns)
+    (λ c. search needs) (λ c κs. search needs) (λ c. search needs) free-list-requires-2 (λ c. search needs)
+    (λ c. search needs) (λ c. search needs) returns)

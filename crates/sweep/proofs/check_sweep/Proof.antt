@@ -89,15 +89,5 @@ pub check-sweep-spec : {M : Type 1} → statement M
 check-sweep-spec =
     tie.close
     (tie.spec
-    (λ c κs. search needs)
-    returns
-    returns-2
-    check-stock-requires
-    returns-3
-    (λ c κs. search needs)
-    (λ c. search needs)
-    returns-4
-    (λ c. search needs)
-    (λ c κs. search needs)
-    returns-5
-    returns-6)
+    (λ c κs. search needs) returns returns-2 check-stock-requires returns-3 (λ c κs. search needs) (λ c. search needs)
+    returns-4 (λ c. search needs) (λ c κs. search needs) returns-5 returns-6)

@@ -18,11 +18,5 @@ pub end-log-spec : {M : Type 1} → statement M
 end-log-spec =
     tie.close
     (tie.spec
-    (λ c. search needs)
-    (λ c κs. search needs)
-    (λ c. search needs)
-    returns
-    (λ c. search needs)
-    clear-from-requires-2
-    (λ c. search needs)
-    returns-2)
+    (λ c. search needs) (λ c κs. search needs) (λ c. search needs) returns (λ c. search needs) clear-from-requires-2
+    (λ c. search needs) returns-2)

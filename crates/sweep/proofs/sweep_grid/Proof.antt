@@ -42,11 +42,5 @@ pub sweep-grid-spec : {M : Type 1} → statement M
 sweep-grid-spec =
     tie.close
     (tie.spec
-    (λ c κs. search needs)
-    (λ c. search needs)
-    returns
-    (λ c. search needs)
-    sweep-chords-requires
-    end-log-requires
-    (λ c. search needs)
-    returns-2)
+    (λ c κs. search needs) (λ c. search needs) returns (λ c. search needs) sweep-chords-requires end-log-requires
+    (λ c. search needs) returns-2)

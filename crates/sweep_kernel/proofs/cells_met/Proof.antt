@@ -49,11 +49,5 @@ pub cells-met-spec : {M : Type 1} → statement M
 cells-met-spec =
     tie.close
     (tie.spec
-    (λ c κs. search needs)
-    returns
-    (λ c κs. search needs)
-    returns-2
-    returns-3
-    cell-at-requires
-    cell-at-requires-2
+    (λ c κs. search needs) returns (λ c κs. search needs) returns-2 returns-3 cell-at-requires cell-at-requires-2
     returns-4)

@@ -71,15 +71,5 @@ pub overlaps-at-spec : {M : Type 1} → statement M
 overlaps-at-spec =
     tie.close
     (tie.spec
-    Inv-loop
-    μ-loop
-    loop-holds
-    (λ c. search needs)
-    record-at-requires
-    (λ c κs. search needs)
-    (λ c κs. search needs)
-    returns
-    returns-2
-    loop-less
-    loop-again
-    returns-3)
+    Inv-loop μ-loop loop-holds (λ c. search needs) record-at-requires (λ c κs. search needs) (λ c κs. search needs)
+    returns returns-2 loop-less loop-again returns-3)

@@ -43,14 +43,5 @@ pub ray-hit-spec : {M : Type 1} → statement M
 ray-hit-spec =
     tie.close
     (tie.spec
-    spans-meet-requires
-    returns
-    (λ c κs. search needs)
-    (λ c κs. search needs)
-    (λ c. search needs)
-    (λ c. search needs)
-    overlaps-at-requires
-    (λ c κs. search needs)
-    returns-2
-    returns-3
-    returns-4)
+    spans-meet-requires returns (λ c κs. search needs) (λ c κs. search needs) (λ c. search needs) (λ c. search needs)
+    overlaps-at-requires (λ c κs. search needs) returns-2 returns-3 returns-4)

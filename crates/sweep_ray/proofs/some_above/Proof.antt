@@ -46,12 +46,4 @@ pub some-above-spec : {M : Type 1} → statement M
 some-above-spec =
     tie.close
     (tie.spec
-    Inv-loop
-    μ-loop
-    loop-holds
-    (λ c. search needs)
-    record-at-requires
-    returns
-    loop-less
-    loop-again
-    returns-2)
+    Inv-loop μ-loop loop-holds (λ c. search needs) record-at-requires returns loop-less loop-again returns-2)

@@ -34,25 +34,8 @@ pub put-spec : {M : Type 1} → statement M
 put-spec =
     tie.close
     (tie.spec
-    (λ c. search needs)
-    (λ c κs. search needs)
-    (λ c. search needs)
-    (λ c. search needs)
-    (λ c κs. search needs)
-    (λ c. search needs)
-    (λ c. search needs)
-    slice-write-log-2
-    (λ c. search needs)
-    (λ c. search needs)
-    slice-write-log-3
-    (λ c. search needs)
-    (λ c. search needs)
-    slice-write-log-4
-    (λ c. search needs)
-    (λ c. search needs)
-    slice-write-log-5
-    (λ c. search needs)
-    (λ c. search needs)
-    slice-write-log-6
-    same-length
+    (λ c. search needs) (λ c κs. search needs) (λ c. search needs) (λ c. search needs) (λ c κs. search needs)
+    (λ c. search needs) (λ c. search needs) slice-write-log-2 (λ c. search needs) (λ c. search needs)
+    slice-write-log-3 (λ c. search needs) (λ c. search needs) slice-write-log-4 (λ c. search needs)
+    (λ c. search needs) slice-write-log-5 (λ c. search needs) (λ c. search needs) slice-write-log-6 same-length
     returns)

@@ -62,16 +62,5 @@ pub sweep-rect-spec : {M : Type 1} → statement M
 sweep-rect-spec =
     tie.close
     (tie.spec
-    Inv-loop
-    μ-loop
-    loop-holds
-    sweep-row-requires
-    (λ c. search needs)
-    same-length
-    returns
-    (λ c. search needs)
-    add-v
-    loop-less
-    loop-again
-    same-length-2
-    returns-2)
+    Inv-loop μ-loop loop-holds sweep-row-requires (λ c. search needs) same-length returns (λ c. search needs) add-v
+    loop-less loop-again same-length-2 returns-2)

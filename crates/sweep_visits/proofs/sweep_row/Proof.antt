@@ -1,13 +1,5 @@
-use Rattle.sweep_visits.proofs.Walks.{
-  Sweeping,
-  sweeping-start,
-  sweeping-next,
-  sweeping-halt,
-  sweeping-all,
-  ray-ready,
-  halted-of,
-  went-of,
-}
+use Rattle.sweep_visits.proofs.Walks.{Sweeping, sweeping-start, sweeping-next, sweeping-halt, sweeping-all, ray-ready}
+use Rattle.sweep_visits.proofs.Walks.{halted-of, went-of}
 use borrow.Author.Needs.{needs}
 use native.Mathlib.Omega.{arith}
 use mathlib.Core.Path.{_∙_}
@@ -72,16 +64,5 @@ pub sweep-row-spec : {M : Type 1} → statement M
 sweep-row-spec =
     tie.close
     (tie.spec
-    Inv-loop
-    μ-loop
-    loop-holds
-    visit-ray-requires
-    (λ c. search needs)
-    same-length
-    returns
-    (λ c. search needs)
-    add-u
-    loop-less
-    loop-again
-    same-length-2
-    returns-2)
+    Inv-loop μ-loop loop-holds visit-ray-requires (λ c. search needs) same-length returns (λ c. search needs) add-u
+    loop-less loop-again same-length-2 returns-2)

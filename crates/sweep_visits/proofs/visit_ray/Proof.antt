@@ -68,19 +68,5 @@ pub visit-ray-spec : {M : Type 1} → statement M
 visit-ray-spec =
     tie.close
     (tie.spec
-    returns
-    add-next
-    mul-index
-    add-index
-    add-ray
-    possible-head-requires
-    ray-hit-requires
-    (λ c. search needs)
-    returns-2
-    (λ c. search needs)
-    (λ c. search needs)
-    returns-3
-    add-end
-    (λ c κs. search needs)
-    (λ c. search needs)
-    returns-4)
+    returns add-next mul-index add-index add-ray possible-head-requires ray-hit-requires (λ c. search needs) returns-2
+    (λ c. search needs) (λ c. search needs) returns-3 add-end (λ c κs. search needs) (λ c. search needs) returns-4)

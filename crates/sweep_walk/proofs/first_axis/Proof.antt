@@ -13,6 +13,4 @@ pub first-axis-spec : {M : Type 1} → statement M
 first-axis-spec =
     tie.close
     (tie.spec
-    (λ c κs. search needs)
-    returns
-    returns-2)
+    (λ c κs. search needs) returns returns-2)

@@ -18,7 +18,4 @@ pub second-axis-spec : {M : Type 1} → statement M
 second-axis-spec =
     tie.close
     (tie.spec
-    (λ c κs. search needs)
-    returns
-    returns-2
-    returns-3)
+    (λ c κs. search needs) returns returns-2 returns-3)

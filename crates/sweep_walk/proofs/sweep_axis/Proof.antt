@@ -56,12 +56,5 @@ pub sweep-axis-spec : {M : Type 1} → statement M
 sweep-axis-spec =
     tie.close
     (tie.spec
-    (λ c κs. search needs)
-    track-of-requires
-    rectangle-of-requires
-    (λ c. search needs)
-    returns
-    (λ c. search needs)
-    sweep-rect-requires
-    same-length
-    returns-2)
+    (λ c κs. search needs) track-of-requires rectangle-of-requires (λ c. search needs) returns (λ c. search needs)
+    sweep-rect-requires same-length returns-2)

@@ -57,13 +57,5 @@ pub sweep-chord-spec : {M : Type 1} → statement M
 sweep-chord-spec =
     tie.close
     (tie.spec
-    (λ c κs. search needs)
-    (λ c κs. search needs)
-    sweep-axis-requires
-    (λ c. search needs)
-    same-length
-    returns
-    (λ c. search needs)
-    sweep-axis-requires-2
-    same-length-2
-    returns-2)
+    (λ c κs. search needs) (λ c κs. search needs) sweep-axis-requires (λ c. search needs) same-length returns
+    (λ c. search needs) sweep-axis-requires-2 same-length-2 returns-2)

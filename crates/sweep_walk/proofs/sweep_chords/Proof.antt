@@ -83,17 +83,5 @@ pub sweep-chords-spec : {M : Type 1} → statement M
 sweep-chords-spec =
     tie.close
     (tie.spec
-    Inv-loop
-    μ-loop
-    loop-holds
-    chord-at-requires
-    sweep-chord-requires
-    (λ c. search needs)
-    same-length
-    returns
-    (λ c. search needs)
-    add-i
-    loop-less
-    loop-again
-    same-length-2
-    returns-2)
+    Inv-loop μ-loop loop-holds chord-at-requires sweep-chord-requires (λ c. search needs) same-length returns
+    (λ c. search needs) add-i loop-less loop-again same-length-2 returns-2)

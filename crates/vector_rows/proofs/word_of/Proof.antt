@@ -11,7 +11,5 @@ word-of-spec =
     (λ c. past-start _ _ _ (c .if1 .taken))
     (λ c. search needs)
     (λ c. past-end _ _ _ (c .if2 .taken))
-    (λ c. search needs)
-    (λ c. search needs)
-    (λ c. search needs)
+    (λ c. search needs) (λ c. search needs) (λ c. search needs)
     (λ c. in-row _ _ _))
