@@ -89,7 +89,8 @@ add-ray-requires c κs =
     let start = heads .before .before .before .before .before .before .before in
     let asked = start .pre .0 in
     let e = heads .ray-heads .ensures in
-    let told = onward-counted (part .before .before .before .loop .inv) (part .take-part .ensures) (not-true _ (c .before .before .if1 .taken)) in
+    let inv = part .before .before .before .loop .inv in
+    let told = onward-counted inv (part .take-part .ensures) (not-true _ (c .before .before .if1 .taken)) in
     ray-addable asked (omega (arith, asked .counting .countable .room .in-spans, start .good, start .fits))
     (told false _ (list-sound asked false) (rw e at (c .before .end-list .ensures)))
     (told true _ (list-sound asked true) (rw e at (c .end-list2 .ensures)))

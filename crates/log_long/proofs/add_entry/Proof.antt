@@ -1,10 +1,9 @@
 -- `log_long::add_entry` meets its contract.
 use borrow.Author.Needs.{needs}
 use native.Mathlib.Omega.{arith}
-use mathlib.Core.Path.{refl, sym, ap, subst, _∙_}
+use mathlib.Core.Path.{refl, sym, ap, _∙_}
 use Rattle.log_entries.specs.Named.{EachNamed}
-use Rattle.log_model.specs.declared.Entry.{Entry}
-use Rattle.log_long.specs.Long.{leastPast, AddFrontsPost}
+use Rattle.log_long.specs.Long.{leastPast}
 use Rattle.log_long.proofs.Gathering.{gathers-passed, gathers-added}
 use Rattle.log_long.proofs.add_entry.Statement.{statement}
 use Rattle.log_long.proofs.add_entry.Tie as tie
@@ -17,25 +16,24 @@ ray-at-requires c κs =
 
 add-key-requires : tie.Need-add-key-requires
 add-key-requires c κs =
-    let read = c .before .before in
+    let read = c .before .before .before in
     let start = read .before .before .before .before .before in (
       start .pre .4 .inLog,
       start .pre .2,
       start .pre .3,
-      c .before .least-past .ensures ∙ ap (leastPast (start .args .b)) (read .entry-at .ensures),
+      c .least-past .ensures ∙ ap (leastPast (start .args .b)) (read .entry-at .ensures),
     )
 
 returns : tie.Need-returns
 returns c =
     let added = c .before .before .before in
-    let read = added .before .before in
+    let read = added .before .before .before .before in
     let on = read .before in
     let start = on .before .before .before .before in
     let named = sym (on .before .ray-at .ensures) ∙ on .if1 .taken in
     let key = added .add-key .ensures in
-    (key .size, gathers-added _ _ _ _ _ _ (start .args .w) (start .pre .4) _ _ _ named key
-    (subst (λ (e : Entry). AddFrontsPost (start .args .b) e (start .args .w) _ (c .add-fronts .result)) (read .entry-at .ensures)
-    (c .add-fronts .ensures)))
+    let fronts = rw (read .entry-at .ensures) at (c .add-fronts .ensures) in
+    (key .size, gathers-added _ _ _ _ _ _ (start .args .w) (start .pre .4) _ _ _ named key fronts)
 
 returns-2 : tie.Need-returns-2
 returns-2 c =
