@@ -21,9 +21,10 @@ count-list-requires c κs =
 count-list-requires-2 : tie.Need-count-list-requires-2
 count-list-requires-2 c κs =
     let first = c .before .before .before in
-    let asked = first .before .before .before .before .before .before .before .before .before .pre .0 in
-    let readable = rw (first .before .before .ray-heads .ensures) (list-readable asked true) in
-    (readable, same-shape _ _ (first .count-list .ensures .size) (asked .shaped), asked .some)
+    let heads = first .before .before in
+    let asked = heads .before .before .before .before .before .before .before .pre .0 in
+    let shaped = same-shape _ _ (first .count-list .ensures .size) (asked .shaped) in
+    (rw (heads .ray-heads .ensures) (list-readable asked true), shaped, asked .some)
 
 add-ray-requires : tie.Need-add-ray-requires
 add-ray-requires c κs =
