@@ -91,7 +91,7 @@ pub fn gather_rays(g: DexelGrid, log: &[f64], first: usize, width: usize, keys: 
         × (width * entryCount (now log) < 2 ^ 64) ⌝ }
     ensures { λ r. ⌜ GatherRaysPost g (now (log .entry)) first width (now (keys .entry)) (now (keys .exit)) r ⌝ }
 {
-    let n = log.len() / 6;
+    let n = log_entries::entry_count(log);
     let mut w = Batch {
         width,
         count: 0,

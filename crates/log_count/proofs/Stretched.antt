@@ -1,6 +1,6 @@
 -- The keys that are gathered for a stretch of a long ray, with how far the hits before it reach, tell which points its lists lose in it.
 use mathlib.Core.Path.{_≡_, ap}
-use mathlib.Core.Bool.{Bool, true, false}
+use mathlib.Core.Bool.{Bool, true}
 use mathlib.Core.List.{List}
 use mathlib.Core.Logic.{_⊎_, inl, inr}
 use Prim.Native.Nat.{ℕ, _<_}
@@ -18,7 +18,7 @@ use Rattle.log_model.proofs.Hits.{within-proper}
 use Rattle.log_entries.specs.Named.{EachNamed}
 use Rattle.log_keys.specs.Keys.{entryOfKey, hitsTo, losesOf, top, pairsPast, Stretch}
 use Rattle.log_keys.proofs.Past.{past-above}
-use Rattle.log_keys.proofs.Hits.{LosesKind, inner-hit, outer-hit, hits-struck, struck-hits, Lost, lost-holds, lost-past, holds-lost}
+use Rattle.log_keys.proofs.Hits.{inner-hit, outer-hit, hits-struck, struck-hits, Lost, lost-holds, lost-past, holds-lost}
 use Rattle.log_long.specs.Long.{leastPast, GathersTo}
 use Rattle.log_long.specs.declared.LongPart.{LongPart}
 use Rattle.log_count.proofs.Fronts.{Begun, least-before, least-is, frontOf, below-front, front-is}

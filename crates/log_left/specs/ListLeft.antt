@@ -6,7 +6,7 @@ use mathlib.Core.List.{List, [], _∷_, _++_}
 use Prim.Native.Nat.{ℕ, _/_, _%_, _^_}
 use lib.ListN.{length}
 use lib.Ieee.{Float}
-use Rattle.spans.specs.Spans.{within, holds, less, ListOf}
+use Rattle.spans.specs.Spans.{within, holds, ListOf}
 use Rattle.spans.specs.Steps.{UpTo}
 use Rattle.log_model.specs.Counts.{isHitBy, startsLeft}
 use Rattle.log_left.specs.declared.Rest.{Rest}

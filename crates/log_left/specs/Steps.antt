@@ -2,11 +2,10 @@
 use mathlib.Core.Path.{_≡_}
 use mathlib.Core.Bool.{Bool, true, false, cond}
 use mathlib.Core.List.{List}
-use Prim.Native.Nat.{ℕ, _+_, _-_, _*_, _%_, _^_}
-use lib.ListN.{length, getD}
-use lib.Ieee.{Float, nan, lt, le}
+use Prim.Native.Nat.{ℕ, _+_, _-_, _%_, _^_}
+use lib.Ieee.{Float, lt, le}
 use Rattle.spans.specs.Spans.{holds, sound, less}
-use Rattle.store.specs.Store.{loAt, hiAt, nextAt, places, listFrom}
+use Rattle.store.specs.Store.{loAt, hiAt, nextAt, listFrom}
 use Rattle.store_read.specs.Reading.{Readable}
 use Rattle.log_left.specs.ListLeft.{ListWalked, withoutPair, ListLeftPost}
 use Rattle.log_left.specs.declared.Rest.{Rest}

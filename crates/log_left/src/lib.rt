@@ -1,9 +1,7 @@
 // A list of a lent store less hits that come in ascending order, counted while its chain is walked once: nothing is copied or written.
-ghost use Prim.Native.Nat.{_+_, _-_, _*_, _≤_, _<_};
+ghost use Prim.Native.Nat.{_-_, _<_};
 ghost use mathlib.Core.Path.{_≡_};
 ghost use mathlib.Core.Bool.{true};
-ghost use lib.ListN.{length, getD};
-ghost use lib.Ieee.{lt, nan};
 ghost use Rattle.store_read.specs.Reading.{Readable};
 ghost use Rattle.log_left.specs.Steps.{StartPost, BeginPost, ClosePairPost, CutPairPost, PassPost, TakePost, FinishPost};
 

@@ -2,7 +2,6 @@
 -- past it.
 use mathlib.Core.Path.{_∙_}
 use mathlib.Core.Bool.{true, false}
-use borrow.Author.Needs.{needs}
 use native.Mathlib.Omega.{arith}
 use lib.ListN.{length}
 use Rattle.logic.proofs.Bools.{not-true, not-false}

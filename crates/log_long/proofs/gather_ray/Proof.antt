@@ -36,7 +36,7 @@ returns c =
     let loop = c .before .loop in
     let count = c .before .before in
     let passed : entryCount (count .before .before .before .args .log .now) ≡ loop .i =
-        omega (arith, loop .inv .0, count .entry-count .ensures) in
+    omega (arith, loop .inv .0, count .entry-count .ensures) in
     (loop .inv .1, rw passed (loop .inv .2))
 
 pub gather-ray-spec : {M : Type 1} → statement M
