@@ -75,7 +75,7 @@ fn count_batch(
     ensures { λ r. ⌜ CountPost spec g (cells (now (spans .entry)) (now (links .entry)) (now (heads .entry))) (now (log .entry))
         (first + width) (now (buffer .entry)) (now (buffer .exit)) r ⌝ }
 {
-    let n = (log.len() / 6) as u64;
+    let n = log_entries::entry_count(log) as u64;
     let mut t = totals;
     let mut i: usize = 0;
     while i < m {
@@ -233,7 +233,7 @@ fn count_all(
         (now (log .entry)) allowance ⌝ }
 {
     let rays = grid_rays::total_rays(g) as usize;
-    let n = log.len() / 6;
+    let n = log_entries::entry_count(log);
     let mut t = RayTotals {
         changed: 0,
         pairs: intervals,
@@ -299,7 +299,7 @@ pub fn budget(
     ensures { λ r. ⌜ budgetNumber r ≡ budgetIn spec g (cells (now (spans .entry)) (now (links .entry)) (now (heads .entry)))
         (now (log .entry)) allowance ⌝ }
 {
-    let entries = (log.len() / 6) as u64;
+    let entries = log_entries::entry_count(log) as u64;
     if allows_all(g, entries, allowance) {
         if intervals + 3 * entries <= spec.max_intervals {
             return BudgetAnswer::Kept;

@@ -6,22 +6,36 @@ use Rattle.log_budget.proofs.Answers.{both-kept}
 use Rattle.log_budget.proofs.budget.Statement.{statement}
 use Rattle.log_budget.proofs.budget.Tie as tie
 
+add-if2 : tie.Need-add-if2
+add-if2 c =
+    let count = c .before .before in
+    let start = count .before .before .before .before .before in
+    omega (arith, count .entry-count .ensures, total-fits (start .pre), start .pre .room .in-spans, start .good, start .fits)
+
 returns : tie.Need-returns
 returns c =
-    let pre = c .before .before .before .before .before .before .before .before .pre in
-    both-kept _ _ _ _ (rays-allowed pre (c .before .before .before .allows-all .ensures (c .before .before .if1 .taken)))
-    (omega (arith, pairs-le pre, c .if2 .taken))
+    let all = c .before .before .before in
+    let e = all .before .entry-count .ensures in
+    let pre = all .before .before .before .before .before .before .pre in
+    both-kept _ _ _ _ (rays-allowed pre (rw e at (all .allows-all .ensures (c .before .before .if1 .taken))))
+    (omega (arith, e, pairs-le pre, c .if2 .taken))
 
 returns-2 : tie.Need-returns-2
 returns-2 c =
-    let pre = c .before .before .before .before .before .before .before .pre in
-    both-kept _ _ _ _ (rays-allowed pre (inl (omega (arith, c .if3 .taken))))
-    (omega (arith, pairs-le pre, total-fits pre, c .if3 .taken))
+    let count = c .before .before .before in
+    let e = count .entry-count .ensures in
+    let pre = count .before .before .before .before .before .pre in
+    both-kept _ _ _ _ (rays-allowed pre (inl (omega (arith, e, c .if3 .taken))))
+    (omega (arith, e, pairs-le pre, total-fits pre, c .if3 .taken))
+
+count-all-requires : tie.Need-count-all-requires
+count-all-requires c κs =
+    let count = c .before .before .before .before .before in
+    (count .before .before .before .before .before .pre, omega (arith, count .entry-count .ensures, c .before .before .if3 .left), search needs, search needs, search needs)
 
 pub budget-spec : {M : Type 1} → statement M
 budget-spec =
     tie.close
     (tie.spec
-    (λ c κs. search needs) (λ c. search needs)
-    (λ c. let pre = c .before .before .before .before .before .before .pre in omega (arith, total-fits pre, pre .room .in-spans))
-    returns returns-2 (λ c. search needs) (λ c. search needs) (λ c κs. search needs) (λ c. search needs))
+    (λ c κs. search needs) (λ c κs. search needs) (λ c. let e = c .before .before .entry-count .ensures in search needs) add-if2 returns returns-2 (λ c. search needs) (λ c. search needs)
+    count-all-requires (λ c. search needs))

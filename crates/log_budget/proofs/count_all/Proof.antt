@@ -24,21 +24,21 @@ abbrev μ-loop : tie.MeasureT-loop
 
 loop-holds : tie.Need-loop-holds Inv-loop μ-loop
 loop-holds c =
-    let pre = c .before .before .before .before .before .before .before .pre in
+    let pre = c .before .before .before .before .before .before .before .before .pre in
     (omega arith, omega arith, refl, refl, start (pre .0) _ refl refl)
 
 fit-width-requires : tie.Need-fit-width-requires Inv-loop μ-loop
 fit-width-requires c κs =
-    let pre = c .before .before .before .before .before .before .before .before .before .pre in
-    (omega (arith, c .loop-test .taken), pre .1)
+    let count = c .before .before in
+    (omega (arith, c .loop-test .taken), omega (arith, count .entry-count .ensures, count .before .before .before .before .before .before .before .before .pre .1))
 
 count-next-requires : tie.Need-count-next-requires Inv-loop μ-loop
 count-next-requires c κs =
     let fit = c .before .before in
     let at = fit .before .before in
     let inv = at .loop .inv in
-    let rays = at .before .total-rays .ensures in
-    let begun = at .before .before .before .before .before .before .before .before in
+    let rays = at .before .before .total-rays .ensures in
+    let begun = at .before .before .before .before .before .before .before .before .before in
     let pre = begun .pre in (
       record {
         counting = record { intervals = begun .args .intervals; countable = pre .0 };
@@ -50,7 +50,7 @@ count-next-requires c κs =
       record {
         some = fit .fit-width .ensures .0;
         inside = omega (arith, rays, fit .before .loop-test .taken, fit .fit-width .ensures .1);
-        fits = fit .fit-width .ensures .2;
+        fits = rw (at .before .entry-count .ensures) at (fit .fit-width .ensures .2);
         keys-some = omega (arith, inv .2, pre .2);
         keys-few = omega (arith, inv .2, pre .3);
       },
@@ -60,7 +60,7 @@ returns : tie.Need-returns Inv-loop μ-loop
 returns c =
     let step = c .before .before .before .before .before .before .before in
     let s = step .count-next .ensures in
-    let pre = step .before .before .before .before .before .before .before .before .before .before .before .before .before .pre in
+    let pre = step .before .before .before .before .before .before .before .before .before .before .before .before .before .before .pre in
     too-many-rays _ _ _ _ (omega (arith, c .if1 .taken, changed-so-far (pre .0) _ _ (s .most) (s .prefixed)))
 
 loop-less : tie.Need-loop-less Inv-loop μ-loop
@@ -78,7 +78,7 @@ returns-2 : tie.Need-returns-2 Inv-loop μ-loop
 returns-2 c =
     let at = c .before .before .before .before in
     let inv = at .loop .inv in
-    let pre = at .before .before .before .before .before .before .before .before .pre in
+    let pre = at .before .before .before .before .before .before .before .before .before .pre in
     let e = all-counted (pre .0) _ _ (inv .0) (omega (arith, c .before .before .before .loop-test .left)) (inv .4) in
     too-many-intervals _ _ _ _ (omega (arith, e .0, inv .1)) (omega (arith, e .1, c .if2 .taken))
 
@@ -86,7 +86,7 @@ returns-3 : tie.Need-returns-3 Inv-loop μ-loop
 returns-3 c =
     let at = c .before .before .before .before in
     let inv = at .loop .inv in
-    let pre = at .before .before .before .before .before .before .before .before .pre in
+    let pre = at .before .before .before .before .before .before .before .before .before .pre in
     let e = all-counted (pre .0) _ _ (inv .0) (omega (arith, c .before .before .before .loop-test .left)) (inv .4) in
     both-kept _ _ _ _ (omega (arith, e .0, inv .1)) (omega (arith, e .1, c .if2 .left))
 
@@ -96,6 +96,6 @@ count-all-spec =
     (tie.spec
     Inv-loop μ-loop
     (λ c κs. omega (arith, few-rays (c .before .before .before .before .before .before .pre .0)))
-    loop-holds (λ c. search needs) fit-width-requires count-next-requires (λ c. search needs) (λ c. search needs)
+    (λ c κs. search needs) loop-holds (λ c. search needs) fit-width-requires count-next-requires (λ c. search needs) (λ c. search needs)
     returns loop-less loop-again (λ c. search needs) (λ c. search needs) returns-2 (λ c. search needs)
     (λ c. search needs) returns-3)
