@@ -28,14 +28,11 @@ returns-2 c =
     both-kept _ _ _ _ (rays-allowed pre (inl (omega (arith, e, c .if3 .taken))))
     (omega (arith, e, pairs-le pre, total-fits pre, c .if3 .taken))
 
-count-all-requires : tie.Need-count-all-requires
-count-all-requires c κs =
-    let count = c .before .before .before .before .before in
-    (count .before .before .before .before .before .pre, omega (arith, count .entry-count .ensures, c .before .before .if3 .left), search needs, search needs, search needs)
-
 pub budget-spec : {M : Type 1} → statement M
 budget-spec =
     tie.close
     (tie.spec
-    (λ c κs. search needs) (λ c κs. search needs) (λ c. let e = c .before .before .entry-count .ensures in search needs) add-if2 returns returns-2 (λ c. search needs) (λ c. search needs)
-    count-all-requires (λ c. search needs))
+    (λ c κs. search needs) (λ c κs. search needs) (λ c. let e = c .before .before .entry-count .ensures in search needs)
+    add-if2 returns returns-2 (λ c. search needs) (λ c. search needs)
+    (λ c κs. let e = c .before .before .before .before .before .entry-count .ensures in search needs)
+    (λ c. search needs))
