@@ -199,7 +199,7 @@ pub fn merge_all(
         (now (work .entry)) (now (work .exit)) r ⌝ }
 {
     let rays = grid_rays::total_rays(g) as usize;
-    let e = log.len() / 6;
+    let e = log_entries::entry_count(log);
     let n = spec.max_intervals as usize;
     let sizes = rays + e;
     let mut q = sizes + 2 * rays;

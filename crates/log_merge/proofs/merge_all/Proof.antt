@@ -21,36 +21,41 @@ count-most false = omega arith
 
 loop-holds : tie.Need-loop-holds Inv-loop μ-loop
 loop-holds c =
-    let b = c .before .before .before .before .before .before in
+    let t = c .before in
+    let b = t .before .before .before .before .before .before in
     let a = b .args in
-    starts (a .spec) (a .g) (cells (a .spans .now) (a .links .now) (a .heads .now)) (a .log .now) (a .work .now)
-    (b .pre) (c .total-rays .result) (c .total-rays .ensures)
+    rw (c .entry-count .ensures) (starts (a .spec) (a .g) (cells (a .spans .now) (a .links .now) (a .heads .now))
+    (a .log .now) (a .work .now)
+    (b .pre) (t .total-rays .result) (t .total-rays .ensures))
 
 merge-ray-requires : tie.Need-merge-ray-requires Inv-loop μ-loop
 merge-ray-requires c κs =
     let l = c .before .before in
-    let t = l .before in
+    let e = l .before .entry-count .ensures in
+    let t = l .before .before in
     let b = t .before .before .before .before .before .before in
     let a = b .args in
-    ray-ready (a .spec) (a .g) (cells (a .spans .now) (a .links .now) (a .heads .now)) (a .log .now) (a .work .now)
+    rw e (ray-ready (a .spec) (a .g) (cells (a .spans .now) (a .links .now) (a .heads .now)) (a .log .now) (a .work .now)
     (b .pre) (t .total-rays .result) (t .total-rays .ensures) (l .loop .work) (l .loop .ray) (l .loop .q)
-    (l .loop .changed) (l .loop .inv) (c .before .loop-test .taken)
+    (l .loop .changed) (l .loop .inv) (c .before .loop-test .taken))
 
 add-put-sizes : tie.Need-add-put-sizes Inv-loop μ-loop
 add-put-sizes c =
     let l = c .before .before .before .before .before .before in
-    let t = l .before in
+    let e = l .before .entry-count .ensures in
+    let t = l .before .before in
     let b = t .before .before .before .before .before .before in
     let a = b .args in
     let f = fits (a .spec) (a .g) (cells (a .spans .now) (a .links .now) (a .heads .now)) (a .log .now) (a .work .now)
     (b .pre) (t .total-rays .result) (t .total-rays .ensures) (l .loop .work) (l .loop .ray) (l .loop .q)
     (l .loop .changed) (l .loop .inv) in
-    omega (arith, c .before .before .before .before .before .loop-test .taken, f .low, f .high, f .all, b .good .1 .1 .1 .1 .1 .1 .0 .1)
+    omega (arith, e, c .before .before .before .before .before .loop-test .taken, f .low, f .high, f .all, b .good .1 .1 .1 .1 .1 .1 .0 .1)
 
 put-sizes-requires : tie.Need-put-sizes-requires Inv-loop μ-loop
 put-sizes-requires c κs =
     let l = c .before .before .before .before .before .before in
-    let t = l .before in
+    let e = l .before .entry-count .ensures in
+    let t = l .before .before in
     let b = t .before .before .before .before .before .before in
     let a = b .args in
     let f = fits (a .spec) (a .g) (cells (a .spans .now) (a .links .now) (a .heads .now)) (a .log .now) (a .work .now)
@@ -59,6 +64,7 @@ put-sizes-requires c κs =
     let m = c .before .before .before .merge-ray .ensures .cut in (
       omega (
         arith,
+        e,
         c .before .before .before .before .before .loop-test .taken,
         f .low,
         f .high,
@@ -72,7 +78,7 @@ put-sizes-requires c κs =
 mul-q-2 : tie.Need-mul-q-2 Inv-loop μ-loop
 mul-q-2 c =
     let l = c .before .before .before .before .before .before .before .before .before .before in
-    let t = l .before in
+    let t = l .before .before in
     let b = t .before .before .before .before .before .before in
     let a = b .args in
     let f = fits (a .spec) (a .g) (cells (a .spans .now) (a .links .now) (a .heads .now)) (a .log .now) (a .work .now)
@@ -89,7 +95,7 @@ mul-q-2 c =
 mul-q-3 : tie.Need-mul-q-3 Inv-loop μ-loop
 mul-q-3 c =
     let l = c .before .before .before .before .before .before .before .before .before .before .before in
-    let t = l .before in
+    let t = l .before .before in
     let b = t .before .before .before .before .before .before in
     let a = b .args in
     let f = fits (a .spec) (a .g) (cells (a .spans .now) (a .links .now) (a .heads .now)) (a .log .now) (a .work .now)
@@ -106,7 +112,7 @@ mul-q-3 c =
 add-q-2 : tie.Need-add-q-2 Inv-loop μ-loop
 add-q-2 c =
     let l = c .before .before .before .before .before .before .before .before .before .before .before in
-    let t = l .before in
+    let t = l .before .before in
     let b = t .before .before .before .before .before .before in
     let a = b .args in
     let f = fits (a .spec) (a .g) (cells (a .spans .now) (a .links .now) (a .heads .now)) (a .log .now) (a .work .now)
@@ -123,7 +129,7 @@ add-q-2 c =
 add-q-3 : tie.Need-add-q-3 Inv-loop μ-loop
 add-q-3 c =
     let l = c .before .before .before .before .before .before .before .before .before .before .before in
-    let t = l .before in
+    let t = l .before .before in
     let b = t .before .before .before .before .before .before in
     let a = b .args in
     let f = fits (a .spec) (a .g) (cells (a .spans .now) (a .links .now) (a .heads .now)) (a .log .now) (a .work .now)
@@ -140,7 +146,7 @@ add-q-3 c =
 add-changed : tie.Need-add-changed Inv-loop μ-loop
 add-changed c =
     let l = c .before .before .before .before .before .before .before .before .before .before .before .before in
-    let t = l .before in
+    let t = l .before .before in
     let b = t .before .before .before .before .before .before in
     let a = b .args in
     let f = fits (a .spec) (a .g) (cells (a .spans .now) (a .links .now) (a .heads .now)) (a .log .now) (a .work .now)
@@ -162,7 +168,8 @@ loop-less c = omega (arith, c .before .before .before .before .before .before .b
 loop-again : tie.Need-loop-again Inv-loop μ-loop
 loop-again c =
     let l = c .before .before .before .before .before .before .before .before .before .before .before .before in
-    let t = l .before in
+    let e = l .before .entry-count .ensures in
+    let t = l .before .before in
     let b = t .before .before .before .before .before .before in
     let a = b .args in
     steps (a .spec) (a .g) (cells (a .spans .now) (a .links .now) (a .heads .now)) (a .log .now) (a .work .now)
@@ -175,7 +182,7 @@ loop-again c =
     .0) (c .before .before .before .before .before .put-sizes .last .0)
     (c .before .before .before .before .before .before .before .before .before .merge-ray .result) (c .one-if-changed .result)
     (c .before .before .before .before .before .before .before .before .before .merge-ray .ensures)
-    (c .before .before .before .before .before .put-sizes .ensures) (c .one-if-changed .ensures)
+    (rw e at (c .before .before .before .before .before .put-sizes .ensures)) (c .one-if-changed .ensures)
 
 same-length : tie.Need-same-length Inv-loop μ-loop
 same-length c = c .before .loop .inv .size
@@ -183,7 +190,7 @@ same-length c = c .before .loop .inv .size
 returns : tie.Need-returns Inv-loop μ-loop
 returns c =
     let l = c .before in
-    let t = l .before in
+    let t = l .before .before in
     let b = t .before .before .before .before .before .before in
     let a = b .args in
     done (a .spec) (a .g) (cells (a .spans .now) (a .links .now) (a .heads .now)) (a .log .now) (a .work .now)
@@ -194,7 +201,7 @@ pub merge-all-spec : {M : Type 1} → statement M
 merge-all-spec =
     tie.close
     (tie.spec
-    Inv-loop μ-loop (λ c κs. search needs) (λ c. search needs) (λ c. search needs) (λ c. search needs)
+    Inv-loop μ-loop (λ c κs. search needs) (λ c κs. search needs) (λ c. search needs) (λ c. search needs) (λ c. search needs)
     (λ c. search needs) (λ c. search needs) (λ c. search needs) (λ c. search needs) loop-holds merge-ray-requires
     (λ c. search needs) add-put-sizes put-sizes-requires mul-q-2 mul-q-3 add-q-2 add-q-3 (λ c κs. search needs)
     add-changed (λ c. search needs) loop-less loop-again same-length returns)
