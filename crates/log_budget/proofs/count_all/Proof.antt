@@ -30,7 +30,8 @@ loop-holds c =
 fit-width-requires : tie.Need-fit-width-requires Inv-loop μ-loop
 fit-width-requires c κs =
     let count = c .before .before in
-    (omega (arith, c .loop-test .taken), omega (arith, count .entry-count .ensures, count .before .before .before .before .before .before .before .before .pre .1))
+    let pre = count .before .before .before .before .before .before .before .before .pre in
+    (omega (arith, c .loop-test .taken), omega (arith, count .entry-count .ensures, pre .1))
 
 count-next-requires : tie.Need-count-next-requires Inv-loop μ-loop
 count-next-requires c κs =

@@ -89,7 +89,8 @@ count-batch-spec =
     tie.close
     (tie.spec
     Inv-loop μ-loop (λ c κs. search needs) loop-holds mul-ray
-    (λ c. let start = c .before .before .before .before .before .before .before .before .before .before in omega (arith, start .pre .1 .room))
+    (λ c. let start = c .before .before .before .before .before .before .before .before .before .before in
+    omega (arith, start .pre .1 .room))
     div-ray add-ray end-of-ray-requires mul-count-ray (λ c. search needs)
     (λ c. let e = c .end-of-ray .ensures .past in omega arith)
     part-count-ray-end count-ray-requires (λ c. search needs) loop-again (λ c. search needs) returns)
