@@ -19,7 +19,7 @@ use Rattle.grid.specs.declared.DexelStockSpec.{DexelStockSpec}
 use Rattle.grid.specs.declared.DexelGrid.{DexelGrid}
 use Rattle.stock.specs.Stock.{Stock, SoundStock, isShort, Kind, rayLists}
 use Rattle.stock.proofs.Causes.{room-of}
-use Rattle.log_model.specs.Logs.{entries, WholeLog, isWholeLog, workNeeded, commitOf}
+use Rattle.log_model.specs.Logs.{entries, WholeLog, workNeeded, commitOf}
 use Rattle.log_model.specs.Model.{LogBuffersShort, LogInputBad, logCommitCauses}
 use Rattle.log_model.specs.Counts.{changedRayCount, pairsAfter}
 use Rattle.log_model.specs.Runs.{pointSets}
@@ -35,6 +35,7 @@ use Rattle.log_budget.specs.declared.BudgetAnswer.the-variants.{Kept, Rays, Int
 use Rattle.commit_check.specs.Tests.{LogChecked, stockLogCauses, LogCheckPost}
 use Rattle.logic.specs.Logic.{Decides}
 use Rattle.store.specs.Steps.{Room}
+use Rattle.log_model.specs.Steps.{isWholeLog}
 
 -- ---- what `budget` says
 module _ (a n c l : ℕ) where

@@ -20,7 +20,7 @@ use Rattle.grid.specs.Rays.{rayCount, Ray}
 use Rattle.grid.specs.declared.DexelStockSpec.{DexelStockSpec}
 use Rattle.grid.specs.declared.DexelGrid.{DexelGrid}
 use Rattle.log_model.specs.declared.Entry.{Entry}
-use Rattle.log_model.specs.Logs.{entries, isWholeLog, workNeeded, namesSomeRay, namesRay, HitKind, outer, inner, hitLo}
+use Rattle.log_model.specs.Logs.{entries, workNeeded, namesSomeRay, namesRay, HitKind, outer, inner, hitLo}
 use Rattle.log_model.specs.Logs.{hitHi, hitsOnRay, removed, Commit}
 use Rattle.log_model.specs.Model.{Sets, setsAfter, RayChanges, Count, none, counted, skipped, sumTo, sumOver, pairTotal}
 use Rattle.log_model.specs.Model.{IntervalTotal, Capacity, LogBuffersShort, LogInputBad, NamesNoRay, TooManyRays}
@@ -32,6 +32,7 @@ use Rattle.log_model.proofs.Starts.{pairs-left}
 use Rattle.log_model.proofs.Less.{less, less-list, same-list}
 use Rattle.log_model.proofs.Doubles.{Doubles, less-doubles}
 use Rattle.stock.specs.Stock.{Kind, Possible, Certain}
+use Rattle.log_model.specs.Steps.{isWholeLog}
 
 -- ---- the points that a log takes, as those of one flat list
 

@@ -41,9 +41,6 @@ entryCount log = length log / 6
 abbrev pub WholeLog : List Float → Type 0
 WholeLog log = length log % 6 ≡ 0
 
-abbrev pub isWholeLog : List Float → Bool
-isWholeLog log = eqb (length log % 6) 0
-
 -- the pairs that a log commit needs in its work buffer, by document 01: six for each interval of the budget and 18 for each entry
 abbrev pub workNeeded : (intervals : ℕ) → List Float → ℕ
 workNeeded intervals log = 6 * intervals + 18 * entryCount log

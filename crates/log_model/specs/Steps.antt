@@ -1,4 +1,4 @@
--- Steps of the laws of a log's updates.
+-- Steps: the test of a whole log, and what a log leaves of one list.
 use mathlib.Core.List.{List}
 use lib.Ieee.{Float}
 use Rattle.spans.specs.Spans.{ListOf}
@@ -8,7 +8,14 @@ use Rattle.log_model.specs.Model.{setsAfter}
 use Rattle.log_model.specs.Updates.{listSets}
 use Rattle.grid.specs.Rays.{Ray}
 use Rattle.stock.specs.Stock.{Kind}
+use mathlib.Core.Bool.{Bool}
+use Prim.Native.Nat.{_%_}
+use lib.Dec.{eqb}
+use lib.ListN.{length}
 
 -- l is the sound list of what the log leaves of a list of the ray
 abbrev pub ListAfterLog : (g : DexelGrid) → (Ray g → Kind → List Float) → List Entry → Ray g → Kind → List Float → Type 0
 ListAfterLog g lists es r k l = ListOf (setsAfter g (listSets g lists) es r k) l
+
+abbrev pub isWholeLog : List Float → Bool
+isWholeLog log = eqb (length log % 6) 0
