@@ -16,7 +16,7 @@ use Rattle.grid.specs.declared.GridAnswer.{GridAnswer}
 use Rattle.grid.specs.declared.GridAnswer.the-variants.{Accepted, Refused}
 use Rattle.grid.specs.Grid.{whole, allBetween}
 
--- 128, 1e-6, 1e-5 and 2 ^ -52 (Rust's `f64::EPSILON`)
+-- 128, 1e-5 and 2 ^ -52 (Rust's `f64::EPSILON`)
 abbrev pub c128 : Float
 c128 = ofBits binary64 0x4060_0000_0000_0000
 

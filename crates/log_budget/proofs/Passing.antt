@@ -15,7 +15,7 @@ use Rattle.log_model.specs.Logs.{entryAt, entryCount, entries, entryRay}
 use Rattle.log_model.specs.Counts.{changedRayCount, pairsAfter}
 use Rattle.log_entries.specs.Named.{namedFrom}
 use Rattle.log_entries.proofs.Places.{AllFrom, all-first, all-rest}
-use Rattle.log_count.specs.Totals.{Countable, Prefixed, sumBelow, rayChangeCount}
+use Rattle.log_count.specs.Totals.{Countable, Prefixed, sumBelow, isChangedRay}
 use Rattle.log_count.specs.declared.RayTotals.{RayTotals}
 use Rattle.log_count.proofs.Sums.{sum-prefix}
 use Rattle.log_count.proofs.Bounds.{total-is, changed-is, left-is, unchanged, untouched}
@@ -47,7 +47,7 @@ module _ {spec : DexelStockSpec} {g : DexelGrid} {c : Cells} {intervals : ℕ} {
       λ j l e. none j l (omega (arith, e)) (omega (arith, e)) in
       let u : namedFrom g log ray 0 (entryCount log) ≡ [] =
       none-from g log ray 0 (entryCount log) (λ j _ l. ne-eqb (entryRay g (entryAt log j)) ray (other j (omega (arith, l)))) in
-      let x : _≡_ {A = ℕ} (cond (rayChangeCount spec g c log ray) 1 0) 0 =
+      let x : _≡_ {A = ℕ} (cond (isChangedRay spec g c log ray) 1 0) 0 =
       ap (λ (b : Bool). cond b 1 0) (unchanged ok ray h u) in
       record {
         changed = omega (arith, p .changed);
@@ -74,7 +74,7 @@ module _ {spec : DexelStockSpec} {g : DexelGrid} {c : Cells} {intervals : ℕ} {
   pub changed-so-far : (t : RayTotals) (ray : ℕ) → ray ≤ rayCount g → Prefixed spec g c log ray t
       → t .changed ≤ changedRayCount g (rayLists spec g c) (entries log)
   changed-so-far t ray h p =
-      let f : ℕ → ℕ = λ r. cond (rayChangeCount spec g c log r) 1 0 in
+      let f : ℕ → ℕ = λ r. cond (isChangedRay spec g c log r) 1 0 in
       omega (arith, sum-prefix f (rayCount g) ray h, p .changed, changed-is ok)
 
   pub all-counted : (t : RayTotals) (ray : ℕ) → ray ≤ rayCount g → rayCount g ≤ ray → Prefixed spec g c log ray t

@@ -25,7 +25,7 @@ use Rattle.log_model.proofs.View.{lent-laws}
 use Rattle.log_model.proofs.Starts.{pairs-left}
 use Rattle.log_entries.specs.Named.{namedFrom, pairsAt}
 use Rattle.log_entries.proofs.Places.{AllFrom, all-first, all-rest, each-below, pairs-of}
-use Rattle.log_count.specs.Totals.{Countable, sumBelow, pairsOf, leftOf, rayChangeCount}
+use Rattle.log_count.specs.Totals.{Countable, sumBelow, pairsOf, leftOf, isChangedRay}
 use Rattle.log_count.proofs.Sums.{sum-over, sum-le, sum-at, sum-one, sum-plus, sum-times, sum-none}
 use Rattle.log_count.proofs.Starts.{starts-le}
 
@@ -107,10 +107,10 @@ module _ {spec : DexelStockSpec} {g : DexelGrid} {c : Cells} {intervals : ℕ} {
 
   -- the counts of the causes 9 and 10 as sums by number
   pub changed-is : changedRayCount g (rayLists spec g c) (entries log)
-      ≡ sumBelow (λ ray. cond (rayChangeCount spec g c log ray) 1 0) (rayCount g)
-  unfolding changedRayCount isRayChanged rayChangeCount hitsOnList
+      ≡ sumBelow (λ ray. cond (isChangedRay spec g c log ray) 1 0) (rayCount g)
+  unfolding changedRayCount isRayChanged isChangedRay hitsOnList
   changed-is = sum-over g (λ r. cond (isRayChanged g (rayLists spec g c) (entries log) r) 1 0)
-      (λ ray. cond (rayChangeCount spec g c log ray) 1 0)
+      (λ ray. cond (isChangedRay spec g c log ray) 1 0)
       (λ r. refl)
 
   pub left-is : pairsAfter g (rayLists spec g c) (entries log) ≡ sumBelow (leftOf spec g c log) (rayCount g)
@@ -157,8 +157,8 @@ module _ {spec : DexelStockSpec} {g : DexelGrid} {c : Cells} {intervals : ℕ} {
     no-pairs : (w : HitKind) → hitsOnRay g (entries log) ray w ≡ []
     no-pairs w = sym (pairs-of g log (ok .named) ray w) ∙ ap (λ (l : List ℕ). pairsAt log l w) u ∙ unfold pairsAt in refl
 
-    pub unchanged : rayChangeCount spec g c log ray ≡ false
-    unfolding rayChangeCount
+    pub unchanged : isChangedRay spec g c log ray ≡ false
+    unfolding isChangedRay
     unchanged = ap₂ (λ (o i : List Float). isHitBy (rayList spec c ray Possible) i
         || isHitBy (rayList spec c ray Certain) (o ++ i)) (no-pairs outer)
         (no-pairs inner)
@@ -172,16 +172,16 @@ module _ {spec : DexelStockSpec} {g : DexelGrid} {c : Cells} {intervals : ℕ} {
         (none-taken (rayList spec c ray Certain) (ok .isSound .valid ray h .certain-sound))
 
   -- a ray that changes has an entry
-  changed-le : (ray : ℕ) → ray < rayCount g → cond (rayChangeCount spec g c log ray) 1 0 ≤ entriesOf ray
+  changed-le : (ray : ℕ) → ray < rayCount g → cond (isChangedRay spec g c log ray) 1 0 ≤ entriesOf ray
   unfolding entriesOf
-  changed-le ray h = go (namedFrom g log ray 0 (entryCount log)) refl (rayChangeCount spec g c log ray) refl
+  changed-le ray h = go (namedFrom g log ray 0 (entryCount log)) refl (isChangedRay spec g c log ray) refl
     where
       one : (b : Bool) (k : ℕ) → cond b 1 0 ≤ suc k
       one true k = omega arith
       one false k = omega arith
 
       go : (l : List ℕ) → namedFrom g log ray 0 (entryCount log) ≡ l → (b : Bool)
-          → rayChangeCount spec g c log ray ≡ b → cond b 1 0 ≤ length l
+          → isChangedRay spec g c log ray ≡ b → cond b 1 0 ≤ length l
       go [] u b e = subst (λ (x : Bool). cond x 1 0 ≤ 0) (sym (unchanged ray h u) ∙ e) (omega arith)
       go (i ∷ l) u b e = one b (length l)
 
@@ -192,13 +192,13 @@ module _ {spec : DexelStockSpec} {g : DexelGrid} {c : Cells} {intervals : ℕ} {
     arith,
     changed-is,
     all-entries,
-    sum-le (λ ray. cond (rayChangeCount spec g c log ray) 1 0) entriesOf (rayCount g) changed-le,
+    sum-le (λ ray. cond (isChangedRay spec g c log ray) 1 0) entriesOf (rayCount g) changed-le,
   )
 
   -- no log changes more rays than it has entries, or than there are
   pub rays-allowed : {a : ℕ} → (entryCount log ≤ a) ⊎ (rayCount g ≤ a) → changedRayCount g (rayLists spec g c) (entries log) ≤ a
   rays-allowed (inl h) = omega (arith, rays-le)
-  rays-allowed (inr h) = omega (arith, changed-is, at-most-all (rayChangeCount spec g c log) (rayCount g))
+  rays-allowed (inr h) = omega (arith, changed-is, at-most-all (isChangedRay spec g c log) (rayCount g))
 
   pub thrice : sumBelow (λ ray. pairsOf spec c ray + 3 * entriesOf ray) (rayCount g) ≡ intervals + 3 * entryCount log
   thrice = sum-plus (pairsOf spec c) (λ ray. 3 * entriesOf ray) (rayCount g)

@@ -11,7 +11,7 @@ use Rattle.grid.specs.declared.DexelStockSpec.{DexelStockSpec}
 use Rattle.grid.specs.declared.DexelGrid.{DexelGrid}
 use Rattle.log_model.specs.Logs.{entryCount}
 use Rattle.log_keys.specs.Keys.{losesOf}
-use Rattle.log_count.specs.Totals.{Countable, Prefixed, sumBelow, pairsOf, leftOf, rayChangeCount}
+use Rattle.log_count.specs.Totals.{Countable, Prefixed, sumBelow, pairsOf, leftOf, isChangedRay}
 use Rattle.log_count.specs.Steps.{ListCounted, CountPre, AddRayPre, AddRayPost}
 use Rattle.log_count.specs.declared.ListCount.{ListCount}
 use Rattle.log_count.specs.declared.RayTotals.{RayTotals}
@@ -40,8 +40,8 @@ module _ {spec : DexelStockSpec} {g : DexelGrid} {c : Cells} {log : List Float} 
       let most = left-fits ok ray (a .inside) in
       ap₂ _+_ (possible .after ∙ mod-eq-of-lt (omega arith)) (certain .after ∙ mod-eq-of-lt (omega arith))
 
-  changes-is : (p .changes || q .changes) ≡ rayChangeCount spec g c log ray
-  unfolding rayChangeCount
+  changes-is : (p .changes || q .changes) ≡ isChangedRay spec g c log ray
+  unfolding isChangedRay
   changes-is = ap₂ _||_ (possible .changes) (certain .changes)
 
   -- ---- sums up to it
@@ -64,7 +64,7 @@ module _ {spec : DexelStockSpec} {g : DexelGrid} {c : Cells} {log : List Float} 
       let total = total-is ok in
       let most = total-fits ok in
       let few = few-rays ok in
-      let counted = at-most-all (rayChangeCount spec g c log) ray in
+      let counted = at-most-all (isChangedRay spec g c log) ray in
       let pairs = sum-next (pairsOf spec c) ray in
       let left = sum-next (leftOf spec g c log) ray in
       let x = before-is in
@@ -81,7 +81,7 @@ module _ {spec : DexelStockSpec} {g : DexelGrid} {c : Cells} {log : List Float} 
   pub ray-added : (r : RayTotals) → AddRayPost t p q r → Prefixed spec g c log (ray + 1) r
   ray-added r n = record {
     changed = n .changed ∙ ap₂ (λ (k : ℕ) (b : Bool). k + cond b 1 0) (a .prefixed .changed) changes-is
-        ∙ sym (sum-next (λ k. cond (rayChangeCount spec g c log k) 1 0) ray);
+        ∙ sym (sum-next (λ k. cond (isChangedRay spec g c log k) 1 0) ray);
     pairs = omega (
       arith,
       n .pairs,

@@ -48,16 +48,16 @@ leftOf spec g c log ray =
     startsLeft (rayList spec c ray Possible) (losesOf g log ray false) + startsLeft (rayList spec c ray Certain) (losesOf g log ray true)
 
 -- the ray would change
-unfoldable pub rayChangeCount : DexelStockSpec → DexelGrid → Cells → List Float → ℕ → Bool
+unfoldable pub isChangedRay : DexelStockSpec → DexelGrid → Cells → List Float → ℕ → Bool
 unfolding isHitBy hitsOnRay entries
-rayChangeCount spec g c log ray =
+isChangedRay spec g c log ray =
     isHitBy (rayList spec c ray Possible) (losesOf g log ray false) || isHitBy (rayList spec c ray Certain) (losesOf g log ray true)
 
 -- ---- all rays
 
 -- the totals with the rays below `ray` counted: these have the pairs that are left to them, all others those that they have
 pub record Prefixed (spec : DexelStockSpec) (g : DexelGrid) (c : Cells) (log : List Float) (ray : ℕ) (t : RayTotals) : Type 0 where
-  pub changed : t .changed ≡ sumBelow (λ r. cond (rayChangeCount spec g c log r) 1 0) ray
+  pub changed : t .changed ≡ sumBelow (λ r. cond (isChangedRay spec g c log r) 1 0) ray
   pub pairs : t .pairs + sumBelow (pairsOf spec c) ray ≡ sumBelow (pairsOf spec c) (rayCount g) + sumBelow (leftOf spec g c log) ray
 
 -- the rays below `next` are counted, and a buffer of the same size is left

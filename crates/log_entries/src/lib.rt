@@ -1,4 +1,4 @@
-// Reads a log: its entries, and which rays they name. Where an entry lies in a log is known here only.
+// Reads a log: its entries, and which rays they name. A log is read here only; the sweep writes it.
 ghost use mathlib.Core.Path.{_≡_};
 ghost use mathlib.Core.Bool.{true};
 ghost use Prim.Native.Nat.{_+_, _^_, _<_};

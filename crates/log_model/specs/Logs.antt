@@ -71,7 +71,7 @@ unfoldable pub entryRay : DexelGrid → Entry → ℕ
 unfolding rayNumber
 entryRay g e = rayNumber g (worldAxis (wholeOf (e .axis))) (wholeOf (e .index))
 
--- the entry names the ray r
+-- the entry names the ray of this number
 unfoldable pub namesRay : DexelGrid → Entry → (ray : ℕ) → Bool
 unfolding namesSomeRay entryRay
 namesRay g e ray = namesSomeRay g e && eqb (entryRay g e) ray
@@ -91,7 +91,7 @@ unfoldable pub hitHi : HitKind → Entry → Float
 hitHi outer e = e .«outer_hi»
 hitHi inner e = e .«inner_hi»
 
--- the outer or the inner pairs of the entries that name the ray r, as a flat list. Pairs without lo < hi hold no point.
+-- the outer or the inner pairs of the entries that name the ray, as a flat list. Pairs without lo < hi hold no point.
 unfoldable pub hitsOnRay : DexelGrid → List Entry → (ray : ℕ) → HitKind → List Float
 unfolding namesRay hitLo hitHi
 hitsOnRay g [] ray w = []

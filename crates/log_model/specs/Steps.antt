@@ -17,5 +17,6 @@ use lib.ListN.{length}
 abbrev pub ListAfterLog : (g : DexelGrid) → (Ray g → Kind → List Float) → List Entry → Ray g → Kind → List Float → Type 0
 ListAfterLog g lists es r k l = ListOf (setsAfter g (listSets g lists) es r k) l
 
+-- no part of an entry is over
 abbrev pub isWholeLog : List Float → Bool
 isWholeLog log = eqb (length log % 6) 0

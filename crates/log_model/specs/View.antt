@@ -1,19 +1,15 @@
 -- How a run reads a stock: the lent store and its small record, as crate `stock` defines them.
 use mathlib.Core.Path.{_≡_}
-use mathlib.Core.List.{List}
-use Prim.Native.Nat.{ℕ, _+_, _*_, _/_, min}
+use Prim.Native.Nat.{_/_, min}
 use lib.ListN.{length}
-use lib.Ieee.{Float}
 use Rattle.grid.specs.declared.DexelStockSpec.{DexelStockSpec}
 use Rattle.grid.specs.declared.DexelGrid.{DexelGrid}
 use Rattle.grid.specs.declared.GridAnswer.{GridAnswer}
 use Rattle.grid.specs.declared.GridAnswer.the-variants.{Accepted, Refused}
-use Rattle.stock.specs.Stock.{Stock, SoundStock, Kind, Possible, Certain, rayList}
+use Rattle.stock.specs.Stock.{Stock, SoundStock, rayList}
 use Rattle.log_model.specs.Logs.{Commit}
 use Rattle.log_model.specs.Model.{LogAnswer, refused}
 use Rattle.log_model.specs.Runs.{StoreView, CommitStep}
-use Rattle.grid.specs.Rays.{Ray}
-use Rattle.store.specs.Store.{Cells, storeList}
 
 -- the reading that the log commit's contract cites
 abbrev pub lentStore : DexelStockSpec → (g : DexelGrid) → StoreView g

@@ -19,9 +19,10 @@ pub record ExactListOf (s : Float → Bool) (exact l : List Float) : Type 0 wher
   pub list : ListOf s l
   pub ends : l ≡ exact
 
--- a less b; the points in both
+-- l is a less b
 abbrev pub LessOf : List Float → List Float → List Float → Type 0
 LessOf a b l = ExactListOf (less a b) (lessOf a b) l
 
+-- l has the points in both a and b
 abbrev pub CommonOf : List Float → List Float → List Float → Type 0
 CommonOf a b l = ExactListOf (common a b) (commonOf a b) l

@@ -20,9 +20,10 @@ pub record JoinedPart (part : List Float) (limit : ℕ) (spans before after : Li
   pub passedEven : r .passed % 2 ≡ 0
   pub filled : FilledFront (NormalOf part) before limit after (r .end)
 
--- the part is the first `passed` ends; those from `passed` on
+-- of the first `passed` ends
 abbrev pub JoinedFromFront : List Float → List Float → List Float → Place → Type 0
 JoinedFromFront spans before after r = JoinedPart (take (r .passed) spans) (r .passed) spans before after r
 
+-- of the ends from `passed` on
 abbrev pub JoinedFromBack : List Float → List Float → List Float → Place → Type 0
 JoinedFromBack spans before after r = JoinedPart (drop (r .passed) spans) (length spans - r .passed) spans before after r

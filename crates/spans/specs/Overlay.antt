@@ -1,5 +1,6 @@
--- What a list leaves of another and what two lists have in common, end by end: which end is taken at a tie is settled, and so the sign of a
--- zero. `less-list` and `common-list` in proofs show that these are the sound lists of the two point sets.
+-- What a list leaves of another and what two lists have in common, end by end: which end is taken at a tie is settled,
+-- and so the sign of a zero. `less-list` and `common-list` in span_overlay/proofs show that these are the sound lists of
+-- the two point sets.
 use mathlib.Core.Bool.{cond}
 use mathlib.Core.List.{List, [], _∷_, _++_}
 use lib.Ieee.{Float, lt}

@@ -80,6 +80,10 @@ unfoldable pub endsAt : List Float → List ℕ → List Float
 endsAt spans [] = []
 endsAt spans (i ∷ ps) = loAt spans i ∷ hiAt spans i ∷ endsAt spans ps
 
+-- the list whose first record is number k, as a flat list; of an empty list k is zero
+abbrev pub listFrom : ℕ → List Float → List ℕ → ℕ → List Float
+listFrom n spans links k = endsAt spans (places links n k)
+
 -- list j of a store: what commit, volume and the model of a run speak of
 abbrev pub storeList : ℕ → Cells → ℕ → List Float
 storeList n c j = endsAt (c .spans) (placesOf n (c .links) (c .heads) j)
@@ -128,7 +132,3 @@ filledLinks links o (i ∷ ps) = filledLinks (putLink links i (headOf ps) o) o p
 unfoldable pub filledSpans : List Float → List ℕ → List Float → List Float
 filledSpans spans [] pairs = spans
 filledSpans spans (i ∷ ps) pairs = filledSpans (putSpan spans i (getD pairs 0 nan) (getD pairs 1 nan)) ps (drop 2 pairs)
-
--- the list whose first record is number k, as a flat list; of an empty list k is zero
-abbrev pub listFrom : ℕ → List Float → List ℕ → ℕ → List Float
-listFrom n spans links k = endsAt spans (places links n k)

@@ -4,7 +4,7 @@ use mathlib.Core.List.{List, [], _∷_}
 use Prim.Native.Nat.{ℕ, suc, _+_, _-_, _*_, _/_}
 use lib.ListN.{length, take, drop, set}
 use lib.Ieee.{Float}
-use Rattle.store.specs.Store.{placesOf, endsAt, freedSpans, freedLinks, freeFrom, filledSpans, filledLinks, headOf, Cells}
+use Rattle.store.specs.Store.{placesOf, freedSpans, freedLinks, freeFrom, filledSpans, filledLinks, headOf, Cells}
 
 -- a list and the ends that it is to hold
 pub record Update : Type 0 where
@@ -56,7 +56,7 @@ unfoldable pub applied : ℕ → Cells → List Update → Cells
 unfolding freedAll laidAll
 applied n c us = laidAll n (freedAll n c us) us
 
--- ---- how many records
+-- ---- what the updates count, and what they leave alone
 -- how many records the lists to be updated have, and how many the updates take
 unfoldable pub pairsFreed : ℕ → Cells → List Update → ℕ
 pairsFreed n c [] = 0
