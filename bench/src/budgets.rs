@@ -9,7 +9,11 @@ use crate::{
     sweep,
     timing::seconds,
 };
-use harness::{Pair, generate::Gen};
+use harness::{
+    Pair,
+    against::{Deciding, from_above, from_below, from_both, of_groups, of_three},
+    generate::Gen,
+};
 use oracle::dexel::opened::sweep::Entry;
 
 const REPETITIONS: usize = 5;
@@ -27,6 +31,8 @@ const FEW_IN_TURN: Limits = [3.5, 10.];
 const FEW_LONG_IN_TURN: Limits = [3.5, 20.];
 const ONE_OR_TWO: Limits = [8., 40.];
 const ONE_IN_NO_ORDER: Limits = [10., 40.];
+/// made against the way in which a stretch is ended
+const AGAINST: Limits = [30., 300.];
 const ONE_ENTRY: Limits = [2., 2.];
 
 type Lists = Box<dyn Fn(usize, usize) -> [Vec<Pair>; 2]>;
@@ -100,10 +106,15 @@ pub fn scattered(n: usize, cells: f64) -> Vec<Entry> {
     (0..n).map(|_| one()).collect()
 }
 
-/// n hits on one ray in no order, each of which leaves a pair.
-pub fn on_one_ray(n: usize) -> Vec<Entry> {
+/// Hits on one ray, each of which leaves a pair.
+fn hits(list: impl IntoIterator<Item = Pair>) -> Vec<Entry> {
     let hit = |s: Pair| Entry { axis: 0, index: 0, outer: [s[0] / 4., s[1] / 4.], inner: Some([s[0] / 4., s[1] / 4.]) };
-    shuffled(ascending(n, 1.)).into_iter().map(hit).collect()
+    list.into_iter().map(hit).collect()
+}
+
+/// n of them in no order.
+pub fn on_one_ray(n: usize) -> Vec<Entry> {
+    hits(shuffled(ascending(n, 1.)))
 }
 
 /// On an uncut box of these cells along each axis.
@@ -138,7 +149,11 @@ fn cases(n: usize) -> Vec<Case> {
     let in_turn = |what, limits, rays| on_long(what, limits, n, rays, move || apart(n, |i| i % rays));
     let few = |what, rays| in_turn(what, if n / rays > 3_072 { FEW_LONG_IN_TURN } else { FEW_IN_TURN }, rays);
     let half = n as f64 / 2. + 1.;
-    let one_in_no_order = Box::new(move || on_one_ray(n));
+    let one = |what, limits, log: Log| Case { what, limits, max: [half; 3], cell: half, lists: full([half; 3]), log };
+    let against = |what, limits, order: fn(usize, Deciding) -> Vec<usize>, deciding| {
+        let list = ascending(n, 1.);
+        one(what, limits, Box::new(move || hits(order(n, deciding).into_iter().map(|k| list[k]))))
+    };
     vec![
         passes("ball-cutter pass", 1, n, 145_708),
         passes("ten ball-cutter passes", 10, n.min(828_920), 828_920),
@@ -157,14 +172,11 @@ fn cases(n: usize) -> Vec<Case> {
         in_turn("2 rays in turn", ONE_OR_TWO, 2),
         on_comb("one ray of as many pairs", ONE_OR_TWO, n, move || apart(n, |_| 0)),
         on_comb("one ray, hits between as many pairs", ONE_OR_TWO, n, move || between(n)),
-        Case {
-            what: "one ray, hits in no order",
-            limits: ONE_IN_NO_ORDER,
-            max: [half; 3],
-            cell: half,
-            lists: full([half; 3]),
-            log: one_in_no_order,
-        },
+        one("one ray, hits in no order", ONE_IN_NO_ORDER, Box::new(move || on_one_ray(n))),
+        against("one ray, made against one of three", ONE_IN_NO_ORDER, from_below, of_three),
+        against("one ray, made against the groups", AGAINST, from_below, of_groups),
+        against("one ray, made for many cuts", AGAINST, from_above, of_groups),
+        against("one ray, made for both", AGAINST, from_both, of_groups),
         on_comb("one entry, one ray of as many pairs", ONE_ENTRY, n, || apart(1, |_| 0)),
     ]
 }

@@ -175,9 +175,9 @@ module _ (spec : DexelStockSpec) (g : DexelGrid) (c : Cells) (changes : List ℕ
             ∙ sym (freed-two (spec .«max_intervals») c (p .done) (possibleOf k (p .at)) (certainOf k (p .at)));
       }
 
-    pub freed-whole : (k : ℕ) (d : Cells) → FreedTo k d → length changes / 6 ≤ k
+    pub freed-end : (k : ℕ) (d : Cells) → FreedTo k d → length changes / 6 ≤ k
         → d ≡ freedAll (spec .«max_intervals») c (updatesIn g changes pairs)
-    freed-whole k d p l = p .is ∙ ap (freedAll (spec .«max_intervals») c) (sym (through-all k (p .at) (p .done) (p .through) l))
+    freed-end k d p l = p .is ∙ ap (freedAll (spec .«max_intervals») c) (sym (through-all k (p .at) (p .done) (p .through) l))
 
     pub all-freed : FreedAll (spec .«max_intervals») (2 * rayCount g) total c (updatesIn g changes pairs)
         (freedAll (spec .«max_intervals») c (updatesIn g changes pairs))
@@ -266,9 +266,9 @@ module _ (spec : DexelStockSpec) (g : DexelGrid) (c : Cells) (changes : List ℕ
             cursor = w .onward;
           })
 
-    pub laid-whole : (k at r : ℕ) (d : Cells) → LaidTo k at r d → length changes / 6 ≤ k
+    pub laid-end : (k at r : ℕ) (d : Cells) → LaidTo k at r d → length changes / 6 ≤ k
         → d ≡ laidAll (spec .«max_intervals») freed (updatesIn g changes pairs)
-    laid-whole k at r d p l = p .is ∙ ap (laidAll (spec .«max_intervals») freed) (sym (through-all k at (p .done) (p .through) l))
+    laid-end k at r d p l = p .is ∙ ap (laidAll (spec .«max_intervals») freed) (sym (through-all k at (p .done) (p .through) l))
 
     pub all-laid : LaidAll (spec .«max_intervals») (2 * rayCount g)
         (total - pairsFreed (spec .«max_intervals») c (updatesIn g changes pairs)) freed (updatesIn g changes pairs)

@@ -1,20 +1,19 @@
 -- What the passes over a change list ask and leave.
 use mathlib.Core.Path.{_≡_}
 use mathlib.Core.List.{List}
-use Prim.Native.Nat.{ℕ, _+_, _-_, _*_, _≤_}
+use Prim.Native.Nat.{ℕ, _+_, _-_, _≤_}
 use lib.Ieee.{Float}
-use Rattle.grid.specs.Rays.{rayCount}
 use Rattle.grid.specs.declared.DexelStockSpec.{DexelStockSpec}
 use Rattle.grid.specs.declared.DexelGrid.{DexelGrid}
 use Rattle.store.specs.Updates.{freedAll, pairsFreed, pairsLaid}
 use Rattle.stock.specs.Stock.{SoundCells}
 use Rattle.change_list.specs.Changes.{changesOf, AllGood, updatesIn}
-use Rattle.store.specs.Steps.{Room}
+use Rattle.stock.specs.Steps.{StockRoom}
 use Rattle.store.specs.Store.{Cells}
 
 -- good changes of a sound store with that total, which stay within the budget
 pub record ChangesFit (spec : DexelStockSpec) (g : DexelGrid) (c : Cells) (total : ℕ) (changes : List ℕ) (pairs : List Float) : Type 0 where
-  pub room : Room (spec .«max_intervals») (2 * rayCount g) c
+  pub room : StockRoom spec g c
   pub isSound : SoundCells spec g c total
   pub good : AllGood spec g c pairs 0 (changesOf changes pairs)
   pub budget : total - pairsFreed (spec .«max_intervals») c (updatesIn g changes pairs)

@@ -13,9 +13,8 @@ use Rattle.change_list.specs.declared.ChangeHead.{ChangeHead}
 use Rattle.change_list.specs.declared.ChangeCursor.{ChangeCursor}
 use Rattle.change_list.specs.declared.ChangeCheck.{ChangeCheck}
 use Rattle.change_list.specs.declared.ChangeCheck.the-variants.{Next, Bad}
-use Rattle.grid.specs.Rays.{rayCount}
 use Rattle.stock.specs.Stock.{SoundCells}
-use Rattle.store.specs.Steps.{Room}
+use Rattle.stock.specs.Steps.{StockRoom}
 use Rattle.store.specs.Store.{Cells}
 
 -- how many pairs the four lists of a change have
@@ -58,6 +57,6 @@ CheckChangesPost spec g c pairs ds (Next n) =
 
 -- the store has room and is sound
 pub record SoundWithRoom (spec : DexelStockSpec) (g : DexelGrid) (c : Cells) : Type 0 where
-  pub room : Room (spec .«max_intervals») (2 * rayCount g) c
+  pub room : StockRoom spec g c
   pub total : ℕ
   pub isSound : SoundCells spec g c total

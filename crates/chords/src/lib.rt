@@ -50,8 +50,8 @@ fn ends_fit(chords: &[f64], i: usize) -> bool
     ensures { λ r. ⌜ r ≡ endsFit (now (chords .entry)) i ⌝ }
 {
     let k = 8 * i;
-    if grid::all_within(point_at(chords, k), -2e6, 2e6) {
-        return grid::all_within(point_at(chords, k + 3), -2e6, 2e6);
+    if grid::all_between(point_at(chords, k), -2e6, 2e6) {
+        return grid::all_between(point_at(chords, k + 3), -2e6, 2e6);
     }
     false
 }
@@ -69,13 +69,13 @@ fn length_fits(c: Chord) -> bool
     ensures { λ r. ⌜ r ≡ lengthFits c ⌝ }
 {
     let s = plan_size(c);
-    grid::is_within(c.length, s, 2.0 * s)
+    grid::is_between(c.length, s, 2.0 * s)
 }
 
 fn numbers_fit(c: Chord) -> bool
     ensures { λ r. ⌜ r ≡ numbersFit c ⌝ }
 {
-    if grid::is_within(c.e, 0.0, 1e3) {
+    if grid::is_between(c.e, 0.0, 1e3) {
         return length_fits(c);
     }
     false

@@ -124,9 +124,9 @@ module _ (spec : DexelStockSpec) (g : DexelGrid) (s : Stock) (changes : List ℕ
         unfolding Due
         other-base h = inr (not-short, inr (not-unsound, inl (h, refl)))
 
-        pub list-verdict : base ≡ s .generation → (r : ChangeVerdict)
+        pub verdict-of-list : base ≡ s .generation → (r : ChangeVerdict)
             → VerdictBy (changeListCauses spec g s changes pairs) spec g s changes pairs r
             → VerdictBy (changeCauses spec g base s changes pairs) spec g s changes pairs r
         unfolding Due NoneDue
-        list-verdict e (Refused k) d = inr (not-short, inr (not-unsound, inr ((λ (ne : base ≡ s .generation → ⊥). ne e), d)))
-        list-verdict e (Fits t) d = ((not-short, (not-unsound, ((λ (ne : base ≡ s .generation → ⊥). ne e), d .0))), d .1, d .2)
+        verdict-of-list e (Refused k) d = inr (not-short, inr (not-unsound, inr ((λ (ne : base ≡ s .generation → ⊥). ne e), d)))
+        verdict-of-list e (Fits t) d = ((not-short, (not-unsound, ((λ (ne : base ≡ s .generation → ⊥). ne e), d .0))), d .1, d .2)

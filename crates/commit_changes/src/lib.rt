@@ -24,7 +24,7 @@ pub enum ChangeVerdict {
 }
 
 // Finds whether changes of a sound store are refused: 13, 10, 15.
-fn judge_list(
+fn list_verdict(
     generation: u64,
     intervals: u64,
     spec: DexelStockSpec,
@@ -63,7 +63,7 @@ fn judge_list(
 }
 
 // Finds whether a change list is refused, once the grid is accepted: 12, 11, 14, 13, 10, 15.
-fn judge(
+fn grid_verdict(
     generation: u64,
     intervals: u64,
     spec: DexelStockSpec,
@@ -95,7 +95,7 @@ fn judge(
     if base != generation {
         return ChangeVerdict::Refused(14);
     }
-    judge_list(
+    list_verdict(
         generation,
         intervals,
         spec,
@@ -126,7 +126,7 @@ fn commit_grid(
         (stock (now (spans .entry)) (now (links .entry)) (now (heads .entry)) generation intervals)
         (stock (now (spans .exit)) (now (links .exit)) (now (heads .exit)) (r .generation) (r .intervals)) (r .answer) ⌝ }
 {
-    match judge(
+    match grid_verdict(
         generation,
         intervals,
         spec,

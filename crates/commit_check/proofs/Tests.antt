@@ -20,11 +20,11 @@ use Rattle.grid.specs.declared.DexelGrid.{DexelGrid}
 use Rattle.stock.specs.Stock.{Stock, SoundStock, isShort, Kind, rayLists}
 use Rattle.stock.proofs.Causes.{room-of}
 use Rattle.log_model.specs.Logs.{entries, WholeLog, workNeeded, commitOf}
-use Rattle.log_model.specs.Model.{LogBuffersShort, LogInputBad, logCommitCauses}
+use Rattle.log_model.specs.Model.{LogBuffersShort, LogInputBad, TooManyRays, TooManyIntervals, logCommitCauses}
 use Rattle.log_model.specs.Counts.{changedRayCount, pairsAfter}
 use Rattle.log_model.specs.Runs.{pointSets}
 use Rattle.log_model.specs.View.{lentStore}
-use Rattle.log_model.proofs.Decided.{rays-by, intervals-by}
+use Rattle.log_model.proofs.Decided.{DecidedBy, rays-by, intervals-by}
 use Rattle.log_model.proofs.Doubles.{Doubles}
 use Rattle.log_model.proofs.View.{lent-laws}
 use Rattle.log_entries.specs.Named.{EachNamed, NamesAll}
@@ -35,7 +35,7 @@ use Rattle.log_budget.specs.declared.BudgetAnswer.the-variants.{Kept, Rays, Int
 use Rattle.commit_check.specs.Tests.{LogChecked, stockLogCauses, LogCheckPost}
 use Rattle.logic.specs.Logic.{Decides}
 use Rattle.store.specs.Steps.{Room}
-use Rattle.log_model.specs.Steps.{isWholeLog}
+use Rattle.log_model.specs.Steps.{WorkRoom, isWholeLog}
 
 -- ---- what `budget` says
 module _ (a n c l : ℕ) where
@@ -101,7 +101,7 @@ module _ (spec : DexelStockSpec) (g : DexelGrid) (s : Stock) (log : List Float) 
       ]
 
   enough : Room (spec .«max_intervals») (2 * rayCount g) (s .cells)
-      → workNeeded (spec .«max_intervals») log ≤ length work / 2
+      → WorkRoom (spec .«max_intervals») log work
       → ¬ LogBuffersShort spec g (lentStore spec g .lent s) (commitOf log allowance work)
   unfolding LogBuffersShort
   enough room w (inl h) = min-both (length (s .cells .spans) / 2) (length (s .cells .links) / 2)
@@ -118,6 +118,23 @@ module _ (spec : DexelStockSpec) (g : DexelGrid) (s : Stock) (log : List Float) 
   lists : SoundStock spec g s → (r : Ray g) (k : Kind) → ListOf (pointSets g (lentStore spec g) s r k) (rayLists spec g (s .cells) r k)
   unfolding pointSets
   lists sound r k = record { isSound = lent-laws spec g .sound-list s sound r k; points = λ p. refl }
+
+  -- the rays that the log changes, and the pairs that it leaves, counted over the lists
+  abbrev rays : ℕ
+  rays = changedRayCount g (rayLists spec g (s .cells)) (entries log)
+
+  abbrev left : ℕ
+  left = pairsAfter g (rayLists spec g (s .cells)) (entries log)
+
+  module _ (sound : SoundStock spec g s) (d : Doubles g (rayLists spec g (s .cells)) (entries log)) where
+    over-allowance : DecidedBy (TooManyRays g (pointSets g (lentStore spec g) s) (commitOf log allowance work)) (ltb allowance rays)
+    over-allowance = rays-by spec g (lentStore spec g .lent s) (pointSets g (lentStore spec g) s) (rayLists spec g (s .cells)) (lists sound)
+        (s .generation) (commitOf log allowance work) d
+
+    over-budget : DecidedBy (TooManyIntervals spec g (pointSets g (lentStore spec g) s) (commitOf log allowance work))
+        (ltb (spec .«max_intervals») left)
+    over-budget = intervals-by spec g (lentStore spec g .lent s) (pointSets g (lentStore spec g) s) (rayLists spec g (s .cells))
+        (lists sound) (s .generation) (commitOf log allowance work) d
 
   refused-by : (k : ℕ) → Due (stockLogCauses spec g s (commitOf log allowance work)) (suc k)
       → LogCheckPost spec g s log allowance work (suc k)
@@ -137,14 +154,14 @@ module _ (spec : DexelStockSpec) (g : DexelGrid) (s : Stock) (log : List Float) 
   room-of-test r e h = room-of spec g (s .cells) (sym e ∙ h)
 
   pub work-of-test : (r : Bool) → r ≡ ltb (length work / 2) (workNeeded (spec .«max_intervals») log) → r ≡ false
-      → workNeeded (spec .«max_intervals») log ≤ length work / 2
+      → WorkRoom (spec .«max_intervals») log work
   work-of-test r e h = ltb-false _ _ (sym e ∙ h)
 
   pub whole-of-test : (r : Bool) → r ≡ isWholeLog log → not r ≡ false → WholeLog log
   whole-of-test r e h = eqb-true _ _ (sym e ∙ not-false r h)
 
   module _ (room : Room (spec .«max_intervals») (2 * rayCount g) (s .cells))
-      (w : workNeeded (spec .«max_intervals») log ≤ length work / 2) where
+      (w : WorkRoom (spec .«max_intervals») log work) where
     -- 11: part of an entry is over, or the store is not sound
     pub part-due : (r : Bool) → r ≡ isWholeLog log → not r ≡ true → LogCheckPost spec g s log allowance work 11
     unfolding logCommitCauses Due LogInputBad
@@ -173,62 +190,30 @@ module _ (spec : DexelStockSpec) (g : DexelGrid) (s : Stock) (log : List Float) 
         named-of-test r t h = t .yes (not-false r h)
 
         module _ (named : EachNamed g log) where
-          same-rays : changedRayCount g (rayLists spec g (s .cells)) (entries log)
-              ≡ changedRayCount g (rayLists spec g (s .cells)) (entries log)
-          same-rays = refl
-
-          same-pairs : pairsAfter g (rayLists spec g (s .cells)) (entries log) ≡ pairsAfter g (rayLists spec g (s .cells)) (entries log)
-          same-pairs = refl
-
-          module _ (b : BudgetAnswer) (e : budgetNumber b ≡ budgetOf allowance (spec .«max_intervals»)
-              (changedRayCount g (rayLists spec g (s .cells)) (entries log))
-              (pairsAfter g (rayLists spec g (s .cells)) (entries log))) where
+          module _ (b : BudgetAnswer) (e : budgetNumber b ≡ budgetOf allowance (spec .«max_intervals») rays left) where
             -- 9: more rays change than are allowed
             pub rays-due : Doubles g (rayLists spec g (s .cells)) (entries log) → b ≡ Rays → LogCheckPost spec g s log allowance work 9
             unfolding logCommitCauses Due
-            rays-due o h =
-                let t = rays-passed allowance (spec .«max_intervals») (changedRayCount g (rayLists spec g (s .cells)) (entries log))
-                (pairsAfter g (rayLists spec g (s .cells)) (entries log)) (sym (ap budgetNumber h) ∙ e) in
-                let d = rays-by spec g (lentStore spec g .lent s) (pointSets g (lentStore spec g) s)
-                (rayLists spec g (s .cells)) (lists sound)
-                (s .generation) (commitOf log allowance work) o in
+            rays-due d h =
+                let t = rays-passed allowance (spec .«max_intervals») rays left (sym (ap budgetNumber h) ∙ e) in
                 refused-by 8 (inr (
                   enough room w,
-                  inr (
-                    good whole sound,
-                    inr (
-                      below,
-                      inr (each-no g log named, inl (d .0 (ap (ltb allowance) (sym same-rays) ∙ t), refl)),
-                    ),
-                  ),
+                  inr (good whole sound, inr (below, inr (each-no g log named, inl (over-allowance sound d .0 t, refl)))),
                 ))
 
             -- 10: more intervals than the budget
             pub intervals-due : Doubles g (rayLists spec g (s .cells)) (entries log) → b ≡ Intervals
                 → LogCheckPost spec g s log allowance work 10
             unfolding logCommitCauses Due
-            intervals-due o h =
-                let t = intervals-passed allowance (spec .«max_intervals») (changedRayCount g (rayLists spec g (s .cells)) (entries log))
-                (pairsAfter g (rayLists spec g (s .cells)) (entries log)) (sym (ap budgetNumber h) ∙ e) in
-                let d = rays-by spec g (lentStore spec g .lent s) (pointSets g (lentStore spec g) s)
-                (rayLists spec g (s .cells)) (lists sound)
-                (s .generation) (commitOf log allowance work) o in
-                let i = intervals-by spec g (lentStore spec g .lent s) (pointSets g (lentStore spec g) s)
-                (rayLists spec g (s .cells)) (lists sound)
-                (s .generation) (commitOf log allowance work) o in
+            intervals-due d h =
+                let t = intervals-passed allowance (spec .«max_intervals») rays left (sym (ap budgetNumber h) ∙ e) in
                 refused-by 9 (inr (
                   enough room w,
                   inr (
                     good whole sound,
                     inr (
                       below,
-                      inr (
-                        each-no g log named,
-                        inr (
-                          d .1 (ap (ltb allowance) (sym same-rays) ∙ t .0),
-                          inl (i .0 (ap (ltb (spec .«max_intervals»)) (sym same-pairs) ∙ t .1), refl),
-                        ),
-                      ),
+                      inr (each-no g log named, inr (over-allowance sound d .1 (t .0), inl (over-budget sound d .0 (t .1), refl))),
                     ),
                   ),
                 ))
@@ -236,8 +221,7 @@ module _ (spec : DexelStockSpec) (g : DexelGrid) (s : Stock) (log : List Float) 
             -- every test is passed
             pub all-passed : s .generation < 2 ^ 64 → b ≡ Kept → LogCheckPost spec g s log allowance work 0
             all-passed fits h =
-                let t = both-kept allowance (spec .«max_intervals») (changedRayCount g (rayLists spec g (s .cells)) (entries log))
-                (pairsAfter g (rayLists spec g (s .cells)) (entries log)) (sym (ap budgetNumber h) ∙ e) in
+                let t = both-kept allowance (spec .«max_intervals») rays left (sym (ap budgetNumber h) ∙ e) in
                 record {
                   passed = λ z. record {
                     room = room;
@@ -246,11 +230,8 @@ module _ (spec : DexelStockSpec) (g : DexelGrid) (s : Stock) (log : List Float) 
                     sound = sound;
                     below = under (s .generation) fits below;
                     named = named;
-                    few-rays = ltb-false allowance (changedRayCount g (rayLists spec g (s .cells)) (entries log))
-                        (ap (ltb allowance) (sym same-rays) ∙ t .0);
-                    few-pairs = ltb-false (spec .«max_intervals»)
-                        (pairsAfter g (rayLists spec g (s .cells)) (entries log))
-                        (ap (ltb (spec .«max_intervals»)) (sym same-pairs) ∙ t .1);
+                    few-rays = ltb-false allowance rays (t .0);
+                    few-pairs = ltb-false (spec .«max_intervals») left (t .1);
                   };
                   due = λ ne. absurd (ne refl);
                 }
@@ -262,31 +243,22 @@ module _ (spec : DexelStockSpec) (g : DexelGrid) (s : Stock) (log : List Float) 
   pub passes-none : Doubles g (rayLists spec g (s .cells)) (entries log) → LogChecked spec g s log allowance work
       → NoneDue (stockLogCauses spec g s (commitOf log allowance work))
   unfolding logCommitCauses NoneDue
-  passes-none o p =
-      let d = rays-by spec g (lentStore spec g .lent s) (pointSets g (lentStore spec g) s) (rayLists spec g (s .cells)) (lists (p .sound))
-      (s .generation) (commitOf log allowance work) o in
-      let i = intervals-by spec g (lentStore spec g .lent s) (pointSets g (lentStore spec g) s)
-      (rayLists spec g (s .cells)) (lists (p .sound))
-      (s .generation) (commitOf log allowance work) o in (
-        enough (p .room) (p .work-room),
+  passes-none d p = (
+    enough (p .room) (p .work-room),
+    (
+      good (p .whole) (p .sound),
+      (
+        (λ z. under (s .generation) (p .below) z),
         (
-          good (p .whole) (p .sound),
+          each-no g log (p .named),
           (
-            (λ z. under (s .generation) (p .below) z),
-            (
-              each-no g log (p .named),
-              (
-                d .1 (le-ltb allowance (changedRayCount g (rayLists spec g (s .cells)) (entries log)) (p .few-rays)),
-                (
-                  i .1 (le-ltb (spec .«max_intervals») (pairsAfter g (rayLists spec g (s .cells)) (entries log))
-                      (p .few-pairs)),
-                  tt,
-                ),
-              ),
-            ),
+            over-allowance (p .sound) d .1 (le-ltb allowance rays (p .few-rays)),
+            (over-budget (p .sound) d .1 (le-ltb (spec .«max_intervals») left (p .few-pairs)), tt),
           ),
         ),
-      )
+      ),
+    ),
+  )
     where
       under : (n : ℕ) → n < 2 ^ 64 - 1 → n ≡ 2 ^ 64 - 1 → ⊥
       under n h e = omega arith

@@ -1,15 +1,15 @@
 -- The tests of a log commit, and the number that is due where one is not passed.
 use mathlib.Core.Path.{_≡_}
 use mathlib.Core.List.{List}
-use Prim.Native.Nat.{ℕ, _-_, _*_, _/_, _^_, _≤_, _<_}
-use lib.ListN.{length}
+use Prim.Native.Nat.{ℕ, _-_, _*_, _^_, _≤_, _<_}
 use lib.Ieee.{Float}
 use Rattle.grid.specs.Rays.{rayCount}
 use Rattle.grid.specs.declared.DexelStockSpec.{DexelStockSpec}
 use Rattle.grid.specs.declared.DexelGrid.{DexelGrid}
 use Rattle.stock.specs.Stock.{Stock, SoundStock, rayLists}
 use Rattle.refusal.specs.Refusal.{Cause, Due}
-use Rattle.log_model.specs.Logs.{entries, WholeLog, workNeeded, Commit, commitOf}
+use Rattle.log_model.specs.Logs.{entries, WholeLog, Commit, commitOf}
+use Rattle.log_model.specs.Steps.{WorkRoom}
 use Rattle.log_model.specs.Model.{logCommitCauses}
 use Rattle.log_model.specs.Counts.{changedRayCount, pairsAfter}
 use Rattle.log_model.specs.Runs.{pointSets}
@@ -21,7 +21,7 @@ use Rattle.store.specs.Steps.{Room}
 pub record LogChecked (spec : DexelStockSpec) (g : DexelGrid) (s : Stock) (log : List Float) (allowance : ℕ)
     (work : List Float) : Type 0 where
   pub room : Room (spec .«max_intervals») (2 * rayCount g) (s .cells)
-  pub work-room : workNeeded (spec .«max_intervals») log ≤ length work / 2
+  pub work-room : WorkRoom (spec .«max_intervals») log work
   pub whole : WholeLog log
   pub sound : SoundStock spec g s
   pub below : s .generation < 2 ^ 64 - 1

@@ -10,14 +10,14 @@
 // row that differs.
 use stock::CommitAnswer;
 use stock::Outcome;
+use stock::Tally;
 
 // The store of a run and its small record.
 struct Store {
     spans: [f64; 30],
     links: [u64; 30],
     heads: [u64; 12],
-    generation: u64,
-    intervals: u64,
+    tally: Tally,
 }
 
 // Whether a row agrees, and the store that it leaves.
@@ -30,8 +30,7 @@ struct Shown {
 // stand from 94 and from 130 on.
 fn changes_in(
     w: &[u64; 170],
-    generation: u64,
-    intervals: u64,
+    tally: Tally,
     spans: &mut [f64],
     links: &mut [u64],
     heads: &mut [u64],
@@ -42,8 +41,8 @@ fn changes_in(
     let mut pairs = [0.0; 40];
     vector_rows::doubles_at(w, 130, &mut pairs);
     commit_changes::commit_changes_on(
-        generation,
-        intervals,
+        tally.generation,
+        tally.intervals,
         vector_rows::spec_at(w, 1, 3),
         &units,
         spans,
@@ -59,22 +58,21 @@ fn changes_in(
 // the work buffer.
 fn commit_on(
     w: &[u64; 170],
-    generation: u64,
-    intervals: u64,
+    tally: Tally,
     spans: &mut [f64],
     links: &mut [u64],
     heads: &mut [u64],
     work: &mut [f64],
 ) -> Outcome {
     if w[0] == 0 {
-        return changes_in(w, generation, intervals, spans, links, heads);
+        return changes_in(w, tally, spans, links, heads);
     }
     let units = vector_rows::units_of(w[2]);
     let mut log = [0.0; 36];
     vector_rows::doubles_at(w, 94, &mut log);
     commit_log::commit_log_on(
-        generation,
-        intervals,
+        tally.generation,
+        tally.intervals,
         vector_rows::spec_at(w, 1, 3),
         &units,
         spans,
@@ -149,8 +147,7 @@ fn commit_step(w: &[u64; 170], s: Store) -> Shown {
     let mut work = [7.0; 404];
     let o = commit_on(
         w,
-        s.generation,
-        s.intervals,
+        s.tally,
         vector_rows::first_mut(&mut spans, w[12] as usize),
         vector_rows::first_numbers_mut(&mut links, w[13] as usize),
         vector_rows::first_numbers_mut(&mut heads, w[14] as usize),
@@ -166,8 +163,10 @@ fn commit_step(w: &[u64; 170], s: Store) -> Shown {
             spans,
             links,
             heads,
-            generation: o.generation,
-            intervals: o.intervals,
+            tally: Tally {
+                generation: o.generation,
+                intervals: o.intervals,
+            },
         },
     }
 }
@@ -186,8 +185,10 @@ fn start_step(w: &[u64; 170]) -> Shown {
             spans,
             links,
             heads,
-            generation: w[20],
-            intervals: w[21],
+            tally: Tally {
+                generation: w[20],
+                intervals: w[21],
+            },
         },
     }
 }
@@ -211,8 +212,10 @@ fn no_store() -> Store {
         spans: [0.0; 30],
         links: [0; 30],
         heads: [0; 12],
-        generation: 0,
-        intervals: 0,
+        tally: Tally {
+            generation: 0,
+            intervals: 0,
+        },
     }
 }
 

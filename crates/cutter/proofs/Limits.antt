@@ -21,21 +21,21 @@ use Rattle.cutter.specs.Steps.{withinLimits, isBeam}
 
 -- ---- the beam
 
-pub beam-told : (shape : CutterShape) → isBeam shape ≡ true → shape ≡ Beam
+pub isBeam→beam : (shape : CutterShape) → isBeam shape ≡ true → shape ≡ Beam
 unfolding isBeam
-beam-told Flat h = absurd (true≢false (sym h))
-beam-told Ball h = absurd (true≢false (sym h))
-beam-told (Bull corner) h = absurd (true≢false (sym h))
-beam-told (Drill angle) h = absurd (true≢false (sym h))
-beam-told (Chamfer angle tip) h = absurd (true≢false (sym h))
-beam-told Beam h = refl
-beam-told Probe h = absurd (true≢false (sym h))
-beam-told Lollipop h = absurd (true≢false (sym h))
-beam-told (Dovetail angle) h = absurd (true≢false (sym h))
+isBeam→beam Flat h = absurd (true≢false (sym h))
+isBeam→beam Ball h = absurd (true≢false (sym h))
+isBeam→beam (Bull corner) h = absurd (true≢false (sym h))
+isBeam→beam (Drill angle) h = absurd (true≢false (sym h))
+isBeam→beam (Chamfer angle tip) h = absurd (true≢false (sym h))
+isBeam→beam Beam h = refl
+isBeam→beam Probe h = absurd (true≢false (sym h))
+isBeam→beam Lollipop h = absurd (true≢false (sym h))
+isBeam→beam (Dovetail angle) h = absurd (true≢false (sym h))
 
-pub beam-tells : (shape : CutterShape) → shape ≡ Beam → isBeam shape ≡ true
+pub beam→isBeam : (shape : CutterShape) → shape ≡ Beam → isBeam shape ≡ true
 unfolding isBeam
-beam-tells shape e = ap isBeam e
+beam→isBeam shape e = ap isBeam e
 
 -- ---- the limits
 

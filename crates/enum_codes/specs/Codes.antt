@@ -12,18 +12,18 @@ use Rattle.cutter.specs.declared.CutterShape.the-variants.{Flat, Ball, Bull, Dr
 unfoldable pub axisOf : ℕ → Axis
 axisOf n = cond (eqb n 0) PosX (cond (eqb n 1) NegX (cond (eqb n 2) PosY (cond (eqb n 3) NegY (cond (eqb n 4) PosZ NegZ))))
 
--- the first five shapes in the order of their declaration
-unfoldable pub lowShape : ℕ → (m n : Float) → CutterShape
-lowShape kind m n = cond (eqb kind 0) Flat (cond (eqb kind 1) Ball (cond (eqb kind 2) (Bull m) (cond (eqb kind 3) (Drill m) (Chamfer m n))))
-
--- the others; past the last one a shape beyond every limit, so that 6 is due
-unfoldable pub highShape : ℕ → (m : Float) → CutterShape
-highShape kind m = cond (eqb kind 5) Beam
-    (cond (eqb kind 6) Probe (cond (eqb kind 7) Lollipop (cond (eqb kind 8) (Dovetail m) (Dovetail nan))))
-
--- the shape that a number names, from 0
+-- the shapes in the order of their declaration, from 0; past the last one a shape beyond every limit, so that 6 is due
 unfoldable pub namedShape : (kind : ℕ) → (m n : Float) → CutterShape
-namedShape kind m n = cond (ltb kind 5) (lowShape kind m n) (highShape kind m)
+namedShape kind m n =
+    cond (eqb kind 0) Flat
+    (cond (eqb kind 1) Ball
+    (cond (eqb kind 2) (Bull m)
+    (cond (eqb kind 3) (Drill m)
+    (cond (eqb kind 4) (Chamfer m n)
+    (cond (eqb kind 5) Beam
+    (cond (eqb kind 6) Probe
+    (cond (eqb kind 7) Lollipop
+    (cond (eqb kind 8) (Dovetail m) (Dovetail nan)))))))))
 
 -- a number that names no axis makes 6 due too
 unfoldable pub shapeOf : (axis kind : ℕ) → (m n : Float) → CutterShape

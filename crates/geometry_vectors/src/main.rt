@@ -7,7 +7,7 @@
 use cutter::ProfileSlice;
 use cutter::Radius;
 use cutter_check::ToolCheck;
-use strips::Point;
+use strips::PlanePoint;
 use strips::Strip;
 
 struct Answer {
@@ -57,8 +57,8 @@ fn check_answer(t: ToolCheck) -> Answer {
     }
 }
 
-fn point(x: u64, y: u64) -> Point {
-    Point {
+fn point(x: u64, y: u64) -> PlanePoint {
+    PlanePoint {
         x: doubles_bits::of_bits(x),
         y: doubles_bits::of_bits(y),
     }

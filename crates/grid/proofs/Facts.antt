@@ -133,13 +133,6 @@ module _ (s : DexelStockSpec) (p : Passes s (sizesOf s)) (n2 : Crowded s (gridIn
       none true h = absurd (h refl)
       none false h = refl
 
-  boxes : (a : WorldAxis) → lt (alongOf (s .«min_mm») a) (alongOf (s .«max_mm») a) ≡ true
-  boxes a =
-      box (alongOf (s .«min_mm») a) (alongOf (s .«max_mm») a)
-      (sized-finite 1000000 (alongOf (s .«min_mm») a) (min-sized a))
-      (sized-finite 1000000 (alongOf (s .«max_mm») a) (max-sized a))
-      (subst (λ (x : Float). lt x millionth ≡ false) (extent-axis s a) (p .thick a))
-
   total-le : rayCount (gridIn s) ≤ s .«max_rays»
   unfolding Crowded
   total-le = not-lt (s .«max_rays») (rayCount (gridIn s)) (λ l. n2 (inr l))
@@ -162,7 +155,10 @@ module _ (s : DexelStockSpec) (p : Passes s (sizesOf s)) (n2 : Crowded s (gridIn
         total = rays-exact s ceiling few-here total-le;
         min-finite = λ a. sized-finite 1000000 (alongOf (s .«min_mm») a) (min-sized a);
         max-finite = λ a. sized-finite 1000000 (alongOf (s .«max_mm») a) (max-sized a);
-        box = boxes;
+        box = λ a. box (alongOf (s .«min_mm») a) (alongOf (s .«max_mm») a)
+            (sized-finite 1000000 (alongOf (s .«min_mm») a) (min-sized a))
+            (sized-finite 1000000 (alongOf (s .«max_mm») a) (max-sized a))
+            (subst (λ (x : Float). lt x millionth ≡ false) (extent-axis s a) (p .thick a));
         step-finite = steps-finite;
         step-above = λ a. lt-le-trans plusZero millionth (stepAlong (gridIn s) a) micro-above (steps-least a);
       }

@@ -59,7 +59,7 @@ pub struct RayBounds {
     pub hi: f64,
 }
 
-pub fn is_within(x: f64, lo: f64, hi: f64) -> bool
+pub fn is_between(x: f64, lo: f64, hi: f64) -> bool
     ensures { λ r. ⌜ r ≡ isBetween x lo hi ⌝ }
 {
     if lo <= x {
@@ -68,12 +68,12 @@ pub fn is_within(x: f64, lo: f64, hi: f64) -> bool
     false
 }
 
-pub fn all_within(p: Vec3, lo: f64, hi: f64) -> bool
+pub fn all_between(p: Vec3, lo: f64, hi: f64) -> bool
     ensures { λ r. ⌜ r ≡ allBetween p lo hi ⌝ }
 {
-    if is_within(p.x, lo, hi) {
-        if is_within(p.y, lo, hi) {
-            return is_within(p.z, lo, hi);
+    if is_between(p.x, lo, hi) {
+        if is_between(p.y, lo, hi) {
+            return is_between(p.z, lo, hi);
         }
     }
     false

@@ -54,13 +54,13 @@ fn any_bound_off(min: Vec3, max: Vec3, sizes: Vec3) -> bool
     ensures { λ r. ⌜ r ≡ (not (allBetween min (neg million) million)
         || (not (allBetween max (neg million) million) || not (allBetween sizes leastSize million))) ⌝ }
 {
-    if !grid::all_within(min, -1e6, 1e6) {
+    if !grid::all_between(min, -1e6, 1e6) {
         return true;
     }
-    if !grid::all_within(max, -1e6, 1e6) {
+    if !grid::all_between(max, -1e6, 1e6) {
         return true;
     }
-    !grid::all_within(sizes, 1e-5, 1e6)
+    !grid::all_between(sizes, 1e-5, 1e6)
 }
 
 // Whether a budget is out of its limits.

@@ -1,7 +1,7 @@
 // Inner functions under C names, for the oracle and the benchmark only: each is its crate's function of the same name, and asks what
 // that asks. An answer that is an enum comes back as a number or as a struct of numbers.
 ghost use mathlib.Core.Path.{_≡_};
-ghost use Prim.Native.Nat.{_*_, _<_, _^_};
+ghost use Prim.Native.Nat.{_<_, _^_};
 ghost use lib.Ieee.{binary64, ofBits, toBits, toUnsigned};
 ghost use Rattle.logic.specs.Logic.{Decides};
 ghost use Rattle.doubles.specs.Doubles.{largerOf, smallerOf, clampOf, floorOf, ceilOf, absOf};
@@ -17,7 +17,7 @@ ghost use Rattle.inner.specs.Geometry.{stripAs, sliceAs, radiusAs, Check
 ghost use Rattle.grid.specs.Axes.{worldAxis, cellsAlong, crossOf};
 ghost use Rattle.grid.specs.Rays.{rayCount, raysAlong, rayNumber, cellAt};
 ghost use Rattle.grid.specs.Centers.{rayCenterOf, cellBoundOf};
-ghost use Rattle.store.specs.Steps.{Room};
+ghost use Rattle.stock.specs.Steps.{StockRoom};
 ghost use Rattle.store.specs.Store.{cells};
 ghost use Rattle.stock.specs.Stock.{SoundCells};
 ghost use Rattle.ray_text.specs.Run.{ProgramRan};
@@ -29,7 +29,7 @@ use grid::DexelGrid;
 use grid::DexelStockSpec;
 use grid::RayCenter;
 use grid::WorldAxis;
-use strips::Point;
+use strips::PlanePoint;
 use strips::Strip;
 
 // Doubles.
@@ -150,7 +150,12 @@ fn strip_numbers(s: Strip) -> StripNumbers
 }
 
 #[no_mangle]
-pub extern "C" fn tridexel_inner_disk_strip(c: Point, rho: f64, y0: f64, y1: f64) -> StripNumbers
+pub extern "C" fn tridexel_inner_disk_strip(
+    c: PlanePoint,
+    rho: f64,
+    y0: f64,
+    y1: f64,
+) -> StripNumbers
     ensures { λ r. ⌜ r ≡ stripAs (diskStrip c rho y0 y1) ⌝ }
 {
     strip_numbers(strips::disk_strip(c, rho, y0, y1))
@@ -158,10 +163,10 @@ pub extern "C" fn tridexel_inner_disk_strip(c: Point, rho: f64, y0: f64, y1: f64
 
 #[no_mangle]
 pub extern "C" fn tridexel_inner_polygon_strip(
-    p: Point,
-    q: Point,
-    r: Point,
-    s: Point,
+    p: PlanePoint,
+    q: PlanePoint,
+    r: PlanePoint,
+    s: PlanePoint,
     y0: f64,
     y1: f64,
 ) -> StripNumbers
@@ -172,8 +177,8 @@ pub extern "C" fn tridexel_inner_polygon_strip(
 
 #[no_mangle]
 pub extern "C" fn tridexel_inner_stadium_strip(
-    a: Point,
-    b: Point,
+    a: PlanePoint,
+    b: PlanePoint,
     length: f64,
     rho: f64,
     y0: f64,
@@ -368,7 +373,7 @@ pub extern "C" fn tridexel_inner_check_stock(
     heads: &[u64],
     intervals: u64,
 ) -> bool
-    requires { ⌜ Room (spec .«max_intervals») (2 * rayCount g) (cells (now spans) (now links) (now heads)) ⌝ }
+    requires { ⌜ StockRoom spec g (cells (now spans) (now links) (now heads)) ⌝ }
     ensures { λ r. ⌜ Decides (SoundCells spec g (cells (now (spans .entry)) (now (links .entry)) (now (heads .entry))) intervals) r ⌝ }
 {
     stock::check_stock(spec, g, spans, links, heads, intervals)

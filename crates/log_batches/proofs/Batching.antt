@@ -10,7 +10,7 @@ use lib.Dec.{ltb}
 use lib.ListN.{length, set, length-set}
 use Rattle.log_keys.specs.KeysKept.{KeysKept}
 use Rattle.log_keys.proofs.Wanting.{keys-passed, keys-added, keys-fewer}
-use Rattle.log_batches.specs.Batches.{batchKeyOf, Batched, AddPre, BatchTold, StaysBatched, BatchRoomPost, AddPost}
+use Rattle.log_batches.specs.Batches.{batchKeyOf, Batched, AddPre, BatchPost, StaysBatched, BatchRoomPost, AddPost}
 use Rattle.log_batches.specs.declared.Batch.{Batch}
 
 -- the key of an entry is below the width times the number of entries exactly where its ray is within the width
@@ -37,15 +37,15 @@ narrowed {rays} {n} {first} {w = w} past less kept =
 abbrev pub unfilled : Batch → Batch
 unfilled w = record { width = w .width; count = w .count; full = false }
 
-module _ {width : ℕ} {before after : List ℕ} {r : Batch} {told : Type 0} where
-  -- more is told
-  pub told-more : {more : Type 0} → (r .full ≡ false → told → more) → BatchTold width before after r told
-      → BatchTold width before after r more
-  told-more f s = record { size = s .size; some = s .some; most = s .most; room = s .room; batched = λ e. f e (s .batched e) }
+module _ {width : ℕ} {before after : List ℕ} {r : Batch} {claim : Type 0} where
+  -- what the claim implies holds too
+  pub claim-implies : {more : Type 0} → (r .full ≡ false → claim → more) → BatchPost width before after r claim
+      → BatchPost width before after r more
+  claim-implies f s = record { size = s .size; some = s .some; most = s .most; room = s .room; batched = λ e. f e (s .batched e) }
 
   -- whether the batch is full or not
-  pub told-either : BatchTold width before after (unfilled r) told → BatchTold width before after r told
-  told-either s = record {
+  pub claim-unfilled : BatchPost width before after (unfilled r) claim → BatchPost width before after r claim
+  claim-unfilled s = record {
     size = s .size;
     some = s .some;
     most = s .most;
@@ -56,7 +56,7 @@ module _ {width : ℕ} {before after : List ℕ} {r : Batch} {told : Type 0} whe
 -- ---- a batch on its way to be narrow enough
 
 abbrev pub Narrowing : (n : ℕ) (before : List ℕ) (w : Batch) (after : List ℕ) (t : Batch) → Type 0
-Narrowing n before w after t = BatchTold (w .width) before after (unfilled t) (StaysBatched n before w after t)
+Narrowing n before w after t = BatchPost (w .width) before after (unfilled t) (StaysBatched n before w after t)
 
 pub narrowing-start : {n : ℕ} {keys : List ℕ} {w : Batch} → AddPre n keys w → Narrowing n keys w keys w
 narrowing-start h = record {
@@ -79,7 +79,7 @@ module _ {n : ℕ} {before : List ℕ} {w : Batch} {now : List ℕ} {t : Batch} 
   }
 
   pub narrowing-done : t .count < length now → BatchRoomPost n before w now t
-  narrowing-done free = told-either (told-more (λ _ kept. (free, record { stays = kept .stays })) s)
+  narrowing-done free = claim-unfilled (claim-implies (λ _ kept. (free, record { stays = kept .stays })) s)
 
   -- one ray alone fills the buffer
   pub narrowing-full : BatchRoomPost n before w now (record { width = 1; count = t .count; full = true })
@@ -108,7 +108,7 @@ module _ {first ray n i : ℕ} where
   module _ {before : List ℕ} {w : Batch} {after : List ℕ} {t : Batch} (s : BatchRoomPost n before w after t) (inside : i < n) where
     -- it was on one, and the batch lost that ray
     pub adds-lost : (t .full ≡ false → first ≤ ray → ray < first + t .width → ⊥) → AddPost first ray n i before w after t
-    adds-lost other = told-more (λ f (_, kept) rays e b.
+    adds-lost other = claim-implies (λ f (_, kept) rays e b.
         keys-passed (kept .stays rays first i (omega arith) b) (λ (x, l). other f (rw e at x) (rw e at l))) s
 
     -- THE LAW: its key stands behind the others

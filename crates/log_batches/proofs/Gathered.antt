@@ -1,4 +1,4 @@
--- The entries of a log gathered one by one.
+-- The entries of a log gathered one by one: before place i all are, and the batch is not full.
 use mathlib.Core.Path.{_≡_, refl, sym, _∙_}
 use mathlib.Core.Bool.{true, false, true≢false}
 use mathlib.Core.List.{List}
@@ -11,15 +11,10 @@ use Rattle.log_model.specs.Logs.{entryAt, entryCount, entryRay}
 use Rattle.log_keys.proofs.Wanting.{keys-none}
 use Rattle.log_batches.specs.Batches.{AddPre, AddPost, RaysGathered, GatherRaysPost}
 use Rattle.log_batches.specs.declared.Batch.{Batch}
-use Rattle.log_batches.proofs.Batching.{unfilled, told-either}
-
--- the entries before place i are gathered, and the batch is not full
-abbrev pub GatherRaysLoop : (g : DexelGrid) (log : List Float) (first width : ℕ) (before : List ℕ) (i : ℕ) (after : List ℕ) (w : Batch)
-    → Type 0
-GatherRaysLoop g log first width before i after w = RaysGathered g log first width before i after (unfilled w)
+use Rattle.log_batches.proofs.Batching.{unfilled, claim-unfilled}
 
 pub gathering-start : (g : DexelGrid) (log : List Float) (first : ℕ) {width : ℕ} (before : List ℕ) → 0 < width
-    → GatherRaysLoop g log first width before 0 before (record { width = width; count = 0; full = false })
+    → RaysGathered g log first width before 0 before (record { width = width; count = 0; full = false })
 gathering-start g log first before some = record {
   size = refl;
   some = some;
@@ -29,7 +24,7 @@ gathering-start g log first before some = record {
 }
 
 module _ (g : DexelGrid) (log : List Float) (first : ℕ) {width : ℕ} {before : List ℕ} (i : ℕ) {now : List ℕ} (w : Batch)
-    (s : GatherRaysLoop g log first width before i now w) where
+    (s : RaysGathered g log first width before i now (unfilled w)) where
   pub gathering-widthed : width ≤ 2 ^ 53 → width * entryCount log < 2 ^ 64 → AddPre (entryCount log) now w
   gathering-widthed most fits = record {
     some = s .some;
@@ -39,11 +34,11 @@ module _ (g : DexelGrid) (log : List Float) (first : ℕ) {width : ℕ} {before 
   }
 
   pub gathering-done : i ≤ entryCount log → entryCount log ≤ i → GatherRaysPost g log first width before now w
-  gathering-done past end = let all : i ≡ entryCount log = omega arith in rw all at (told-either {r = w} s)
+  gathering-done past end = let all : i ≡ entryCount log = omega arith in rw all at (claim-unfilled {r = w} s)
 
   module _ {ray : ℕ} {after : List ℕ} {r : Batch} (named : ray ≡ entryRay g (entryAt log i))
       (a : AddPost first ray (entryCount log) i now w after r) where
-    pub gathering-turn : r .full ≡ false → GatherRaysLoop g log first width before (i + 1) after r
+    pub gathering-turn : r .full ≡ false → RaysGathered g log first width before (i + 1) after (unfilled r)
     gathering-turn f = record {
       size = a .size ∙ s .size;
       some = a .some;

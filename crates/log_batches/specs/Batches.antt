@@ -27,13 +27,13 @@ pub record AddPre (n : ℕ) (keys : List ℕ) (w : Batch) : Type 0 where
   pub fits : w .width * n < 2 ^ 64
   pub room : w .count ≤ length keys
 
--- a batch of at most `width` rays: unless it is full its keys fit the buffer, and what is told of them holds
-pub record BatchTold (width : ℕ) (before after : List ℕ) (r : Batch) (told : Type 0) : Type 0 where
+-- a batch of at most `width` rays: unless it is full its keys fit the buffer, and the claim on them holds
+pub record BatchPost (width : ℕ) (before after : List ℕ) (r : Batch) (claim : Type 0) : Type 0 where
   pub size : length after ≡ length before
   pub some : 0 < r .width
   pub most : r .width ≤ width
   pub room : r .full ≡ false → r .count ≤ length after
-  pub batched : r .full ≡ false → told
+  pub batched : r .full ≡ false → claim
 
 -- what is gathered stays gathered as far as the batch goes now
 pub record StaysBatched (n : ℕ) (before : List ℕ) (w : Batch) (after : List ℕ) (r : Batch) : Type 0 where
@@ -43,18 +43,18 @@ pub record StaysBatched (n : ℕ) (before : List ℕ) (w : Batch) (after : List 
 -- so it does, and the batch has room for a key more
 abbrev pub BatchRoomPost : (n : ℕ) (before : List ℕ) (w : Batch) (after : List ℕ) (r : Batch) → Type 0
 BatchRoomPost n before w after r =
-    BatchTold (w .width) before after r ((r .count < length after) × StaysBatched n before w after r)
+    BatchPost (w .width) before after r ((r .count < length after) × StaysBatched n before w after r)
 
 -- the entry at place i is gathered too
 abbrev pub AddPost : (first ray n i : ℕ) (before : List ℕ) (w : Batch) (after : List ℕ) (r : Batch) → Type 0
-AddPost first ray n i before w after r = BatchTold (w .width) before after r
+AddPost first ray n i before w after r = BatchPost (w .width) before after r
     ((rays : ℕ → ℕ) → rays i ≡ ray → Batched rays n first i (w .width) before (w .count)
     → Batched rays n first (i + 1) (r .width) after (r .count))
 
 -- the entries of a batch of rays before place `passed` are gathered
 abbrev pub RaysGathered : (g : DexelGrid) (log : List Float) (first width : ℕ) (before : List ℕ) (passed : ℕ) (after : List ℕ) (r : Batch)
     → Type 0
-RaysGathered g log first width before passed after r = BatchTold width before after r
+RaysGathered g log first width before passed after r = BatchPost width before after r
     (Batched (λ i. entryRay g (entryAt log i)) (entryCount log) first passed (r .width) after (r .count))
 
 -- all are

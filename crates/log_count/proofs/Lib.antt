@@ -5,7 +5,7 @@ pub mod Bounds
 pub mod Keyed
 pub mod Fronts
 pub mod Stretched
-pub mod Wholes
+pub mod AllTaken
 pub mod Prefixes
 pub mod Asking
 pub mod Parts

@@ -10,17 +10,16 @@ use Rattle.logic.proofs.Bools.{clash}
 use Rattle.doubles.proofs.Order.{lt-irrefl, le-refl, lt→le}
 use Rattle.grid.specs.declared.DexelGrid.{DexelGrid}
 use Rattle.spans.specs.Spans.{holds, sound}
-use Rattle.store_read.specs.Reading.{Readable}
 use Rattle.log_keys.specs.Keys.{losesOf, top, pairsPast}
 use Rattle.log_keys.proofs.Past.{past-falls}
 use Rattle.log_keys.proofs.Infinity.{top-number, bottom-top}
 use Rattle.log_left.specs.Steps.{StartPost}
 use Rattle.log_left.specs.declared.Rest.{Rest}
 use Rattle.log_stretches.specs.Stretches.{Taken}
-use Rattle.log_count.specs.Steps.{EndListPost, ListCounted, walkIn, TakePartPost}
+use Rattle.log_count.specs.Steps.{EndListPost, ListCounted, walkIn, WalksReadable, TakePartPost}
 use Rattle.log_count.specs.declared.ListCount.{ListCount}
 use Rattle.log_count.specs.declared.RayWalks.{RayWalks}
-use Rattle.log_count.proofs.Wholes.{taken-none, taken-all}
+use Rattle.log_count.proofs.AllTaken.{taken-none, taken-all}
 use Rattle.store.specs.Store.{listFrom}
 
 -- the lists from the records h and k have lost what lies below the end of the last stretch, and the buffers have the sizes that they had
@@ -28,7 +27,7 @@ pub record TakenTo (g : DexelGrid) (n : ℕ) (spans : List Float) (links : List 
     (keysBefore keys : List ℕ) (before now : List Float) (w : RayWalks) : Type 0 where
   pub keys-size : length keys ≡ length keysBefore
   pub size : length now ≡ length before
-  pub readable : (certain : Bool) → Readable n spans links (walkIn certain w .at)
+  pub readable : WalksReadable n spans links w
   pub low : le (w .end) top ≡ true
   pub taken : (certain : Bool)
       → Taken n spans links (listFrom n spans links (cond certain k h)) (holds (losesOf g log ray certain)) (w .end) (walkIn certain w)

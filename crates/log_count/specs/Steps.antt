@@ -76,6 +76,10 @@ abbrev pub walkIn : (certain : Bool) → RayWalks → Rest
 walkIn true w = w .certain
 walkIn false w = w .possible
 
+-- both walks can be read on
+abbrev pub WalksReadable : ℕ → List Float → List ℕ → RayWalks → Type 0
+WalksReadable n spans links w = (certain : Bool) → Readable n spans links (walkIn certain w .at)
+
 -- what is asked to take a stretch of a ray's hits from both its lists
 pub record TakePartPre (g : DexelGrid) (n : ℕ) (spans : List Float) (links : List ℕ) (log : List Float) (keys : List ℕ)
     (buffer : List Float) (w : RayWalks) : Type 0 where
@@ -84,14 +88,14 @@ pub record TakePartPre (g : DexelGrid) (n : ℕ) (spans : List Float) (links : L
   pub some : 0 < entryCount log
   pub keys-some : 0 < length keys
   pub shaped : Shaped buffer
-  pub readable : (certain : Bool) → Readable n spans links (walkIn certain w .at)
+  pub readable : WalksReadable n spans links w
 
 -- a stretch is taken; it ends at plus infinity, or before it in a hit that begins past its start
 pub record TakePartPost (g : DexelGrid) (n : ℕ) (spans : List Float) (links : List ℕ) (log : List Float) (ray : ℕ) (w : RayWalks)
     (keysBefore keysAfter : List ℕ) (before after : List Float) (r : RayWalks) : Type 0 where
   pub keys-size : length keysAfter ≡ length keysBefore
   pub size : length after ≡ length before
-  pub readable : (certain : Bool) → Readable n spans links (walkIn certain r .at)
+  pub readable : WalksReadable n spans links r
   pub onward : le (w .end) top ≡ true → le (w .end) (r .end) ≡ true
   pub ends : (r .end ≡ top) ⊎ ((lt (r .end) top ≡ true) × (holds (pairsPast (w .end) (losesOf g log ray true)) (r .end) ≡ true))
   pub taken : (certain : Bool) (l : List Float) → le (w .end) top ≡ true

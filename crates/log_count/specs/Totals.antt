@@ -2,7 +2,7 @@
 use mathlib.Core.Path.{_≡_}
 use mathlib.Core.Bool.{Bool, true, false, cond, _||_}
 use mathlib.Core.List.{List}
-use Prim.Native.Nat.{ℕ, zero, suc, _+_, _*_, _/_}
+use Prim.Native.Nat.{ℕ, zero, suc, _+_, _/_}
 use lib.ListN.{length}
 use lib.Ieee.{Float}
 use Rattle.grid.specs.Rays.{rayCount}
@@ -15,13 +15,13 @@ use Rattle.log_entries.specs.Named.{EachNamed}
 use Rattle.log_keys.specs.Keys.{losesOf}
 use Rattle.log_count.specs.declared.RayTotals.{RayTotals}
 use Rattle.grid.specs.Facts.{GridFacts}
-use Rattle.store.specs.Steps.{Room}
+use Rattle.stock.specs.Steps.{StockRoom}
 use Rattle.store.specs.Store.{Cells}
 
 -- a log whose entries each name a ray, on a sound store with room
 pub record Countable (spec : DexelStockSpec) (g : DexelGrid) (c : Cells) (intervals : ℕ) (log : List Float) : Type 0 where
   pub facts : GridFacts spec g
-  pub room : Room (spec .«max_intervals») (2 * rayCount g) c
+  pub room : StockRoom spec g c
   pub isSound : SoundCells spec g c intervals
   pub named : EachNamed g log
 

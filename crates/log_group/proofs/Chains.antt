@@ -183,9 +183,9 @@ module _ (rays : ℕ) (before ys : List Float) (fit : rays ≤ length before)
 
   pub cleared-past : (q : ℕ) → rays ≤ q → getD (ys ++ drop rays before) q nan ≡ getD before q nan
   cleared-past q h =
-      ap (λ (n : ℕ). getD (ys ++ drop rays before) n nan) (whole q (omega (arith, long)))
+      ap (λ (n : ℕ). getD (ys ++ drop rays before) n nan) (split q (omega (arith, long)))
       ∙ getD-append-add ys (drop rays before) (q - length ys) nan
       ∙ getD-drop rays before (q - length ys) nan ∙ ap (λ (n : ℕ). getD before n nan) (omega (arith, long))
     where
-      whole : (q : ℕ) → length ys ≤ q → q ≡ length ys + (q - length ys)
-      whole q h = omega arith
+      split : (q : ℕ) → length ys ≤ q → q ≡ length ys + (q - length ys)
+      split q h = omega arith

@@ -24,11 +24,15 @@ pub chain-one : {w : List Float} {rays from to k : ℕ} {is js : List ℕ} → P
 chain-one ends ends = refl
 chain-one (more {i = i} a b c) (more d e f) = ap (_∷_ i) (chain-one c f)
 
+-- the places of the entries that the ray's first cell leads to
+abbrev pub RayChain : (rays : ℕ) (log w : List Float) (ray : ℕ) → List ℕ → Type 0
+RayChain rays log w ray is = PlaceChain w rays 0 (entryCount log) (numberAt w ray) is
+
 -- the cells from t on are still to get the pairs of the places from the number k on, of those that the ray's chain had first
 pub record Gathering (rays : ℕ) (log : List Float) (kind : HitKind) (ray at : ℕ) (before w : List Float) (t k : ℕ) : Type 0 where
   pub places : List ℕ
   pub left : List ℕ
-  pub first : PlaceChain before rays 0 (entryCount log) (numberAt before ray) places
+  pub first : RayChain rays log before ray places
   pub chain : PlaceChain w rays 0 (entryCount log) k left
   pub size : length w ≡ length before
   pub past : rays + entryCount log ≤ t
@@ -37,7 +41,7 @@ pub record Gathering (rays : ℕ) (log : List Float) (kind : HitKind) (ray at : 
   pub cells : sets before at (pairsAt log places kind) ≡ sets w t (pairsAt log left kind)
 
 module _ (rays : ℕ) (log : List Float) (kind : HitKind) (ray at : ℕ) (before : List Float) where
-  pub gathering-start : (places : List ℕ) → PlaceChain before rays 0 (entryCount log) (numberAt before ray) places
+  pub gathering-start : (places : List ℕ) → RayChain rays log before ray places
       → at + length (pairsAt log places kind) ≤ length before
       → rays + entryCount log ≤ at → Gathering rays log kind ray at before before at (numberAt before ray)
   gathering-start places c room h =
@@ -163,9 +167,9 @@ module _ (g : DexelGrid) (log before : List Float) (grouped : Grouped g log befo
   unfolding places
   hits = pairs-at g log (grouped .named) (ray, h) kind
 
-  chain : PlaceChain before rays 0 (entryCount log) (numberAt before ray) places
+  chain : RayChain rays log before ray places
   unfolding places
-  chain = subst (λ (n : ℕ). PlaceChain before n 0 (entryCount log) (numberAt before ray) places) (sym same) (grouped .chains ray h)
+  chain = subst (λ (n : ℕ). RayChain n log before ray places) (sym same) (grouped .chains ray h)
 
   pub gathers : at + length (hitsOnRay g (entries log) ray kind) ≤ length before → rayCount g + entryCount log ≤ at
       → (k : ℕ) → k ≡ numberAt before ray

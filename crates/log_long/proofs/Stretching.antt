@@ -1,9 +1,10 @@
 -- Keys of the entries of one stretch: what is gathered stays so when the stretch ends earlier, and when an entry is passed.
 use mathlib.Core.Path.{_≡_, _∙_}
 use mathlib.Core.Bool.{true, false, not}
-use mathlib.Core.Logic.{_⊎_, inl, inr}
+use mathlib.Core.Logic.{inl, inr}
 use mathlib.Core.List.{List}
-use Prim.Native.Nat.{ℕ, _+_, _-_, _/_, _<_}
+use Prim.Native.Nat.{ℕ, _+_, _*_, _/_, _≤_, _<_}
+use native.Mathlib.Nat.{mul-le-mul-right}
 use native.Mathlib.Omega.{arith}
 use native.Mathlib.Decide.{decLt}
 use lib.ListN.{length, getD, set, length-set}
@@ -52,13 +53,13 @@ module _ (b : Float) (log : List Float) (before after : List ℕ) (w : HeldKeys)
     longKeys = kept-longKeys;
   }
 
--- one of three entries begins in the middle
-pub middle-begins : (b : Float) (log : List Float) (keys : List ℕ) (m : ℕ) → 0 < m → (x y z u : Float)
-    → x ≡ leastPast b (entryAt log (getD keys 0 0)) → y ≡ leastPast b (entryAt log (getD keys (m / 2) 0))
-    → z ≡ leastPast b (entryAt log (getD keys (m - 1) 0)) → (u ≡ x) ⊎ (u ≡ y) ⊎ (u ≡ z) → BeginsAt b log keys m u
-middle-begins b log keys m pos x y z u p q r (inl e) = (0, pos, e ∙ p)
-middle-begins b log keys m pos x y z u p q r (inr (inl e)) = (m / 2, omega arith, e ∙ q)
-middle-begins b log keys m pos x y z u p q r (inr (inr e)) = (m - 1, omega arith, e ∙ r)
+-- ---- the keys that are looked at
+
+pub place-below : (i at step m : ℕ) → i < 55 → at + 54 * step < m → at + i * step < m
+place-below i at step m h l = let most : i * step ≤ 54 * step = mul-le-mul-right step (omega arith) in omega arith
+
+pub group-below : (i m : ℕ) → i < 55 → 0 < m → i * (m / 55) + 54 * (m / 55 / 55) < m
+group-below i m h l = let most : i * (m / 55) ≤ 54 * (m / 55) = mul-le-mul-right (m / 55) (omega arith) in omega arith
 
 -- ---- an entry is passed
 

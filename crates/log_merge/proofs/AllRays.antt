@@ -202,11 +202,6 @@ module _ (spec : DexelStockSpec) (g : DexelGrid) (c : Cells) (log before : List 
             ap (updatesFrom v (sizesAt g log) q ray) one-less ∙ updates-same v (sizesAt g log) q ray left no-size
             ∙ ap₂ (λ (o i : ℕ). updatesFrom v (sizesAt g log) o i left) same-place up-one
 
-        same-ends : listsEnd v (sizesAt g log) q ray (rayCount g - ray) ≡ listsEnd v (sizesAt g log) next (ray + 1) left
-        same-ends =
-            ap (listsEnd v (sizesAt g log) q ray) one-less ∙ end-same v (sizesAt g log) q ray left no-size
-            ∙ ap₂ (λ (o i : ℕ). listsEnd v (sizesAt g log) o i left) same-place up-one
-
         stays : (n : ℕ) → MergeUpdates g lists (entries log) (ray + 1) (updatesFrom v (sizesAt g log) next (ray + 1) left) n
             → MergeUpdates g lists (entries log) ray (updatesFrom v (sizesAt g log) q ray (rayCount g - ray)) n
         stays n y =
@@ -253,10 +248,6 @@ module _ (spec : DexelStockSpec) (g : DexelGrid) (c : Cells) (log before : List 
             ∷ update (2 * ray + 1) (cellsFrom (q + 2 * r .possible) (2 * r .certain) w₁)
             ∷ updatesFrom v (sizesAt g log) o i left) past-it up-one
 
-        new-ends : listsEnd v (sizesAt g log) q ray (rayCount g - ray) ≡ listsEnd v (sizesAt g log) next (ray + 1) left
-        new-ends = ap (listsEnd v (sizesAt g log) q ray) one-less ∙ end-new v (sizesAt g log) q ray left a-size
-            ∙ ap₂ (λ (o i : ℕ). listsEnd v (sizesAt g log) o i left) past-it up-one
-
         moves : (n : ℕ) → MergeUpdates g lists (entries log) (ray + 1) (updatesFrom v (sizesAt g log) next (ray + 1) left) n
             → MergeUpdates g lists (entries log) ray (updatesFrom v (sizesAt g log) q ray (rayCount g - ray)) (suc n)
         moves n y =
@@ -266,12 +257,13 @@ module _ (spec : DexelStockSpec) (g : DexelGrid) (c : Cells) (log before : List 
             (subst (λ (i : ℕ). MergeUpdates g lists (entries log) i (updatesFrom v (sizesAt g log) next (ray + 1) left) n) (sym up-one) y))
 
       next-ends : listsEnd v (sizesAt g log) q ray (rayCount g - ray) ≡ listsEnd v (sizesAt g log) next (ray + 1) left
-      next-ends = go (r .changed) refl
+      next-ends = ap (listsEnd v (sizesAt g log) q ray) one-less ∙ go (r .changed) refl
         where
-          go : (b : Bool) → r .changed ≡ b → listsEnd v (sizesAt g log) q ray (rayCount g - ray)
-              ≡ listsEnd v (sizesAt g log) next (ray + 1) left
-          go true e = new-ends e
-          go false e = same-ends e
+          go : (b : Bool) → r .changed ≡ b → listsEnd v (sizesAt g log) q ray (suc left) ≡ listsEnd v (sizesAt g log) next (ray + 1) left
+          go true e = end-new v (sizesAt g log) q ray left (a-size e)
+              ∙ ap₂ (λ (o i : ℕ). listsEnd v (sizesAt g log) o i left) (past-it e) up-one
+          go false e = end-same v (sizesAt g log) q ray left (no-size e)
+              ∙ ap₂ (λ (o i : ℕ). listsEnd v (sizesAt g log) o i left) (same-place e) up-one
 
       next-rest : (n : ℕ) → MergeUpdates g lists (entries log) (ray + 1) (updatesFrom v (sizesAt g log) next (ray + 1) left) n
           → MergeUpdates g lists (entries log) 0 (updatesFrom v (sizesAt g log) (listsFrom g log) 0 (rayCount g))
@@ -373,8 +365,8 @@ module _ (spec : DexelStockSpec) (g : DexelGrid) (c : Cells) (log before : List 
         lists-same s f = lists-by-cells spec g s c f
 
 -- ---- in the terms of the code
-module _ (spec : DexelStockSpec) (g : DexelGrid) (c : Cells) (log before : List Float)
-    (pre : MergeAllPre spec g c log before) (rays : ℕ) (is : rays ≡ rayCount g) where
+module _ {spec : DexelStockSpec} {g : DexelGrid} {c : Cells} {log before : List Float}
+    (pre : MergeAllPre spec g c log before) {rays : ℕ} (is : rays ≡ rayCount g) where
   total : ℕ
   total = pre .stock .intervals
 
@@ -389,7 +381,7 @@ module _ (spec : DexelStockSpec) (g : DexelGrid) (c : Cells) (log before : List 
   pub starts : Merging spec g c log before before 0 (rays + entryCount log + 2 * rays) 0
   starts = rw is (merging-start spec g c log before (pre .grouped))
 
-  module _ (w : List Float) (ray q changed : ℕ) (x : Merging spec g c log before w ray q changed) where
+  module _ {w : List Float} {ray q changed : ℕ} (x : Merging spec g c log before w ray q changed) where
     -- there is room for one more ray
     pub record Fits : Type 0 where
       pub low : rays + entryCount log + 2 * rays ≤ q
@@ -424,12 +416,12 @@ module _ (spec : DexelStockSpec) (g : DexelGrid) (c : Cells) (log before : List 
     )
 
     pub steps : DoubleCells (c .spans) → DoubleCells log → ray < rays → length before < 2 ^ 64
-        → (w₁ w₂ : List Float) (r : RayUpdate) (k : ℕ)
+        → {w₁ w₂ : List Float} {r : RayUpdate} {k : ℕ}
         → MergeRayPost spec g c log ray q w w₁ r
         → w₂ ≡ set (set w₁ (rays + entryCount log + 2 * ray) (numberCell (firstSizeOf r)))
         (rays + entryCount log + 2 * ray + 1) (numberCell (r .certain)) → k ≡ oneIfChanged r
         → Merging spec g c log before w₂ (ray + 1) (q + (2 * r .possible + 2 * r .certain)) (changed + k)
-    steps ds dl below addressed w₁ w₂ r k m put count =
+    steps ds dl below addressed {w₁} {w₂} {r} m put count =
         subst (λ (n : ℕ). Merging spec g c log before w₂ (ray + 1) (q + (2 * r .possible + 2 * r .certain)) (changed + n)) (sym count)
         (merging-step spec g c log before total store w w₁ w₂ ray q changed x (omega arith) r m
         (put ∙ ap (λ (n : ℕ). set (set w₁ (n + entryCount log + 2 * ray) (numberCell (firstSizeOf r)))

@@ -37,8 +37,8 @@ untouched possible certain outer inner from limit w h = record {
 }
 
 -- a sound list of r cells has r / 2 pairs
-whole : (l : List Float) (at r : ℕ) (w : List Float) → at + r ≤ length w → cellsFrom at r w ≡ l → sound l ≡ true → 2 * (r / 2) ≡ r
-whole l at r w fit e s = twice r (subst (λ (n : ℕ). n % 2 ≡ 0) (ap length (sym e) ∙ part-length at r w fit) (sound-mod l s))
+two-halves : (l : List Float) (at r : ℕ) (w : List Float) → at + r ≤ length w → cellsFrom at r w ≡ l → sound l ≡ true → 2 * (r / 2) ≡ r
+two-halves l at r w fit e s = twice r (subst (λ (n : ℕ). n % 2 ≡ 0) (ap length (sym e) ∙ part-length at r w fit) (sound-mod l s))
   where
     twice : (r : ℕ) → r % 2 ≡ 0 → 2 * (r / 2) ≡ r
     twice r h = omega arith
@@ -46,9 +46,6 @@ whole l at r w fit e s = twice r (subst (λ (n : ℕ). n % 2 ≡ 0) (ap length (
 -- ---- possible less the inner hits, then certain less both
 module _ (at np nc no ni : ℕ) (w w₁ w₂ : List Float) (p r : ℕ) (ready : MergeWithinPre at np nc no ni w)
     (first : WrittenAt (lessOf (cellsFrom at np w) (cellsFrom (at + np + nc + no) ni w)) 0 (np + ni) (np + ni) w w₁ p) where
-  still : (k n : ℕ) → at ≤ k → k + n ≤ length w → cellsFrom k n w₁ ≡ cellsFrom k n w
-  still k n h fit = part-past 0 (np + ni) w w₁ (first .between) k n fit (omega (arith, ready .room))
-
   pub second-ready : SoundListAt (at + np) nc w₁ × SoundListAt (at + np + nc) no w₁
       × SoundListAt (at + np + nc + no) ni w₁ × (p + ni ≤ np + 2 * ni) × (np + 2 * ni + nc + no ≤ at + np)
   second-ready = (
@@ -62,9 +59,9 @@ module _ (at np nc no ni : ℕ) (w w₁ w₂ : List Float) (p r : ℕ) (ready : 
   -- what is read on the way is as it was
   same-hits : lessHits (at + np) nc no ni w₁ ≡ lessHits (at + np) nc no ni w
   same-hits = rw (
-    still (at + np) nc (omega arith) (ready .certain .room),
-    still (at + np + nc) no (omega arith) (ready .outer .room),
-    still (at + np + nc + no) ni (omega arith) (ready .inner .room),
+    part-past 0 (np + ni) w w₁ (first .between) (at + np) nc (ready .certain .room) (omega (arith, ready .room)),
+    part-past 0 (np + ni) w w₁ (first .between) (at + np + nc) no (ready .outer .room) (omega (arith, ready .room)),
+    part-past 0 (np + ni) w w₁ (first .between) (at + np + nc + no) ni (ready .inner .room) (omega (arith, ready .room)),
   )
 
   pub both-cut : true ≡ rayMoves (cellsFrom at np w) (cellsFrom (at + np) nc w) (cellsFrom (at + np + nc) no w)
@@ -79,9 +76,9 @@ module _ (at np nc no ni : ℕ) (w w₁ w₂ : List Float) (p r : ℕ) (ready : 
       let fit₁ : 0 + p ≤ length w₁ = omega (arith, first .most, ready .room, ready .possible .room) in
       let fit₂ : p + r ≤ length w₂ = omega (arith, first .most, second .most, ready .room, ready .possible .room) in
       let certainIs : cellsFrom p r w₂ ≡ lessHits (at + np) nc no ni w = second .ends ∙ same-hits in
-      let two-p : 2 * (p / 2) ≡ p = whole _ 0 p w₁ fit₁ (first .ends)
+      let two-p : 2 * (p / 2) ≡ p = two-halves _ 0 p w₁ fit₁ (first .ends)
       (less-list (cellsFrom at np w) (cellsFrom (at + np + nc + no) ni w) (ready .possible .isSound) (ready .inner .isSound) .isSound) in
-      let two-r : 2 * (r / 2) ≡ r = whole _ p r w₂ fit₂ certainIs
+      let two-r : 2 * (r / 2) ≡ r = two-halves _ p r w₂ fit₂ certainIs
       (less-both-list (cellsFrom (at + np) nc w) (cellsFrom (at + np + nc) no w) (cellsFrom (at + np + nc + no) ni w)
       (ready .certain .isSound) (ready .outer .isSound) (ready .inner .isSound) .isSound) in
       record {

@@ -109,7 +109,7 @@ module _ (possible certain outers inners : List Float) (s : ℕ) (w w₁ w₂ w�
           ∙ part-kept (s + length possible + length certain) at n w₂ w₃ h k (o .size) (o .front)
 
 -- ---- step by step, from what `load_ray` is given
-module _ (spec : DexelStockSpec) (g : DexelGrid) (c : Cells) (log w : List Float) (ray s : ℕ) (b : LoadPre spec g c log w ray s) where
+module _ {spec : DexelStockSpec} {g : DexelGrid} {c : Cells} {log w : List Float} {ray s : ℕ} (b : LoadPre spec g c log w ray s) where
   abbrev hits : HitKind → List Float
   hits k = hitsOnRay g (entries log) ray k
 
@@ -128,7 +128,7 @@ module _ (spec : DexelStockSpec) (g : DexelGrid) (c : Cells) (log w : List Float
       × (s + length (rayList spec c ray Possible) ≤ length w)
   possible-ready = (list-readable spec g c (b .store) (2 * ray) (omega (arith, b .below)), omega (arith, list-most (2 * ray), b .room))
 
-  module _ (w₁ : List Float) (r₁ : ℕ) (p : ReadListPost (rayList spec c ray Possible) w s w₁ r₁) where
+  module _ {w₁ : List Float} {r₁ : ℕ} (p : ReadListPost (rayList spec c ray Possible) w s w₁ r₁) where
     placed₁ : PlacedAt (rayList spec c ray Possible) s w w₁
     placed₁ = copied-placed (rayList spec c ray Possible) w s w₁ r₁ (possible-ready .1) p
 
@@ -139,7 +139,7 @@ module _ (spec : DexelStockSpec) (g : DexelGrid) (c : Cells) (log w : List Float
       omega (arith, p .past, placed₁ .size, list-most (2 * ray), list-most (2 * ray + 1), b .room),
     )
 
-    module _ (w₂ : List Float) (r₂ : ℕ) (q : ReadListPost (rayList spec c ray Certain) w₁ r₁ w₂ r₂) where
+    module _ {w₂ : List Float} {r₂ : ℕ} (q : ReadListPost (rayList spec c ray Certain) w₁ r₁ w₂ r₂) where
       placed₂ : PlacedAt (rayList spec c ray Certain) r₁ w₁ w₂
       placed₂ = copied-placed (rayList spec c ray Certain) w₁ r₁ w₂ r₂ (certain-ready .1) q
 
@@ -163,7 +163,7 @@ module _ (spec : DexelStockSpec) (g : DexelGrid) (c : Cells) (log w : List Float
         ),
       )
 
-      module _ (w₃ : List Float) (no : ℕ) (o : NormalizedAt (hits outer) r₂ w₂ w₃ no) where
+      module _ {w₃ : List Float} {no : ℕ} (o : NormalizedAt (hits outer) r₂ w₂ w₃ no) where
         pub inner-fits : r₂ + no + length (hits inner) ≤ length w
         inner-fits = omega (
           arith,
@@ -186,10 +186,10 @@ module _ (spec : DexelStockSpec) (g : DexelGrid) (c : Cells) (log w : List Float
           omega (arith, inner-fits, placed₁ .size, placed₂ .size, o .size),
         )
 
-        pub all-loaded : (w₄ : List Float) (ni : ℕ) → NormalizedAt (hits inner) (r₂ + no) w₃ w₄ ni
+        pub all-loaded : {w₄ : List Float} {ni : ℕ} → NormalizedAt (hits inner) (r₂ + no) w₃ w₄ ni
             → LoadPost (rayList spec c ray Possible) (rayList spec c ray Certain) (hits outer) (hits inner) s w w₄
             (record { possible = r₁ - s; certain = r₂ - r₁; outer = no; inner = ni })
-        all-loaded w₄ ni i =
+        all-loaded {w₄} {ni} i =
             let np : r₁ - s ≡ length (rayList spec c ray Possible) = omega (arith, p .past) in
             let nc : r₂ - r₁ ≡ length (rayList spec c ray Certain) = omega (arith, q .past) in
             rw (np, nc)

@@ -30,14 +30,14 @@ use Rattle.log_merge.specs.declared.RayUpdate.{RayUpdate}
 -- ---- over a sound store
 module _ (spec : DexelStockSpec) (g : DexelGrid) (s : Stock) (total : ℕ) (snd : SoundCells spec g (s .cells) total) (log : List Float) where
   -- the same cells with the total that they have
-  abbrev whole : Stock
-  whole = record { cells = s .cells; generation = 0; intervals = total }
+  abbrev counted : Stock
+  counted = record { cells = s .cells; generation = 0; intervals = total }
 
   abbrev sets : Ray g → Kind → Float → Bool
   sets r k = holds (rayLists spec g (s .cells) r k)
 
   listed : (r : Ray g) (k : Kind) → ListOf (sets r k) (rayLists spec g (s .cells) r k)
-  listed r k = each spec g whole snd (entries log) r k
+  listed r k = each spec g counted snd (entries log) r k
 
   module _ (ray : ℕ) (h : ray < rayCount g) (q : ℕ) (before after : List Float) (r : RayUpdate)
       (m : MergeRayPost spec g (s .cells) log ray q before after r) where
@@ -90,9 +90,9 @@ module _ (spec : DexelStockSpec) (g : DexelGrid) (s : Stock) (total : ℕ) (snd 
             (hitsOnList g (entries log) (ray, h) Possible)
             + startsLeft (rayLists spec g (s .cells) (ray, h) Certain) (hitsOnList g (entries log) (ray, h) Certain)
         go true e =
-            let p = one-pairs spec g whole snd (entries log) (ray, h) Possible (cellsFrom q (2 * r .possible) after)
+            let p = one-pairs spec g counted snd (entries log) (ray, h) Possible (cellsFrom q (2 * r .possible) after)
             (exact-possible g (rayLists spec g (s .cells)) (entries log) (ray, h) _ _ (new-exact e) (listed (ray, h) Possible .isSound)) in
-            let c = one-pairs spec g whole snd (entries log) (ray, h) Certain (cellsFrom (q + 2 * r .possible) (2 * r .certain) after)
+            let c = one-pairs spec g counted snd (entries log) (ray, h) Certain (cellsFrom (q + 2 * r .possible) (2 * r .certain) after)
             (exact-certain g (rayLists spec g (s .cells)) (entries log) (ray, h) _ _ (new-exact e) (listed (ray, h) Certain .isSound)) in
             let lp = part-length q (2 * r .possible) after (omega (arith, m .cut .most)) in
             let lc = part-length (q + 2 * r .possible) (2 * r .certain) after (omega (arith, m .cut .most)) in

@@ -15,7 +15,7 @@ use Rattle.spans.specs.Overlay.{lessOf}
 use Rattle.span_overlay.proofs.Less.{less-apart}
 use Rattle.grid.specs.declared.DexelStockSpec.{DexelStockSpec}
 use Rattle.grid.specs.declared.DexelGrid.{DexelGrid}
-use Rattle.log_model.specs.Logs.{entries, HitKind, outer, inner, hitsOnRay}
+use Rattle.log_model.specs.Logs.{entries, entryCount, HitKind, outer, inner, hitsOnRay}
 use Rattle.stock.specs.Stock.{ValidAt, rayList, Possible, Certain}
 use Rattle.log_numbers.specs.Numbers.{numberAt}
 use Rattle.log_group.proofs.Gathering.{none-named}
@@ -95,8 +95,8 @@ module _ (q : ℕ) (w ys : List Float) (fit : q ≤ length w) (size : length ys 
       zero-right k = omega arith
 
 -- ---- from what `merge_ray` is given
-module _ (spec : DexelStockSpec) (g : DexelGrid) (c : Cells) (log w : List Float) (ray q s : ℕ)
-    (b : LoadPre spec g c log w ray s) (front : q + limitOf spec log ≤ s) where
+module _ {spec : DexelStockSpec} {g : DexelGrid} {c : Cells} {log w : List Float} {ray s : ℕ}
+    (b : LoadPre spec g c log w ray s) (q : ℕ) (front : q + limitOf spec log ≤ s) where
   abbrev hits : HitKind → List Float
   hits k = hitsOnRay g (entries log) ray k
 
@@ -131,35 +131,20 @@ module _ (spec : DexelStockSpec) (g : DexelGrid) (c : Cells) (log w : List Float
       stays : (l : List Float) → sound l ≡ true → equal l (lessOf l []) ≡ true
       stays l h = ap (equal l) (less-none l h) ∙ same-set l l h h (λ p n. refl)
 
-  module _ (w₁ : List Float) (z : Sizes)
+  module _ {w₁ : List Float} {z : Sizes}
       (x : LoadPost (rayList spec c ray Possible) (rayList spec c ray Certain) (hits outer) (hits inner) s w w₁ z) where
+    -- what was loaded has at most as many cells as the store and the log allow
+    lists-few : z .possible + z .certain ≤ 4 * spec .«max_intervals»
+    lists-few = omega (arith, x .possibleCells, x .certainCells, list-most b (2 * ray), list-most b (2 * ray + 1))
+
+    hits-few : (z .outer ≤ 2 * entryCount log) × (z .inner ≤ 2 * entryCount log)
+    hits-few = (omega (arith, x .outerMost, hits-most b outer), omega (arith, x .innerMost, hits-most b inner))
+
     few : z .possible + z .certain + z .outer + 2 * z .inner ≤ limitOf spec log
-    few = omega (
-      arith,
-      x .possibleCells,
-      x .certainCells,
-      x .outerMost,
-      x .innerMost,
-      list-most spec g c log w ray s b (2 * ray),
-      list-most spec g c log w ray s b (2 * ray + 1),
-      hits-most spec g c log w ray s b outer,
-      hits-most spec g c log w ray s b inner,
-    )
+    few = omega (arith, lists-few, hits-few .0, hits-few .1)
 
     fits : s + z .possible + z .certain + z .outer + z .inner ≤ length w₁
-    fits = omega (
-      arith,
-      x .possibleCells,
-      x .certainCells,
-      x .outerMost,
-      x .innerMost,
-      x .size,
-      b .room,
-      list-most spec g c log w ray s b (2 * ray),
-      list-most spec g c log w ray s b (2 * ray + 1),
-      hits-most spec g c log w ray s b outer,
-      hits-most spec g c log w ray s b inner,
-    )
+    fits = omega (arith, lists-few, hits-few .0, hits-few .1, x .size, b .room)
 
     pub cut-ready : MergeWithinPre (s - q) (z .possible) (z .certain) (z .outer) (z .inner) (take (length w₁ - q) (drop q w₁))
     cut-ready = record {
@@ -177,13 +162,13 @@ module _ (spec : DexelStockSpec) (g : DexelGrid) (c : Cells) (log w : List Float
     abbrev lent : List Float
     lent = take (length w₁ - q) (drop q w₁)
 
-    pub ray-merged : (ys : List Float) (r : RayUpdate) → length ys ≡ length lent
+    pub ray-merged : {ys : List Float} {r : RayUpdate} → length ys ≡ length lent
         → RayCutPost (cellsFrom (s - q) (z .possible) lent) (cellsFrom (s - q + z .possible) (z .certain) lent)
         (cellsFrom (s - q + z .possible + z .certain) (z .outer) lent)
         (cellsFrom (s - q + z .possible + z .certain + z .outer) (z .inner) lent) 0
         (z .possible + z .certain + z .outer + 2 * z .inner) lent ys r
         → MergeRayPost spec g c log ray q w (putMid q (length w₁ - q) w₁ ys) r
-    ray-merged ys r size y =
+    ray-merged {ys} {r} size y =
         let k = cut-back q w₁ ys (omega (arith, fits)) size (cut-same
         (seen q w₁ s (z .possible) (s - q) (omega arith) refl ∙ x .possibleIs)
         (seen q w₁ (s + z .possible) (z .certain) (s - q + z .possible) (omega arith) (omega arith) ∙ x .certainIs)

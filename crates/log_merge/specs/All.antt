@@ -32,7 +32,7 @@ use Rattle.log_model.specs.Updates.{MergeUpdates}
 use Rattle.log_group.specs.Groups.{Grouped}
 use Rattle.log_merge.specs.declared.RayUpdate.{RayUpdate}
 use Rattle.grid.specs.Facts.{GridFacts}
-use Rattle.store.specs.Steps.{Room}
+use Rattle.stock.specs.Steps.{StockRoom}
 use Rattle.store.specs.Store.{Cells}
 
 -- the first size of a ray: 0 where it does not change, else one more than the pairs of its new possible list
@@ -53,7 +53,7 @@ listsFrom g log = sizesAt g log + 2 * rayCount g
 -- a sound stock of these cells, a grouped log that leaves it no more pairs than it has records, and document 01's work pairs
 pub record MergeAllPre (spec : DexelStockSpec) (g : DexelGrid) (c : Cells) (log work : List Float) : Type 0 where
   pub grid : GridFacts spec g
-  pub room : Room (spec .«max_intervals») (2 * rayCount g) c
+  pub room : StockRoom spec g c
   pub stock : Stock
   pub of-cells : stock .cells ≡ c
   pub sound : SoundStock spec g stock

@@ -62,8 +62,8 @@ module _ (g : DexelGrid) (r : Ray g) where
 
 -- ---- a test that decides
 
-abbrev pub Decides : Type 0 → Bool → Type 0
-Decides P b = (b ≡ true → P) × (b ≡ false → ¬ P)
+abbrev pub DecidedBy : Type 0 → Bool → Type 0
+DecidedBy P b = (b ≡ true → P) × (b ≡ false → ¬ P)
 
 pub not-left : (a b : Bool) → (a || b) ≡ false → a ≡ false
 not-left true b h = h
@@ -73,13 +73,13 @@ pub not-right : (a b : Bool) → (a || b) ≡ false → b ≡ false
 not-right true b h = absurd (true≢false h)
 not-right false b h = h
 
-either : {P Q : Type 0} (a b : Bool) → Decides P a → Decides Q b → Decides (P ⊎ Q) (a || b)
+either : {P Q : Type 0} (a b : Bool) → DecidedBy P a → DecidedBy Q b → DecidedBy (P ⊎ Q) (a || b)
 either a b (x, y) (u, v) = (
   (λ h. elim (or-cases a b h) [ inl k ↦ inl (x k) | inr k ↦ inr (u k) ]),
   (λ h z. elim z [ inl p ↦ y (not-left a b h) p | inr q ↦ v (not-right a b h) q ]),
 )
 
-less-than : (a b : ℕ) → Decides (a < b) (ltb a b)
+less-than : (a b : ℕ) → DecidedBy (a < b) (ltb a b)
 less-than a b = (ltb-true a b, λ h k. no a b (ltb-false a b h) k)
   where
     no : (a b : ℕ) → b ≤ a → a < b → ⊥
@@ -93,18 +93,18 @@ unfolding namesSomeRay
 unnamed g [] = false
 unnamed g (e ∷ es) = not (namesSomeRay g e) || unnamed g es
 
-pub no-ray : (g : DexelGrid) (es : List Entry) → Decides (NamesNoRay g es) (unnamed g es)
+pub no-ray : (g : DexelGrid) (es : List Entry) → DecidedBy (NamesNoRay g es) (unnamed g es)
 unfolding unnamed NamesNoRay
 no-ray g [] = ((λ h. absurd (false≢true h)), λ h x. List·Memᴰ·not-nil (x .1))
 no-ray g (e ∷ es) = (some (no-ray g es), all (no-ray g es))
   where
-    some : Decides (NamesNoRay g es) (unnamed g es) → (not (namesSomeRay g e) || unnamed g es) ≡ true → NamesNoRay g (e ∷ es)
+    some : DecidedBy (NamesNoRay g es) (unnamed g es) → (not (namesSomeRay g e) || unnamed g es) ≡ true → NamesNoRay g (e ∷ es)
     some d h = elim (or-cases (not (namesSomeRay g e)) (unnamed g es) h) [
       | inl u ↦ (e, List·Memᴰ·head refl, not-true (namesSomeRay g e) u)
       | inr u ↦ let (f, i, n) = d .0 u in (f, List·Memᴰ·tail i, n)
     ]
 
-    all : Decides (NamesNoRay g es) (unnamed g es) → (not (namesSomeRay g e) || unnamed g es) ≡ false → NamesNoRay g (e ∷ es) → ⊥
+    all : DecidedBy (NamesNoRay g es) (unnamed g es) → (not (namesSomeRay g e) || unnamed g es) ≡ false → NamesNoRay g (e ∷ es) → ⊥
     all d h (f, i, n) = elim (List·Memᴰ·cases-cons i) [
       | inl q ↦ absurd (clash (not (namesSomeRay g e) || unnamed g es)
           (or-left (not (namesSomeRay g e)) (unnamed g es) (ap not (ap (namesSomeRay g) (sym q) ∙ n))) h)
@@ -114,7 +114,7 @@ no-ray g (e ∷ es) = (some (no-ray g es), all (no-ray g es))
 -- ---- 9 and 10
 
 -- a property of rays that a test decides is counted by a sum
-pub count-by : (g : DexelGrid) (P : Ray g → Type 0) (test : Ray g → Bool) → ((r : Ray g) → Decides (P r) (test r))
+pub count-by : (g : DexelGrid) (P : Ray g → Type 0) (test : Ray g → Bool) → ((r : Ray g) → DecidedBy (P r) (test r))
     → (i : ℕ) (h : i ≤ rayCount g)
     → Count g P i (sumTo g (λ r. cond (test r) 1 0) i h)
 unfolding sumTo
@@ -147,7 +147,7 @@ module _ (g : DexelGrid) (s : Sets g) (lists : Ray g → Kind → List Float)
         (λ p h. ap (λ (b : Bool). b && not (holds (hitsOnList g es r k) p)) (each r k .points p)
         ∙ sym (sets-after-hits g r s es k p) ∙ f p h ∙ sym (each r k .points p))
 
-    pub changes-by : (r : Ray g) → Decides (RayChanges g s es r) (isRayChanged g lists es r)
+    pub changes-by : (r : Ray g) → DecidedBy (RayChanges g s es r) (isRayChanged g lists es r)
     unfolding RayChanges isRayChanged
     changes-by r = (
       (λ h f. elim (or-cases (isHitBy (lists r Possible) (hitsOnList g es r Possible))
@@ -212,7 +212,7 @@ abbrev pub AllDecided : List Cause → List Bool → Type 0
 AllDecided [] [] = Unit {0}
 AllDecided [] (b ∷ bs) = ⊥
 AllDecided (c ∷ cs) [] = ⊥
-AllDecided (c ∷ cs) (b ∷ bs) = Decides (c .present) b × AllDecided cs bs
+AllDecided (c ∷ cs) (b ∷ bs) = DecidedBy (c .present) b × AllDecided cs bs
 
 -- the number of the first cause whose test is passed, or else the other answer
 unfoldable pub answerOfTests : List Cause → List Bool → LogAnswer → LogAnswer
@@ -249,7 +249,7 @@ module _ (spec : DexelStockSpec) (g : DexelGrid) (b : Capacity) where
   module _ (s : Sets g) (lists : Ray g → Kind → List Float)
       (each : (r : Ray g) (k : Kind) → ListOf (s r k) (lists r k)) (n : ℕ) (c : Commit)
       (d : Doubles g lists (entries (c .log))) where
-    short-by : Decides (LogBuffersShort spec g b c)
+    short-by : DecidedBy (LogBuffersShort spec g b c)
         (ltb (b .records) (spec .«max_intervals»)
         || (ltb (b .heads) (2 * rayCount g) || ltb (c .work) (workNeeded (spec .«max_intervals») (c .log))))
     unfolding LogBuffersShort
@@ -261,7 +261,7 @@ module _ (spec : DexelStockSpec) (g : DexelGrid) (b : Capacity) where
         (less-than (b .heads) (2 * rayCount g))
         (less-than (c .work) (workNeeded (spec .«max_intervals») (c .log))))
 
-    bad-by : Decides (LogInputBad ⊥ c) (not (isWholeLog (c .log)))
+    bad-by : DecidedBy (LogInputBad ⊥ c) (not (isWholeLog (c .log)))
     unfolding LogInputBad
     bad-by = (
       (λ h. inl (eqb-false (length (c .log) % 6) 0 (not-true (isWholeLog (c .log)) h))),
@@ -269,7 +269,7 @@ module _ (spec : DexelStockSpec) (g : DexelGrid) (b : Capacity) where
     )
 
     -- 9 is present exactly when the count is above the allowance
-    pub rays-by : Decides (TooManyRays g s c) (ltb (c .allowance) (changedRayCount g lists (entries (c .log))))
+    pub rays-by : DecidedBy (TooManyRays g s c) (ltb (c .allowance) (changedRayCount g lists (entries (c .log))))
     unfolding TooManyRays
     rays-by =
         let x = rays-counted g s lists each (entries (c .log)) d in
@@ -279,7 +279,7 @@ module _ (spec : DexelStockSpec) (g : DexelGrid) (b : Capacity) where
         )
 
     -- 10 is present exactly when the count is above the budget
-    pub intervals-by : Decides (TooManyIntervals spec g s c) (ltb (spec .«max_intervals») (pairsAfter g lists (entries (c .log))))
+    pub intervals-by : DecidedBy (TooManyIntervals spec g s c) (ltb (spec .«max_intervals») (pairsAfter g lists (entries (c .log))))
     unfolding TooManyIntervals
     intervals-by =
         let x = intervals-counted g s lists each (entries (c .log)) in

@@ -212,9 +212,9 @@ used-in l used (suc n) h i k u = elim (decLt i n) [
     ]
 
 -- a full ray
-whole-ray : ValidRay (whole 0) (whole 10) (whole 0 ∷ whole 10 ∷ []) (whole 0 ∷ whole 10 ∷ [])
+uncut-valid : ValidRay (whole 0) (whole 10) (whole 0 ∷ whole 10 ∷ []) (whole 0 ∷ whole 10 ∷ [])
 unfolding sound bounded lt le ofInt
-whole-ray = record { possible-sound = refl; certain-sound = refl; possible-bounded = refl; certain-bounded = refl; inside = λ p t. t }
+uncut-valid = record { possible-sound = refl; certain-sound = refl; possible-bounded = refl; certain-bounded = refl; inside = λ p t. t }
 
 -- certain lies within possible, by a test at the ends
 inside-of : (P C : List Float) → agree (C ++ P) (λ (q : Float). holds C q && holds P q) (holds C) ≡ true → (p : Float)
@@ -226,9 +226,9 @@ inside-of P C h p t =
     (in-right C P (holds P) (of-list P))) (in-left C P (holds C) (of-list C)) h p ∙ t)
 
 -- the ray that was cut: 0 to 1 and 4 to 10 lie within 0 to 2 and 3 to 10
-cut-whole : ValidRay (whole 0) (whole 10) (whole 0 ∷ whole 2 ∷ whole 3 ∷ whole 10 ∷ []) (whole 0 ∷ whole 1 ∷ whole 4 ∷ whole 10 ∷ [])
+cut-valid : ValidRay (whole 0) (whole 10) (whole 0 ∷ whole 2 ∷ whole 3 ∷ whole 10 ∷ []) (whole 0 ∷ whole 1 ∷ whole 4 ∷ whole 10 ∷ [])
 unfolding sound bounded holds lt le ofInt
-cut-whole = record {
+cut-valid = record {
   possible-sound = refl;
   certain-sound = refl;
   possible-bounded = refl;
@@ -237,9 +237,9 @@ cut-whole = record {
 }
 
 -- and cut again: 0 to 1 lies within 0 to 2 and 3 to 4
-again-whole : ValidRay (whole 0) (whole 10) (whole 0 ∷ whole 2 ∷ whole 3 ∷ whole 4 ∷ []) (whole 0 ∷ whole 1 ∷ [])
+again-valid : ValidRay (whole 0) (whole 10) (whole 0 ∷ whole 2 ∷ whole 3 ∷ whole 4 ∷ []) (whole 0 ∷ whole 1 ∷ [])
 unfolding sound bounded holds lt le ofInt
-again-whole = record {
+again-valid = record {
   possible-sound = refl;
   certain-sound = refl;
   possible-bounded = refl;
@@ -259,8 +259,8 @@ filled-sound = record {
         (usedAt (exampleStock .cells .spans) (exampleStock .cells .links)) 8 refl;
     counts = refl;
   };
-  valid = λ ray h. three (λ r. ValidAt (exampleBox 8) exampleGrid (exampleStock .cells) (r .0)) (λ h. whole-ray)
-      (λ h. whole-ray) (λ h. whole-ray) (ray, h);
+  valid = λ ray h. three (λ r. ValidAt (exampleBox 8) exampleGrid (exampleStock .cells) (r .0)) (λ h. uncut-valid)
+      (λ h. uncut-valid) (λ h. uncut-valid) (ray, h);
 }
 
 cut-sound : SoundStock (exampleBox 8) exampleGrid cut
@@ -274,8 +274,8 @@ cut-sound = record {
     others = used-in (chained 8 (cut .cells .links) (cut .cells .heads) 0 6) (usedAt (cut .cells .spans) (cut .cells .links)) 8 refl;
     counts = refl;
   };
-  valid = λ ray h. three (λ r. ValidAt (exampleBox 8) exampleGrid (cut .cells) (r .0)) (λ h. whole-ray)
-      (λ h. cut-whole) (λ h. whole-ray) (ray, h);
+  valid = λ ray h. three (λ r. ValidAt (exampleBox 8) exampleGrid (cut .cells) (r .0)) (λ h. uncut-valid)
+      (λ h. cut-valid) (λ h. uncut-valid) (ray, h);
 }
 
 again-sound : SoundStock (exampleBox 8) exampleGrid cut-again
@@ -290,8 +290,8 @@ again-sound = record {
         (usedAt (cut-again .cells .spans) (cut-again .cells .links)) 8 refl;
     counts = refl;
   };
-  valid = λ ray h. three (λ r. ValidAt (exampleBox 8) exampleGrid (cut-again .cells) (r .0)) (λ h. whole-ray)
-      (λ h. again-whole) (λ h. whole-ray) (ray, h);
+  valid = λ ray h. three (λ r. ValidAt (exampleBox 8) exampleGrid (cut-again .cells) (r .0)) (λ h. uncut-valid)
+      (λ h. again-valid) (λ h. uncut-valid) (ray, h);
 }
 
 -- the answer that the order gives to a commit on a sound stock, worked out

@@ -6,12 +6,12 @@ use mathlib.Core.Logic.{inl, inr}
 use lib.ListN.{length}
 use lib.Ieee.{Float, lt, le}
 use Rattle.doubles.specs.Doubles.{Number}
-use Rattle.logic.proofs.Bools.{or-cases, or-left, or-right, and-left, and-right, both, by-cases, clash, same-if, and-not-or}
+use Rattle.logic.proofs.Bools.{or-cases, or-left, or-right, and-left, and-right, both, and-true, by-cases, clash, same-if, and-not-or}
 use Rattle.doubles.proofs.Order.{lt-number, le-number, le-refl, le-trans, lt→le, not-lt→le, le-lt-trans, lt-le-trans, lt→not-le, le→not-lt}
 use Rattle.spans.specs.Spans.{within, holds, rising, ListOf}
 use Rattle.spans.proofs.Ends.{oddN, Above, not-not, above-less, rising-tail, rising-above, rising-cons}
 use Rattle.spans.proofs.Sets.{sound-rising, sound-even, make-sound, mod-oddN}
-use Rattle.log_model.proofs.Hits.{within-proper}
+use Rattle.spans.proofs.Points.{empty-pair}
 
 -- the pair [x, y) in front of a list, where x < y
 unfoldable pub piece : Float → Float → List Float → List Float
@@ -97,10 +97,7 @@ module _ (x y : Float) (l : List Float) where
     where
       go : (b : Bool) → lt x y ≡ b → holds (cond b (x ∷ y ∷ l) l) p ≡ (within x y p || holds l p)
       go true h = refl
-      go false h = elim (by-cases (within x y p)) [
-        | inl u ↦ absurd (clash (lt x y) (within-proper x y p u) h)
-        | inr u ↦ sym (ap (λ (b : Bool). b || holds l p) u)
-      ]
+      go false h = sym (ap (λ (b : Bool). b || holds l p) (empty-pair x y p h))
 
   piece-above : (z : Float) → lt z x ≡ true → Above z l → Above z (piece x y l)
   unfolding piece
@@ -256,23 +253,12 @@ same-list s t l e x = record { isSound = x .isSound; points = λ p. x .points p 
 -- THE LAW
 pub less-list : (s : Float → Bool) (l hits : List Float) → ListOf s l → ListOf (λ p. s p && not (holds hits p)) (less l hits)
 unfolding less holds
-less-list s l [] x = same-list s (λ p. s p && true) l (λ p. none (s p)) x
-  where
-    none : (b : Bool) → b ≡ (b && true)
-    none true = refl
-    none false = refl
-less-list s l (lo ∷ []) x = same-list s (λ p. s p && true) l (λ p. none (s p)) x
-  where
-    none : (b : Bool) → b ≡ (b && true)
-    none true = refl
-    none false = refl
+less-list s l [] x = same-list s (λ p. s p && true) l (λ p. sym (and-true (s p))) x
+less-list s l (lo ∷ []) x = same-list s (λ p. s p && true) l (λ p. sym (and-true (s p))) x
 less-list s l (lo ∷ hi ∷ hits) x = go (lt lo hi) refl (λ t m. less-list t m hits)
   where
     More : Type 0
     More = (t : Float → Bool) (m : List Float) → ListOf t m → ListOf (λ p. t p && not (holds hits p)) (less m hits)
-
-    no-pair : lt lo hi ≡ false → (p : Float) → within lo hi p ≡ false
-    no-pair h p = elim (by-cases (within lo hi p)) [ inl u ↦ absurd (clash (lt lo hi) (within-proper lo hi p u) h) | inr u ↦ u ]
 
     go : (b : Bool) → lt lo hi ≡ b → More
         → ListOf (λ p. s p && not (within lo hi p || holds hits p)) (less (cond b (lessPair lo hi l) l) hits)
@@ -283,4 +269,4 @@ less-list s l (lo ∷ hi ∷ hits) x = go (lt lo hi) refl (λ t m. less-list t m
         (more (λ p. s p && not (within lo hi p)) (lessPair lo hi l) (pair-list lo hi h s l x))
     go false h more =
         same-list (λ p. s p && not (holds hits p)) (λ p. s p && not (within lo hi p || holds hits p)) (less l hits)
-        (λ p. ap (λ (b : Bool). s p && not (b || holds hits p)) (sym (no-pair h p))) (more s l x)
+        (λ p. ap (λ (b : Bool). s p && not (b || holds hits p)) (sym (empty-pair lo hi p h))) (more s l x)

@@ -4,7 +4,7 @@
 use mathlib.Core.Path.{_≡_, refl, sym, ap, _∙_, subst, subst₂, fun-ext}
 use mathlib.Core.Bool.{Bool, true, false, not, _&&_, _||_}
 use mathlib.Core.List.{List, [], _∷_, _++_}
-use mathlib.Core.Logic.{inl, inr}
+use mathlib.Core.Logic.{inl, inr, _↔_}
 use Prim.Native.Nat.{ℕ, _+_}
 use native.Mathlib.Nat.{add-zero, add-suc, suc-add}
 use lib.ListN.{length}
@@ -125,59 +125,58 @@ module _ (spec : DexelStockSpec) (g : DexelGrid) (R : StoreView g) where
 module _ (spec : DexelStockSpec) (g : DexelGrid) (R : StoreView g) (L : SoundView g R) where
   module _ (s : R .Store) (cs : List Commit) (vs : List LogAnswer) (t : R .Store)
       (F : Follows spec g R (R .lent s) (modelStart g R s) cs vs t) where
+    -- a list holds the points that the model gives it
+    points-are : (r : Ray g) (k : Kind) (p : Float) → holds (R .lists t r k) p ≡ modelAfter g (modelStart g R s) cs vs .sets r k p
+    unfolding pointSets
+    points-are r k p = ap (λ (z : Sets g). z r k p) (F .sets)
+
     holding : (r : Ray g) (k : Kind) (p : Float)
         → holds (R .lists t r k) p ≡ (holds (R .lists s r k) p && not (removedBy g (acceptedLogs cs vs) r k p))
     unfolding pointSets modelStart
-    holding r k p = ap (λ (z : Sets g). z r k p) (F .sets) ∙ closed g (modelStart g R s) cs vs r k p
+    holding r k p = points-are r k p ∙ closed g (modelStart g R s) cs vs r k p
 
-    kept : (r : Ray g) (k : Kind) (p : Float) → holds (R .lists t r k) p ≡ true → holds (R .lists s r k) p ≡ true
-    kept r k p x = and-left (holds (R .lists s r k) p) (not (removedBy g (acceptedLogs cs vs) r k p)) (sym (holding r k p) ∙ x)
-
-    not-removed : (r : Ray g) (k : Kind) (p : Float) → holds (R .lists t r k) p ≡ true → removedBy g (acceptedLogs cs vs) r k p ≡ true → ⊥
-    not-removed r k p x y =
-        clash (removedBy g (acceptedLogs cs vs) r k p) y
-        (not-true (removedBy g (acceptedLogs cs vs) r k p)
-        (and-right (holds (R .lists s r k) p) (not (removedBy g (acceptedLogs cs vs) r k p)) (sym (holding r k p) ∙ x)))
-
-    still : (r : Ray g) (k : Kind) (p : Float) → holds (R .lists s r k) p ≡ true
-        → (removedBy g (acceptedLogs cs vs) r k p ≡ true → ⊥) → holds (R .lists t r k) p ≡ true
-    still r k p x n = holding r k p ∙ elim (by-cases (removedBy g (acceptedLogs cs vs) r k p)) [
-      | inl y ↦ absurd (n y)
-      | inr y ↦ both (holds (R .lists s r k) p) (not (removedBy g (acceptedLogs cs vs) r k p)) x (ap not y)
-    ]
+    -- that is exactly those that it first held and that no accepted log removes
+    held : (r : Ray g) (k : Kind) (p : Float)
+        → (holds (R .lists t r k) p ≡ true)
+        ↔ ((holds (R .lists s r k) p ≡ true) × (removedBy g (acceptedLogs cs vs) r k p ≡ true → ⊥))
+    held r k p =
+        let before = holds (R .lists s r k) p in
+        let gone = removedBy g (acceptedLogs cs vs) r k p in (
+          (λ x. (
+            and-left before (not gone) (sym (holding r k p) ∙ x),
+            λ y. clash gone y (not-true gone (and-right before (not gone) (sym (holding r k p) ∙ x))),
+          )),
+          (λ x. holding r k p ∙ elim (by-cases gone) [ inl y ↦ absurd (x .1 y) | inr y ↦ both before (not gone) (x .0) (ap not y) ]),
+        )
 
     neither : (r : Ray g) (p : Float) → ¬ InHit g (acceptedLogs cs vs) r outer p
         → ¬ InHit g (acceptedLogs cs vs) r inner p → removedBy g (acceptedLogs cs vs) r Certain p ≡ true → ⊥
     neither r p a b x = elim (to-either g r p (acceptedLogs cs vs) x) [ inl y ↦ a y | inr y ↦ b y ]
 
-    list-of : (r : Ray g) (k : Kind) → ListOf (modelAfter g (modelStart g R s) cs vs .sets r k) (R .lists t r k)
-    unfolding pointSets
-    list-of r k = record { isSound = L .sound-list t (F .sound) r k; points = λ p. ap (λ (z : Sets g). z r k p) (F .sets) }
-
     run-meets-model : RunMeetsModel spec g R s cs vs t
     run-meets-model = record {
       answers = F .modelled;
       no-others = λ bs x. modelled-unique spec g (R .lent s) (modelStart g R s) cs bs vs x (F .modelled);
-      listed = list-of;
-      only-list = λ r k l dl dt sl x. same-points l (R .lists t r k) dl dt sl (list-of r k .isSound)
-          (λ p h. x p h ∙ sym (list-of r k .points p));
+      listed = λ r k. record { isSound = L .sound-list t (F .sound) r k; points = points-are r k };
+      only-list = λ r k l dl dt sl x. same-points l (R .lists t r k) dl dt sl (L .sound-list t (F .sound) r k)
+          (λ p h. x p h ∙ sym (points-are r k p));
       all-pairs = L .all-pairs t (F .sound);
       model-generation = F .generation;
       generation = F .generation ∙ unfold modelStart in grown g (modelStart g R s) cs vs;
       possible-is = λ r p. (
-        (λ x. (kept r Possible p x, λ y. not-removed r Possible p x (of-inner g r p (acceptedLogs cs vs) y))),
-        (λ x. still r Possible p (x .0) (λ y. x .1 (to-inner g r p (acceptedLogs cs vs) y))),
+        (λ x. (held r Possible p .0 x .0, λ y. held r Possible p .0 x .1 (of-inner g r p (acceptedLogs cs vs) y))),
+        (λ x. held r Possible p .1 (x .0, λ y. x .1 (to-inner g r p (acceptedLogs cs vs) y))),
       );
       certain-is = λ r p. (
         (λ x. (
-          kept r Certain p x,
-          (λ y. not-removed r Certain p x (of-either g r p (acceptedLogs cs vs) (inl y))),
-          (λ y. not-removed r Certain p x (of-either g r p (acceptedLogs cs vs) (inr y))),
+          held r Certain p .0 x .0,
+          (λ y. held r Certain p .0 x .1 (of-either g r p (acceptedLogs cs vs) (inl y))),
+          (λ y. held r Certain p .0 x .1 (of-either g r p (acceptedLogs cs vs) (inr y))),
         )),
-        (λ x. still r Certain p (x .0) (neither r p (x .1) (x .2))),
+        (λ x. held r Certain p .1 (x .0, neither r p (x .1) (x .2))),
       );
       certain-within = L .within t (F .sound);
-      nothing-gains = kept;
+      nothing-gains = λ r k p x. held r k p .0 x .0;
       sound = F .sound;
     }
 

@@ -11,12 +11,12 @@ use lib.ListN.{length}
 use lib.Ieee.{Float, lt, le, eq}
 use Rattle.doubles.specs.Doubles.{Number}
 use Rattle.logic.proofs.Bools.{or-cases, or-left, or-right, and-left, and-right, both, by-cases, clash, not-true}
-use Rattle.doubles.proofs.Order.{lt-number, le-refl, le-trans, le-total, lt→le, not-lt→le, not-le→lt, le-lt-trans, lt-le-trans}
+use Rattle.doubles.proofs.Order.{lt-number, le-refl, le-trans, le-total, lt→le, not-lt→le, not-le→lt, lt-le-trans}
 use Rattle.doubles.proofs.Order.{lt→not-le, le→not-lt, lt-trans, eq→le, eq→ge, eq-refl, eq-sym, eq-trans, le-cases}
 use Rattle.spans.specs.Spans.{within, holds, rising, sound, ListOf}
 use Rattle.spans.proofs.Ends.{All, Above, all-map, rising-tail, rising-above, rising-cons}
 use Rattle.spans.proofs.Sets.{one-point, sound-rising}
-use Rattle.spans.proofs.Points.{held-number}
+use Rattle.spans.proofs.Points.{held-number, empty-pair}
 use Rattle.log_model.specs.Counts.{losOf, hisOf, memberEq, countDistinct, startsLeft}
 
 -- ---- counting distinct numbers
@@ -338,15 +338,9 @@ covered-end (lo ∷ hi ∷ hits) q a k f n = go (lt lo hi) refl (λ z j g. cover
         no-lt : le lo a ≡ true → lt a hi ≡ false
         no-lt u = elim (by-cases (lt a hi)) [ inl v ↦ absurd (clash (within lo hi a) (both (le lo a) (lt a hi) u v) not-here) | inr v ↦ v ]
 
-    none : lt lo hi ≡ false → (p : Float) → within lo hi p ≡ false
-    none h p = elim (by-cases (within lo hi p)) [
-      | inl u ↦ absurd (clash (lt lo hi) (le-lt-trans lo p hi (and-left (le lo p) (lt p hi) u) (and-right (le lo p) (lt p hi) u)) h)
-      | inr u ↦ u
-    ]
-
     go : (b : Bool) → lt lo hi ≡ b → Later → memberEq a (cond b (hi ∷ hisOf hits) (hisOf hits)) ≡ true
     go true h more = placed more h
-    go false h more = later more q k f (λ p b c. none h p)
+    go false h more = later more q k f (λ p b c. empty-pair lo hi p h)
 
 -- just below a nothing of m is held
 Fresh : List Float → Float → Type 0

@@ -93,11 +93,11 @@ module _ {n : ℕ} {spans : List Float} {links : List ℕ} where
       ];
     }
 
-    -- the same hits, told otherwise
-    gone-told : (must′ : Float → Bool) (last last′ : Float) (r : Rest) → le last last′ ≡ true
+    -- the same hits are gone past a later place, and wherever fewer points must be
+    gone-weaker : (must′ : Float → Bool) (last last′ : Float) (r : Rest) → le last last′ ≡ true
         → ((p : Float) → must′ p ≡ true → f p ≡ true → must p ≡ true)
         → Gone n spans links l f must last r → Gone n spans links l f must′ last′ r
-    gone-told must′ last last′ r later so g = record {
+    gone-weaker must′ last last′ r later so g = record {
       gone = g .gone;
       walked = walked-later last last′ later (g .walked);
       only = g .only;
@@ -112,7 +112,7 @@ module _ {n : ℕ} {spans : List Float} {links : List ℕ} where
       unfolding holds
       partly-start must t so g = record {
         last = b;
-        taken = gone-told (passed b front (take 0 held)) b b t (starts due) (λ p h m. so p (rw or-false at h)) g;
+        taken = gone-weaker (passed b front (take 0 held)) b b t (starts due) (λ p h m. so p (rw or-false at h)) g;
         within-end = due .up;
         next = first-above due;
       }
@@ -138,7 +138,7 @@ module _ {n : ℕ} {spans : List Float} {links : List ℕ} where
             → Partly n spans links b end front held l f i t → Partly n spans links b end front held l f (i + 2) t′
         partly-more t t′ fit below takes k = record {
           last = lo;
-          taken = gone-told (passed b front (take (i + 2) held)) lo lo t′ (le-refl lo (lt-number lo hi up .0)) grown
+          taken = gone-weaker (passed b front (take (i + 2) held)) lo lo t′ (le-refl lo (lt-number lo hi up .0)) grown
               (gone-take lo hi (k .last) t t′ (k .next (omega arith)) up
               (λ p h. due .stretch .only-pairs p
               (in-pair held i p (due .is-sound) e fit (and-left (le lo p) (lt p hi) h) (and-right (le lo p) (lt p hi) h)))
@@ -163,7 +163,7 @@ module _ {n : ℕ} {spans : List Float} {links : List ℕ} where
         -- ---- the rest begins past the end
         partly-all : (t : Rest) → i ≤ length held → (i < length held → lt (getD held i nan) end ≡ false)
             → Partly n spans links b end front held l f i t → Taken n spans links l f end t
-        partly-all t fit stop k = gone-told (λ p. lt p end) (k .last) end t (k .within-end) covered (k .taken)
+        partly-all t fit stop k = gone-weaker (λ p. lt p end) (k .last) end t (k .within-end) covered (k .taken)
           where
             in-front : (p : Float) → lt p end ≡ true → i < length held → lt p (getD held i nan) ≡ true
             in-front p h j = lt-le-trans p end (getD held i nan) h

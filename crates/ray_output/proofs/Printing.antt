@@ -23,7 +23,7 @@ pub record Hexing (out₀ : List ℕ) (at v k rest : ℕ) (out : List ℕ) : Typ
   pub most : k ≤ 16
   pub tail : List ℕ
   pub spells : hex k rest ++ tail ≡ hex 16 v
-  pub whole : out ≡ take (at + k) out₀ ++ (tail ++ drop (at + 16) out₀)
+  pub text-is : out ≡ take (at + k) out₀ ++ (tail ++ drop (at + 16) out₀)
 
 hex-none : (v : ℕ) → hex 0 v ≡ []
 unfolding hex
@@ -35,7 +35,7 @@ hex-more j v = rw (add-one j)
 
 module _ (out₀ : List ℕ) (at v : ℕ) (fit : at + 16 ≤ length out₀) where
   pub hex-start : Hexing out₀ at v 16 v out₀
-  hex-start = record { most = omega arith; tail = []; spells = append-nil (hex 16 v); whole = sym (take-append-drop (at + 16) out₀) }
+  hex-start = record { most = omega arith; tail = []; spells = append-nil (hex 16 v); text-is = sym (take-append-drop (at + 16) out₀) }
 
   pub hex-step : (j rest : ℕ) (out : List ℕ) → Hexing out₀ at v (j + 1) rest out
       → Hexing out₀ at v j (rest / 16) (set out (at + j) (glyph (rest % 16)))
@@ -46,13 +46,13 @@ module _ (out₀ : List ℕ) (at v : ℕ) (fit : at + 16 ≤ length out₀) wher
       let front : take (at + (j + 1)) out₀ ≡ take (at + j) out₀ ++ (getD out₀ (at + j) 0 ∷ []) =
       rw (one at j) (take-suc out₀ (at + j) 0 small) in
       let split : out ≡ take (at + j) out₀ ++ (getD out₀ (at + j) 0 ∷ past) =
-      h .whole ∙ ap (λ (l : List ℕ). l ++ past) front ∙ append-assoc (take (at + j) out₀) (getD out₀ (at + j) 0 ∷ []) past in
+      h .text-is ∙ ap (λ (l : List ℕ). l ++ past) front ∙ append-assoc (take (at + j) out₀) (getD out₀ (at + j) 0 ∷ []) past in
       record {
         most = omega (arith, h .most);
         tail = g ∷ h .tail;
         spells = sym (append-assoc (hex j (rest / 16)) (g ∷ []) (h .tail))
             ∙ ap (λ (l : List ℕ). l ++ h .tail) (sym (hex-more j rest)) ∙ h .spells;
-        whole = ap (λ (l : List ℕ). set l (at + j) g) split
+        text-is = ap (λ (l : List ℕ). set l (at + j) g) split
             ∙ set-at (take (at + j) out₀) (getD out₀ (at + j) 0) past g (at + j) (length-take-le (at + j) out₀ (omega arith));
       }
     where
@@ -63,7 +63,7 @@ module _ (out₀ : List ℕ) (at v : ℕ) (fit : at + 16 ≤ length out₀) wher
   hex-size k rest out h =
       omega (
         arith,
-        ap length (h .whole),
+        ap length (h .text-is),
         length-append (take (at + k) out₀) (h .tail ++ drop (at + 16) out₀),
         length-append (h .tail) (drop (at + 16) out₀),
         length-take-le (at + k) out₀ (omega (arith, h .most)),
@@ -79,7 +79,7 @@ module _ (out₀ : List ℕ) (at v : ℕ) (fit : at + 16 ≤ length out₀) wher
   hex-done rest out h = record {
     next = omega (arith, hex-length 16 v);
     room = fit;
-    whole = h .whole
+    whole = h .text-is
         ∙ ap (λ (n : ℕ). take n out₀ ++ (h .tail ++ drop (at + 16) out₀)) (none at)
         ∙ ap (λ (l : List ℕ). take at out₀ ++ (l ++ drop (at + 16) out₀))
         (ap (λ (l : List ℕ). l ++ h .tail) (sym (hex-none rest)) ∙ h .spells);

@@ -77,16 +77,16 @@ module _ (a o i : List Float) (sa : sound a ≡ true) (so : sound o ≡ true) (s
 
 -- ---- one list, by a test t whether a boundary of it moves
 module _ {a list : List Float} (sa : sound a ≡ true) (sl : sound list ≡ true) {to end limit : ℕ}
-    (t : Bool) (told : t ≡ not (equal a list)) where
+    (t : Bool) (test-is : t ≡ not (equal a list)) where
   pub reduced-still : {w : List Float} {n : ℕ} → not t ≡ true → length a ≡ n → (equal a list ≡ true → list ≡ a)
       → ReducePost a list to end limit w w (record { moved = false; pairs = n / 2 })
   reduced-still {w} h e stays =
-      let x : list ≡ a = stays (not-false (equal a list) (found-not t (not (equal a list)) told h)) in
+      let x : list ≡ a = stays (not-false (equal a list) (found-not t (not (equal a list)) test-is h)) in
       record {
         between = between-same to end w;
         most = omega arith;
         is = sym x;
-        becomes = record { moves = sym (not-true t h) ∙ told; pairs = ap length x ∙ omega (arith, sound-mod a sa) };
+        becomes = record { moves = sym (not-true t h) ∙ test-is; pairs = ap length x ∙ omega (arith, sound-mod a sa) };
       }
 
   pub reduced-moved : {before after : List Float} {r : ℕ} → not t ≡ false → to + limit ≤ length before
@@ -99,7 +99,7 @@ module _ {a list : List Float} (sa : sound a ≡ true) (sl : sound list ≡ true
         between = x .between;
         most = omega (arith, x .most);
         is = ap (λ (k : ℕ). cellsFrom to k after) twice ∙ x .ends;
-        becomes = record { moves = sym (not-false t h) ∙ told; pairs = long ∙ sym twice };
+        becomes = record { moves = sym (not-false t h) ∙ test-is; pairs = long ∙ sym twice };
       }
 
 -- what becomes of a list, by the points that are hit

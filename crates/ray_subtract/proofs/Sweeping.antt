@@ -109,19 +109,19 @@ module _ {w₀ : List Float} {a n b m : ℕ} (la : SoundListAt a n w₀) (lb : S
 
   module _ {i j r : ℕ} {w : List Float} (s : Subtracting w₀ a n b m i j r w) where
     pub subtracting-size : length w ≡ length w₀
-    subtracting-size = s .less .size
+    subtracting-size = s .less .places .size
 
     pub subtracting-most : j ≤ m
-    subtracting-most = omega (arith, s .less .jMost, second-size)
+    subtracting-most = omega (arith, s .less .places .jMost, second-size)
 
     pub subtracting-done : n ≤ i → WrittenAt (lessOf (cellsFrom a n w₀) (cellsFrom b m w₀)) 0 (n + m) (n + m) w₀ w r
     subtracting-done h =
         let d = less-done (cellsFrom a n w₀) (cellsFrom b m w₀) w₀ i j r w (omega (arith, first-size)) (s .less) in
         record {
           between = record {
-            size = s .less .size;
+            size = s .less .places .size;
             front = λ q k. absurd (omega arith);
-            past = λ q k. s .past q (omega (arith, s .less .iMost, s .less .jMost, first-size, second-size));
+            past = λ q k. s .past q (omega (arith, s .less .places .iMost, s .less .places .jMost, first-size, second-size));
           };
           most = omega (arith, d .most, first-size, second-size);
           ends = d .list;
@@ -129,7 +129,7 @@ module _ {w₀ : List Float} {a n b m : ℕ} (la : SoundListAt a n w₀) (lb : S
 
     module _ (more : i < n) where
       pub two-more : i + 2 ≤ n
-      two-more = omega (arith, sound-mod (cellsFrom a n w₀) (la .isSound), first-size, s .less .iWhole)
+      two-more = omega (arith, sound-mod (cellsFrom a n w₀) (la .isSound), first-size, s .less .places .iWhole)
 
       in-first : i < length (cellsFrom a n w₀)
       in-first = omega (arith, first-size)
@@ -154,7 +154,7 @@ module _ {w₀ : List Float} {a n b m : ℕ} (la : SoundListAt a n w₀) (lb : S
           (omega (arith, long, length-drop j (cellsFrom b m w₀), second-size))
           (λ q h.
           let small : q < m - j = omega (arith, long) in
-          part-cell (b + j) (m - j) w q small ∙ s .past (b + j + q) (omega (arith, s .less .iMost, first-size))
+          part-cell (b + j) (m - j) w q small ∙ s .past (b + j + q) (omega (arith, s .less .places .iMost, first-size))
           ∙ ap (λ (k : ℕ). getD w₀ k nan) (assoc b j q) ∙ sym (part-cell b m w₀ (j + q) (omega arith))
           ∙ sym (getD-drop j (cellsFrom b m w₀) q nan))
         where
@@ -165,7 +165,7 @@ module _ {w₀ : List Float} {a n b m : ℕ} (la : SoundListAt a n w₀) (lb : S
           × CutReady (cellsFrom (b + j) (m - j) w) (getD w (a + i) nan) (getD w (a + i + 1) nan) w r
       subtracting-ready = (
         omega (arith, subtracting-size, subtracting-most, lb .room),
-        omega (arith, s .less .most, s .less .iMost, first-size),
+        omega (arith, s .less .places .most, s .less .places .iMost, first-size),
         rw (rest-is, lo-is, hi-is)
             (less-ready (cellsFrom a n w₀) (cellsFrom b m w₀) w₀ i j r w (la .isSound) (lb .isSound) both-fit (s .less) in-first),
       )
@@ -175,5 +175,5 @@ module _ {w₀ : List Float} {a n b m : ℕ} (la : SoundListAt a n w₀) (lb : S
       subtracting-step w′ p c = record {
         less = less-step (cellsFrom a n w₀) (cellsFrom b m w₀) w₀ i j r w (la .isSound) (lb .isSound) both-fit (s .less) in-first w′ p
             (rw (rest-is, lo-is, hi-is) at (c .cut));
-        past = λ q h. c .past q (omega (arith, s .less .most)) ∙ s .past q (omega arith);
+        past = λ q h. c .past q (omega (arith, s .less .places .most)) ∙ s .past q (omega arith);
       }

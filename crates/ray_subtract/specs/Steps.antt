@@ -2,10 +2,11 @@
 use mathlib.Core.Path.{_≡_}
 use mathlib.Core.Bool.{true, cond, not}
 use mathlib.Core.List.{List}
-use Prim.Native.Nat.{ℕ, _+_, _*_, _%_, _≤_, _<_}
-use lib.ListN.{length, take, drop, getD}
-use lib.Ieee.{Float, nan}
+use Prim.Native.Nat.{ℕ, _+_, _*_, _%_, _≤_}
+use lib.ListN.{length, take, drop}
+use lib.Ieee.{Float}
 use Rattle.spans.specs.Spans.{holds, sound, equal, NormalOf}
+use Rattle.spans.specs.Steps.{SameFrom, SameBelow}
 use Rattle.spans.specs.declared.Place.{Place}
 use Rattle.spans.specs.Overlay.{lessOf}
 use Rattle.span_overlay.specs.Steps.{OverlayCutPost}
@@ -26,13 +27,13 @@ pub record SoundListAt (at n : ℕ) (w : List Float) : Type 0 where
 -- the cells in front of `from`, and those from `to` on, are as before
 pub record ChangedBetween (from to : ℕ) (before after : List Float) : Type 0 where
   pub size : length after ≡ length before
-  pub front : (q : ℕ) → q < from → getD after q nan ≡ getD before q nan
-  pub past : (q : ℕ) → to ≤ q → getD after q nan ≡ getD before q nan
+  pub front : SameBelow from before after
+  pub past : SameFrom to before after
 
 -- what the list of m cells at `at` leaves of a pair stands past the first n cells; no cell from there on changed that is still to be read
 pub record CutAt (at m : ℕ) (from hi : Float) (before : List Float) (n : ℕ) (after : List Float) (r : Place) : Type 0 where
   pub cut : OverlayCutPost (cellsFrom at m before) from hi before n after r
-  pub past : (q : ℕ) → n + r .passed + 2 ≤ q → getD after q nan ≡ getD before q nan
+  pub past : SameFrom (n + r .passed + 2) before after
 
 -- the list stands at `to`, r cells long, at most `limit`; only cells from `to` to `end` changed
 pub record WrittenAt (list : List Float) (to end limit : ℕ) (before after : List Float) (r : ℕ) : Type 0 where
@@ -83,13 +84,13 @@ pub record MergeWithinPost (at np nc no ni : ℕ) (before after : List Float) (r
 -- the list stands at `at`, and the cells in front of it are as before
 pub record PlacedAt (list : List Float) (at : ℕ) (before after : List Float) : Type 0 where
   pub size : length after ≡ length before
-  pub front : (q : ℕ) → q < at → getD after q nan ≡ getD before q nan
+  pub front : SameBelow at before after
   pub cells : cellsFrom at (length list) after ≡ list
 
 -- the list that normalising makes of the pairs stands at `at`, r cells long, and the cells in front of it are as before
 pub record NormalizedAt (spans : List Float) (at : ℕ) (before after : List Float) (r : ℕ) : Type 0 where
   pub size : length after ≡ length before
-  pub front : (q : ℕ) → q < at → getD after q nan ≡ getD before q nan
+  pub front : SameBelow at before after
   pub most : r ≤ length spans
   pub list : NormalOf spans (cellsFrom at r after)
 

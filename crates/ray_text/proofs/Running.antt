@@ -21,7 +21,6 @@ use Rattle.ray_text.specs.Run.{Result, refused, written, Printed, Progra
 use Rattle.ray_input.specs.Steps.{Appended}
 use Rattle.logic.proofs.Bools.{and-left, and-right}
 use Rattle.ray_input.proofs.Reading.{pairs-length}
-use Rattle.ray_output.proofs.Printing.{lines-length}
 use Rattle.ray_input.proofs.Writing.{front, put-then}
 
 -- ---- what a readable text has
@@ -81,6 +80,10 @@ small s r p c o i ep ec eo ei = rw (ep, ec, eo, ei) record {
   innerMost = small-list letterI s (r .innerFew) .1;
 }
 
+-- a list that did not move is handed back as it was
+kept : (q : MergedList) (a w : List Float) (k : ℕ) → q .moved ≡ false → handedBack q a w k ≡ a
+kept q a w k e = ap (λ (b : Bool). cond (b && leb (k + 2 * q .pairs) (length w)) (take (2 * q .pairs) (drop k w)) a) e
+
 -- ---- the answer of the merge
 module _ (lo hi : Float) (possible certain outer inner : List Float) (few· : Small possible certain outer inner) where
   pub due-ray : (k : ℕ) → Due (mergeCauses lo hi possible certain outer inner 3072) k → (k < 100) × Due (rayCauses lo hi possible certain) k
@@ -101,10 +104,7 @@ module _ (lo hi : Float) (possible certain outer inner : List Float) (few· : Sm
     where
       go : (b : Bool) → p .moved ≡ b → length (handedBack p a w k) ≤ newCells p + 128
       go true e = let cells : newCells p ≡ 2 * p .pairs = rw e in omega (arith, s .pairs)
-      go false e =
-          let same : handedBack p a w k ≡ a =
-          ap (λ (b : Bool). cond (b && leb (k + 2 * p .pairs) (length w)) (take (2 * p .pairs) (drop k w)) a) e in
-          omega (arith, ap length same)
+      go false e = omega (arith, ap length (kept p a w k e))
 
   module _ (p c : MergedList) (work : List Float) (size : length work ≡ 3072)
       (left : MergeEffect lo hi possible certain outer inner p c work) where
@@ -126,13 +126,6 @@ module _ (lo hi : Float) (possible certain outer inner : List Float) (few· : Sm
         left .room,
       ),
     )
-
-    pub lines-long : (length (linesText letterP possibleNew) ≡ 18 * length possibleNew)
-        × (length (linesText letterC certainNew) ≡ 18 * length certainNew)
-    lines-long = (lines-length letterP possibleNew (even-lists .0), lines-length letterC certainNew (even-lists .1))
-
-    kept : (q : MergedList) (a : List Float) (w : List Float) (k : ℕ) → q .moved ≡ false → handedBack q a w k ≡ a
-    kept q a w k e = ap (λ (b : Bool). cond (b && leb (k + 2 * q .pairs) (length w)) (take (2 * q .pairs) (drop k w)) a) e
 
     pub writes : (out out₁ out₂ out₃ : List ℕ) (n m r : ℕ) → NoneDue (mergeCauses lo hi possible certain outer inner 3072)
         → Appended out 0 (linesText letterP possibleNew) out₁ n

@@ -37,7 +37,7 @@ fn ran(n: usize, m: usize) -> RowOutcome {
         return RowOutcome::Unread;
     }
     let s = vector_rows::first_bytes(&input, n);
-    vector_rows::told(0, 1, gives(s, vector_rows::first_bytes(&wanted, m)))
+    vector_rows::row_outcome(0, 1, gives(s, vector_rows::first_bytes(&wanted, m)))
 }
 
 // Where the head can't be read, a length is more than the most.

@@ -14,8 +14,14 @@ use Rattle.spans.proofs.Ends.{all-by-place}
 use Rattle.spans.proofs.Normal.{all-of}
 use Rattle.spans.proofs.Points.{held-number}
 use Rattle.span_compare.specs.Verdicts.{ComparePost, compareCauses, Contains, Overlaps}
+use Rattle.span_compare.specs.declared.BoolAnswer.{BoolAnswer}
 use Rattle.span_compare.specs.declared.BoolAnswer.the-variants.{Yes, No, Refused}
 use Rattle.spans.specs.Steps.{EndOfEither}
+
+-- the answer of a test
+abbrev pub yesIf : Bool → BoolAnswer
+yesIf true = Yes
+yesIf false = No
 
 -- r is the test of both lists
 module _ (a b : List Float) (tells : Bool → Type 0) (r : Bool) (er : r ≡ (sound a && sound b)) where
@@ -27,11 +33,9 @@ module _ (a b : List Float) (tells : Bool → Type 0) (r : Bool) (er : r ≡ (so
   unfolding NoneDue
   none h = (clash (sound a && sound b) (found r (sound a && sound b) er h), tt)
 
-  pub say-yes : not r ≡ false → (t : Bool) → t ≡ true → tells t → ComparePost (compareCauses a b) tells Yes
-  say-yes h t e f = (none h, subst tells e f)
-
-  pub say-no : not r ≡ false → (t : Bool) → t ≡ false → tells t → ComparePost (compareCauses a b) tells No
-  say-no h t e f = (none h, subst tells e f)
+  pub say : not r ≡ false → (t is : Bool) → t ≡ is → tells t → ComparePost (compareCauses a b) tells (yesIf is)
+  say h t true e f = (none h, subst tells e f)
+  say h t false e f = (none h, subst tells e f)
 
 -- an end of a list of doubles that one of the lists holds is a point
 module _ (a b : List Float) (da : (i : ℕ) → Double (getD a i nan)) (db : (i : ℕ) → Double (getD b i nan)) where

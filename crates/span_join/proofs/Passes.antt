@@ -93,7 +93,7 @@ filled-even pairs b₀ b limit n fit s =
     omega (arith, sound-mod (take n b) (s .list .list .isSound), length-take-le n b (omega (arith, s .most, s .size)))
 
 -- the part so far, of which a buffer that takes all pairs has room: it may be read, and takes a pair more
-module _ (part : List Float) (limit : ℕ) (spans b₀ b : List Float) (r : Place) (s : JoinedPart part limit spans b₀ b r) where
+module _ {part : List Float} {limit : ℕ} {spans b₀ b : List Float} {r : Place} (s : JoinedPart part limit spans b₀ b r) where
   pub part-read : limit ≤ length b₀ → (r .end % 2 ≡ 0) × (r .end ≤ length b)
   part-read fit = (filled-even part b₀ b limit (r .end) fit (s .filled), omega (arith, s .filled .size, s .filled .most))
 

@@ -3,7 +3,7 @@ use mathlib.Core.Path.{_≡_, refl, sym, _∙_, ap}
 use mathlib.Core.Logic.{_⊎_, inl, inr}
 use mathlib.Core.Bool.{true, false}
 use mathlib.Core.List.{List, [], _++_, append-nil, append-assoc}
-use Prim.Native.Nat.{ℕ, _+_, _%_, _≤_, _<_}
+use Prim.Native.Nat.{ℕ, _+_, _≤_, _<_}
 use native.Mathlib.Omega.{arith}
 use lib.ListN.{length, getD, take, drop, drop-of-length-le}
 use lib.Ieee.{Float, nan, lt}
@@ -15,37 +15,20 @@ use Rattle.doubles.proofs.Order.{not-lt→le, le-lt-trans, lt-trans}
 use Rattle.spans.proofs.Ends.{All, rising-at}
 use Rattle.spans.proofs.Sets.{sound-rising, sound-mod}
 use Rattle.spans.proofs.Points.{numbers-of, number-at, drop-pair, above-by-place, drop-sound}
+use Rattle.span_overlay.proofs.TwoLists.{BothPassed, none-passed, all-filled}
 use Rattle.span_overlay.proofs.Shared.{by-none, past-front, with-none}
 
 pub record Sharing (a b before : List Float) (i j n : ℕ) (out : List Float) : Type 0 where
-  pub size : length out ≡ length before
-  pub iWhole : i % 2 ≡ 0
-  pub iMost : i ≤ length a
-  pub jWhole : j % 2 ≡ 0
-  pub jMost : j ≤ length b
-  pub most : n ≤ i + j
+  pub places : BothPassed a b before i j n out
   pub ends : take n out ++ commonOf (drop i a) (drop j b) ≡ commonOf a b
 
 pub share-start : (a b before : List Float) → Sharing a b before 0 0 0 before
-share-start a b before = record {
-  size = refl;
-  iWhole = omega arith;
-  iMost = omega arith;
-  jWhole = omega arith;
-  jMost = omega arith;
-  most = omega arith;
-  ends = refl;
-}
+share-start a b before = record { places = none-passed a b before; ends = refl }
 
 pub share-done : (a b before : List Float) (i j n : ℕ) (out : List Float) → (length a ≤ i) ⊎ (length b ≤ j) → Sharing a b before i j n out
     → FilledFront (λ l. l ≡ commonOf a b) before (length a + length b) out n
 unfolding commonOf
-share-done a b before i j n out h s = record {
-  size = s .size;
-  most = omega (arith, s .most, s .iMost, s .jMost);
-  list = sym (append-nil (take n out))
-      ∙ ap (λ (l : List Float). take n out ++ l) (sym (elim h [ inl k ↦ used k | inr k ↦ spent k ])) ∙ s .ends;
-}
+share-done a b before i j n out h s = all-filled (s .places) (s .ends) (elim h [ inl k ↦ used k | inr k ↦ spent k ])
   where
     spent : length b ≤ j → commonOf (drop i a) (drop j b) ≡ []
     spent k = ap (commonOf (drop i a)) (drop-of-length-le b k) ∙ with-none (drop i a)
@@ -53,14 +36,19 @@ share-done a b before i j n out h s = record {
     used : length a ≤ i → commonOf (drop i a) (drop j b) ≡ []
     used k = ap (λ (l : List Float). commonOf l (drop j b)) (drop-of-length-le a k)
 
+-- one turn: the list whose pair ends first goes on
+pub record Turned (a b before : List Float) (i j r : ℕ) (out : List Float) : Type 0 where
+  pub first : lt (getD a (i + 1) nan) (getD b (j + 1) nan) ≡ true → Sharing a b before (i + 2) j r out
+  pub second : lt (getD a (i + 1) nan) (getD b (j + 1) nan) ≡ false → Sharing a b before i (j + 2) r out
+
 module _ (a b before : List Float) (i j n : ℕ) (out out′ : List Float) (r : ℕ) (sa : sound a ≡ true) (sb : sound b ≡ true)
     (s : Sharing a b before i j n out) (h : i < length a) (g : j < length b)
     (m : PutPairPost out n (largerOf (getD a i nan) (getD b j nan)) (smallerOf (getD a (i + 1) nan) (getD b (j + 1) nan)) out′ r) where
   a-fits : i + 2 ≤ length a
-  a-fits = omega (arith, sound-mod a sa, s .iWhole)
+  a-fits = omega (arith, sound-mod a sa, s .places .iWhole)
 
   b-fits : j + 2 ≤ length b
-  b-fits = omega (arith, sound-mod b sb, s .jWhole)
+  b-fits = omega (arith, sound-mod b sb, s .places .jWhole)
 
   abbrev lo : Float
   lo = getD a i nan
@@ -87,10 +75,10 @@ module _ (a b before : List Float) (i j n : ℕ) (out out′ : List Float) (r : 
   ny = number-at b (j + 1) sb (omega (arith, b-fits))
 
   numbers-a : All Number restA
-  numbers-a = numbers-of restA (drop-sound a (i + 2) nan a-fits sa (omega (arith, s .iWhole)))
+  numbers-a = numbers-of restA (drop-sound a (i + 2) nan a-fits sa (omega (arith, s .places .iWhole)))
 
   numbers-b : All Number restB
-  numbers-b = numbers-of restB (drop-sound b (j + 2) nan b-fits sb (omega (arith, s .jWhole)))
+  numbers-b = numbers-of restB (drop-sound b (j + 2) nan b-fits sb (omega (arith, s .places .jWhole)))
 
   -- this pair of both, then the other pairs of b with this one of a, then the other pairs of a
   split : commonOf (drop i a) (drop j b) ≡ (pairIf (largerOf lo x) (smallerOf hi y) ++ sharedBy lo hi restB) ++ commonOf restA (drop j b)
@@ -105,14 +93,16 @@ module _ (a b before : List Float) (i j n : ℕ) (out out′ : List Float) (r : 
       ∙ ap (λ (l : List Float). take n out ++ l) (sym e) ∙ s .ends
 
   -- the pair of a ends first
-  pub share-a : lt (getD a (i + 1) nan) (getD b (j + 1) nan) ≡ true → Sharing a b before (i + 2) j r out′
+  share-a : lt (getD a (i + 1) nan) (getD b (j + 1) nan) ≡ true → Sharing a b before (i + 2) j r out′
   share-a t = record {
-    size = m .size ∙ s .size;
-    iWhole = omega (arith, s .iWhole);
-    iMost = a-fits;
-    jWhole = s .jWhole;
-    jMost = s .jMost;
-    most = omega (arith, m .most, s .most);
+    places = record {
+      size = m .size ∙ s .places .size;
+      iWhole = omega (arith, s .places .iWhole);
+      iMost = a-fits;
+      jWhole = s .places .jWhole;
+      jMost = s .places .jMost;
+      most = omega (arith, m .most, s .places .most);
+    };
     ends = next (commonOf restA (drop j b)) (split ∙ ap (λ (l : List Float). l ++ commonOf restA (drop j b))
         (ap (λ (l : List Float). pairIf (largerOf lo x) (smallerOf hi y) ++ l) (by-none lo hi (number-at a i sa h) nhi restB numbers-b
         (above-by-place b (j + 2) hi b-fits (sound-rising b sb)
@@ -121,15 +111,17 @@ module _ (a b before : List Float) (i j n : ℕ) (out out′ : List Float) (r : 
   }
 
   -- the pair of b ends first, or both at once
-  pub share-b : lt (getD a (i + 1) nan) (getD b (j + 1) nan) ≡ false → Sharing a b before i (j + 2) r out′
+  share-b : lt (getD a (i + 1) nan) (getD b (j + 1) nan) ≡ false → Sharing a b before i (j + 2) r out′
   unfolding commonOf
   share-b t = record {
-    size = m .size ∙ s .size;
-    iWhole = s .iWhole;
-    iMost = s .iMost;
-    jWhole = omega (arith, s .jWhole);
-    jMost = b-fits;
-    most = omega (arith, m .most, s .most);
+    places = record {
+      size = m .size ∙ s .places .size;
+      iWhole = s .places .iWhole;
+      iMost = s .places .iMost;
+      jWhole = omega (arith, s .places .jWhole);
+      jMost = b-fits;
+      most = omega (arith, m .most, s .places .most);
+    };
     ends = next (commonOf (drop i a) restB) (split
         ∙ append-assoc (pairIf (largerOf lo x) (smallerOf hi y)) (sharedBy lo hi restB) (commonOf restA (drop j b))
         ∙ ap (λ (l : List Float). pairIf (largerOf lo x) (smallerOf hi y) ++ (sharedBy lo hi restB ++ l))
@@ -140,3 +132,6 @@ module _ (a b before : List Float) (i j n : ℕ) (out out′ : List Float) (r : 
         (rising-at a (i + 1) (i + 2) (sound-rising a sa) (omega arith) k))))
         ∙ ap (λ (l : List Float). pairIf (largerOf lo x) (smallerOf hi y) ++ commonOf l restB) (sym (drop-pair a i a-fits)));
   }
+
+  pub share-turn : Turned a b before i j r out′
+  share-turn = record { first = share-a; second = share-b }

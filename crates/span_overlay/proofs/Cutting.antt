@@ -18,6 +18,7 @@ use Rattle.doubles.proofs.Order.{lt-number, lt→le, le→not-lt, not-le→lt, 
 use Rattle.spans.proofs.Ends.{all-append, All, AtMost, UpTo, upTo-more, rising-at}
 use Rattle.spans.proofs.Sets.{sound-rising, sound-mod}
 use Rattle.spans.proofs.Points.{numbers-of, drop-pair, pair-rises, number-at, upTo-last, drop-sound}
+use Rattle.span_overlay.proofs.TwoLists.{BothPassed, none-passed, all-filled}
 use Rattle.span_overlay.proofs.Less.{higher-second, higher-both, cut-none, cut-skip}
 
 -- ---- the loop of `cut_pair`
@@ -148,35 +149,18 @@ module _ (rest : List Float) (from hi : Float) (before : List Float) (n : ℕ) (
 
 -- ---- the loop of `subtract_into`
 pub record Lessening (a b before : List Float) (i j n : ℕ) (out : List Float) : Type 0 where
-  pub size : length out ≡ length before
-  pub iWhole : i % 2 ≡ 0
-  pub iMost : i ≤ length a
-  pub jWhole : j % 2 ≡ 0
-  pub jMost : j ≤ length b
-  pub most : n ≤ i + j
+  pub places : BothPassed a b before i j n out
   pub passed : i < length a → UpTo (getD a i nan) (take j b)
   pub ends : take n out ++ lessOf (drop i a) b ≡ lessOf a b
 
 pub less-start : (a b before : List Float) → Lessening a b before 0 0 0 before
-less-start a b before = record {
-  size = refl;
-  iWhole = omega arith;
-  iMost = omega arith;
-  jWhole = omega arith;
-  jMost = omega arith;
-  most = omega arith;
-  passed = λ h. tt;
-  ends = refl;
-}
+less-start a b before = record { places = none-passed a b before; passed = λ h. tt; ends = refl }
 
 pub less-done : (a b before : List Float) (i j n : ℕ) (out : List Float) → length a ≤ i → Lessening a b before i j n out
     → FilledFront (λ l. l ≡ lessOf a b) before (length a + length b) out n
 unfolding lessOf
-less-done a b before i j n out h s = record {
-  size = s .size;
-  most = omega (arith, s .most, s .iMost, s .jMost);
-  list = sym (append-nil (take n out)) ∙ ap (λ (l : List Float). take n out ++ lessOf l b) (sym (drop-of-length-le a h)) ∙ s .ends;
-}
+less-done a b before i j n out h s =
+    all-filled (s .places) (s .ends) (ap (λ (l : List Float). lessOf l b) (drop-of-length-le a h))
 
 -- pairs that end at or below the start take nothing
 skip-front : (lo hi : Float) → Number hi → (b : List Float) (j : ℕ) → j % 2 ≡ 0 → j ≤ length b → UpTo lo (take j b)
@@ -191,13 +175,13 @@ skip-front lo hi nh (x ∷ y ∷ b) (suc (suc j)) e h u = cut-skip hi nh lo x y 
 module _ (a b before : List Float) (i j n : ℕ) (out : List Float) (sa : sound a ≡ true) (sb : sound b ≡ true)
     (room : length a + length b ≤ length before) (s : Lessening a b before i j n out) (h : i < length a) where
   pair-in : i + 2 ≤ length a
-  pair-in = omega (arith, sound-mod a sa, s .iWhole)
+  pair-in = omega (arith, sound-mod a sa, s .places .iWhole)
 
   pub less-ready : OverlayCutPre (drop j b) (getD a i nan) (getD a (i + 1) nan) out n
   less-ready = record {
-    restSound = drop-sound b j nan (s .jMost) sb (s .jWhole);
+    restSound = drop-sound b j nan (s .places .jMost) sb (s .places .jWhole);
     pair = pair-rises a i sa pair-in;
-    room = omega (arith, length-drop j b, s .jMost, s .most, pair-in, s .size);
+    room = omega (arith, length-drop j b, s .places .jMost, s .places .most, pair-in, s .places .size);
   }
 
   pub less-step : (out′ : List Float) (r : Place) → OverlayCutPost (drop j b) (getD a i nan) (getD a (i + 1) nan) out n out′ r
@@ -208,12 +192,14 @@ module _ (a b before : List Float) (i j n : ℕ) (out : List Float) (sa : sound 
       let hi = getD a (i + 1) nan in
       let nh : Number hi = number-at a (i + 1) sa (omega (arith, pair-in)) in
       record {
-        size = c .size ∙ s .size;
-        iWhole = omega (arith, s .iWhole);
-        iMost = pair-in;
-        jWhole = omega (arith, s .jWhole, c .passedEven);
-        jMost = omega (arith, s .jMost, c .passedMost, length-drop j b);
-        most = omega (arith, s .most, c .most);
+        places = record {
+          size = c .size ∙ s .places .size;
+          iWhole = omega (arith, s .places .iWhole);
+          iMost = pair-in;
+          jWhole = omega (arith, s .places .jWhole, c .passedEven);
+          jMost = omega (arith, s .places .jMost, c .passedMost, length-drop j b);
+          most = omega (arith, s .places .most, c .most);
+        };
         passed = λ g.
             let next = getD a (i + 2) nan in
             let up : le hi next ≡ true = lt→le hi next (rising-at a (i + 1) (i + 2) (sound-rising a sa) (omega arith) g) in
@@ -224,7 +210,7 @@ module _ (a b before : List Float) (i j n : ℕ) (out : List Float) (sa : sound 
             ap (λ (l : List Float). l ++ lessOf (drop (i + 2) a) b) (c .ends)
             ∙ append-assoc (take n out) (cutBy lo hi (drop j b)) (lessOf (drop (i + 2) a) b)
             ∙ ap (λ (l : List Float). take n out ++ (l ++ lessOf (drop (i + 2) a) b))
-            (sym (skip-front lo hi nh b j (s .jWhole) (s .jMost) (s .passed h)))
+            (sym (skip-front lo hi nh b j (s .places .jWhole) (s .places .jMost) (s .passed h)))
             ∙ ap (λ (l : List Float). take n out ++ lessOf l b) (sym (drop-pair a i pair-in))
             ∙ s .ends;
       }

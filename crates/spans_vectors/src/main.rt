@@ -14,7 +14,7 @@ struct Reply {
     count: u64,
 }
 
-fn listed(l: ListAnswer) -> Reply {
+fn list_reply(l: ListAnswer) -> Reply {
     match l {
         ListAnswer::Pairs(n) => Reply {
             refused: 0,
@@ -27,7 +27,7 @@ fn listed(l: ListAnswer) -> Reply {
     }
 }
 
-fn told(t: BoolAnswer) -> Reply {
+fn bool_reply(t: BoolAnswer) -> Reply {
     match t {
         BoolAnswer::Yes => Reply {
             refused: 0,
@@ -47,18 +47,18 @@ fn told(t: BoolAnswer) -> Reply {
 // The function of this number.
 fn reply_of(op: u64, a: &[f64], b: &[f64], out: &mut [f64]) -> Reply {
     if op == 0 {
-        return listed(span_normalize::normalize(a, out));
+        return list_reply(span_normalize::normalize(a, out));
     }
     if op == 1 {
-        return listed(span_combine::subtract(a, b, out));
+        return list_reply(span_combine::subtract(a, b, out));
     }
     if op == 2 {
-        return listed(span_combine::intersect(a, b, out));
+        return list_reply(span_combine::intersect(a, b, out));
     }
     if op == 3 {
-        return told(span_compare::contains(a, b));
+        return bool_reply(span_compare::contains(a, b));
     }
-    told(span_compare::overlaps(a, b))
+    bool_reply(span_compare::overlaps(a, b))
 }
 
 // Words 1 to 3: the cells of the two lists, which stand from 4 and 11 on, and of the buffer.

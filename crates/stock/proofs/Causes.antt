@@ -14,7 +14,7 @@ use Rattle.grid.specs.Rays.{rayCount}
 use Rattle.grid.specs.declared.DexelStockSpec.{DexelStockSpec}
 use Rattle.grid.specs.declared.DexelGrid.{DexelGrid}
 use Rattle.stock.specs.Stock.{isShort}
-use Rattle.store.specs.Steps.{Room}
+use Rattle.stock.specs.Steps.{StockRoom}
 use Rattle.store.specs.Store.{Cells}
 
 pub due-first : (cs ds : List Cause) (k : ℕ) → Due cs k → Due (cs ++ ds) k
@@ -61,7 +61,7 @@ module _ (spec : DexelStockSpec) (g : DexelGrid) (c : Cells) where
       (ltb (length (c .links) / 2) (spec .«max_intervals») || ltb (length (c .heads)) (2 * rayCount g))
       (le-ltb (length (c .spans) / 2) (spec .«max_intervals») hs))
 
-  pub room-of : isShort spec g c ≡ false → Room (spec .«max_intervals») (2 * rayCount g) c
+  pub room-of : isShort spec g c ≡ false → StockRoom spec g c
   unfolding isShort
   room-of h =
       let a = or-neither (ltb (length (c .spans) / 2) (spec .«max_intervals»))

@@ -14,8 +14,7 @@ use Rattle.store_read.specs.Reading.{Readable}
 use Rattle.store_read.proofs.Steps.{readable}
 use Rattle.stock.specs.Stock.{ValidAt, ValidTo, SoundCells, rayList, Possible, Certain}
 use Rattle.logic.specs.Logic.{Decides}
-use Rattle.stock.specs.Steps.{ChainsInRoom}
-use Rattle.store.specs.Steps.{Room}
+use Rattle.stock.specs.Steps.{ChainsInRoom, StockRoom}
 use Rattle.store.specs.Store.{Cells, ChainsSound}
 
 -- a test that fails, of what P brings with it
@@ -58,7 +57,7 @@ module _ (spec : DexelStockSpec) (g : DexelGrid) (c : Cells) where
   store-bad total r t bad = tells-bad (SoundCells spec g c total)
       (ChainsSound (spec .«max_intervals») (2 * rayCount g) total c) r t bad (λ s. s .store)
 
-  pub chained-of : (total : ℕ) (r : Bool) → Room (spec .«max_intervals») (2 * rayCount g) c
+  pub chained-of : (total : ℕ) (r : Bool) → StockRoom spec g c
       → Decides (ChainsSound (spec .«max_intervals») (2 * rayCount g) total c) r → not r ≡ false → ChainsInRoom spec g c
   chained-of total r room t good =
       record {
@@ -75,5 +74,5 @@ module _ (spec : DexelStockSpec) (g : DexelGrid) (c : Cells) where
     (λ p. v .1 (p .valid)),
   )
 
-  pub sound-chained : (total : ℕ) → Room (spec .«max_intervals») (2 * rayCount g) c → SoundCells spec g c total → ChainsInRoom spec g c
+  pub sound-chained : (total : ℕ) → StockRoom spec g c → SoundCells spec g c total → ChainsInRoom spec g c
   sound-chained total room s = record { room = room; total = total; store = s .store }

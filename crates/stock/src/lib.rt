@@ -5,8 +5,7 @@ ghost use Rattle.grid.specs.Rays.{rayCount};
 ghost use Rattle.stock.specs.Stock.{ValidAt, ValidTo, SoundCells, isShort};
 ghost use Rattle.logic.specs.Logic.{Decides};
 ghost use Rattle.grid.specs.Facts.{GridFacts};
-ghost use Rattle.stock.specs.Steps.{ChainsInRoom};
-ghost use Rattle.store.specs.Steps.{Room};
+ghost use Rattle.stock.specs.Steps.{ChainsInRoom, StockRoom};
 ghost use Rattle.store.specs.Store.{cells, ChainsSound};
 use grid::DexelGrid;
 use grid::DexelStockSpec;
@@ -87,7 +86,7 @@ pub fn is_chained(
     heads: &[u64],
     intervals: u64,
 ) -> bool
-    requires { ⌜ Room (spec .«max_intervals») (2 * rayCount g) (cells (now spans) (now links) (now heads)) ⌝ }
+    requires { ⌜ StockRoom spec g (cells (now spans) (now links) (now heads)) ⌝ }
     ensures { λ r. ⌜ Decides (ChainsSound (spec .«max_intervals») (2 * rayCount g) intervals
         (cells (now (spans .entry)) (now (links .entry)) (now (heads .entry)))) r ⌝ }
 {
@@ -105,7 +104,7 @@ pub fn check_stock(
     heads: &[u64],
     intervals: u64,
 ) -> bool
-    requires { ⌜ Room (spec .«max_intervals») (2 * rayCount g) (cells (now spans) (now links) (now heads)) ⌝ }
+    requires { ⌜ StockRoom spec g (cells (now spans) (now links) (now heads)) ⌝ }
     ensures { λ r. ⌜ Decides (SoundCells spec g (cells (now (spans .entry)) (now (links .entry)) (now (heads .entry))) intervals) r ⌝ }
 {
     if !is_chained(spec, g, spans, links, heads, intervals) {

@@ -33,7 +33,7 @@ use Rattle.stock_fill.specs.Uncut.{recordAt, uncutSpans, uncutLinks, unc
 use Rattle.stock_fill.specs.declared.UncutRecord.{UncutRecord}
 use Rattle.stock_fill.proofs.Uncut.{rec, record-listed, record-free, spans-length, links-length, heads-length}
 use Rattle.grid.specs.Facts.{GridFacts}
-use Rattle.store.specs.Steps.{Room}
+use Rattle.stock.specs.Steps.{StockRoom}
 
 -- ---- the ray of one full pair
 full-valid : (lo hi : Float) → lt lo hi ≡ true → ValidRay lo hi (lo ∷ hi ∷ []) (lo ∷ hi ∷ [])
@@ -118,7 +118,7 @@ unfolding endsAt
 pair-of spans ps i e = ap (endsAt spans) e
 
 module _ (spec : DexelStockSpec) (g : DexelGrid) (before : Cells) (facts : GridFacts spec g)
-    (room : Room (spec .«max_intervals») (2 * rayCount g) before) where
+    (room : StockRoom spec g before) where
   at : (i : ℕ) → i < spec .«max_intervals»
       → Written (uncut spec g before .spans) (uncut spec g before .links) i (recordAt spec g i .lo)
       (recordAt spec g i .hi) 0 (recordAt spec g i .owner)

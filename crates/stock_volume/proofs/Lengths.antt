@@ -79,7 +79,7 @@ module _ (spec : DexelStockSpec) (g : DexelGrid) (c : Cells) where
             (add binary64 (v .possible) (mul binary64 (m .possible) area));
       })
   ray-added area ray v b m e t = record {
-    told = valid-within spec g c ray b (m .valid) e (t .is-valid, t .if-valid);
+    validity = valid-within spec g c ray b (m .valid) e (t .is-valid, t .if-valid);
     added = λ z. added spec c area ray v (m .certain) (m .possible) (t .certain-length z) (t .possible-length z);
   }
 
@@ -88,14 +88,14 @@ module _ (spec : DexelStockSpec) (g : DexelGrid) (c : Cells) where
       → AxisVolumePost spec g c a (record { valid = false; volume = x })
   along-bad a area ray v r x h t bad = record {
     is-valid = λ z. absurd (clash false z refl);
-    if-valid = λ all. absurd (clash (r .valid) (t .told .1 (all ray h)) (not-true (r .valid) bad));
+    if-valid = λ all. absurd (clash (r .valid) (t .validity .1 (all ray h)) (not-true (r .valid) bad));
     summed = λ z. absurd (clash false z refl);
   }
 
   pub along-more : (area : Float) (first k : ℕ) (v : AxisVolume) (r : AxisSums)
       → AddVolumePost spec g c area (first + k) v r → not (r .valid) ≡ false → ValidTo spec g c (first + k)
       → ValidTo spec g c (first + (k + 1))
-  along-more area first k v r t good all ray h = ray-good spec g c (first + k) (r .valid) (t .told) good all ray (omega arith)
+  along-more area first k v r t good all ray h = ray-good spec g c (first + k) (r .valid) (t .validity) good all ray (omega arith)
 
   pub along-good : (a : WorldAxis) (area : Float) (first count k : ℕ) (v : AxisVolume) → area ≡ areaOf g a
       → first ≡ offset g a → count ≡ raysAlong g a → k ≡ count → v ≡ volumeTo spec c area first k

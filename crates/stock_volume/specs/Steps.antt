@@ -16,10 +16,10 @@ use Rattle.logic.specs.Logic.{Decides}
 use Rattle.stock_volume.specs.Volume.{addRay, volumeAlong, volumeOf}
 use Rattle.store.specs.Store.{Cells}
 
--- what is told of one ray more, and of all rays along an axis where those before are valid: whether they are valid, and if so the sums
+-- of one ray more, and of all rays along an axis where those before are valid: whether they are valid, and if so the sums
 pub record AddVolumePost (spec : DexelStockSpec) (g : DexelGrid) (c : Cells) (area : Float) (ray : ℕ) (v : AxisVolume)
     (r : AxisSums) : Type 0 where
-  pub told : Decides (ValidAt spec g c ray) (r .valid)
+  pub validity : Decides (ValidAt spec g c ray) (r .valid)
   pub added : r .valid ≡ true → r .volume ≡ addRay spec c area ray v
 
 pub record AxisVolumePost (spec : DexelStockSpec) (g : DexelGrid) (c : Cells) (a : WorldAxis) (r : AxisSums) : Type 0 where

@@ -103,13 +103,13 @@ places-within links (suc f) (suc i) = omega (arith, places-within links f (nextA
 
 module _ (links : List ℕ) (n o : ℕ) where
   -- the record that a chain comes to, and the chain from the next one
-  pub record Step (k : ℕ) : Type 0 where
+  pub record ChainStep (k : ℕ) : Type 0 where
     pub counted : k - 1 < n
     pub owner : ownerAt links (k - 1) ≡ o
     pub read : places links n k ≡ (k - 1) ∷ places links n (nextAt links (k - 1))
     pub next : RecordChain links n o (nextAt links (k - 1)) (places links n (nextAt links (k - 1)))
 
-  step-of : {k : ℕ} {ps : List ℕ} → RecordChain links n o k ps → length ps ≤ n → ps ≡ places links n k → (k ≡ 0 → ⊥) → Step k
+  step-of : {k : ℕ} {ps : List ℕ} → RecordChain links n o k ps → length ps ≤ n → ps ≡ places links n k → (k ≡ 0 → ⊥) → ChainStep k
   step-of ends h e ne = absurd (ne refl)
   step-of (more {i} {ps} i<n own c) h e ne =
       let one : suc i - 1 ≡ i = omega arith in
@@ -131,7 +131,7 @@ module _ (links : List ℕ) (n o : ℕ) where
       let r = at (suc i - 1) one in
       record { counted = r .0; owner = r .1; read = r .2; next = r .3 }
 
-  pub chain-step : (k : ℕ) → RecordChain links n o k (places links n k) → (k ≡ 0 → ⊥) → Step k
+  pub chain-step : (k : ℕ) → RecordChain links n o k (places links n k) → (k ≡ 0 → ⊥) → ChainStep k
   chain-step k c ne = step-of c (places-within links n k) refl ne
 
 -- where a chain is, the places that are come to are it: the walk needs no more fuel than there are records

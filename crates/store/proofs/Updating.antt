@@ -22,7 +22,7 @@ use Rattle.store.proofs.Replacing.{Replaced}
 use Rattle.store.proofs.Freeing.{freed-list, freed-kept}
 use Rattle.store.proofs.FreePlaces.{free-records}
 use Rattle.store.proofs.Laying.{laid-list, laid-sound, laid-held, laid-kept}
-use Rattle.store.specs.Steps.{Room, FreeListPre, LayListPre, Ascending, none, next, listAfter, UpdatedStore}
+use Rattle.store.specs.Steps.{Room, FreeListPre, LayListPre, Ascending, none, next, listAfter, ListsUpdated, UpdatedStore}
 
 -- ---- sizes and the cells that do not count
 pub kept-none : (n m : ℕ) (c : Cells) → CellsPastKept n m c c
@@ -130,7 +130,7 @@ none-at spans = refl
 pub record FreedAll (n m total : ℕ) (c : Cells) (us : List Update) (d : Cells) : Type 0 where
   pub isSound : (total′ : ℕ) → total′ + pairsFreed n c us ≡ total → ChainsSound n m total′ d
   pub fewer : pairsFreed n c us ≤ total
-  pub lists : (j : ℕ) → j < m → storeList n d j ≡ listAfter (emptied us) j (storeList n c j)
+  pub lists : ListsUpdated n m c (emptied us) d
   pub kept : CellsPastKept n m c d
 
 same-pairs : (n : ℕ) (c d : Cells) {m k : ℕ} {us : List Update} → Ascending m k us
@@ -190,7 +190,7 @@ freed-append n (u ∷ us) vs c = freed-append n us vs (freedList n c (u .list))
 -- ---- empty lists of a sound store are laid
 pub record LaidAll (n m total : ℕ) (c : Cells) (us : List Update) (d : Cells) : Type 0 where
   pub isSound : ChainsSound n m (total + pairsLaid us) d
-  pub lists : (j : ℕ) → j < m → storeList n d j ≡ listAfter us j (storeList n c j)
+  pub lists : ListsUpdated n m c us d
   pub kept : CellsPastKept n m c d
 
 abbrev pub Empty : ℕ → Cells → List Update → Type 0

@@ -47,9 +47,13 @@ unfoldable pub listAfter : List Update → ℕ → List Float → List Float
 listAfter [] j l = l
 listAfter (u ∷ us) j l = cond (eqb j (u .list)) (u .ends) (listAfter us j l)
 
+-- every list is the one after the updates
+abbrev pub ListsUpdated : (n m : ℕ) → Cells → List Update → Cells → Type 0
+ListsUpdated n m c us d = (j : ℕ) → j < m → storeList n d j ≡ listAfter us j (storeList n c j)
+
 -- what the updates leave of a sound store with that total
 pub record UpdatedStore (n m total : ℕ) (c : Cells) (us : List Update) (d : Cells) : Type 0 where
   pub fewer : pairsFreed n c us ≤ total
   pub isSound : ChainsSound n m (total - pairsFreed n c us + pairsLaid us) d
-  pub lists : (j : ℕ) → j < m → storeList n d j ≡ listAfter us j (storeList n c j)
+  pub lists : ListsUpdated n m c us d
   pub kept : CellsPastKept n m c d

@@ -86,7 +86,7 @@ listFrom n spans links k = endsAt spans (places links n k)
 
 -- list j of a store: what commit, volume and the model of a run speak of
 abbrev pub storeList : ℕ → Cells → ℕ → List Float
-storeList n c j = endsAt (c .spans) (placesOf n (c .links) (c .heads) j)
+storeList n c j = listFrom n (c .spans) (c .links) (getD (c .heads) j 0)
 
 -- ---- freeing records
 -- the cells of the spans and of the links with the record at place i free

@@ -280,11 +280,11 @@ unfolding isNan
 zero-nan = ap isNan zero-over-zero
 
 pub sum-bad : (p : Bool) (l : List Float) (x : Float) → p ≡ false → ListSumPost p l (record { good = false; length = x })
-sum-bad p l x h = record { told = sym h; summed = λ z. absurd (clash false z refl) }
+sum-bad p l x h = record { good-is = sym h; summed = λ z. absurd (clash false z refl) }
 
 pub sum-good : (p r : Bool) (l : List Float) (x : Float) → p ≡ r → lengthFrom plusZero l ≡ x
     → ListSumPost p l (record { good = r; length = x })
-sum-good p r l x h e = record { told = sym h; summed = λ z. sym e }
+sum-good p r l x h e = record { good-is = sym h; summed = λ z. sym e }
 
 -- ---- two tests at once
 pub left-same : (a b c : Bool) → a ≡ b → (a && c) ≡ (b && c)
@@ -307,20 +307,20 @@ module _ (low high : Float) (possible certain : List Float) where
   possible-bad p s h x y = record {
     is-valid = λ z. absurd (clash false z refl);
     if-valid = λ v. absurd (clash (sound possible && bounded low high possible)
-        (both _ _ (v .possible-sound) (v .possible-bounded)) (sym (s .told) ∙ not-true (p .good) h));
+        (both _ _ (v .possible-sound) (v .possible-bounded)) (sym (s .good-is) ∙ not-true (p .good) h));
     possible-length = λ z. absurd (clash false z refl);
     certain-length = λ z. absurd (clash false z refl);
   }
 
-  pub both-told : (p c : ListSum) → ListSumPost (sound possible && bounded low high possible) possible p
+  pub both-measured : (p c : ListSum) → ListSumPost (sound possible && bounded low high possible) possible p
       → not (p .good) ≡ false → ListSumPost (sound certain && contained possible certain) certain c
       → RaySumsPost low high possible certain (record { valid = c .good; possible = p .length; certain = c .length })
   unfolding valid
-  both-told p c s h t =
-      let bp : (sound possible && bounded low high possible) ≡ true = sym (s .told) ∙ not-false (p .good) h in
+  both-measured p c s h t =
+      let bp : (sound possible && bounded low high possible) ≡ true = sym (s .good-is) ∙ not-false (p .good) h in
       record {
         is-valid = λ (z : c .good ≡ true).
-            let all = sym (t .told) ∙ z in
+            let all = sym (t .good-is) ∙ z in
             let sc : sound certain ≡ true = and-left (sound certain) (contained possible certain) all in
             let cc : contained possible certain ≡ true = and-right (sound certain) (contained possible certain) all in
             let bp′ : bounded low high possible ≡ true = and-right (sound possible) _ bp in
@@ -329,7 +329,7 @@ module _ (low high : Float) (possible certain : List Float) where
             (both (sound certain) _ sc (both (bounded low high possible) _ bp′
             (both (bounded low high certain) _
             (contained-bounded low high nan possible certain bp′ (sym (sound-after nan certain nan-is) ∙ sc) cc) cc))));
-        if-valid = λ v. t .told
+        if-valid = λ v. t .good-is
             ∙ both (sound certain) _ (v .certain-sound)
             (and-right (bounded low high certain) _
             (and-right (bounded low high possible) _

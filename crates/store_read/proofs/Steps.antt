@@ -6,24 +6,15 @@ use native.Mathlib.Omega.{arith}
 use lib.Ieee.{Float}
 use lib.ListN.{length, getD}
 use Rattle.store.specs.Store.{loAt, hiAt, nextAt, places, endsAt, ChainsSound, listFrom, Cells}
-use Rattle.store.proofs.Chains.{chain-step, less-step, places-zero}
+use Rattle.store.proofs.Chains.{ChainStep, chain-step, less-step, places-zero}
 use Rattle.store_read.specs.Reading.{Linked, Readable}
 
-pub record LinkStep (n : ℕ) (links : List ℕ) (k : ℕ) : Type 0 where
-  pub counted : k - 1 < n
-  pub more : places links n k ≡ (k - 1) ∷ places links n (nextAt links (k - 1))
-  pub next : Linked n links (nextAt links (k - 1))
-  pub less : length (places links n (nextAt links (k - 1))) < length (places links n k)
+module _ {n : ℕ} {links : List ℕ} {k : ℕ} (r : Linked n links k) (ne : k ≡ 0 → ⊥) where
+  pub link-step : ChainStep links n (r .owner) k
+  link-step = chain-step links n (r .owner) k (r .chain) ne
 
-pub link-step : {n : ℕ} {links : List ℕ} {k : ℕ} → Linked n links k → (k ≡ 0 → ⊥) → LinkStep n links k
-link-step {n} {links} {k} r ne =
-    let s = chain-step links n (r .owner) k (r .chain) ne in
-    record {
-      counted = s .counted;
-      more = s .read;
-      next = record { in-links = r .in-links; owner = r .owner; chain = s .next };
-      less = less-step links n (r .owner) k (r .chain) ne;
-    }
+  pub link-next : Linked n links (nextAt links (k - 1))
+  link-next = record { in-links = r .in-links; owner = r .owner; chain = link-step .next }
 
 pub record Step (n : ℕ) (spans : List Float) (links : List ℕ) (k : ℕ) : Type 0 where
   pub counted : k - 1 < n
@@ -37,9 +28,9 @@ step {n} {spans} {links} {k} r ne =
     let s = link-step (r .linked) ne in
     record {
       counted = s .counted;
-      read = ap (endsAt spans) (s .more);
-      next = record { in-spans = r .in-spans; linked = s .next };
-      less = s .less;
+      read = ap (endsAt spans) (s .read);
+      next = record { in-spans = r .in-spans; linked = link-next (r .linked) ne };
+      less = less-step links n (r .linked .owner) k (r .linked .chain) ne;
     }
 
 -- the record's cells are there

@@ -20,7 +20,7 @@ startsIn low (a ∷ l) = le low a
 
 -- the answer of a test of a list, and where it passes the list's length
 pub record ListSumPost (passes : Bool) (l : List Float) (r : ListSum) : Type 0 where
-  pub told : r .good ≡ passes
+  pub good-is : r .good ≡ passes
   pub summed : r .good ≡ true → r .length ≡ lengthFrom plusZero l
 
 -- the answer of the test of a ray, and where it is valid the lengths of its lists

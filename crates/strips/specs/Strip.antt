@@ -4,7 +4,7 @@ use lib.Ieee.{Float, binary64, add, sub, mul, div, neg, lt, le}
 use Rattle.doubles.specs.Constants.{plusZero}
 use Rattle.doubles.specs.Doubles.{largerOf, smallerOf}
 use Rattle.doubles_sqrt.specs.Root.{squareRoot}
-use Rattle.strips.specs.declared.Point.{Point}
+use Rattle.strips.specs.declared.PlanePoint.{PlanePoint}
 use Rattle.strips.specs.declared.Strip.{Strip}
 use Rattle.strips.specs.declared.Strip.the-variants.{Hit, Miss}
 use Rattle.strips.specs.Polygon.{polygonStrip}
@@ -24,7 +24,7 @@ chordStrip x rho dy =
     (Hit (sub binary64 x (halfChord rho dy)) (add binary64 x (halfChord rho dy)))
     Miss
 
-unfoldable pub diskStrip : Point → Float → Float → Float → Strip
+unfoldable pub diskStrip : PlanePoint → Float → Float → Float → Strip
 diskStrip c rho y0 y1 = chordStrip (c .x) rho (bandDistance (c .y) y0 y1)
 
 -- the smallest extent that holds both
@@ -34,7 +34,7 @@ hull (Hit lo hi) Miss = Hit lo hi
 hull (Hit lo hi) (Hit lo′ hi′) = Hit (smallerOf lo lo′) (largerOf hi hi′)
 
 -- the rectangle between the end disks; `length` is the plan length from a to b
-unfoldable pub sideStrip : Point → Point → Float → Float → Float → Float → Strip
+unfoldable pub sideStrip : PlanePoint → PlanePoint → Float → Float → Float → Float → Strip
 sideStrip a b length rho y0 y1 =
     let nx = mul binary64 (div binary64 (neg (sub binary64 (b .y) (a .y))) length) rho in
     let ny = mul binary64 (div binary64 (sub binary64 (b .x) (a .x)) length) rho in
@@ -47,6 +47,6 @@ sideStrip a b length rho y0 y1 =
     y0 y1)
     Miss
 
-unfoldable pub stadiumStrip : Point → Point → Float → Float → Float → Float → Strip
+unfoldable pub stadiumStrip : PlanePoint → PlanePoint → Float → Float → Float → Float → Strip
 stadiumStrip a b length rho y0 y1 =
     hull (hull (diskStrip a rho y0 y1) (diskStrip b rho y0 y1)) (sideStrip a b length rho y0 y1)

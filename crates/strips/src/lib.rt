@@ -7,7 +7,7 @@ ghost use Rattle.strips.specs.Polygon.{inside, crossing, edge, clip, wid
 ghost use Rattle.strips.specs.Steps.{corners};
 
 #[repr(C)]
-pub struct Point {
+pub struct PlanePoint {
     pub x: f64,
     pub y: f64,
 }
@@ -21,7 +21,7 @@ pub enum Strip {
 // The corners of a clipped polygon: the first n of at.
 struct Points {
     n: usize,
-    at: [Point; 8],
+    at: [PlanePoint; 8],
 }
 
 // The smallest and the largest x so far, and whether there was a point.
@@ -31,7 +31,7 @@ struct Extent {
     any: bool,
 }
 
-fn is_inside(above: bool, bound: f64, p: Point) -> bool
+fn is_inside(above: bool, bound: f64, p: PlanePoint) -> bool
     ensures { λ r. ⌜ r ≡ inside above bound p ⌝ }
 {
     if above {
@@ -40,17 +40,17 @@ fn is_inside(above: bool, bound: f64, p: Point) -> bool
     p.y <= bound
 }
 
-fn cross_at(bound: f64, p: Point, q: Point) -> Point
+fn cross_at(bound: f64, p: PlanePoint, q: PlanePoint) -> PlanePoint
     ensures { λ r. ⌜ r ≡ crossing bound p q ⌝ }
 {
     let t = (bound - p.y) / (q.y - p.y);
-    Point {
+    PlanePoint {
         x: p.x + t * (q.x - p.x),
         y: bound,
     }
 }
 
-fn push(ps: Points, p: Point) -> Points
+fn push(ps: Points, p: PlanePoint) -> Points
     requires { ⌜ ps .n < 8 ⌝ }
     ensures { λ r. ⌜ (corners r ≡ corners ps ++ (p ∷ [])) × (r .n ≡ ps .n + 1) ⌝ }
 {
@@ -61,7 +61,7 @@ fn push(ps: Points, p: Point) -> Points
     r
 }
 
-fn push_edge(ps: Points, above: bool, bound: f64, p: Point, q: Point) -> Points
+fn push_edge(ps: Points, above: bool, bound: f64, p: PlanePoint, q: PlanePoint) -> Points
     requires { ⌜ ps .n ≤ 6 ⌝ }
     ensures { λ r. ⌜ (corners r ≡ corners ps ++ edge above bound p q) × (r .n ≤ ps .n + 2) ⌝ }
 {
@@ -77,10 +77,17 @@ fn push_edge(ps: Points, above: bool, bound: f64, p: Point, q: Point) -> Points
     ps
 }
 
-fn clip4(above: bool, bound: f64, p: Point, q: Point, r: Point, s: Point) -> Points
+fn clip4(
+    above: bool,
+    bound: f64,
+    p: PlanePoint,
+    q: PlanePoint,
+    r: PlanePoint,
+    s: PlanePoint,
+) -> Points
     ensures { λ x. ⌜ (corners x ≡ clip above bound (p ∷ q ∷ r ∷ s ∷ [])) × (x .n ≤ 8) ⌝ }
 {
-    let z = Point { x: 0.0, y: 0.0 };
+    let z = PlanePoint { x: 0.0, y: 0.0 };
     let e = Points { n: 0, at: [z; 8] };
     let e1 = push_edge(e, above, bound, p, q);
     let e2 = push_edge(e1, above, bound, q, r);
@@ -98,7 +105,7 @@ fn no_extent() -> Extent
     }
 }
 
-fn widened(e: Extent, p: Point) -> Extent
+fn widened(e: Extent, p: PlanePoint) -> Extent
     ensures { λ r. ⌜ r ≡ widen e p ⌝ }
 {
     Extent {
@@ -108,7 +115,7 @@ fn widened(e: Extent, p: Point) -> Extent
     }
 }
 
-fn widen_edge(e: Extent, above: bool, bound: f64, p: Point, q: Point) -> Extent
+fn widen_edge(e: Extent, above: bool, bound: f64, p: PlanePoint, q: PlanePoint) -> Extent
     ensures { λ r. ⌜ r ≡ widenAll e (edge above bound p q) ⌝ }
 {
     if is_inside(above, bound, p) {
@@ -146,7 +153,14 @@ fn widen_clip(above: bool, bound: f64, ps: Points, e0: Extent) -> Extent
 }
 
 // The extent of the polygon p, q, r, s within the band from y0 to y1. It need not be convex.
-pub fn polygon_strip(p: Point, q: Point, r: Point, s: Point, y0: f64, y1: f64) -> Strip
+pub fn polygon_strip(
+    p: PlanePoint,
+    q: PlanePoint,
+    r: PlanePoint,
+    s: PlanePoint,
+    y0: f64,
+    y1: f64,
+) -> Strip
     ensures { λ x. ⌜ x ≡ polygonStrip p q r s y0 y1 ⌝ }
 {
     let c = clip4(true, y0, p, q, r, s);
@@ -186,7 +200,7 @@ fn chord_strip(x: f64, rho: f64, dy: f64) -> Strip
 }
 
 // The extent of a disk of radius rho around c within the band from y0 to y1.
-pub fn disk_strip(c: Point, rho: f64, y0: f64, y1: f64) -> Strip
+pub fn disk_strip(c: PlanePoint, rho: f64, y0: f64, y1: f64) -> Strip
     ensures { λ r. ⌜ r ≡ diskStrip c rho y0 y1 ⌝ }
 {
     chord_strip(c.x, rho, band_distance(c.y, y0, y1))
@@ -210,7 +224,7 @@ fn hull_of(a: Strip, b: Strip) -> Strip
 }
 
 // Both end disks. Where they are as far from the band the half chord is the same, and one root is enough.
-fn ends_strip(a: Point, b: Point, rho: f64, y0: f64, y1: f64) -> Strip
+fn ends_strip(a: PlanePoint, b: PlanePoint, rho: f64, y0: f64, y1: f64) -> Strip
     ensures { λ r. ⌜ r ≡ hull (diskStrip a rho y0 y1) (diskStrip b rho y0 y1) ⌝ }
 {
     let da = band_distance(a.y, y0, y1);
@@ -226,25 +240,25 @@ fn ends_strip(a: Point, b: Point, rho: f64, y0: f64, y1: f64) -> Strip
     chord_strip(b.x, rho, db)
 }
 
-fn side_strip(a: Point, b: Point, length: f64, rho: f64, y0: f64, y1: f64) -> Strip
+fn side_strip(a: PlanePoint, b: PlanePoint, length: f64, rho: f64, y0: f64, y1: f64) -> Strip
     ensures { λ r. ⌜ r ≡ sideStrip a b length rho y0 y1 ⌝ }
 {
     if length > 0.0 {
         let nx = -(b.y - a.y) / length * rho;
         let ny = (b.x - a.x) / length * rho;
-        let p = Point {
+        let p = PlanePoint {
             x: a.x + nx,
             y: a.y + ny,
         };
-        let q = Point {
+        let q = PlanePoint {
             x: b.x + nx,
             y: b.y + ny,
         };
-        let r = Point {
+        let r = PlanePoint {
             x: b.x - nx,
             y: b.y - ny,
         };
-        let s = Point {
+        let s = PlanePoint {
             x: a.x - nx,
             y: a.y - ny,
         };
@@ -254,7 +268,7 @@ fn side_strip(a: Point, b: Point, length: f64, rho: f64, y0: f64, y1: f64) -> St
 }
 
 // The extent of the points within rho of the segment from a to b, in the band from y0 to y1. `length` is the segment's plan length.
-pub fn stadium_strip(a: Point, b: Point, length: f64, rho: f64, y0: f64, y1: f64) -> Strip
+pub fn stadium_strip(a: PlanePoint, b: PlanePoint, length: f64, rho: f64, y0: f64, y1: f64) -> Strip
     ensures { λ r. ⌜ r ≡ stadiumStrip a b length rho y0 y1 ⌝ }
 {
     let ends = ends_strip(a, b, rho, y0, y1);

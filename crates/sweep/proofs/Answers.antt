@@ -43,81 +43,80 @@ use Rattle.sweep.specs.declared.SweepCheck.the-variants.{Admitted, Decli
 use Rattle.sweep_walk.proofs.Chords.{sweep-length, log-length}
 use Rattle.logic.specs.Logic.{Decides}
 use Rattle.sweep_visits.specs.Steps.{WalkPost}
-use Rattle.sweep_walk.specs.Steps.{Sweepable}
 use Rattle.cutter_check.specs.Steps.{ToolCheckPost}
 use Rattle.grid.specs.Facts.{GridFacts}
 use Rattle.sweep.specs.Steps.{SweepCheckPost, endOf, loggedBy, endLog}
 use Rattle.store.specs.Store.{Cells}
 
 -- ---- the check of a setting
+-- what has passed where the tool is tested
+pub record StockPassed (s : Setting) (intervals : ℕ) (chords : List Float) : Type 0 where
+  pub long : isShort (s .spec) (s .grid) (s .cells) ≡ false
+  pub input : (length chords % 8 ≡ 0) × SoundCells (s .spec) (s .grid) (s .cells) intervals
+
+-- the answer of the last test, that of the chords
+abbrev pub admitIf : Bool → SweepCheck
+admitIf true = Admitted
+admitIf false = Declined 7
+
 module _ (s : Setting) (intervals : ℕ) (chords : List Float) where
   abbrev chordCauses : List Cause
   chordCauses = cause 7 (BadChords (s .kernel .frame) (s .kernel .guard) chords) ∷ []
 
-  pub check-short : (r : Bool) → r ≡ isShort (s .spec) (s .grid) (s .cells) → r ≡ true → SweepCheckPost s intervals chords (Declined 12)
-  check-short r e t = first _ _ (sym e ∙ t)
+  pub check-short : isShort (s .spec) (s .grid) (s .cells) ≡ true → SweepCheckPost s intervals chords (Declined 12)
+  check-short h = first _ _ h
 
-  module _ (r : Bool) (e : r ≡ isShort (s .spec) (s .grid) (s .cells)) (t : r ≡ false) where
-    long : isShort (s .spec) (s .grid) (s .cells) ≡ true → ⊥
-    long u = clash (isShort (s .spec) (s .grid) (s .cells)) u (sym e ∙ t)
+  module _ (l : isShort (s .spec) (s .grid) (s .cells) ≡ false) where
+    not-short : isShort (s .spec) (s .grid) (s .cells) ≡ true → ⊥
+    not-short u = clash (isShort (s .spec) (s .grid) (s .cells)) u l
 
     pub check-odd : (length chords % 8 ≡ 0 → ⊥) → SweepCheckPost s intervals chords (Declined 11)
-    check-odd h = later _ _ 11 long (first _ _ (odd h))
-      where
-        odd : (length chords % 8 ≡ 0 → ⊥) → SweepInputBad s intervals chords
-        odd h = unfold SweepInputBad in inl h
+    check-odd h = let bad : SweepInputBad s intervals chords = unfold SweepInputBad in inl h in later _ _ 11 not-short (first _ _ bad)
 
-    module _ (b : Bool) (w : Decides (SoundCells (s .spec) (s .grid) (s .cells) intervals) b) where
-      pub check-bad : not b ≡ true → SweepCheckPost s intervals chords (Declined 11)
-      check-bad h = later _ _ 11 long
-          (first _ _ (bad (λ (p : SoundCells (s .spec) (s .grid) (s .cells) intervals). clash b (w .1 p) (not-true b h))))
-        where
-          bad : (SoundCells (s .spec) (s .grid) (s .cells) intervals → ⊥) → SweepInputBad s intervals chords
-          bad h = unfold SweepInputBad in inr h
+    pub check-bad : (SoundCells (s .spec) (s .grid) (s .cells) intervals → ⊥) → SweepCheckPost s intervals chords (Declined 11)
+    check-bad h = let bad : SweepInputBad s intervals chords = unfold SweepInputBad in inr h in later _ _ 11 not-short (first _ _ bad)
 
-      module _ (even : length chords % 8 ≡ 0) (good : b ≡ true) where
-        fine : SweepInputBad s intervals chords → ⊥
-        unfolding SweepInputBad
-        fine (inl h) = h even
-        fine (inr h) = h (w .0 good)
+  module _ (p : StockPassed s intervals chords) where
+    fine : SweepInputBad s intervals chords → ⊥
+    unfolding SweepInputBad
+    fine (inl h) = h (p .input .0)
+    fine (inr h) = h (p .input .1)
 
-        pub check-tool-bad : (tool : ToolCheck) (k : ℕ) → ToolCheckPost (s .profile .shape) (s .profile .cutter) tool
-            → tool ≡ Unusable k → SweepCheckPost s intervals chords (Declined k)
-        check-tool-bad tool k c h =
-            later _ _ k long (later _ _ k fine
-            (due-first (toolCauses (s .profile .shape) (s .profile .cutter)) chordCauses k
-            (subst (ToolCheckPost (s .profile .shape) (s .profile .cutter)) h c)))
+    pub check-tool-bad : (tool : ToolCheck) (k : ℕ) → ToolCheckPost (s .profile .shape) (s .profile .cutter) tool
+        → tool ≡ Unusable k → SweepCheckPost s intervals chords (Declined k)
+    check-tool-bad tool k c h =
+        later _ _ k (not-short (p .long)) (later _ _ k fine
+        (due-first (toolCauses (s .profile .shape) (s .profile .cutter)) chordCauses k
+        (subst (ToolCheckPost (s .profile .shape) (s .profile .cutter)) h c)))
 
-        module _ (tool : ToolCheck) (c : ToolCheckPost (s .profile .shape) (s .profile .cutter) tool)
-            (h : tool ≡ Usable) (q : Bool) (f : Decides (BadChords (s .kernel .frame) (s .kernel .guard) chords) (not q)) where
-          pub check-chords-bad : q ≡ false → SweepCheckPost s intervals chords (Declined 7)
-          check-chords-bad n =
-              later _ _ 7 long (later _ _ 7 fine
-              (due-second (toolCauses (s .profile .shape) (s .profile .cutter)) chordCauses 7
-              (subst (ToolCheckPost (s .profile .shape) (s .profile .cutter)) h c) (first _ _ (f .0 (ap not n)))))
-
-          pub check-good : GridFacts (s .spec) (s .grid) → q ≡ true → SweepCheckPost s intervals chords Admitted
-          unfolding NoneDue
-          check-good facts y = (
-            (
-              long,
-              (
-                fine,
-                none-in-both (toolCauses (s .profile .shape) (s .profile .cutter)) chordCauses
-                    (subst (ToolCheckPost (s .profile .shape) (s .profile .cutter)) h c) (
-                      (λ (bad : BadChords (s .kernel .frame) (s .kernel .guard) chords). clash q y (not-true q (f .1 bad))),
-                      tt,
-                    ),
+    pub check-chords : GridFacts (s .spec) (s .grid) → (tool : ToolCheck) → ToolCheckPost (s .profile .shape) (s .profile .cutter) tool
+        → tool ≡ Usable → (q good : Bool) → Decides (BadChords (s .kernel .frame) (s .kernel .guard) chords) (not q) → q ≡ good
+        → SweepCheckPost s intervals chords (admitIf good)
+    unfolding NoneDue
+    check-chords facts tool c h q false f n =
+        later _ _ 7 (not-short (p .long)) (later _ _ 7 fine
+        (due-second (toolCauses (s .profile .shape) (s .profile .cutter)) chordCauses 7
+        (subst (ToolCheckPost (s .profile .shape) (s .profile .cutter)) h c) (first _ _ (f .0 (ap not n)))))
+    check-chords facts tool c h q true f y = (
+      (
+        not-short (p .long),
+        (
+          fine,
+          none-in-both (toolCauses (s .profile .shape) (s .profile .cutter)) chordCauses
+              (subst (ToolCheckPost (s .profile .shape) (s .profile .cutter)) h c) (
+                (λ (bad : BadChords (s .kernel .frame) (s .kernel .guard) chords). clash q y (not-true q (f .1 bad))),
+                tt,
               ),
-            ),
-            record {
-              facts = facts;
-              chained = sound-chained (s .spec) (s .grid) (s .cells) intervals
-                  (room-of (s .spec) (s .grid) (s .cells) (sym e ∙ t)) (w .0 good);
-              valid = w .0 good .valid;
-            },
-            w .0 good,
-          )
+        ),
+      ),
+      record {
+        facts = facts;
+        chained = sound-chained (s .spec) (s .grid) (s .cells) intervals
+            (room-of (s .spec) (s .grid) (s .cells) (p .long)) (p .input .1);
+        valid = p .input .1 .valid;
+      },
+      p .input .1,
+    )
 
 -- ---- the log after a refusal
 module _ (k : ℕ) (log : List Float) where

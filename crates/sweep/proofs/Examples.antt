@@ -22,7 +22,7 @@ use Rattle.cutter.specs.Cutter.{isFinite, cuttingRadius, offTool, radiusAt, cut
 use Rattle.cutter.specs.Steps.{aboveZero, fromZero, isNotNan, sizesFit, heightsFit, lengthsFit, diametersFit, shapeFits}
 use Rattle.cutter.specs.Steps.{withinLimits, isBeam}
 use Rattle.cutter.specs.declared.CutterShape.the-variants.{Flat}
-use Rattle.cutter.proofs.Limits.{beam-tells, fit-tool}
+use Rattle.cutter.proofs.Limits.{beam→isBeam, fit-tool}
 use Rattle.strips.specs.Strip.{bandDistance, halfChord, chordStrip, diskStrip, stadiumStrip, hull, sideStrip}
 use Rattle.store.specs.Store.{places, endsAt}
 use Rattle.stock.specs.Stock.{SoundCells, isShort}
@@ -31,7 +31,7 @@ use Rattle.stock.proofs.Causes.{none-in-both, room-of}
 use Rattle.stock.proofs.Answers.{accepted}
 use Rattle.stock_fill.proofs.UncutSound.{uncut-sound}
 use Rattle.sweep_model.specs.Meets.{lastOf, spansMeet, overlapsOf}
-use Rattle.sweep_model.specs.Kernel.{planPoint, reachOf, sideOf, laneOf, spanOver, cellsMet, cellsAcross, rectangleOf}
+use Rattle.sweep_model.specs.Kernel.{planPoint, reachOf, axisScaleOf, chordOnAxisOf, spanOver, cellsMet, cellsAcross, rectangleOf}
 use Rattle.sweep_model.specs.Section.{localCenter, sectionWith, sectionOf}
 use Rattle.sweep_model.specs.Across.{outerFrom, outerOf, innerFrom, innerOf, rayHitOf}
 use Rattle.sweep_model.specs.Entries.{entryOf, entryFor, rayEntry, each, rowEntries, rectEntries, raysIn, sumEach}
@@ -41,15 +41,15 @@ use Rattle.sweep_model.specs.Chords.{chordOf}
 use Rattle.sweep_model.specs.ChordLimits.{planSize}
 use Rattle.sweep_model.specs.Steps.{guardFits, endsFit, lengthFits, numbersFit, chordFits, every, chordsFit}
 use Rattle.sweep_model.proofs.ChordLimits.{fit-chords}
-use Rattle.sweep_model.specs.SweepEntries.{trackOf, axisEntries, firstAxis, secondAxis, chordEntries, sweepEntries, visitTotal}
+use Rattle.sweep_model.specs.SweepEntries.{axisRaysOf, axisEntries, firstAxis, secondAxis, chordEntries, sweepEntries, visitTotal}
 use Rattle.sweep.specs.Answer.{SweepInputBad, causesIn, sweepCauses}
 use Rattle.sweep.specs.Examples.{SweepExamplesRight, halves, lent, blank, flat, sweeping, threeChords, fourEntries, sweepExamples}
 use Rattle.doubles.specs.Rounding.{ratio}
 
 pub examples-right : SweepExamplesRight sweepExamples
-unfolding sweepExamples blank flat sweeping threeChords fourEntries trackOf axisEntries firstAxis secondAxis
+unfolding sweepExamples blank flat sweeping threeChords fourEntries axisRaysOf axisEntries firstAxis secondAxis
     chordEntries sweepEntries chordOf walk entryOf entryFor rayEntry each rowEntries rectEntries outerFrom outerOf
-    innerFrom innerOf rayHitOf planPoint reachOf sideOf laneOf spanOver cellsMet cellsAcross rectangleOf localCenter
+    innerFrom innerOf rayHitOf planPoint reachOf axisScaleOf chordOnAxisOf spanOver cellsMet cellsAcross rectangleOf localCenter
     sectionWith sectionOf lastOf spansMeet overlapsOf recordAt uncutSpans uncutLinks uncutHeads places endsAt
     bandDistance halfChord chordStrip diskStrip stadiumStrip hull sideStrip isFinite cuttingRadius offTool radiusAt
     cutRadius cutMax cutMin axisDigit worldAxisOf localAxisOf signAlong localAt localOf turned worldOf rayCount
@@ -59,7 +59,7 @@ examples-right = (refl, (refl, (refl, (refl, (refl, tt)))))
 
 pub total-right : visitTotal sweeping threeChords ≡ 5
 unfolding visitTotal sumEach raysIn blank flat sweeping threeChords firstAxis secondAxis chordOf planPoint reachOf
-    sideOf laneOf spanOver cellsMet cellsAcross rectangleOf recordAt uncutSpans uncutLinks uncutHeads axisDigit
+    axisScaleOf chordOnAxisOf spanOver cellsMet cellsAcross rectangleOf recordAt uncutSpans uncutLinks uncutHeads axisDigit
     worldAxisOf localAxisOf signAlong localAt localOf turned worldOf rayCount raysAlong offset rayAxis boundsOf cellAt
     cellCount byDigit ratio largerOf smallerOf absOf clampOf floorOf ceilOf ofBits ofInt toUnsigned neg add sub mul
     div lt le eq isNan
@@ -111,7 +111,7 @@ example-accepted =
       (
         sound,
         (
-          (λ e. clash false (beam-tells Flat e) refl),
+          (λ e. clash false (beam→isBeam Flat e) refl),
           (
             fit-tool Flat flat tool-fits,
             (

@@ -1,6 +1,7 @@
 // What a chord has in common for all rays of a world axis, and the rectangle of rays that it visits (sweep.rs: `Kernel::rays`).
 ghost use mathlib.Core.Path.{_≡_};
-ghost use Rattle.sweep_model.specs.Kernel.{planPoint, reachOf, sideOf, profileOf, laneOf, spanOver, cellsMet, cellsAcross, rectangleOf};
+ghost use Rattle.sweep_model.specs.Kernel.{profileOf, planPoint, reachOf, axisScaleOf, chordOnAxisOf};
+ghost use Rattle.sweep_model.specs.Kernel.{spanOver, cellsMet, cellsAcross, rectangleOf};
 ghost use Rattle.grid.specs.Facts.{GridFacts};
 use cutter::CutterShape;
 use cutter::PreparedCutter;
@@ -11,7 +12,7 @@ use grid::DexelGrid;
 use grid::DexelStockSpec;
 use grid::Vec3;
 use grid::WorldAxis;
-use strips::Point;
+use strips::PlanePoint;
 use sweep_model::AxisScale;
 use sweep_model::CellRange;
 use sweep_model::Chord;
@@ -32,17 +33,17 @@ pub fn profile_of(shape: CutterShape, cutter: PreparedCutter) -> Profile
 }
 
 // A point of a chord as rays along the local axis la see it: x along the ray, y across it.
-fn plan_point(p: Vec3, la: LocalAxis) -> Point
+fn plan_point(p: Vec3, la: LocalAxis) -> PlanePoint
     ensures { λ r. ⌜ r ≡ planPoint p la ⌝ }
 {
     if la.0 == 0 {
-        return Point { x: p.x, y: p.y };
+        return PlanePoint { x: p.x, y: p.y };
     }
-    Point { x: p.y, y: p.x }
+    PlanePoint { x: p.y, y: p.x }
 }
 
 // A superset of every outer interval along the rays, in world coordinates.
-fn reach_of(k: Kernel, la: LocalAxis, pad: f64, a: Point, b: Point) -> Pair
+fn reach_of(k: Kernel, la: LocalAxis, pad: f64, a: PlanePoint, b: PlanePoint) -> Pair
     ensures { λ r. ⌜ r ≡ reachOf k la pad a b ⌝ }
 {
     let s = Pair {
@@ -52,8 +53,8 @@ fn reach_of(k: Kernel, la: LocalAxis, pad: f64, a: Point, b: Point) -> Pair
     frame::world(k.frame, la, s)
 }
 
-fn side_of(spec: DexelStockSpec, g: DexelGrid, f: Frame, w: WorldAxis) -> AxisScale
-    ensures { λ r. ⌜ r ≡ sideOf spec g f w ⌝ }
+fn axis_scale(spec: DexelStockSpec, g: DexelGrid, f: Frame, w: WorldAxis) -> AxisScale
+    ensures { λ r. ⌜ r ≡ axisScaleOf spec g f w ⌝ }
 {
     AxisScale {
         sign: frame::sign_along(f, frame::local_axis(f, w)),
@@ -62,7 +63,7 @@ fn side_of(spec: DexelStockSpec, g: DexelGrid, f: Frame, w: WorldAxis) -> AxisSc
     }
 }
 
-pub fn lane_of(
+pub fn chord_on_axis(
     spec: DexelStockSpec,
     g: DexelGrid,
     k: Kernel,
@@ -70,7 +71,7 @@ pub fn lane_of(
     c: Chord,
     axis: WorldAxis,
 ) -> ChordOnAxis
-    ensures { λ r. ⌜ r ≡ laneOf spec g k p c axis ⌝ }
+    ensures { λ r. ⌜ r ≡ chordOnAxisOf spec g k p c axis ⌝ }
 {
     let f = k.frame;
     let la = frame::local_axis(f, axis);
@@ -89,8 +90,8 @@ pub fn lane_of(
         z_lo: doubles_minmax::smaller(c.a.z, c.b.z),
         z_hi: doubles_minmax::larger(c.a.z, c.b.z),
         reach: reach_of(k, la, p.radius + c.e, a, b),
-        u: side_of(spec, g, f, w.u),
-        v: side_of(spec, g, f, w.v),
+        u: axis_scale(spec, g, f, w.u),
+        v: axis_scale(spec, g, f, w.v),
         u_is_tool: lu.0 == 2,
     }
 }

@@ -2,7 +2,6 @@
 use mathlib.Core.List.{List, [], _∷_, _++_}
 use Prim.Native.Nat.{ℕ, zero, suc, _+_, _-_, _*_}
 use lib.Ieee.{Float}
-use lib.ListN.{getD}
 use Rattle.grid.specs.Grid.{whole}
 use Rattle.grid.specs.declared.WorldAxis.{WorldAxis}
 use Rattle.sweep_model.specs.Section.{sectionOf}
@@ -16,7 +15,8 @@ use Rattle.sweep_model.specs.declared.HitPairs.{HitPairs}
 use Rattle.sweep_model.specs.declared.RayHit.{RayHit}
 use Rattle.sweep_model.specs.declared.RayHit.the-variants.{On, Off}
 use Rattle.sweep_model.specs.declared.AxisRays.{AxisRays}
-use Rattle.store.specs.Store.{listFrom}
+use Rattle.store.specs.Store.{cells, storeList}
+use Rattle.stock.specs.Stock.{Possible, listNumber}
 
 -- document 01's log entry, in place of what sweep.rs 961-963 push: axis, index, outer, inner
 unfoldable pub entryOf : WorldAxis → (index : ℕ) → HitPairs → List Float
@@ -33,7 +33,7 @@ indexOf t u v = v * t .row + u
 
 -- its possible list is the first of its two (sweep.rs 376-378)
 abbrev pub possibleAt : (n : ℕ) → AxisRays → List Float → (links heads : List ℕ) → (u v : ℕ) → List Float
-possibleAt n t spans links heads u v = listFrom n spans links (getD heads (2 * (t .first + indexOf t u v)) 0)
+possibleAt n t spans links heads u v = storeList n (cells spans links heads) (listNumber (t .first + indexOf t u v) Possible)
 
 -- what the ray at the cells u and v adds to the log (sweep.rs 355-371)
 unfoldable pub rayEntry : (n : ℕ) → AxisRays → Profile → ChordOnAxis → List Float → (links heads : List ℕ) → (u v : ℕ) → List Float

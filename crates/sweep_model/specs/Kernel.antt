@@ -16,7 +16,7 @@ use Rattle.grid.specs.declared.Vec3.{Vec3}
 use Rattle.grid.specs.declared.WorldAxis.{WorldAxis}
 use Rattle.grid.specs.declared.DexelStockSpec.{DexelStockSpec}
 use Rattle.grid.specs.declared.DexelGrid.{DexelGrid}
-use Rattle.strips.specs.declared.Point.{Point}
+use Rattle.strips.specs.declared.PlanePoint.{PlanePoint}
 use Rattle.sweep_model.specs.declared.Profile.{Profile}
 use Rattle.sweep_model.specs.declared.Kernel.{Kernel}
 use Rattle.sweep_model.specs.declared.Chord.{Chord}
@@ -32,11 +32,11 @@ abbrev pub profileOf : CutterShape → PreparedCutter → Profile
 profileOf shape c = record { shape = shape; cutter = c; radius = div binary64 (c .«diameter_mm») two }
 
 -- a point as rays along the local axis 0 or 1 see it: x along the ray, y along the other of the two (sweep.rs 912, 918)
-unfoldable pub planPoint : Vec3 → LocalAxis → Point
+unfoldable pub planPoint : Vec3 → LocalAxis → PlanePoint
 planPoint p la = cond (eqb (la .0) 0) (record { x = p .x; y = p .y }) (record { x = p .y; y = p .x })
 
 -- a superset of every outer interval, in world coordinates along the ray (sweep.rs 920-928)
-unfoldable pub reachOf : Kernel → LocalAxis → (pad : Float) → (a b : Point) → Pair
+unfoldable pub reachOf : Kernel → LocalAxis → (pad : Float) → (a b : PlanePoint) → Pair
 unfolding worldOf
 reachOf k la pad a b =
     worldOf (k .frame) la
@@ -46,12 +46,12 @@ reachOf k la pad a b =
     })
 
 -- the cells along a world axis, as the centres of its rays need them (sweep.rs 357-361)
-unfoldable pub sideOf : DexelStockSpec → DexelGrid → Frame → WorldAxis → AxisScale
-sideOf s g f w = record { sign = signAlong f (localAxisOf f w); min = alongOf (s .«min_mm») w; step = stepAlong g w }
+unfoldable pub axisScaleOf : DexelStockSpec → DexelGrid → Frame → WorldAxis → AxisScale
+axisScaleOf s g f w = record { sign = signAlong f (localAxisOf f w); min = alongOf (s .«min_mm») w; step = stepAlong g w }
 
 -- what a chord has in common for all rays of a world axis (sweep.rs 912-928)
-unfoldable pub laneOf : DexelStockSpec → DexelGrid → Kernel → Profile → Chord → WorldAxis → ChordOnAxis
-laneOf s g k p c axis =
+unfoldable pub chordOnAxisOf : DexelStockSpec → DexelGrid → Kernel → Profile → Chord → WorldAxis → ChordOnAxis
+chordOnAxisOf s g k p c axis =
     let la = localAxisOf (k .frame) axis in
     record {
       frame = k .frame;
@@ -64,8 +64,8 @@ laneOf s g k p c axis =
       «z_lo» = smallerOf (c .a .z) (c .b .z);
       «z_hi» = largerOf (c .a .z) (c .b .z);
       reach = reachOf k la (add binary64 (p .radius) (c .e)) (planPoint (c .a) la) (planPoint (c .b) la);
-      u = sideOf s g (k .frame) (crossOf axis .u);
-      v = sideOf s g (k .frame) (crossOf axis .v);
+      u = axisScaleOf s g (k .frame) (crossOf axis .u);
+      v = axisScaleOf s g (k .frame) (crossOf axis .v);
       «u_is_tool» = eqb (localAxisOf (k .frame) (crossOf axis .u) .0) 2;
     }
 

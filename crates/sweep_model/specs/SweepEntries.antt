@@ -10,7 +10,7 @@ use Rattle.grid.specs.declared.DexelStockSpec.{DexelStockSpec}
 use Rattle.grid.specs.declared.DexelGrid.{DexelGrid}
 use Rattle.frame.specs.Frame.{localAxis, worldAxisOf}
 use Rattle.frame.specs.declared.Frame.{Frame}
-use Rattle.sweep_model.specs.Kernel.{laneOf, rectangleOf}
+use Rattle.sweep_model.specs.Kernel.{chordOnAxisOf, rectangleOf}
 use Rattle.sweep_model.specs.declared.Profile.{Profile}
 use Rattle.sweep_model.specs.declared.Kernel.{Kernel}
 use Rattle.sweep_model.specs.declared.Chord.{Chord}
@@ -22,8 +22,8 @@ use Rattle.sweep_model.specs.Chords.{chordOf}
 use Rattle.store.specs.Store.{Cells}
 
 -- the rays of a world axis: the number of the first, the cells of a row and the rows (dexel.rs 73-79)
-unfoldable pub trackOf : DexelGrid → WorldAxis → AxisRays
-trackOf g a = record { axis = a; first = offset g a; row = cellsAlong g (crossOf a .u); rows = cellsAlong g (crossOf a .v) }
+unfoldable pub axisRaysOf : DexelGrid → WorldAxis → AxisRays
+axisRaysOf g a = record { axis = a; first = offset g a; row = cellsAlong g (crossOf a .u); rows = cellsAlong g (crossOf a .v) }
 
 -- what a sweep is made on and with
 pub record Setting : Type 0 where
@@ -38,18 +38,18 @@ abbrev pub setting : DexelStockSpec → DexelGrid → Kernel → Profile → Cel
 setting spec g k p c = record { spec = spec; grid = g; kernel = k; profile = p; cells = c }
 
 -- the chord as the rays of a world axis see it
-abbrev pub laneIn : Setting → Chord → WorldAxis → ChordOnAxis
-laneIn s c a = laneOf (s .spec) (s .grid) (s .kernel) (s .profile) c a
+abbrev pub chordOnAxisIn : Setting → Chord → WorldAxis → ChordOnAxis
+chordOnAxisIn s c a = chordOnAxisOf (s .spec) (s .grid) (s .kernel) (s .profile) c a
 
 -- document 01's clamped rectangle of a chord and a world axis
 abbrev pub rectangleIn : Setting → Chord → WorldAxis → RayRect
-rectangleIn s c a = rectangleOf (s .spec) (s .grid) (s .profile) (laneIn s c a) a
+rectangleIn s c a = rectangleOf (s .spec) (s .grid) (s .profile) (chordOnAxisIn s c a) a
 
 -- the rays along a world axis that a chord visits (sweep.rs 929-965)
 unfoldable pub axisEntries : Setting → Chord → WorldAxis → List (List Float)
 axisEntries s c a =
     rectangleEntries
-    (rayEntry (s .spec .«max_intervals») (trackOf (s .grid) a) (s .profile) (laneIn s c a) (s .cells .spans)
+    (rayEntry (s .spec .«max_intervals») (axisRaysOf (s .grid) a) (s .profile) (chordOnAxisIn s c a) (s .cells .spans)
     (s .cells .links) (s .cells .heads))
     (rectangleIn s c a)
 

@@ -7,7 +7,7 @@ use frame::LocalAxis;
 use frame::Pair;
 use grid::Vec3;
 use grid::WorldAxis;
-use strips::Point;
+use strips::PlanePoint;
 
 // The cutting part (sweep.rs 114-120). The shape and the cutter's numbers give its sections; `radius`, half the
 // diameter, is what visits go by.
@@ -52,8 +52,8 @@ pub struct ChordOnAxis {
     pub la: LocalAxis,
     pub guard: f64,
     // the chord's ends in plan: x along the rays, y across them
-    pub a: Point,
-    pub b: Point,
+    pub a: PlanePoint,
+    pub b: PlanePoint,
     // the chord's plan length and its error
     pub length: f64,
     pub e: f64,

@@ -120,14 +120,14 @@ module _ {n : ℕ} {spans : List Float} {links : List ℕ} {k : ℕ} (s : Pair) 
   pub meet-above : Readable n spans links k → (k ≡ 0 → ⊥) → lt (loAt spans (k - 1)) (s .hi) ≡ false
       → spansMeet (listFrom n spans links k) s ≡ false
   meet-above r ne h =
-      let more = link-step (r .linked) ne .more in
+      let more = link-step (r .linked) ne .read in
       ap (λ (ps : List ℕ). spansMeet (endsAt spans ps) s) more ∙ meet-cons (k - 1) _ spans s ∙ and-first _ _ h
 
   pub meet-some : Readable n spans links k → (k ≡ 0 → ⊥) → sound (listFrom n spans links k) ≡ true
       → lt (loAt spans (k - 1)) (s .hi) ≡ true
       → spansMeet (listFrom n spans links k) s ≡ someAbove (listFrom n spans links k) (s .lo)
   meet-some r ne so h =
-      let more = link-step (r .linked) ne .more in
+      let more = link-step (r .linked) ne .read in
       let ri = ap (λ (ps : List ℕ). rising (endsAt spans ps)) (sym more) ∙ sound-rising _ so in
       ap (λ (ps : List ℕ). spansMeet (endsAt spans ps) s) more ∙ meet-cons (k - 1) _ spans s ∙ and-second _ _ h
       ∙ sym (ends-above spans (s .lo) (k - 1) _ ri) ∙ ap (λ (ps : List ℕ). someAbove (endsAt spans ps) (s .lo)) (sym more)

@@ -14,7 +14,7 @@ use Rattle.sweep_visits.specs.declared.Progress.the-variants.{At, Stopped}
 use Rattle.sweep_visits.proofs.Walks.{went-then, went-halt, halt-before, Sweeping, sweeping-next, sweeping-halt, sweeping-all}
 use Rattle.sweep_visits.proofs.Walks.{each-length, sum-same, rectangle-length, Sixes, sixes-append, sixes-each, rectangle-sixes}
 use Rattle.sweep_visits.proofs.Walks.{sixes-count}
-use Rattle.sweep_model.specs.SweepEntries.{Setting, trackOf, laneIn, rectangleIn, axisEntries, firstAxis, secondAxis}
+use Rattle.sweep_model.specs.SweepEntries.{Setting, axisRaysOf, chordOnAxisIn, rectangleIn, axisEntries, firstAxis, secondAxis}
 use Rattle.sweep_model.specs.SweepEntries.{chordEntries, chordIn, sweepEntries, logOf, chordVisits, visitTotal}
 use Rattle.sweep_visits.specs.Steps.{WalkPost, Went, Halted}
 
@@ -82,7 +82,7 @@ module _ (s : Setting) where
   axis-length : (c : Chord) (a : WorldAxis) → length (axisEntries s c a) ≡ raysIn (rectangleIn s c a)
   unfolding axisEntries
   axis-length c a = rectangle-length
-      (rayEntry (s .spec .«max_intervals») (trackOf (s .grid) a) (s .profile) (laneIn s c a) (s .cells .spans)
+      (rayEntry (s .spec .«max_intervals») (axisRaysOf (s .grid) a) (s .profile) (chordOnAxisIn s c a) (s .cells .spans)
       (s .cells .links) (s .cells .heads)) (rectangleIn s c a)
 
   chord-length : (c : Chord) → length (chordEntries s c) ≡ chordVisits s c
@@ -104,7 +104,7 @@ module _ (s : Setting) where
 module _ (s : Setting) where
   axis-sixes : (c : Chord) (a : WorldAxis) → Sixes (axisEntries s c a)
   unfolding axisEntries
-  axis-sixes c a = rectangle-sixes (s .spec .«max_intervals») (trackOf (s .grid) a) (s .profile) (laneIn s c a)
+  axis-sixes c a = rectangle-sixes (s .spec .«max_intervals») (axisRaysOf (s .grid) a) (s .profile) (chordOnAxisIn s c a)
       (s .cells .spans) (s .cells .links) (s .cells .heads) (rectangleIn s c a)
 
   chord-sixes : (c : Chord) → Sixes (chordEntries s c)

@@ -1,2 +1,2 @@
-pub mod Tracks
+pub mod AxisRays
 pub mod Chords

@@ -3,7 +3,7 @@ ghost use mathlib.Core.Path.{_≡_};
 ghost use Prim.Native.Nat.{_+_, _<_, _≤_, _^_};
 ghost use lib.ListN.{length};
 ghost use Rattle.grid.specs.Rays.{rayCount};
-ghost use Rattle.sweep_model.specs.SweepEntries.{trackOf, setting, axisEntries, firstAxis, secondAxis, chordEntries, sweepEntries};
+ghost use Rattle.sweep_model.specs.SweepEntries.{axisRaysOf, setting, axisEntries, firstAxis, secondAxis, chordEntries, sweepEntries};
 ghost use Rattle.sweep_visits.specs.Steps.{WalkPost};
 ghost use Rattle.sweep_walk.specs.Steps.{Sweepable};
 ghost use Rattle.store.specs.Store.{cells};
@@ -20,9 +20,9 @@ use sweep_model::RayRect;
 use sweep_visits::Progress;
 use sweep_visits::VisitCursor;
 
-fn track_of(g: DexelGrid, axis: WorldAxis) -> AxisRays
+fn axis_rays(g: DexelGrid, axis: WorldAxis) -> AxisRays
     requires { ⌜ rayCount g < 2 ^ 64 ⌝ }
-    ensures { λ r. ⌜ r ≡ trackOf g axis ⌝ }
+    ensures { λ r. ⌜ r ≡ axisRaysOf g axis ⌝ }
 {
     let w = grid::cross(axis);
     AxisRays {
@@ -53,9 +53,9 @@ fn sweep_axis(
         (axisEntries (setting spec g k p (cells (now (spans .entry)) (now (links .entry)) (now (heads .entry))))
         chord axis) start (now (log .entry)) x (now (log .exit)) ⌝ }
 {
-    let l = sweep_kernel::lane_of(spec, g, k, p, chord, axis);
+    let l = sweep_kernel::chord_on_axis(spec, g, k, p, chord, axis);
     let n = spec.max_intervals as usize;
-    let t = track_of(g, axis);
+    let t = axis_rays(g, axis);
     let rect = sweep_kernel::rectangle_of(spec, g, p, l, axis);
     match rect {
         RayRect::NoRays => {

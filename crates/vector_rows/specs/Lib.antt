@@ -1,6 +1,6 @@
 -- The definitions that the contracts of `vector_rows` cite.
 pub mod Words
 pub mod Agreement
-pub mod Tallies
+pub mod RowCounts
 pub mod ReadWords
 pub mod Replays

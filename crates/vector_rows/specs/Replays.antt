@@ -1,6 +1,6 @@
 -- How a replay reads on to the next row.
 use Prim.Native.Nat.{ℕ, _<_, _≤_}
-use Rattle.vector_rows.specs.Tallies.{missed}
+use Rattle.vector_rows.specs.RowCounts.{missed}
 use Rattle.vector_rows.specs.declared.RowCounts.{RowCounts}
 use Rattle.vector_rows.specs.declared.Replay.{Replay}
 

@@ -7,7 +7,7 @@ ghost use Rattle.enum_codes.specs.Codes.{namedShape};
 ghost use Rattle.vector_rows.specs.Words.{wordOf, doubleOf, CellsFilled, specOf, unitsOf, cutterOf};
 ghost use Rattle.vector_rows.specs.Agreement.{cellAgrees, numberAgrees, cellRight, numberRight, Every};
 ghost use Prim.Native.Nat.{_+_, _*_, _^_, _<_, _≤_};
-ghost use Rattle.vector_rows.specs.Tallies.{none, up, firstDiffering, agreed, differed, missed, counted, outcomeOf};
+ghost use Rattle.vector_rows.specs.RowCounts.{none, up, firstDiffering, agreed, differed, missed, counted, outcomeOf};
 ghost use Rattle.vector_rows.specs.ReadWords.{valueOr, isMissing, Reads};
 ghost use Rattle.vector_rows.specs.Replays.{RowPre, NextRowPost};
 use cutter::CutterShape;
@@ -328,7 +328,7 @@ pub fn count(t: RowCounts, o: RowOutcome) -> RowCounts
 }
 
 // What a row of function k of so many showed.
-pub fn told(k: u64, functions: u64, agrees: bool) -> RowOutcome
+pub fn row_outcome(k: u64, functions: u64, agrees: bool) -> RowOutcome
     ensures { λ r. ⌜ r ≡ outcomeOf k functions agrees ⌝ }
 {
     if functions <= k {
@@ -472,7 +472,7 @@ pub fn next_row(
     ensures { λ s. ⌜ NextRowPost (counted (r .counts) (outcomeOf k functions agrees)) (r .left) s ⌝ }
 {
     let next = Replay {
-        counts: count(r.counts, told(k, functions, agrees)),
+        counts: count(r.counts, row_outcome(k, functions, agrees)),
         left: r.left,
     };
     read_on(next, head, out)

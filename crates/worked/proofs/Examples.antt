@@ -22,8 +22,8 @@ use Rattle.frame.specs.Frame.{worldOf}
 use Rattle.worked.specs.Examples.{WorkedExample, normalizes, subtracts, intersects, contains, grids, disk, radius-at, turns}
 use Rattle.worked.specs.Examples.{RowRight, WorkedRight, workedExamples}
 
-told : (b : Bool) → b ≡ true → T b
-told b h = subst T (sym h) tt
+true→T : (b : Bool) → b ≡ true → T b
+true→T b h = subst T (sym h) tt
 
 -- ---- an end is one of the ends of a list: both are doubles, of the same bits
 unfoldable same : Float → Float → Bool
@@ -36,9 +36,9 @@ same-is x y h =
     let there = fits binary64 y in
     let bits = eqb (toBits binary64 x) (toBits binary64 y) in
     let k = and-right here (there && bits) h in
-    sym (ofBits-toBits binary64 x (told here (and-left here (there && bits) h)))
-    ∙ ap (ofBits binary64) (eqb→eq (toBits binary64 x) (toBits binary64 y) (told bits (and-right there bits k)))
-    ∙ ofBits-toBits binary64 y (told there (and-left there bits k))
+    sym (ofBits-toBits binary64 x (true→T here (and-left here (there && bits) h)))
+    ∙ ap (ofBits binary64) (eqb→eq (toBits binary64 x) (toBits binary64 y) (true→T bits (and-right there bits k)))
+    ∙ ofBits-toBits binary64 y (true→T there (and-left there bits k))
 
 unfoldable among : List Float → Float → Bool
 unfolding same
@@ -95,7 +95,7 @@ unfolding is-point
 point p h =
     let double = fits binary64 p in
     let number = not (isNan p) in
-    (told double (and-left double number h), not-true (isNan p) (and-right double number h))
+    (true→T double (and-left double number h), not-true (isNan p) (and-right double number h))
 
 -- some end passes the test
 abbrev some : List Float → (Float → Bool) → Bool

@@ -13,7 +13,7 @@ use oracle_len::dexel::opened::sweep as rust_len;
 
 #[derive(Clone, Copy)]
 #[repr(C)]
-pub struct Point {
+pub struct PlanePoint {
     pub x: f64,
     pub y: f64,
 }
@@ -27,9 +27,23 @@ pub struct StripNumbers {
 }
 
 unsafe extern "C" {
-    pub safe fn tridexel_inner_disk_strip(c: Point, rho: f64, y0: f64, y1: f64) -> StripNumbers;
-    pub safe fn tridexel_inner_polygon_strip(p: Point, q: Point, r: Point, s: Point, y0: f64, y1: f64) -> StripNumbers;
-    pub safe fn tridexel_inner_stadium_strip(a: Point, b: Point, length: f64, rho: f64, y0: f64, y1: f64) -> StripNumbers;
+    pub safe fn tridexel_inner_disk_strip(c: PlanePoint, rho: f64, y0: f64, y1: f64) -> StripNumbers;
+    pub safe fn tridexel_inner_polygon_strip(
+        p: PlanePoint,
+        q: PlanePoint,
+        r: PlanePoint,
+        s: PlanePoint,
+        y0: f64,
+        y1: f64,
+    ) -> StripNumbers;
+    pub safe fn tridexel_inner_stadium_strip(
+        a: PlanePoint,
+        b: PlanePoint,
+        length: f64,
+        rho: f64,
+        y0: f64,
+        y1: f64,
+    ) -> StripNumbers;
 }
 
 /// An answer as a number for its case and its doubles, 0 where it has fewer than two.
@@ -62,8 +76,8 @@ fn numbers(s: StripNumbers) -> Answer {
     (s.hit, [s.lo, s.hi])
 }
 
-pub fn at(x: &[f64], i: usize) -> Point {
-    Point { x: x[i], y: x[i + 1] }
+pub fn at(x: &[f64], i: usize) -> PlanePoint {
+    PlanePoint { x: x[i], y: x[i + 1] }
 }
 
 /// Halves that collide, any number nearby, and now and then any double.

@@ -3,7 +3,7 @@ use compare::{
     commits::Port,
     cutter::{BEAM, Tool, prepared, tool_of, tridexel_inner_check_tool},
     spans::{normalize, subtract},
-    strips::{Point, tridexel_inner_stadium_strip},
+    strips::{PlanePoint, tridexel_inner_stadium_strip},
     sweep::{Lending, port, spec},
 };
 use harness::{
@@ -119,7 +119,7 @@ fn prepared_cutters() {
 #[test]
 fn plan_lengths() {
     let strip = |length: f64| {
-        let s = tridexel_inner_stadium_strip(Point { x: 0., y: 0. }, Point { x: 3., y: 4. }, length, 1., 2., 2.);
+        let s = tridexel_inner_stadium_strip(PlanePoint { x: 0., y: 0. }, PlanePoint { x: 3., y: 4. }, length, 1., 2., 2.);
         [s.lo, s.hi]
     };
     assert_eq!([4., 5., 8.].map(strip), [[-0.0625, 3.0625], [0.25, 2.75], [0.71875, 2.28125]]);

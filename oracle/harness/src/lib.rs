@@ -1,4 +1,5 @@
 //! What the comparison, the benchmark and the tests of the oracle share.
+pub mod against;
 pub mod commits;
 pub mod cutters;
 pub mod generate;

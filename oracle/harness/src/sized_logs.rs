@@ -3,6 +3,7 @@
 //! or on many; the rays are uncut, or have lists longer than the arrays. Both budgets are exactly reached, one short, or one over.
 use crate::{
     Pair,
+    against::{from_above, from_below, from_both, of_groups},
     commits::{Commit, Run, State, work_pairs},
     generate::Gen,
     log_runs::{shuffle, with_budget},
@@ -144,15 +145,26 @@ fn places(g: &mut Gen, room: Room, rays: usize) -> Vec<Place> {
     }
 }
 
-/// As they are or by ray; then so, the other way round, or in no order.
+/// As they are or by ray; then so, the other way round, made against the port, or in no order.
 fn order(g: &mut Gen, log: &mut [[f64; 6]]) {
     if g.once_in(2) {
         log.sort_by(|a, b| a[..2].partial_cmp(&b[..2]).unwrap());
     }
-    match g.below(3) {
+    match g.below(4) {
         0 => {}
         1 => log.reverse(),
+        2 => make_against(g, log),
         _ => shuffle(g, log),
+    }
+}
+
+/// By their hits, then in an order that makes the stretches of a long ray short, ends them often, or does both.
+fn make_against(g: &mut Gen, log: &mut [[f64; 6]]) {
+    log.sort_by(|a, b| a[2..].partial_cmp(&b[2..]).unwrap());
+    let ascending = log.to_vec();
+    let order = g.pick(&[from_below, from_above, from_both]);
+    for (e, k) in log.iter_mut().zip(order(ascending.len(), of_groups)) {
+        *e = ascending[k];
     }
 }
 

@@ -5,24 +5,15 @@ use borrow.Author.Needs.{needs}
 use Rattle.c_results.proofs.hand_bool.Statement.{statement}
 use Rattle.c_results.proofs.hand_bool.Tie as tie
 
-enum-told : tie.Need-enum-told
-enum-told c = search needs
-
 returns : tie.Need-returns
 returns c = inl (rw (c .enum-told .given .1) refl, refl)
 
-enum-told-2 : tie.Need-enum-told-2
-enum-told-2 c = search needs
-
 returns-2 : tie.Need-returns-2
 returns-2 c = inl (rw (c .enum-told2 .given .1) refl, refl)
-
-enum-known-t : tie.Need-enum-known-t
-enum-known-t c = search needs
 
 returns-3 : tie.Need-returns-3
 returns-3 c = inr (c .before .t .given .1, refl)
 
 pub hand-bool-spec : {M : Type 1} → statement M
 hand-bool-spec =
-    tie.close (tie.spec enum-told returns enum-told-2 returns-2 enum-known-t returns-3)
+    tie.close (tie.spec (λ c. search needs) returns (λ c. search needs) returns-2 (λ c. search needs) returns-3)

@@ -5,17 +5,12 @@ use borrow.Author.Needs.{needs}
 use Rattle.c_results.proofs.hand_commit.Statement.{statement}
 use Rattle.c_results.proofs.hand_commit.Tie as tie
 
-enum-known-a : tie.Need-enum-known-a
-enum-known-a c = search needs
-
 returns : tie.Need-returns
 returns c = inl (rw (c .before .a .given .1) refl, refl)
-
-enum-known-a-2 : tie.Need-enum-known-a-2
-enum-known-a-2 c = search needs
 
 returns-2 : tie.Need-returns-2
 returns-2 c = inr (c .before .a2 .given .1, refl)
 
 pub hand-commit-spec : {M : Type 1} → statement M
-hand-commit-spec = tie.close (tie.spec enum-known-a returns enum-known-a-2 returns-2)
+hand-commit-spec =
+    tie.close (tie.spec (λ c. search needs) returns (λ c. search needs) returns-2)

@@ -5,17 +5,12 @@ use borrow.Author.Needs.{needs}
 use Rattle.c_results.proofs.hand_fill.Statement.{statement}
 use Rattle.c_results.proofs.hand_fill.Tie as tie
 
-enum-known-f : tie.Need-enum-known-f
-enum-known-f c = search needs
-
 returns : tie.Need-returns
 returns c = inl (rw (c .before .f .given .1) refl, refl)
-
-enum-known-f-2 : tie.Need-enum-known-f-2
-enum-known-f-2 c = search needs
 
 returns-2 : tie.Need-returns-2
 returns-2 c = inr (c .before .f2 .given .1, refl)
 
 pub hand-fill-spec : {M : Type 1} → statement M
-hand-fill-spec = tie.close (tie.spec enum-known-f returns enum-known-f-2 returns-2)
+hand-fill-spec =
+    tie.close (tie.spec (λ c. search needs) returns (λ c. search needs) returns-2)

@@ -5,17 +5,12 @@ use borrow.Author.Needs.{needs}
 use Rattle.c_results.proofs.hand_list.Statement.{statement}
 use Rattle.c_results.proofs.hand_list.Tie as tie
 
-enum-known-l : tie.Need-enum-known-l
-enum-known-l c = search needs
-
 returns : tie.Need-returns
 returns c = inl (rw (c .before .l .given .1) refl, refl)
-
-enum-known-l-2 : tie.Need-enum-known-l-2
-enum-known-l-2 c = search needs
 
 returns-2 : tie.Need-returns-2
 returns-2 c = inr (c .before .l2 .given .1, refl)
 
 pub hand-list-spec : {M : Type 1} → statement M
-hand-list-spec = tie.close (tie.spec enum-known-l returns enum-known-l-2 returns-2)
+hand-list-spec =
+    tie.close (tie.spec (λ c. search needs) returns (λ c. search needs) returns-2)

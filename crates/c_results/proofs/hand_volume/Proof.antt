@@ -5,17 +5,12 @@ use borrow.Author.Needs.{needs}
 use Rattle.c_results.proofs.hand_volume.Statement.{statement}
 use Rattle.c_results.proofs.hand_volume.Tie as tie
 
-enum-known-m : tie.Need-enum-known-m
-enum-known-m c = search needs
-
 returns : tie.Need-returns
 returns c = inl (rw (c .before .before .m .given .1) refl, refl)
-
-enum-known-m-2 : tie.Need-enum-known-m-2
-enum-known-m-2 c = search needs
 
 returns-2 : tie.Need-returns-2
 returns-2 c = inr (c .before .m2 .given .1, refl)
 
 pub hand-volume-spec : {M : Type 1} → statement M
-hand-volume-spec = tie.close (tie.spec enum-known-m returns enum-known-m-2 returns-2)
+hand-volume-spec =
+    tie.close (tie.spec (λ c. search needs) returns (λ c. search needs) returns-2)

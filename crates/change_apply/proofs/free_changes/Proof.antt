@@ -7,7 +7,7 @@ use Prim.Native.Nat.{ℕ, _-_, _/_, _^_, _≤_, _<_}
 use lib.Ieee.{Float}
 use lib.ListN.{length}
 use Rattle.change_apply.specs.Passes.{ChangesFit}
-use Rattle.change_apply.proofs.Turns.{FreedTo, freed-none, freed-names, ray-freeable, freed-next, freed-whole, all-freed}
+use Rattle.change_apply.proofs.Turns.{FreedTo, freed-none, freed-names, ray-freeable, freed-next, freed-end, all-freed}
 use Rattle.change_apply.proofs.free_changes.Statement.{statement}
 use Rattle.store.specs.Store.{Cells, cells}
 use Rattle.change_apply.proofs.free_changes.Tie as tie
@@ -57,23 +57,23 @@ loop-again c =
 same-length : tie.Need-same-length Inv-loop μ-loop
 same-length c = let f = c .before .before .before .before .before .before .pre in
     ap (λ (x : Cells). length (x .spans))
-    (freed-whole _ _ _ _ _ (f .0) (f .2) _ _ (c .before .loop .inv .3 (f .0) (f .1) (f .2))
+    (freed-end _ _ _ _ _ (f .0) (f .2) _ _ (c .before .loop .inv .3 (f .0) (f .1) (f .2))
     (omega (arith, c .before .loop .inv .0))) ∙ all-freed _ _ _ _ _ (f .0) (f .2) .kept .spans-size
 
 same-length-2 : tie.Need-same-length-2 Inv-loop μ-loop
 same-length-2 c = let f = c .before .before .before .before .before .before .pre in
     ap (λ (x : Cells). length (x .links))
-    (freed-whole _ _ _ _ _ (f .0) (f .2) _ _ (c .before .loop .inv .3 (f .0) (f .1) (f .2))
+    (freed-end _ _ _ _ _ (f .0) (f .2) _ _ (c .before .loop .inv .3 (f .0) (f .1) (f .2))
     (omega (arith, c .before .loop .inv .0))) ∙ all-freed _ _ _ _ _ (f .0) (f .2) .kept .links-size
 
 same-length-3 : tie.Need-same-length-3 Inv-loop μ-loop
 same-length-3 c = let f = c .before .before .before .before .before .before .pre in
     ap (λ (x : Cells). length (x .heads))
-    (freed-whole _ _ _ _ _ (f .0) (f .2) _ _ (c .before .loop .inv .3 (f .0) (f .1) (f .2))
+    (freed-end _ _ _ _ _ (f .0) (f .2) _ _ (c .before .loop .inv .3 (f .0) (f .1) (f .2))
     (omega (arith, c .before .loop .inv .0))) ∙ all-freed _ _ _ _ _ (f .0) (f .2) .kept .heads-size
 
 returns : tie.Need-returns Inv-loop μ-loop
-returns c = λ total pairs f. freed-whole _ _ _ _ _ total f _ _ (c .before .loop .inv .3 total pairs f)
+returns c = λ total pairs f. freed-end _ _ _ _ _ total f _ _ (c .before .loop .inv .3 total pairs f)
     (omega (arith, c .before .loop .inv .0))
 
 pub free-changes-spec : {M : Type 1} → statement M

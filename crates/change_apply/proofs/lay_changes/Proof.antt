@@ -7,7 +7,7 @@ use Prim.Native.Nat.{_-_, _/_, _^_, _≤_, _<_}
 use lib.ListN.{length}
 use Rattle.store.specs.Updates.{laidAll}
 use Rattle.change_apply.specs.Passes.{ChangesFreed}
-use Rattle.change_apply.proofs.Turns.{all-freed, LaidTo, laid-none, laid-good, ray-layable, laid-next, laid-whole}
+use Rattle.change_apply.proofs.Turns.{all-freed, LaidTo, laid-none, laid-good, ray-layable, laid-next, laid-end}
 use Rattle.change_apply.proofs.Turns.{all-laid, front-fits, back-within, back-fits}
 use Rattle.change_apply.proofs.lay_changes.Statement.{statement}
 use Rattle.change_list.specs.Changes.{updatesIn}
@@ -121,21 +121,21 @@ loop-again c =
 same-length : tie.Need-same-length Inv-loop μ-loop
 same-length c = let b = c .before .before .before .before .before .before .before .pre in
     ap (λ (x : Cells). length (x .spans))
-    (laid-whole _ _ _ _ _ (b .total) (b .fitting) _ _ _ _ (c .before .loop .inv .3 b)
+    (laid-end _ _ _ _ _ (b .total) (b .fitting) _ _ _ _ (c .before .loop .inv .3 b)
     (omega (arith, c .before .loop .inv .0))) ∙ all-laid _ _ _ _ _ (b .total) (b .fitting) .kept .spans-size
     ∙ sym (ap (λ (x : Cells). length (x .spans)) (b .is))
 
 same-length-2 : tie.Need-same-length-2 Inv-loop μ-loop
 same-length-2 c = let b = c .before .before .before .before .before .before .before .pre in
     ap (λ (x : Cells). length (x .links))
-    (laid-whole _ _ _ _ _ (b .total) (b .fitting) _ _ _ _ (c .before .loop .inv .3 b)
+    (laid-end _ _ _ _ _ (b .total) (b .fitting) _ _ _ _ (c .before .loop .inv .3 b)
     (omega (arith, c .before .loop .inv .0))) ∙ all-laid _ _ _ _ _ (b .total) (b .fitting) .kept .links-size
     ∙ sym (ap (λ (x : Cells). length (x .links)) (b .is))
 
 same-length-3 : tie.Need-same-length-3 Inv-loop μ-loop
 same-length-3 c = let b = c .before .before .before .before .before .before .before .pre in
     ap (λ (x : Cells). length (x .heads))
-    (laid-whole _ _ _ _ _ (b .total) (b .fitting) _ _ _ _ (c .before .loop .inv .3 b)
+    (laid-end _ _ _ _ _ (b .total) (b .fitting) _ _ _ _ (c .before .loop .inv .3 b)
     (omega (arith, c .before .loop .inv .0))) ∙ all-laid _ _ _ _ _ (b .total) (b .fitting) .kept .heads-size
     ∙ sym (ap (λ (x : Cells). length (x .heads)) (b .is))
 
@@ -144,7 +144,7 @@ returns c =
     let given = c .before .before .before .before .before .before .before .args in
     let inv = c .before .loop .inv in
     let b = c .before .before .before .before .before .before .before .pre in
-    laid-whole _ _ _ _ _ (b .total) (b .fitting) _ _ _ _ (inv .3 b) (omega (arith, inv .0))
+    laid-end _ _ _ _ _ (b .total) (b .fitting) _ _ _ _ (inv .3 b) (omega (arith, inv .0))
     ∙ ap (λ (x : Cells). laidAll (given .spec .«max_intervals») x
     (updatesIn (given .g) (given .changes .now) (given .pairs .now))) (sym (b .is))
 

@@ -6,16 +6,16 @@ use Rattle.chords.proofs.ends_fit.Tie as tie
 returns : tie.Need-returns
 unfolding endsFit
 returns c = simp (
-  ← c .all-within2 .ensures,
+  ← c .all-between2 .ensures,
   ← c .before .point-at2 .ensures,
   c .before .before .if1 .taken,
-  ← c .before .before .before .all-within .ensures,
+  ← c .before .before .before .all-between .ensures,
   ← c .before .before .before .before .point-at .ensures,
 )
 
 returns-2 : tie.Need-returns-2
 unfolding endsFit
-returns-2 c = simp (c .if1 .left, ← c .before .all-within .ensures, ← c .before .before .point-at .ensures)
+returns-2 c = simp (c .if1 .left, ← c .before .all-between .ensures, ← c .before .before .point-at .ensures)
 
 pub ends-fit-spec : {M : Type 1} → statement M
 ends-fit-spec =

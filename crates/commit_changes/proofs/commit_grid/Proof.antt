@@ -7,8 +7,8 @@ use Rattle.commit_changes.proofs.commit_grid.Statement.{statement}
 use Rattle.stock.specs.Stock.{stock}
 use Rattle.commit_changes.proofs.commit_grid.Tie as tie
 
-judge-requires : tie.Need-judge-requires
-judge-requires c κs = c .before .before .before .before .before .before .before .before .pre
+grid-verdict-requires : tie.Need-grid-verdict-requires
+grid-verdict-requires c κs = c .before .before .before .before .before .before .before .before .pre
 
 apply-changes-requires : tie.Need-apply-changes-requires
 apply-changes-requires c κs = let a =
@@ -17,7 +17,7 @@ apply-changes-requires c κs = let a =
       a .intervals,
       verdict-fitting (a .spec) (a .g)
           (stock (a .spans .now) (a .links .now) (a .heads .now) (a .generation) (a .intervals)) (a .changes .now)
-          (a .pairs .now) (a .base) _ (c .before .before .before .before .before .before .judge .ensures) _
+          (a .pairs .now) (a .base) _ (c .before .before .before .before .before .before .grid-verdict .ensures) _
           (c .before .before .before .before .total .given .1),
     )
 
@@ -30,7 +30,7 @@ add-t32 c =
       generation-steps (a .spec) (a .g)
           (stock (a .spans .now) (a .links .now) (a .heads .now) (a .generation) (a .intervals)) (a .changes .now)
           (a .pairs .now) (a .base) _ (c .before .before .before .before .before .before .before .before .before .before
-          .before .before .before .judge .ensures) _
+          .before .before .before .grid-verdict .ensures) _
           (c .before .before .before .before .before .before .before .before .before .before .before .total .given .1)
           (omega (
             arith,
@@ -46,19 +46,19 @@ returns c =
     verdict-fits (a .spec) (a .g) (stock (a .spans .now) (a .links .now) (a .heads .now) (a .generation)
     (a .intervals)) (a .changes .now) (a .pairs .now) (a .base) _
     (c .before .before .before .before .before .before .before .before .before .before .before .before .before
-    .judge .ensures) _ (c .before .before .before .before .before .before .before .before .before .before .before
+    .grid-verdict .ensures) _ (c .before .before .before .before .before .before .before .before .before .before .before
     .total .given .1) _ (c .before .before .before .before .before .before .apply-changes .ensures)
 
 returns-2 : tie.Need-returns-2
 returns-2 c = let a = c .before .before .before .before .before .before .before .before .before .before .before
     .before .args in verdict-refused (a .spec) (a .g)
     (stock (a .spans .now) (a .links .now) (a .heads .now) (a .generation) (a .intervals)) (a .changes .now)
-    (a .pairs .now) (a .base) _ (c .before .before .before .judge .ensures) _ (c .before .k .given .1)
+    (a .pairs .now) (a .base) _ (c .before .before .before .grid-verdict .ensures) _ (c .before .k .given .1)
 
 pub commit-grid-spec : {M : Type 1} → statement M
 commit-grid-spec =
     tie.close
     (tie.spec
-    judge-requires (λ c. search needs) apply-changes-requires add-t32 (λ c. search needs) (λ c. search needs)
+    grid-verdict-requires (λ c. search needs) apply-changes-requires add-t32 (λ c. search needs) (λ c. search needs)
     (λ c. search needs) (λ c. search needs) returns (λ c. search needs) (λ c. search needs) (λ c. search needs)
     returns-2)

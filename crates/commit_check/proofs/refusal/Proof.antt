@@ -1,11 +1,11 @@
 use borrow.Author.Needs.{needs}
 use native.Mathlib.Omega.{arith}
-use Prim.Native.Nat.{_*_, _/_, _≤_}
-use lib.ListN.{length}
+use Prim.Native.Nat.{_*_}
 use Rattle.grid.specs.Rays.{rayCount}
 use Rattle.stock.specs.Stock.{Stock, SoundStock, stock, rayLists}
 use Rattle.log_entries.specs.Named.{EachNamed}
-use Rattle.log_model.specs.Logs.{entries, WholeLog, workNeeded}
+use Rattle.log_model.specs.Logs.{entries, WholeLog}
+use Rattle.log_model.specs.Steps.{WorkRoom}
 use Rattle.log_model.proofs.Doubles.{Doubles, all-doubles}
 use Rattle.commit_check.proofs.Tests.{short-due, room-of-test, work-due, work-of-test, part-due, whole-of-test}
 use Rattle.commit_check.proofs.Tests.{unsound-due, sound-of-test, last-due, unnamed-due, named-of-test, rays-due}
@@ -47,7 +47,7 @@ doubles c = let a = start c .args in
     (c .before .before .before .before .before .before .shared-slice-known .given) (c .before .before .before .shared-slice-known4 .given)
 
 enough : (c : tie.Else2) → let a = start (after1 c) .args in
-    workNeeded (a .spec .«max_intervals») (a .log .now) ≤ length (a .work .now) / 2
+    WorkRoom (a .spec .«max_intervals») (a .log .now) (a .work .now)
 enough c = let s = start (after1 c) in let a = s .args in
     work-of-test (a .spec) (a .g) (lent s) (a .log .now) (a .allowance) (a .work .now) _ (c .before .is-work-short .ensures) (c .if2 .left)
 

@@ -3,9 +3,6 @@ use borrow.Author.Needs.{needs}
 use Rattle.cutter.proofs.is_off_tool.Statement.{statement}
 use Rattle.cutter.proofs.is_off_tool.Tie as tie
 
-is-finite-requires : tie.Need-is-finite-requires
-is-finite-requires c κs = search needs
-
 returns : tie.Need-returns
 unfolding offTool
 returns c = simp (c .if2 .taken, c .before .if1 .taken, ← c .before .before .is-finite .ensures)
@@ -19,4 +16,5 @@ unfolding offTool
 returns-3 c = simp (c .if1 .left, ← c .before .is-finite .ensures)
 
 pub is-off-tool-spec : {M : Type 1} → statement M
-is-off-tool-spec = tie.close (tie.spec is-finite-requires returns returns-2 returns-3)
+is-off-tool-spec =
+    tie.close (tie.spec (λ c κs. search needs) returns returns-2 returns-3)

@@ -3,12 +3,6 @@ use borrow.Author.Needs.{needs}
 use Rattle.cutter_check.proofs.diameters_fit.Statement.{statement}
 use Rattle.cutter_check.proofs.diameters_fit.Tie as tie
 
-is-number-requires : tie.Need-is-number-requires
-is-number-requires c κs = search needs
-
-is-number-requires-2 : tie.Need-is-number-requires-2
-is-number-requires-2 c κs = search needs
-
 returns : tie.Need-returns
 unfolding diametersFit
 returns c = simp (← c .is-number2 .ensures, c .before .if1 .taken, ← c .before .before .is-number .ensures)
@@ -18,4 +12,5 @@ unfolding diametersFit
 returns-2 c = simp (c .if1 .left, ← c .before .is-number .ensures)
 
 pub diameters-fit-spec : {M : Type 1} → statement M
-diameters-fit-spec = tie.close (tie.spec is-number-requires is-number-requires-2 returns returns-2)
+diameters-fit-spec =
+    tie.close (tie.spec (λ c κs. search needs) (λ c κs. search needs) returns returns-2)

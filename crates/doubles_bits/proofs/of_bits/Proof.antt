@@ -20,8 +20,6 @@ float-from-bits-result c =
     let b = c .before .args .bits in
     of-false (nanBits-above binary64 b ∙ le-ltb _ _ (c .if1 .left))
 
-returns-2 : tie.Need-returns-2
-returns-2 c = search needs
-
 pub of-bits-spec : {M : Type 1} → statement M
-of-bits-spec = tie.close (tie.spec returns float-from-bits-result returns-2)
+of-bits-spec =
+    tie.close (tie.spec returns float-from-bits-result (λ c. search needs))

@@ -18,9 +18,6 @@ returns c = simp (← ne-self, c .if1 .taken)
 float-to-bits-bits : tie.Need-float-to-bits-bits
 float-to-bits-bits c = no-nan (c .before .args .x) (c .if1 .left)
 
-add-result : tie.Need-add-result
-add-result c = search needs
-
 sub-result : tie.Need-sub-result
 sub-result c =
     let start = c .before .before in
@@ -35,4 +32,5 @@ unfolding keyOf keyOfBits
 returns-3 c = simp (← ne-self, c .before .if1 .left, le-ltb _ _ (c .if2 .left))
 
 pub order-key-spec : {M : Type 1} → statement M
-order-key-spec = tie.close (tie.spec returns float-to-bits-bits add-result sub-result returns-2 returns-3)
+order-key-spec =
+    tie.close (tie.spec returns float-to-bits-bits (λ c. search needs) sub-result returns-2 returns-3)

@@ -4,12 +4,6 @@ use borrow.Author.Tests.{lt-ltb, le-ltb}
 use Rattle.doubles_bits.proofs.total_cmp.Statement.{statement}
 use Rattle.doubles_bits.proofs.total_cmp.Tie as tie
 
-order-key-requires : tie.Need-order-key-requires
-order-key-requires c κs = search needs
-
-order-key-requires-2 : tie.Need-order-key-requires-2
-order-key-requires-2 c κs = search needs
-
 returns : tie.Need-returns
 returns c = simp (← c .before .order-key2 .ensures, ← c .before .before .order-key .ensures, lt-ltb _ _ (c .if1 .taken))
 
@@ -30,4 +24,5 @@ returns-3 c = simp (
 )
 
 pub total-cmp-spec : {M : Type 1} → statement M
-total-cmp-spec = tie.close (tie.spec order-key-requires order-key-requires-2 returns returns-2 returns-3)
+total-cmp-spec =
+    tie.close (tie.spec (λ c κs. search needs) (λ c κs. search needs) returns returns-2 returns-3)

@@ -16,12 +16,6 @@ rise m h = lt-of-le-of-lt (mul-le-mul upper slope) (omega arith)
     slope : 549_098 - m / 0x80_0000_0000 * 5 ≤ 549_098
     slope = omega arith
 
-mul-slope : tie.Need-mul-slope
-mul-slope c = search needs
-
-sub-slope : tie.Need-sub-slope
-sub-slope c = search needs
-
 mul-result : tie.Need-mul-result
 mul-result c = omega (arith, rise (c .args .m) (c .pre))
 
@@ -32,4 +26,5 @@ returns : tie.Need-returns
 returns c = omega (arith, rise (c .args .m) (c .pre))
 
 pub first-guess-spec : {M : Type 1} → statement M
-first-guess-spec = tie.close (tie.spec mul-slope sub-slope mul-result add-result returns)
+first-guess-spec =
+    tie.close (tie.spec (λ c. search needs) (λ c. search needs) mul-result add-result returns)

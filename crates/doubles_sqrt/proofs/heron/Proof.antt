@@ -24,9 +24,6 @@ large m r h l = below (square-lt (2 ^ 26) (suc r) (lt-of-le-of-lt h l))
     below : 2 ^ 26 < suc r → 2 ^ 25 ≤ r
     below g = omega arith
 
-div-result : tie.Need-div-result
-div-result c = search needs
-
 add-result : tie.Need-add-result
 add-result c = omega (arith, quotient-small (c .args .m) (c .args .guess) (c .pre .1 .0) (c .pre .1 .1 .0))
 
@@ -43,4 +40,5 @@ returns c =
     }
 
 pub heron-spec : {M : Type 1} → statement M
-heron-spec = tie.close (tie.spec div-result add-result returns)
+heron-spec =
+    tie.close (tie.spec (λ c. search needs) add-result returns)

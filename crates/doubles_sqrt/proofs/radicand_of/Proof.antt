@@ -35,18 +35,6 @@ returns c =
       most = lit≤ tt;
     }
 
-add-digits : tie.Need-add-digits
-add-digits c = search needs
-
-sub-half : tie.Need-sub-half
-sub-half c = search needs
-
-add-half : tie.Need-add-half
-add-half c = search needs
-
-sub-if2 : tie.Need-sub-if2
-sub-if2 c = search needs
-
 returns-2 : tie.Need-returns-2
 returns-2 c =
     let b = c .before .before .args .bits in
@@ -62,9 +50,6 @@ returns-2 c =
       least = omega arith;
       most = omega arith;
     }
-
-mul-t6 : tie.Need-mul-t6
-mul-t6 c = search needs
 
 returns-3 : tie.Need-returns-3
 returns-3 c =
@@ -83,4 +68,7 @@ returns-3 c =
 
 pub radicand-of-spec : {M : Type 1} → statement M
 radicand-of-spec =
-    tie.close (tie.spec returns add-digits sub-half add-half sub-if2 returns-2 mul-t6 returns-3)
+    tie.close
+    (tie.spec
+    returns (λ c. search needs) (λ c. search needs) (λ c. search needs) (λ c. search needs) returns-2
+    (λ c. search needs) returns-3)

@@ -8,23 +8,10 @@ use Rattle.frame.proofs.sign_along.Reads as sign-along-reads
 use Rattle.frame.proofs.world_axis.Reads as world-axis-reads
 use Rattle.grid.proofs.along.Reads as along-reads
 
--- src/lib.rt:102:5
-sign-along-requires : tie.Need-sign-along-requires
-sign-along-requires c κs = search needs
-
--- src/lib.rt:102:39
-world-axis-requires : tie.Need-world-axis-requires
-world-axis-requires c κs = search needs
-
--- src/lib.rt:102:24
-along-requires : tie.Need-along-requires
-along-requires c κs = search needs
-
--- src/lib.rt:99:1
 returns : tie.Need-returns
 unfolding localAt
 returns c = rw (c .along .ensures, c .before .world-axis .ensures, c .before .before .sign-along .ensures)
 
 pub coordinate-spec : {M : Type 1} → statement M
 coordinate-spec =
-    tie.close (tie.spec sign-along-requires world-axis-requires along-requires returns)
+    tie.close (tie.spec (λ c κs. search needs) (λ c κs. search needs) (λ c κs. search needs) returns)

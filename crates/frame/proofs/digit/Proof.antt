@@ -5,12 +5,10 @@ use Rattle.frame.proofs.digit.Tie as tie
 use Rattle.frame.proofs.digit.Reads as reads
 use Rattle.frame.proofs.digit.Lts as lts
 
--- src/lib.rt:32:1
 returns : tie.Need-returns
 unfolding axisDigit
 returns c = simp (lt-ltb _ _ (c .if1 .taken), lt-leb _ _ (c .if1 .taken))
 
--- src/lib.rt:32:1
 returns-2 : tie.Need-returns-2
 unfolding axisDigit
 returns-2 c = simp (le-leb _ _ (c .if1 .left), le-ltb _ _ (c .if1 .left))

@@ -5,12 +5,10 @@ use Rattle.frame.proofs.sign_along.Tie as tie
 use Rattle.frame.proofs.sign_along.Reads as reads
 use Rattle.frame.proofs.sign_along.Lts as lts
 
--- src/lib.rt:94:9
 returns : tie.Need-returns
 unfolding signAlong
 returns c = simp (eq-eqb _ _ (c .if1 .taken))
 
--- src/lib.rt:90:1
 returns-2 : tie.Need-returns-2
 unfolding signAlong
 returns-2 c = simp (ne-eqb _ _ (c .if1 .left))

@@ -6,19 +6,14 @@ use Rattle.frame.proofs.world.Reads as reads
 use Rattle.frame.proofs.world.Lts as lts
 use Rattle.frame.proofs.sign_along.Reads as sign-along-reads
 
--- src/lib.rt:120:8
-sign-along-requires : tie.Need-sign-along-requires
-sign-along-requires c κs = search needs
-
--- src/lib.rt:121:9
 returns : tie.Need-returns
 unfolding worldOf turned
 returns c = simp (c .if1 .taken, ← c .before .sign-along .ensures)
 
--- src/lib.rt:117:1
 returns-2 : tie.Need-returns-2
 unfolding worldOf turned
 returns-2 c = simp (c .before .before .if1 .left, ← c .before .before .before .sign-along .ensures)
 
 pub world-spec : {M : Type 1} → statement M
-world-spec = tie.close (tie.spec sign-along-requires returns returns-2)
+world-spec =
+    tie.close (tie.spec (λ c κs. search needs) returns returns-2)

@@ -7,20 +7,20 @@ use Rattle.grid_from_spec.proofs.any_bound_off.Statement.{statement}
 use Rattle.grid_from_spec.proofs.any_bound_off.Tie as tie
 
 returns : tie.Need-returns
-returns c = or-yes _ _ (sym (ap not (c .before .all-within .ensures)) ∙ c .if1 .taken)
+returns c = or-yes _ _ (sym (ap not (c .before .all-between .ensures)) ∙ c .if1 .taken)
 
 returns-2 : tie.Need-returns-2
 returns-2 c =
     let t = c .before .before in
-    or-no _ _ _ (sym (ap not (t .before .all-within .ensures)) ∙ t .if1 .left)
-    (or-yes _ _ (sym (ap not (c .before .all-within2 .ensures)) ∙ c .if2 .taken))
+    or-no _ _ _ (sym (ap not (t .before .all-between .ensures)) ∙ t .if1 .left)
+    (or-yes _ _ (sym (ap not (c .before .all-between2 .ensures)) ∙ c .if2 .taken))
 
 returns-3 : tie.Need-returns-3
 returns-3 c =
     let u = c .before in
     let t = u .before .before in
-    or-no _ _ _ (sym (ap not (t .before .all-within .ensures)) ∙ t .if1 .left)
-    (or-no _ _ _ (sym (ap not (u .before .all-within2 .ensures)) ∙ u .if2 .left) (ap not (c .all-within3 .ensures)))
+    or-no _ _ _ (sym (ap not (t .before .all-between .ensures)) ∙ t .if1 .left)
+    (or-no _ _ _ (sym (ap not (u .before .all-between2 .ensures)) ∙ u .if2 .left) (ap not (c .all-between3 .ensures)))
 
 pub any-bound-off-spec : {M : Type 1} → statement M
 any-bound-off-spec =

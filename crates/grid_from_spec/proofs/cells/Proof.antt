@@ -4,15 +4,10 @@ use borrow.Author.Needs.{needs}
 use Rattle.grid_from_spec.proofs.cells.Statement.{statement}
 use Rattle.grid_from_spec.proofs.cells.Tie as tie
 
-ceil-requires : tie.Need-ceil-requires
-ceil-requires c κs = search needs
-
-larger-requires : tie.Need-larger-requires
-larger-requires c κs = search needs
-
 returns : tie.Need-returns
 unfolding cellCount
 returns c = simp (← c .larger .ensures, ← c .before .ceil .ensures)
 
 pub cells-spec : {M : Type 1} → statement M
-cells-spec = tie.close (tie.spec ceil-requires larger-requires returns)
+cells-spec =
+    tie.close (tie.spec (λ c κs. search needs) (λ c κs. search needs) returns)

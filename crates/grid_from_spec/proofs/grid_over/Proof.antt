@@ -1,6 +1,12 @@
 -- `grid_from_spec::grid_over` meets its contract: each answer from the tests that lead to it. Assumes nothing.
-use Rattle.grid.specs.FromSpec.{gridOver}
+use mathlib.Core.Path.{_≡_}
+use mathlib.Core.Bool.{Bool, true, false, cond}
+use lib.Ieee.{binary64, lt, mul}
 use borrow.Author.Needs.{needs}
+use Rattle.doubles.specs.Constants.{two}
+use Rattle.grid.specs.Grid.{whole}
+use Rattle.grid.specs.FromSpec.{raysOf, gridWith, tooFine, gridOver}
+use Rattle.grid.specs.declared.GridAnswer.the-variants.{Accepted, Refused}
 use Rattle.grid_from_spec.proofs.grid_over.Statement.{statement}
 use Rattle.grid_from_spec.proofs.grid_over.Tie as tie
 
@@ -16,55 +22,40 @@ returns-2 c =
     let n = c .before .before .before in
     rw (← n .nearest-u64-to-f64 .ensures, ← c .before .before .any-above .ensures, c .before .if1 .left, c .if2 .taken)
 
-returns-3 : tie.Need-returns-3
+-- the answer where the rays are few enough
+few-rays : (c : tie.Else2) → let a = c .before .before .before .before .before .before .before .args in
+    gridOver (a .spec) (a .extents) (a .dims)
+    ≡ cond (lt (whole (a .spec .«max_intervals»)) (mul binary64 two (raysOf (a .dims)))) (Refused 3)
+    (cond (tooFine (a .spec .«min_mm») (a .spec .«max_mm») (gridWith (a .extents) (a .dims))) (Refused 4)
+    (Accepted (gridWith (a .extents) (a .dims))))
 unfolding gridOver
-returns-3 c =
+few-rays c =
+    let n = c .before .before .before in
+    rw (← n .nearest-u64-to-f64 .ensures, ← c .before .before .any-above .ensures, c .before .if1 .left, c .if2 .left)
+
+returns-3 : tie.Need-returns-3
+returns-3 c = rw (few-rays (c .before .before), ← c .before .nearest-u64-to-f642 .ensures, c .if3 .taken)
+
+-- and where the intervals are many enough, by the test of the steps
+by-steps : (c : tie.After-is-too-fine) (fine : Bool) → c .is-too-fine .result ≡ fine
+    → let a = c .before .before .before .before .before .before .before .before .before .before .before .args in
+    cond fine (Refused 4) (Accepted (c .before .grid-with .result)) ≡ gridOver (a .spec) (a .extents) (a .dims)
+by-steps c fine e =
     let u = c .before .before in
-    let n = u .before .before .before in
     rw (
-      ← n .nearest-u64-to-f64 .ensures,
-      ← u .before .before .any-above .ensures,
-      u .before .if1 .left,
-      u .if2 .left,
-      ← c .before .nearest-u64-to-f642 .ensures,
-      c .if3 .taken,
+      few-rays (u .before .before),
+      ← u .before .nearest-u64-to-f642 .ensures,
+      u .if3 .left,
+      ← c .before .grid-with .ensures,
+      ← c .is-too-fine .ensures,
+      e,
     )
 
 returns-4 : tie.Need-returns-4
-unfolding gridOver
-returns-4 c =
-    let t = c .before .before .before in
-    let u = t .before .before in
-    let n = u .before .before .before in
-    rw (
-      ← n .nearest-u64-to-f64 .ensures,
-      ← u .before .before .any-above .ensures,
-      u .before .if1 .left,
-      u .if2 .left,
-      ← t .before .nearest-u64-to-f642 .ensures,
-      t .if3 .left,
-      ← c .before .before .grid-with .ensures,
-      ← c .before .is-too-fine .ensures,
-      c .if4 .taken,
-    )
+returns-4 c = by-steps (c .before) true (c .if4 .taken)
 
 returns-5 : tie.Need-returns-5
-unfolding gridOver
-returns-5 c =
-    let t = c .before .before .before in
-    let u = t .before .before in
-    let n = u .before .before .before in
-    rw (
-      ← n .nearest-u64-to-f64 .ensures,
-      ← u .before .before .any-above .ensures,
-      u .before .if1 .left,
-      u .if2 .left,
-      ← t .before .nearest-u64-to-f642 .ensures,
-      t .if3 .left,
-      ← c .before .before .grid-with .ensures,
-      ← c .before .is-too-fine .ensures,
-      c .if4 .left,
-    )
+returns-5 c = by-steps (c .before) false (c .if4 .left)
 
 pub grid-over-spec : {M : Type 1} → statement M
 grid-over-spec =

@@ -3,19 +3,11 @@ use borrow.Author.Needs.{needs}
 use Rattle.grid_from_spec.proofs.grid_with.Statement.{statement}
 use Rattle.grid_from_spec.proofs.grid_with.Tie as tie
 
-to-u64-requires : tie.Need-to-u64-requires
-to-u64-requires c κs = search needs
-
-to-u64-requires-2 : tie.Need-to-u64-requires-2
-to-u64-requires-2 c κs = search needs
-
-to-u64-requires-3 : tie.Need-to-u64-requires-3
-to-u64-requires-3 c κs = search needs
-
 returns : tie.Need-returns
 returns c =
     let u = c .before .before .before .before .before .before in
     rw (u .to-u643 .ensures, u .before .to-u642 .ensures, u .before .before .to-u64 .ensures)
 
 pub grid-with-spec : {M : Type 1} → statement M
-grid-with-spec = tie.close (tie.spec to-u64-requires to-u64-requires-2 to-u64-requires-3 returns)
+grid-with-spec =
+    tie.close (tie.spec (λ c κs. search needs) (λ c κs. search needs) (λ c κs. search needs) returns)

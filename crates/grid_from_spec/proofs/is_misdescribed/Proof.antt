@@ -29,33 +29,21 @@ returns-2 c =
     let t = c .before .before in
     simp (parts, eq-eqb _ _ (t .if1 .left), ← c .before .any-bound-off .ensures, c .if2 .taken)
 
+-- the budgets and the extents decide where the bounds are in their limits
+past-bounds : (c : tie.Else2) → let a = c .before .before .before .before .args in
+    misdescribed (a .spec) (a .sizes) (a .extents)
+    ≡ ((eqb (a .spec .«max_rays») 0 || (ltb 4294967295 (a .spec .«max_rays») || eqb (a .spec .«max_intervals») 0))
+    || anyBelow (a .extents) millionth)
+past-bounds c =
+    simp (parts, eq-eqb _ _ (c .before .before .if1 .left), ← c .before .any-bound-off .ensures, c .if2 .left)
+
 returns-3 : tie.Need-returns-3
-returns-3 c =
-    let u = c .before .before in
-    let t = u .before .before in
-    simp (
-      parts,
-      eq-eqb _ _ (t .if1 .left),
-      ← u .before .any-bound-off .ensures,
-      u .if2 .left,
-      ← c .before .any-budget-off .ensures,
-      c .if3 .taken,
-    )
+returns-3 c = rw (past-bounds (c .before .before), ← c .before .any-budget-off .ensures, c .if3 .taken)
 
 returns-4 : tie.Need-returns-4
 returns-4 c =
     let v = c .before in
-    let u = v .before .before in
-    let t = u .before .before in
-    simp (
-      parts,
-      eq-eqb _ _ (t .if1 .left),
-      ← u .before .any-bound-off .ensures,
-      u .if2 .left,
-      ← v .before .any-budget-off .ensures,
-      v .if3 .left,
-      ← c .any-below .ensures,
-    )
+    rw (past-bounds (v .before .before), ← v .before .any-budget-off .ensures, v .if3 .left, ← c .any-below .ensures)
 
 pub is-misdescribed-spec : {M : Type 1} → statement M
 is-misdescribed-spec =

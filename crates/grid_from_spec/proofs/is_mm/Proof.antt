@@ -11,15 +11,9 @@ returns : tie.Need-returns
 unfolding isMm
 returns c = and-no _ _ (ne-eqb _ _ (c .if1 .taken))
 
-shared-slice-read-if2 : tie.Need-shared-slice-read-if2
-shared-slice-read-if2 c = search needs
-
 returns-2 : tie.Need-returns-2
 unfolding isMm
 returns-2 c = and-yes _ _ _ (eq-eqb _ _ (c .before .before .if1 .left)) (and-no _ _ (ne-eqb _ _ (c .if2 .taken)))
-
-shared-slice-read-result : tie.Need-shared-slice-read-result
-shared-slice-read-result c = search needs
 
 returns-3 : tie.Need-returns-3
 unfolding isMm
@@ -27,4 +21,4 @@ returns-3 c = and-yes _ _ _ (eq-eqb _ _ (c .before .before .before .if1 .left)) 
 
 pub is-mm-spec : {M : Type 1} → statement M
 is-mm-spec =
-    tie.close (tie.spec returns shared-slice-read-if2 returns-2 shared-slice-read-result returns-3)
+    tie.close (tie.spec returns (λ c. search needs) returns-2 (λ c. search needs) returns-3)

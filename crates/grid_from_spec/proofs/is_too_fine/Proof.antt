@@ -4,19 +4,10 @@ use borrow.Author.Needs.{needs}
 use Rattle.grid_from_spec.proofs.is_too_fine.Statement.{statement}
 use Rattle.grid_from_spec.proofs.is_too_fine.Tie as tie
 
-magnitude-requires : tie.Need-magnitude-requires
-magnitude-requires c κs = search needs
-
-larger-requires : tie.Need-larger-requires
-larger-requires c κs = search needs
-
-any-below-requires : tie.Need-any-below-requires
-any-below-requires c κs = search needs
-
 returns : tie.Need-returns
 unfolding tooFine leastStep
 returns c = rw (c .any-below .ensures, c .before .larger .ensures, c .before .before .magnitude .ensures)
 
 pub is-too-fine-spec : {M : Type 1} → statement M
 is-too-fine-spec =
-    tie.close (tie.spec magnitude-requires larger-requires any-below-requires returns)
+    tie.close (tie.spec (λ c κs. search needs) (λ c κs. search needs) (λ c κs. search needs) returns)

@@ -5,15 +5,9 @@ use borrow.Author.Needs.{needs}
 use Rattle.grid_rays.proofs.ray_axis.Statement.{statement}
 use Rattle.grid_rays.proofs.ray_axis.Tie as tie
 
-ray-offset-requires : tie.Need-ray-offset-requires
-ray-offset-requires c κs = search needs
-
 returns : tie.Need-returns
 unfolding rayAxis
 returns c = rw (← c .before .ray-offset .ensures, lt-ltb _ _ (c .if1 .taken))
-
-ray-offset-requires-2 : tie.Need-ray-offset-requires-2
-ray-offset-requires-2 c κs = search needs
 
 returns-2 : tie.Need-returns-2
 unfolding rayAxis
@@ -35,4 +29,4 @@ returns-3 c = rw (
 
 pub ray-axis-spec : {M : Type 1} → statement M
 ray-axis-spec =
-    tie.close (tie.spec ray-offset-requires returns ray-offset-requires-2 returns-2 returns-3)
+    tie.close (tie.spec (λ c κs. search needs) returns (λ c κs. search needs) returns-2 returns-3)

@@ -4,18 +4,10 @@ use borrow.Author.Needs.{needs}
 use Rattle.grid_rays.proofs.ray_bounds.Statement.{statement}
 use Rattle.grid_rays.proofs.ray_bounds.Tie as tie
 
-ray-axis-requires : tie.Need-ray-axis-requires
-ray-axis-requires c κs = search needs
-
-along-requires : tie.Need-along-requires
-along-requires c κs = search needs
-
-along-requires-2 : tie.Need-along-requires-2
-along-requires-2 c κs = search needs
-
 returns : tie.Need-returns
 unfolding boundsOf
 returns c = rw (← c .before .before .ray-axis .ensures, ← c .before .along .ensures, ← c .along2 .ensures)
 
 pub ray-bounds-spec : {M : Type 1} → statement M
-ray-bounds-spec = tie.close (tie.spec ray-axis-requires along-requires along-requires-2 returns)
+ray-bounds-spec =
+    tie.close (tie.spec (λ c κs. search needs) (λ c κs. search needs) (λ c κs. search needs) returns)

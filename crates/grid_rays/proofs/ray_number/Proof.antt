@@ -6,9 +6,6 @@ use borrow.Author.Needs.{needs}
 use Rattle.grid_rays.proofs.ray_number.Statement.{statement}
 use Rattle.grid_rays.proofs.ray_number.Tie as tie
 
-ray-offset-requires : tie.Need-ray-offset-requires
-ray-offset-requires c κs = search needs
-
 add-result : tie.Need-add-result
 add-result c =
     let s = c .before in
@@ -19,4 +16,5 @@ unfolding rayNumber
 returns c = rw (← c .ray-offset .ensures)
 
 pub ray-number-spec : {M : Type 1} → statement M
-ray-number-spec = tie.close (tie.spec ray-offset-requires add-result returns)
+ray-number-spec =
+    tie.close (tie.spec (λ c κs. search needs) add-result returns)

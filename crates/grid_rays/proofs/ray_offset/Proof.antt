@@ -12,18 +12,9 @@ returns : tie.Need-returns
 unfolding offset byDigit
 returns c = rw (c .if1 .taken)
 
-rays-requires : tie.Need-rays-requires
-rays-requires c κs = search needs
-
 returns-2 : tie.Need-returns-2
 unfolding offset byDigit
 returns-2 c = rw (c .before .if2 .taken) (c .rays .ensures)
-
-rays-requires-2 : tie.Need-rays-requires-2
-rays-requires-2 c κs = search needs
-
-rays-requires-3 : tie.Need-rays-requires-3
-rays-requires-3 c κs = search needs
 
 add-result : tie.Need-add-result
 add-result c =
@@ -39,4 +30,5 @@ returns-3 c =
 pub ray-offset-spec : {M : Type 1} → statement M
 ray-offset-spec =
     tie.close
-    (tie.spec returns rays-requires returns-2 rays-requires-2 rays-requires-3 add-result returns-3)
+    (tie.spec
+    returns (λ c κs. search needs) returns-2 (λ c κs. search needs) (λ c κs. search needs) add-result returns-3)

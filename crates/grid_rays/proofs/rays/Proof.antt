@@ -8,15 +8,6 @@ use borrow.Author.Needs.{needs}
 use Rattle.grid_rays.proofs.rays.Statement.{statement}
 use Rattle.grid_rays.proofs.rays.Tie as tie
 
-cross-requires : tie.Need-cross-requires
-cross-requires c κs = search needs
-
-cells-along-requires : tie.Need-cells-along-requires
-cells-along-requires c κs = search needs
-
-cells-along-requires-2 : tie.Need-cells-along-requires-2
-cells-along-requires-2 c κs = search needs
-
 mul-result : tie.Need-mul-result
 unfolding raysAlong
 mul-result c =
@@ -31,5 +22,4 @@ returns c = rw (← c .before .before .cross .ensures, ← c .before .cells-alon
 
 pub rays-spec : {M : Type 1} → statement M
 rays-spec =
-    tie.close
-    (tie.spec cross-requires cells-along-requires cells-along-requires-2 mul-result returns)
+    tie.close (tie.spec (λ c κs. search needs) (λ c κs. search needs) (λ c κs. search needs) mul-result returns)

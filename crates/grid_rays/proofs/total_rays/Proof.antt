@@ -5,12 +5,6 @@ use borrow.Author.Needs.{needs}
 use Rattle.grid_rays.proofs.total_rays.Statement.{statement}
 use Rattle.grid_rays.proofs.total_rays.Tie as tie
 
-rays-requires : tie.Need-rays-requires
-rays-requires c κs = search needs
-
-rays-requires-2 : tie.Need-rays-requires-2
-rays-requires-2 c κs = search needs
-
 add-result : tie.Need-add-result
 add-result c = record {
   fits =
@@ -22,9 +16,6 @@ add-result c = record {
         c .rays2 .ensures,
       );
 }
-
-rays-requires-3 : tie.Need-rays-requires-3
-rays-requires-3 c κs = search needs
 
 add-result-2 : tie.Need-add-result-2
 add-result-2 c = record {
@@ -51,4 +42,5 @@ returns c = omega (
 pub total-rays-spec : {M : Type 1} → statement M
 total-rays-spec =
     tie.close
-    (tie.spec rays-requires rays-requires-2 add-result rays-requires-3 add-result-2 returns)
+    (tie.spec
+    (λ c κs. search needs) (λ c κs. search needs) add-result (λ c κs. search needs) add-result-2 returns)

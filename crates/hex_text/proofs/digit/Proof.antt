@@ -17,9 +17,6 @@ returns-3 : tie.Need-returns-3
 unfolding hexDigit
 returns-3 c = simp (le-ltb _ _ (c .before .before .if1 .left), le-ltb _ _ (c .before .if2 .left), lt-ltb _ _ (c .if3 .taken))
 
-sub-result : tie.Need-sub-result
-sub-result c = search needs
-
 returns-4 : tie.Need-returns-4
 unfolding hexDigit
 returns-4 c = simp (
@@ -39,4 +36,5 @@ returns-5 c = simp (
 )
 
 pub digit-spec : {M : Type 1} → statement M
-digit-spec = tie.close (tie.spec returns returns-2 returns-3 sub-result returns-4 returns-5)
+digit-spec =
+    tie.close (tie.spec returns returns-2 returns-3 (λ c. search needs) returns-4 returns-5)

@@ -3,13 +3,14 @@ use Prim.Native.Nat.{_-_, _≤_}
 use native.Mathlib.Omega.{arith}
 use borrow.Author.Needs.{needs}
 use Rattle.log_entries.specs.Named.{EachNamed}
-use Rattle.log_batches.proofs.Gathered.{GatherRaysLoop, gathering-widthed, gathering-start, gathering-turn, gathering-done}
-use Rattle.log_batches.proofs.Gathered.{gathering-full}
+use Rattle.log_batches.specs.Batches.{RaysGathered}
+use Rattle.log_batches.proofs.Batching.{unfilled}
+use Rattle.log_batches.proofs.Gathered.{gathering-widthed, gathering-start, gathering-turn, gathering-done, gathering-full}
 use Rattle.log_batches.proofs.gather_rays.Statement.{statement}
 use Rattle.log_batches.proofs.gather_rays.Tie as tie
 
 abbrev Inv-loop : tie.InvT-loop
-Inv-loop g log first width keys₀ n w₀ i₀ keys w i = (i ≤ n) × GatherRaysLoop g log first width keys₀ i keys w
+Inv-loop g log first width keys₀ n w₀ i₀ keys w i = (i ≤ n) × RaysGathered g log first width keys₀ i keys (unfilled w)
 
 abbrev μ-loop : tie.MeasureT-loop
 μ-loop g log first width keys₀ n w₀ i₀ keys w i = n - i

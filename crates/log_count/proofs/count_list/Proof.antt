@@ -2,7 +2,7 @@
 -- whole list.
 use borrow.Author.Needs.{needs}
 use Rattle.log_keys.specs.Keys.{top}
-use Rattle.log_count.proofs.Wholes.{whole-walked}
+use Rattle.log_count.proofs.AllTaken.{all-walked}
 use Rattle.log_count.proofs.count_list.Statement.{statement}
 use Rattle.log_count.proofs.count_list.Tie as tie
 
@@ -12,7 +12,7 @@ returns c =
     record {
       size = search needs;
       counted = λ hits s e.
-          c .end-list .ensures hits top s (whole-walked hits (taken .before .before .start .ensures) (taken .take-hits .ensures) s e);
+          c .end-list .ensures hits top s (all-walked hits (taken .before .before .start .ensures) (taken .take-hits .ensures) s e);
     }
 
 pub count-list-spec : {M : Type 1} → statement M

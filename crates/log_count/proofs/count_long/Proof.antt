@@ -89,10 +89,10 @@ add-ray-requires c κs =
     let asked = start .pre .0 in
     let e = heads .ray-heads .ensures in
     let inv = part .before .before .before .loop .inv in
-    let told = onward-counted inv (part .take-part .ensures) (not-true _ (c .before .before .if1 .taken)) in
+    let counted = onward-counted inv (part .take-part .ensures) (not-true _ (c .before .before .if1 .taken)) in
     ray-addable asked (omega (arith, asked .counting .countable .room .in-spans, start .good, start .fits))
-    (told false _ (list-sound asked false) (rw e at (c .before .end-list .ensures)))
-    (told true _ (list-sound asked true) (rw e at (c .end-list2 .ensures)))
+    (counted false _ (list-sound asked false) (rw e at (c .before .end-list .ensures)))
+    (counted true _ (list-sound asked true) (rw e at (c .end-list2 .ensures)))
 
 same-length : tie.Need-same-length Inv-loop μ-loop
 same-length c =
@@ -112,13 +112,13 @@ returns c =
     let asked = start .pre .0 in
     let e = heads .ray-heads .ensures in
     let inv = part .before .before .before .loop .inv in
-    let told = onward-counted inv (part .take-part .ensures) (not-true _ (c .before .before .before .if1 .taken)) in (
+    let counted = onward-counted inv (part .take-part .ensures) (not-true _ (c .before .before .before .if1 .taken)) in (
       same-length c,
       record {
         size = same-length-2 c;
         prefixed = ray-added asked (omega (arith, asked .counting .countable .room .in-spans, start .good, start .fits))
-            (told false _ (list-sound asked false) (rw e at (c .before .before .end-list .ensures)))
-            (told true _ (list-sound asked true) (rw e at (c .before .end-list2 .ensures))) _ (c .add-ray .ensures);
+            (counted false _ (list-sound asked false) (rw e at (c .before .before .end-list .ensures)))
+            (counted true _ (list-sound asked true) (rw e at (c .before .end-list2 .ensures))) _ (c .add-ray .ensures);
       },
     )
 

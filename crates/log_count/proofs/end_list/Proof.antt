@@ -9,11 +9,11 @@ use Rattle.log_count.proofs.end_list.Tie as tie
 returns : tie.Need-returns
 returns c = λ hits last s w.
     let given = c .before .before .before .before .args in
-    let told = c .before .finish .ensures _ hits last s w in
+    let finished = c .before .finish .ensures _ hits last s w in
     record {
-      changes = told .moved;
+      changes = finished .moved;
       before = omega (arith, c .list-pairs .ensures, ends-length (given .spans .now) (places (given .links .now) (given .n) (given .head)));
-      after = told .pairs;
+      after = finished .pairs;
     }
 
 pub end-list-spec : {M : Type 1} → statement M

@@ -32,8 +32,8 @@ returns c =
     let both = possible .before .before .before in
     let gathered = both .before .before .before .before in
     let start = gathered .before .before .before .before .before .before .before in
-    let told = gathered .gather-ray .ensures in
-    part-taken (start .args .from) (start .pre .named) (told .1) (told .0) (possible .take-hits .ensures)
+    let gathers = gathered .gather-ray .ensures in
+    part-taken (start .args .from) (start .pre .named) (gathers .1) (gathers .0) (possible .take-hits .ensures)
     (rw (both .higher .ensures) at (certain .take-hits2 .ensures))
 
 pub take-part-spec : {M : Type 1} → statement M

@@ -21,12 +21,12 @@ abbrev μ-loop : tie.MeasureT-loop
 loop-holds : tie.Need-loop-holds Inv-loop μ-loop
 loop-holds c = (omega arith, λ j h. absurd (omega arith))
 
--- what is told of the entry at place i
-told : (c : tie.After-named Inv-loop μ-loop)
+-- the answer for the entry at place i
+answer : (c : tie.After-named Inv-loop μ-loop)
     → let loop = c .before .before .before in
     let given = loop .before .before .before .args in
     namesSomeRay (given .g) (entryAt (given .log .now) (loop .loop .i)) ≡ c .named .result
-told c = sym (c .named .ensures ∙ ap (namesSomeRay _) (c .before .entry-at .ensures))
+answer c = sym (c .named .ensures ∙ ap (namesSomeRay _) (c .before .entry-at .ensures))
 
 returns : tie.Need-returns Inv-loop μ-loop
 unfolding EachNamed NamesNoRay
@@ -38,14 +38,14 @@ returns c =
       no = λ _. (
         entryAt log (loop .loop .i),
         entry-in log (loop .loop .i) (omega arith),
-        told (c .before) ∙ not-true _ (c .if1 .taken),
+        answer (c .before) ∙ not-true _ (c .if1 .taken),
       );
     }
 
 loop-again : tie.Need-loop-again Inv-loop μ-loop
 loop-again c = (
   omega arith,
-  below-more _ _ (c .before .before .before .before .loop .inv .1) (told (c .before) ∙ not-false _ (c .if1 .left)),
+  below-more _ _ (c .before .before .before .before .loop .inv .1) (answer (c .before) ∙ not-false _ (c .if1 .left)),
 )
 
 returns-2 : tie.Need-returns-2 Inv-loop μ-loop

@@ -4,15 +4,12 @@ use native.Mathlib.Omega.{arith}
 use mathlib.Core.Path.{sym, _∙_}
 use Rattle.log_merge.proofs.Rays.{ray-same, cut-ready, ray-merged}
 use Rattle.log_merge.proofs.merge_ray.Statement.{statement}
-use Rattle.store.specs.Store.{cells}
 use Rattle.log_merge.proofs.merge_ray.Tie as tie
 
 returns : tie.Need-returns
 returns c =
     let t = c .before .before .before .before .before .before .before .before in
-    let a = t .args in
-    ray-same (a .spec) (a .g) (cells (a .spans .now) (a .links .now) (a .heads .now)) (a .log .now) (a .work .now)
-    (a .ray) (a .q) (a .s) (t .pre .0) (t .pre .1) (sym (c .before .number-at .ensures) ∙ c .if1 .taken)
+    ray-same (t .pre .0) (t .args .q) (t .pre .1) (sym (c .before .number-at .ensures) ∙ c .if1 .taken)
 
 mul-cut-ray : tie.Need-mul-cut-ray
 mul-cut-ray c =
@@ -23,21 +20,14 @@ cut-ray-requires : tie.Need-cut-ray-requires
 cut-ray-requires c κs =
     let y = c .before .before .before in
     let t = y .before .before .before .before .before .before .before .before .before .before in
-    let a = t .args in
-    cut-ready (a .spec) (a .g) (cells (a .spans .now) (a .links .now) (a .heads .now)) (a .log .now) (a .work .now)
-    (a .ray) (a .q) (a .s) (t .pre .0) (t .pre .1) (y .load-ray .last .1 .1 .1 .1 .1 .1 .0) (y .load-ray .result)
-    (y .load-ray .ensures)
+    cut-ready (t .pre .0) (t .args .q) (t .pre .1) (y .load-ray .ensures)
 
 returns-2 : tie.Need-returns-2
 returns-2 c =
     let z = c .before .before in
     let y = z .before .before .before .before in
     let t = y .before .before .before .before .before .before .before .before .before .before in
-    let a = t .args in
-    ray-merged (a .spec) (a .g) (cells (a .spans .now) (a .links .now) (a .heads .now)) (a .log .now) (a .work .now)
-    (a .ray) (a .q) (a .s) (t .pre .0) (t .pre .1) (y .load-ray .last .1 .1 .1 .1 .1 .1 .0) (y .load-ray .result)
-    (y .load-ray .ensures)
-    (z .cut-ray .last .0) (z .cut-ray .result) (z .cut-ray .kept .0) (z .cut-ray .ensures)
+    ray-merged (t .pre .0) (t .args .q) (t .pre .1) (y .load-ray .ensures) (z .cut-ray .kept .0) (z .cut-ray .ensures)
 
 pub merge-ray-spec : {M : Type 1} → statement M
 merge-ray-spec =

@@ -5,15 +5,6 @@ use borrow.Author.Needs.{needs}
 use Rattle.ray_input.proofs.is_number.Statement.{statement}
 use Rattle.ray_input.proofs.is_number.Tie as tie
 
-word-at-requires : tie.Need-word-at-requires
-word-at-requires c κs = search needs
-
-enum-told : tie.Need-enum-told
-enum-told c = search needs
-
-enum-told-2 : tie.Need-enum-told-2
-enum-told-2 c = search needs
-
 returns : tie.Need-returns
 returns c = ap isSpelled (sym (c .enum-told .given .1) ∙ c .before .before .word-at .ensures)
 
@@ -21,4 +12,5 @@ returns-2 : tie.Need-returns-2
 returns-2 c = ap isSpelled (sym (c .enum-told2 .given .1) ∙ c .before .before .word-at .ensures)
 
 pub is-number-spec : {M : Type 1} → statement M
-is-number-spec = tie.close (tie.spec word-at-requires enum-told enum-told-2 returns returns-2)
+is-number-spec =
+    tie.close (tie.spec (λ c κs. search needs) (λ c. search needs) (λ c. search needs) returns returns-2)

@@ -4,15 +4,6 @@ use borrow.Author.Needs.{needs}
 use Rattle.ray_merge.proofs.possible_of.Statement.{statement}
 use Rattle.ray_merge.proofs.possible_of.Tie as tie
 
-enum-known-answer : tie.Need-enum-known-answer
-enum-known-answer c = search needs
-
-handed-back-requires : tie.Need-handed-back-requires
-handed-back-requires c κs = search needs
-
-enum-told : tie.Need-enum-told
-enum-told c = search needs
-
 returns : tie.Need-returns
 returns c = rw (c .before .before .answer .given .1) (c .handed-back .ensures)
 
@@ -21,4 +12,4 @@ returns-2 c = rw (c .enum-told .given .1) (refl, λ _. refl, tt)
 
 pub possible-of-spec : {M : Type 1} → statement M
 possible-of-spec =
-    tie.close (tie.spec enum-known-answer handed-back-requires enum-told returns returns-2)
+    tie.close (tie.spec (λ c. search needs) (λ c κs. search needs) (λ c. search needs) returns returns-2)

@@ -28,9 +28,9 @@ returns : tie.Need-returns
 returns c =
     let s = c .before .before .before .before in
     let a = s .args in
-    let told : Meets (cellsFrom (a .a) (a .n) (a .w .now)) (cellsFrom (a .b) (a .m) (a .w .now)) (c .meets .result) =
+    let met : Meets (cellsFrom (a .a) (a .n) (a .w .now)) (cellsFrom (a .b) (a .m) (a .w .now)) (c .meets .result) =
     rw (one (a .a) (a .n) (a .w .now), one (a .b) (a .m) (a .w .now)) at (c .meets .ensures) in
-    meets-moves _ _ (s .pre .0 .isSound) (s .pre .1 .isSound) (c .meets .result) told
+    meets-moves _ _ (s .pre .0 .isSound) (s .pre .1 .isSound) (c .meets .result) met
 
 pub share-point-spec : {M : Type 1} → statement M
 share-point-spec =

@@ -1,6 +1,7 @@
 -- `ray_text::print_merged` meets its contract.
-use mathlib.Core.Path.{_≡_, ap, subst}
+use mathlib.Core.Path.{_≡_, ap, subst, _∙_}
 use mathlib.Core.List.{List}
+use Prim.Native.Nat.{_+_, _*_, _%_, _≤_}
 use lib.ListN.{length}
 use lib.Ieee.{Float}
 use denote.Ref.{now}
@@ -10,8 +11,9 @@ use Rattle.ray_merge.specs.Merge.{mergeCauses, MergeEffect}
 use Rattle.ray_subtract.specs.declared.MergedList.{MergedList}
 use Rattle.ray_input.specs.Format.{letterP, letterC}
 use Rattle.ray_output.specs.Output.{linesText}
+use Rattle.ray_output.proofs.Printing.{lines-length}
 use Rattle.ray_input.specs.Steps.{Appended}
-use Rattle.ray_text.proofs.Running.{due-ray, even-lists, lines-long, writes, refuses}
+use Rattle.ray_text.proofs.Running.{due-ray, even-lists, writes, refuses}
 use borrow.Author.Needs.{needs}
 use native.Mathlib.Omega.{arith}
 use Rattle.ray_text.proofs.print_merged.Statement.{statement}
@@ -25,6 +27,9 @@ due : (c : tie.After-known-told)
 due c = (rw (c .before .answer .given .1) at (c .before .before .before .before .merge .ensures)) .0
 
 -- the two lists, and the buffer, where it did not
+abbrev start : tie.After-known-told2 → tie.Start
+start c = c .before .before .before .before .before .before .before .before .before .before .before
+
 abbrev first : tie.After-known-told2 → MergedList
 first c = c .before .answer2 .given .0 .0
 
@@ -34,8 +39,13 @@ second c = c .before .answer2 .given .0 .1 .0
 abbrev buffer : tie.After-known-told2 → List Float
 buffer c = c .before .before .before .before .merge .last .1 .1 .1 .1 .1 .1 .0
 
-lists : (c : tie.After-known-told2)
-    → let a = c .before .before .before .before .before .before .before .before .before .before .before .args in
+abbrev possible-new : tie.After-known-told2 → List Float
+possible-new c = handedBack (first c) (start c .args .possible .now) (buffer c) 0
+
+abbrev certain-new : tie.After-known-told2 → List Float
+certain-new c = handedBack (second c) (start c .args .certain .now) (buffer c) (newCells (first c))
+
+lists : (c : tie.After-known-told2) → let a = start c .args in
     NoneDue (mergeCauses (a .lo) (a .hi) (a .possible .now) (a .certain .now) (a .outer .now) (a .inner .now) 3072)
     × MergeEffect (a .lo) (a .hi) (a .possible .now) (a .certain .now) (a .outer .now) (a .inner .now) (first c)
     (second c) (buffer c)
@@ -44,33 +54,34 @@ lists c = rw (c .before .answer2 .given .1) at (c .before .before .before .befor
 size : (c : tie.After-known-told2) → length (buffer c) ≡ 3072
 size c = c .before .before .before .before .merge .kept .1 .1 .1 .1 .1 .1 .0
 
-possible-is : (c : tie.After-possible-of) → let k = c .before .before .before in
-    now (c .possible-of .result) ≡ handedBack (first k)
-    (k .before .before .before .before .before .before .before .before .before .before .before .args .possible .now)
-    (buffer k) 0
+-- the new lists are of pairs, and their lines fit the text
+fit : (c : tie.After-known-told2) → (length (possible-new c) % 2 ≡ 0) × (length (certain-new c) % 2 ≡ 0)
+    × (18 * length (possible-new c) + 18 * length (certain-new c) + 8 ≤ 65536)
+fit c =
+    let a = start c .args in
+    even-lists (a .lo) (a .hi) (a .possible .now) (a .certain .now) (a .outer .now) (a .inner .now) (start c .pre .0)
+    (first c) (second c) (buffer c) (size c) (lists c .1)
+
+possible-is : (c : tie.After-possible-of) → now (c .possible-of .result) ≡ possible-new (c .before .before .before)
 possible-is c = c .possible-of .ensures .0
 
 certain-is : (c : tie.After-certain-of)
-    → let k = c .before .before .before .before .before .before .before .before .before in
-    now (c .certain-of .result) ≡ handedBack (second k)
-    (k .before .before .before .before .before .before .before .before .before .before .before .args .certain .now)
-    (buffer k) (newCells (first k))
+    → now (c .certain-of .result) ≡ certain-new (c .before .before .before .before .before .before .before .before .before)
 certain-is c = c .certain-of .ensures .0
 
 -- what was printed is the text of the list
-printed : (o : tie.After-put-lines) → let k = o .before .before .before .before in
-    length (linesText letterP (now (o .before .possible-of .result)))
-    ≡ length (linesText letterP (handedBack (first k)
-    (k .before .before .before .before .before .before .before .before .before .before .before .args .possible .now)
-    (buffer k) 0))
-printed o = ap (λ (l : List Float). length (linesText letterP l)) (possible-is (o .before))
+printed : (o : tie.After-put-lines) → let l = possible-new (o .before .before .before .before) in
+    length (linesText letterP (now (o .before .possible-of .result))) ≡ 18 * length l
+printed o =
+    let k = o .before .before .before .before in
+    ap (λ (l : List Float). length (linesText letterP l)) (possible-is (o .before)) ∙ lines-length letterP (possible-new k) (fit k .0)
 
-printed-2 : (d : tie.After-put-lines2) → let k = d .before .before .before .before .before .before .before .before .before .before in
-    length (linesText letterC (now (d .before .certain-of .result)))
-    ≡ length (linesText letterC (handedBack (second k)
-    (k .before .before .before .before .before .before .before .before .before .before .before .args .certain
-    .now) (buffer k) (newCells (first k))))
-printed-2 d = ap (λ (l : List Float). length (linesText letterC l)) (certain-is (d .before))
+printed-2 : (d : tie.After-put-lines2)
+    → let l = certain-new (d .before .before .before .before .before .before .before .before .before .before) in
+    length (linesText letterC (now (d .before .certain-of .result))) ≡ 18 * length l
+printed-2 d =
+    let k = d .before .before .before .before .before .before .before .before .before .before in
+    ap (λ (l : List Float). length (linesText letterC l)) (certain-is (d .before)) ∙ lines-length letterC (certain-new k) (fit k .1)
 
 put-refused-requires : tie.Need-put-refused-requires
 put-refused-requires c κs = let s =
@@ -83,60 +94,33 @@ put-refused-requires c κs = let s =
 put-lines-requires : tie.Need-put-lines-requires
 put-lines-requires c κs =
     let k = c .before .before .before in
-    let s = k .before .before .before .before .before .before .before .before .before .before .before in
-    let a = s .args in
-    let e = even-lists (a .lo) (a .hi) (a .possible .now) (a .certain .now) (a .outer .now) (a .inner .now)
-    (s .pre .0) (first k) (second k) (buffer k) (size k) (lists k .1) in
     let i = ap length (possible-is c) in
-    (rw i (e .0), omega (arith, i, e .2, s .pre .1))
+    (rw i (fit k .0), omega (arith, i, fit k .2, start k .pre .1))
 
 put-lines-requires-2 : tie.Need-put-lines-requires-2
 put-lines-requires-2 c κs =
-    let o = c .before .before .before .before .before .put-lines in
-    let k = c .before .before .before .before .before .before .before .before .before in
-    let s = k .before .before .before .before .before .before .before .before .before .before .before in
-    let a = s .args in
-    let e = even-lists (a .lo) (a .hi) (a .possible .now) (a .certain .now) (a .outer .now) (a .inner .now)
-    (s .pre .0) (first k) (second k) (buffer k) (size k) (lists k .1) in
-    let l = lines-long (a .lo) (a .hi) (a .possible .now) (a .certain .now) (a .outer .now) (a .inner .now)
-    (s .pre .0) (first k) (second k) (buffer k) (size k) (lists k .1) in
+    let o = c .before .before .before .before .before in
+    let k = o .before .before .before .before in
     let i = ap length (certain-is c) in (
-      rw i (e .1),
-      omega (
-        arith,
-        i,
-        e .2,
-        s .pre .1,
-        o .kept .0,
-        o .ensures .next,
-        printed (c .before .before .before .before .before),
-        l .0,
-      ),
+      rw i (fit k .1),
+      omega (arith, i, fit k .2, start k .pre .1, o .put-lines .kept .0, o .put-lines .ensures .next, printed o),
     )
 
 put-end-requires : tie.Need-put-end-requires
 put-end-requires c κs =
     let d = c .before .before .before in
-    let o = c .before .before .before .before .before .before .before .before .before .put-lines in
-    let k = c .before .before .before .before .before .before .before .before .before .before .before .before .before in
-    let s = k .before .before .before .before .before .before .before .before .before .before .before in
-    let a = s .args in
-    let e = even-lists (a .lo) (a .hi) (a .possible .now) (a .certain .now) (a .outer .now) (a .inner .now)
-    (s .pre .0) (first k) (second k) (buffer k) (size k) (lists k .1) in
-    let l = lines-long (a .lo) (a .hi) (a .possible .now) (a .certain .now) (a .outer .now) (a .inner .now)
-    (s .pre .0) (first k) (second k) (buffer k) (size k) (lists k .1) in
+    let o = d .before .before .before .before .before .before in
+    let k = o .before .before .before .before in
     omega (
       arith,
-      e .2,
-      s .pre .1,
-      o .kept .0,
+      fit k .2,
+      start k .pre .1,
+      o .put-lines .kept .0,
       d .put-lines2 .kept .0,
-      o .ensures .next,
-      printed (c .before .before .before .before .before .before .before .before .before),
-      l .0,
+      o .put-lines .ensures .next,
+      printed o,
       d .put-lines2 .ensures .next,
       printed-2 d,
-      l .1,
     )
 
 returns : tie.Need-returns

@@ -11,18 +11,6 @@ returns c =
     let a = c .before .before .before .before .before .args in
     refuse-checked (a .a .now) (a .b .now) (a .out .now) _ (c .before .checked .ensures) (CommonOf (a .a .now) (a .b .now)) (c .if1 .taken)
 
-intersect-into-requires : tie.Need-intersect-into-requires
-intersect-into-requires c κs =
-    let a = c .before .before .before .before .before .before .args in
-    checked-lists (a .a .now) (a .b .now) (a .out .now) _ (c .before .before .checked .ensures) (c .before .if1 .left)
-
-clear-from-requires : tie.Need-clear-from-requires
-clear-from-requires c κs =
-    let d = c .before .before .before in
-    let a = d .before .before .before .before .before .before .before .args in
-    filled-fits (a .a .now) (a .b .now) (a .out .now) _ (d .before .before .before .checked .ensures) (d .before .before .if1 .left) _ _ _
-    (d .intersect-into .ensures)
-
 returns-2 : tie.Need-returns-2
 returns-2 c =
     let d = c .before .before .before .before .before .before in
@@ -33,4 +21,10 @@ returns-2 c =
 pub intersect-spec : {M : Type 1} → statement M
 intersect-spec =
     tie.close
-    (tie.spec (λ c κs. search needs) returns intersect-into-requires clear-from-requires (λ c. search needs) returns-2)
+    (tie.spec
+    (λ c κs. search needs) returns
+    (λ c κs. let a = c .before .before .before .before .before .before .args in
+    checked-lists (a .a .now) (a .b .now) (a .out .now) _ (c .before .before .checked .ensures) (c .before .if1 .left))
+    (λ c κs. let d = c .before .before .before in let a = d .before .before .before .before .before .before .before .args in
+    filled-fits (a .a .now) (a .b .now) (a .out .now) _ (d .before .before .before .checked .ensures) (d .before .before .if1 .left) _ _ _
+    (d .intersect-into .ensures)) (λ c. search needs) returns-2)

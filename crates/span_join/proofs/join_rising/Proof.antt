@@ -14,30 +14,17 @@ Inv-loop spans out₀ n₀ k₀ out n k = JoinedFromFront spans out₀ out (reco
 abbrev μ-loop : tie.MeasureT-loop
 μ-loop spans out₀ n₀ k₀ out n k = length spans - k
 
-loop-holds : tie.Need-loop-holds Inv-loop μ-loop
-loop-holds c = begun-start _ _
-
-falls-requires : tie.Need-falls-requires Inv-loop μ-loop
-falls-requires c κs =
-    let l = c .before .before .before .before in
-    part-read _ _ _ _ _ _ (l .loop .inv) (omega (arith, l .loop .inv .passedMost, l .before .before .before .pre .1))
-
-insert-requires : tie.Need-insert-requires Inv-loop μ-loop
-insert-requires c κs =
-    let l = c .before .before .before .before .before .before .before in
-    let asked = l .before .before .before .pre in
-    part-room _ _ _ _ _ _ (l .loop .inv) (omega (arith, l .loop .inv .passedMost, l .loop .inv .passedEven, asked .0, asked .1))
-
-loop-again : tie.Need-loop-again Inv-loop μ-loop
-loop-again c =
-    let l = c .before .before .before .before .before .before .before .before .before .before in
-    begun-step _ _ _ _ _ _ _ (omega (arith, l .loop .inv .passedEven, l .before .before .before .pre .0)) (l .loop .inv)
-    (c .before .before .insert .ensures)
-
 pub join-rising-spec : {M : Type 1} → statement M
 join-rising-spec =
     tie.close
     (tie.spec
-    Inv-loop μ-loop loop-holds (λ c. search needs) (λ c. search needs) (λ c. search needs) (λ c. search needs)
-    (λ c. search needs) falls-requires insert-requires (λ c. search needs) (λ c. search needs) loop-again
+    Inv-loop μ-loop (λ c. begun-start _ _) (λ c. search needs) (λ c. search needs) (λ c. search needs) (λ c. search needs)
+    (λ c. search needs) (λ c κs. let l = c .before .before .before .before in
+    part-read (l .loop .inv) (omega (arith, l .loop .inv .passedMost, l .before .before .before .pre .1)))
+    (λ c κs. let l = c .before .before .before .before .before .before .before in let asked = l .before .before .before .pre in
+    part-room (l .loop .inv) (omega (arith, l .loop .inv .passedMost, l .loop .inv .passedEven, asked .0, asked .1)))
+    (λ c. search needs) (λ c. search needs) (λ c.
+    let l = c .before .before .before .before .before .before .before .before .before .before in
+    begun-step _ _ _ _ _ _ _ (omega (arith, l .loop .inv .passedEven, l .before .before .before .pre .0)) (l .loop .inv)
+    (c .before .before .insert .ensures))
     (λ c. search needs) (λ c. search needs) (λ c. search needs) (λ c. search needs))

@@ -21,9 +21,6 @@ unfolding start
 count g = gathered-count (start g .args .spans .now) (start g .args .out .now) (g .gather .last .1 .0)
     (start g .args .n) (g .gather .result) (front-fits g) (g .gather .ensures)
 
-gather-requires : tie.Need-gather-requires
-gather-requires c κs = search needs
-
 normalize-front-requires : tie.Need-normalize-front-requires
 unfolding start
 normalize-front-requires c κs =
@@ -31,9 +28,6 @@ normalize-front-requires c κs =
       omega (arith, retained-even (start g .args .spans .now), count g, start g .pre .1),
       omega (arith, retained-most (start g .args .spans .now), count g, g .gather .ensures .size, start g .pre .2),
     )
-
-same-length : tie.Need-same-length
-same-length c = search needs
 
 returns : tie.Need-returns
 unfolding start
@@ -45,4 +39,5 @@ returns c =
     (start g .pre .1) (front-fits g) (g .gather .ensures) (f .normalize-front .ensures)
 
 pub join-more-spec : {M : Type 1} → statement M
-join-more-spec = tie.close (tie.spec gather-requires normalize-front-requires same-length returns)
+join-more-spec =
+    tie.close (tie.spec (λ c κs. search needs) normalize-front-requires (λ c. search needs) returns)

@@ -26,15 +26,6 @@ returns-2 c =
     refuse-bad (NormalOf (s .args .spans .now)) (Short s) (Bad s) (s .args .out .now)
     (λ h. omega (arith, c .before .if1 .left)) (omega (arith, c .if2 .taken))
 
-normalize-into-requires : tie.Need-normalize-into-requires
-normalize-into-requires c κs = search needs
-
-clear-from-requires : tie.Need-clear-from-requires
-clear-from-requires c κs = search needs
-
-same-length : tie.Need-same-length
-same-length c = search needs
-
 returns-3 : tie.Need-returns-3
 returns-3 c =
     let s = c .before .before .before .before .before .before .before .before .before .before .before .before in
@@ -48,5 +39,4 @@ returns-3 c =
 
 pub normalize-spec : {M : Type 1} → statement M
 normalize-spec =
-    tie.close
-    (tie.spec returns returns-2 normalize-into-requires clear-from-requires same-length returns-3)
+    tie.close (tie.spec returns returns-2 (λ c κs. search needs) (λ c κs. search needs) (λ c. search needs) returns-3)

@@ -5,7 +5,7 @@ use mathlib.Core.Logic.{inl, inr}
 use Prim.Native.Nat.{_+_, _-_}
 use lib.ListN.{length}
 use Rattle.spans.proofs.Sets.{sound-mod}
-use Rattle.span_overlay.proofs.Common.{Sharing, share-start, share-a, share-b, share-done}
+use Rattle.span_overlay.proofs.Common.{Sharing, Turned, share-start, share-turn, share-done}
 use Rattle.span_overlay.proofs.intersect_into.Statement.{statement}
 use Rattle.span_overlay.proofs.intersect_into.Tie as tie
 
@@ -22,44 +22,26 @@ shared-slice-read-x : tie.Need-shared-slice-read-x Inv-loop μ-loop
 shared-slice-read-x c =
     let l = c .before .before .before .before .before .before in
     let s = l .before .before .before .before in
-    omega (arith, sound-mod (s .args .a .now) (s .pre .0), l .loop .inv .iWhole)
+    omega (arith, sound-mod (s .args .a .now) (s .pre .0), l .loop .inv .places .iWhole)
 
 shared-slice-read-y : tie.Need-shared-slice-read-y Inv-loop μ-loop
 shared-slice-read-y c =
     let l = c .before .before .before .before .before .before .before in
     let s = l .before .before .before .before in
-    omega (arith, sound-mod (s .args .b .now) (s .pre .1), l .loop .inv .jWhole)
+    omega (arith, sound-mod (s .args .b .now) (s .pre .1), l .loop .inv .places .jWhole)
 
-loop-again : tie.Need-loop-again Inv-loop μ-loop
-loop-again c =
-    let l = c .before .before .before .before .before .before .before .before .before .before .before .before .before in
+turn : (c : tie.After-put-pair Inv-loop μ-loop)
+    → let l = c .before .before .before .before .before .before .before .before .before .before in
+    let a = l .before .before .before .before .args in
+    Turned (a .a .now) (a .b .now) (a .out .now) (l .loop .i) (l .loop .j) (c .put-pair .result) (c .put-pair .last .0)
+turn c =
+    let compared = c .before .before .before .before .before in
+    let tested = compared .before .before .before in
+    let l = tested .before .before in
     let s = l .before .before .before .before in
-    share-a _ _ _ _ _ _ _ _ _ (s .pre .0) (s .pre .1) (l .loop .inv)
-    (c .before .before .before .before .before .before .before .before .before .before .before .before .loop-test
-    .taken) (omega (
-      arith,
-      c .before .before .before .before .before .before .before .before .before .before
-          .before .if1 .left,
-    )) (rw (
-      c .before .before .before .before .before .before .before .before .larger .ensures,
-      c .before .before .before .before .smaller .ensures,
-    ) at (c .before .before .before .put-pair .ensures))
-    (c .if2 .taken)
-
-loop-again-2 : tie.Need-loop-again-2 Inv-loop μ-loop
-loop-again-2 c =
-    let l = c .before .before .before .before .before .before .before .before .before .before .before .before .before in
-    let s = l .before .before .before .before in
-    share-b _ _ _ _ _ _ _ _ _ (s .pre .0) (s .pre .1) (l .loop .inv)
-    (c .before .before .before .before .before .before .before .before .before .before .before .before .loop-test
-    .taken) (omega (
-      arith,
-      c .before .before .before .before .before .before .before .before .before .before
-          .before .if1 .left,
-    )) (rw (
-      c .before .before .before .before .before .before .before .before .larger .ensures,
-      c .before .before .before .before .smaller .ensures,
-    ) at (c .before .before .before .put-pair .ensures)) (c .if2 .left)
+    share-turn _ _ _ _ _ _ _ _ _ (s .pre .0) (s .pre .1) (l .loop .inv) (tested .before .loop-test .taken)
+    (omega (arith, tested .if1 .left))
+    (rw (compared .larger .ensures, c .before .smaller .ensures) at (c .put-pair .ensures))
 
 returns : tie.Need-returns Inv-loop μ-loop
 returns c =
@@ -78,5 +60,6 @@ intersect-into-spec =
     Inv-loop μ-loop loop-holds (λ c. search needs) (λ c. search needs) (λ c. search needs) (λ c. search needs)
     (λ c κs. search needs) (λ c. search needs) (λ c. search needs) shared-slice-read-x (λ c. search needs)
     (λ c. search needs) shared-slice-read-y (λ c κs. search needs) (λ c κs. search needs) (λ c. search needs)
-    (λ c. search needs) loop-again (λ c. search needs) (λ c. search needs) loop-again-2 (λ c. search needs) returns
+    (λ c. search needs) (λ c. turn (c .before .before .before) .first (c .if2 .taken)) (λ c. search needs) (λ c. search needs)
+    (λ c. turn (c .before .before .before) .second (c .if2 .left)) (λ c. search needs) returns
     (λ c. search needs) returns-2)

@@ -30,7 +30,7 @@ shared-slice-read-cut-pair-2 : tie.Need-shared-slice-read-cut-pair-2 Inv-loop μ
 shared-slice-read-cut-pair-2 c =
     let l = c .before .before .before .before .before in
     let s = l .before .before .before .before in
-    omega (arith, sound-mod (s .args .a .now) (s .pre .0), l .loop .inv .iWhole)
+    omega (arith, sound-mod (s .args .a .now) (s .pre .0), l .loop .inv .places .iWhole)
 
 cut-pair-requires : tie.Need-cut-pair-requires Inv-loop μ-loop
 cut-pair-requires c κs =

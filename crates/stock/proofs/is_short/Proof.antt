@@ -15,12 +15,6 @@ returns-2 c = let a = c .before .before .before .before .before in
     let s = cells (a .args .spans .now) (a .args .links .now) (a .args .heads .now) in
     short-links (a .args .spec) (a .args .g) s (c .if2 .taken)
 
-total-rays-requires : tie.Need-total-rays-requires
-total-rays-requires c κs = search needs
-
-mul-result : tie.Need-mul-result
-mul-result c = search needs
-
 returns-3 : tie.Need-returns-3
 returns-3 c = let a = c .before .before .before .before .before .before in
     let s = cells (a .args .spans .now) (a .args .links .now) (a .args .heads .now) in
@@ -28,4 +22,5 @@ returns-3 c = let a = c .before .before .before .before .before .before in
     (omega (arith, c .before .if2 .left)) (c .total-rays .result) (c .total-rays .ensures)
 
 pub is-short-spec : {M : Type 1} → statement M
-is-short-spec = tie.close (tie.spec returns returns-2 total-rays-requires mul-result returns-3)
+is-short-spec =
+    tie.close (tie.spec returns returns-2 (λ c κs. search needs) (λ c. search needs) returns-3)

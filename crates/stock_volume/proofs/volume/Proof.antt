@@ -6,17 +6,8 @@ use Rattle.stock_volume.proofs.volume.Statement.{statement}
 use Rattle.store.specs.Store.{cells}
 use Rattle.stock_volume.proofs.volume.Tie as tie
 
-grid-requires : tie.Need-grid-requires
-grid-requires c κs = search needs
-
-enum-known-g : tie.Need-enum-known-g
-enum-known-g c = search needs
-
 measure-requires : tie.Need-measure-requires
 measure-requires c κs = grid-facts _ _ _ (sym (c .before .before .before .grid .ensures .is) ∙ c .before .g .given .1)
-
-enum-known-k : tie.Need-enum-known-k
-enum-known-k c = search needs
 
 returns : tie.Need-returns
 returns c = let a = c .before .before .before .before .before .before .before .before .before in
@@ -32,4 +23,6 @@ returns-2 c = let a = c .before .before .before .before .before .before .before 
 
 pub volume-spec : {M : Type 1} → statement M
 volume-spec =
-    tie.close (tie.spec grid-requires enum-known-g measure-requires enum-known-k returns returns-2)
+    tie.close
+    (tie.spec
+    (λ c κs. search needs) (λ c. search needs) measure-requires (λ c. search needs) returns returns-2)

@@ -21,18 +21,6 @@ loop-holds : tie.Need-loop-holds Inv-loop μ-loop
 unfolding countTo
 loop-holds c = (omega arith, omega arith, refl)
 
-used-requires : tie.Need-used-requires Inv-loop μ-loop
-used-requires c κs = search needs
-
-add-c : tie.Need-add-c Inv-loop μ-loop
-add-c c = search needs
-
-add-i : tie.Need-add-i Inv-loop μ-loop
-add-i c = search needs
-
-loop-less : tie.Need-loop-less Inv-loop μ-loop
-loop-less c = search needs
-
 loop-again : tie.Need-loop-again Inv-loop μ-loop
 loop-again c = ⊎-elim
     (λ w. (
@@ -56,4 +44,6 @@ returns c = let e : c .before .loop .i ≡ c .before .before .before .before .ar
 pub count-used-spec : {M : Type 1} → statement M
 count-used-spec =
     tie.close
-    (tie.spec Inv-loop μ-loop loop-holds used-requires add-c add-i loop-less loop-again returns)
+    (tie.spec
+    Inv-loop μ-loop loop-holds (λ c κs. search needs) (λ c. search needs) (λ c. search needs) (λ c. search needs)
+    loop-again returns)

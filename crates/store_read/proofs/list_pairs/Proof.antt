@@ -4,9 +4,9 @@ use mathlib.Core.Path.{_≡_, ap}
 use native.Mathlib.Omega.{arith}
 use lib.ListN.{length}
 use Rattle.store.specs.Store.{places}
-use Rattle.store.proofs.Chains.{places-within, places-zero}
+use Rattle.store.proofs.Chains.{less-step, places-within, places-zero}
 use Rattle.store_read.specs.Reading.{Linked}
-use Rattle.store_read.proofs.Steps.{link-step}
+use Rattle.store_read.proofs.Steps.{link-step, link-next}
 use Rattle.store_read.proofs.list_pairs.Statement.{statement}
 use Rattle.store_read.proofs.list_pairs.Tie as tie
 
@@ -35,18 +35,18 @@ add-c : tie.Need-add-c Inv-loop μ-loop
 add-c c = omega (
   arith,
   c .before .before .loop .inv .1,
-  link-step (c .before .before .loop .inv .0) (c .before .loop-test .taken) .less,
+  less-step _ _ _ _ (c .before .before .loop .inv .0 .chain) (c .before .loop-test .taken),
   places-within (c .before .before .before .args .links .now) (c .before .before .before .args .n)
       (c .before .before .before .args .head),
   c .before .before .loop .inv .0 .in-links,
 )
 
 loop-less : tie.Need-loop-less Inv-loop μ-loop
-loop-less c = link-step (c .before .before .loop .inv .0) (c .before .loop-test .taken) .less
+loop-less c = less-step _ _ _ _ (c .before .before .loop .inv .0 .chain) (c .before .loop-test .taken)
 
 loop-again : tie.Need-loop-again Inv-loop μ-loop
-loop-again c = let s = link-step (c .before .before .loop .inv .0) (c .before .loop-test .taken) in
-    (s .next, omega (arith, c .before .before .loop .inv .1, ap length (s .more)))
+loop-again c = let inv = c .before .before .loop .inv in let more = c .before .loop-test .taken in
+    (link-next (inv .0) more, omega (arith, inv .1, ap length (link-step (inv .0) more .read)))
 
 returns : tie.Need-returns Inv-loop μ-loop
 returns c = omega (

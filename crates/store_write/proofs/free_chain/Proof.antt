@@ -3,7 +3,7 @@ use native.Mathlib.Omega.{arith}
 use borrow.Author.Needs.{needs}
 use lib.ListN.{length, length-set}
 use Rattle.store.specs.Store.{RecordChain, places, freedSpans, freedLinks}
-use Rattle.store.proofs.Chains.{Step, chain-step}
+use Rattle.store.proofs.Chains.{ChainStep, chain-step}
 use Rattle.store.proofs.Freeing.{Turn, turn, freed-end}
 use Rattle.store_write.proofs.free_chain.Statement.{statement}
 use Rattle.store_write.proofs.free_chain.Tie as tie
@@ -21,7 +21,7 @@ abbrev μ-loop : tie.MeasureT-loop
 
 -- the record that the loop comes to
 here : (c : lts.In-loop reads.Pre reads.Post Inv-loop μ-loop)
-    → Step (c .before .loop .links) (c .before .before .args .n) (c .before .before .args .owner) (c .before .loop .k)
+    → ChainStep (c .before .loop .links) (c .before .before .args .n) (c .before .before .args .owner) (c .before .loop .k)
 here c = chain-step _ _ _ _ (c .before .loop .inv .2) (c .loop-test .taken)
 
 freeing : (c : lts.In-loop reads.Pre reads.Post Inv-loop μ-loop)

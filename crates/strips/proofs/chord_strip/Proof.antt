@@ -3,9 +3,6 @@ use borrow.Author.Needs.{needs}
 use Rattle.strips.proofs.chord_strip.Statement.{statement}
 use Rattle.strips.proofs.chord_strip.Tie as tie
 
-half-chord-requires : tie.Need-half-chord-requires
-half-chord-requires c κs = search needs
-
 returns : tie.Need-returns
 unfolding chordStrip
 returns c = simp (← c .half-chord .ensures, c .before .if1 .taken)
@@ -15,4 +12,5 @@ unfolding chordStrip
 returns-2 c = simp (c .if1 .left)
 
 pub chord-strip-spec : {M : Type 1} → statement M
-chord-strip-spec = tie.close (tie.spec half-chord-requires returns returns-2)
+chord-strip-spec =
+    tie.close (tie.spec (λ c κs. search needs) returns returns-2)

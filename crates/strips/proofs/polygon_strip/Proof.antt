@@ -3,15 +3,6 @@ use borrow.Author.Needs.{needs}
 use Rattle.strips.proofs.polygon_strip.Statement.{statement}
 use Rattle.strips.proofs.polygon_strip.Tie as tie
 
-clip4-requires : tie.Need-clip4-requires
-clip4-requires c κs = search needs
-
-no-extent-requires : tie.Need-no-extent-requires
-no-extent-requires c κs = search needs
-
-widen-clip-requires : tie.Need-widen-clip-requires
-widen-clip-requires c κs = search needs
-
 returns : tie.Need-returns
 unfolding polygonStrip extentStrip
 returns c = simp (
@@ -32,4 +23,4 @@ returns-2 c = simp (
 
 pub polygon-strip-spec : {M : Type 1} → statement M
 polygon-strip-spec =
-    tie.close (tie.spec clip4-requires no-extent-requires widen-clip-requires returns returns-2)
+    tie.close (tie.spec (λ c κs. search needs) (λ c κs. search needs) (λ c κs. search needs) returns returns-2)

@@ -10,15 +10,6 @@ use Rattle.strips.proofs.PolygonLaws.{length-field}
 use Rattle.strips.proofs.push.Statement.{statement}
 use Rattle.strips.proofs.push.Tie as tie
 
-mul-p : tie.Need-mul-p
-mul-p c = search needs
-
-element-set-from-p : tie.Need-element-set-from-p
-element-set-from-p c = search needs
-
-add-r : tie.Need-add-r
-add-r c = search needs
-
 returns : tie.Need-returns
 returns c =
     let l : length (c .args .ps .at) ≡ 8 = search (length-field, needs) in
@@ -26,4 +17,5 @@ returns c =
     (rw (add-one, take-suc-set), refl)
 
 pub push-spec : {M : Type 1} → statement M
-push-spec = tie.close (tie.spec mul-p element-set-from-p add-r returns)
+push-spec =
+    tie.close (tie.spec (λ c. search needs) (λ c. search needs) (λ c. search needs) returns)

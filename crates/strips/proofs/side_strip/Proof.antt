@@ -3,9 +3,6 @@ use borrow.Author.Needs.{needs}
 use Rattle.strips.proofs.side_strip.Statement.{statement}
 use Rattle.strips.proofs.side_strip.Tie as tie
 
-polygon-strip-requires : tie.Need-polygon-strip-requires
-polygon-strip-requires c κs = search needs
-
 returns : tie.Need-returns
 unfolding sideStrip
 returns c = simp (
@@ -18,4 +15,5 @@ unfolding sideStrip
 returns-2 c = simp (c .if1 .left)
 
 pub side-strip-spec : {M : Type 1} → statement M
-side-strip-spec = tie.close (tie.spec polygon-strip-requires returns returns-2)
+side-strip-spec =
+    tie.close (tie.spec (λ c κs. search needs) returns returns-2)

@@ -3,15 +3,10 @@ use borrow.Author.Needs.{needs}
 use Rattle.strips.proofs.widened.Statement.{statement}
 use Rattle.strips.proofs.widened.Tie as tie
 
-smaller-requires : tie.Need-smaller-requires
-smaller-requires c κs = search needs
-
-larger-requires : tie.Need-larger-requires
-larger-requires c κs = search needs
-
 returns : tie.Need-returns
 unfolding widen
 returns c = simp (← c .larger .ensures, ← c .before .smaller .ensures)
 
 pub widened-spec : {M : Type 1} → statement M
-widened-spec = tie.close (tie.spec smaller-requires larger-requires returns)
+widened-spec =
+    tie.close (tie.spec (λ c κs. search needs) (λ c κs. search needs) returns)

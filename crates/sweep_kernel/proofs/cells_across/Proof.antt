@@ -3,18 +3,6 @@ use borrow.Author.Needs.{needs}
 use Rattle.sweep_kernel.proofs.cells_across.Statement.{statement}
 use Rattle.sweep_kernel.proofs.cells_across.Tie as tie
 
-local-axis-requires : tie.Need-local-axis-requires
-local-axis-requires c κs = search needs
-
-span-over-requires : tie.Need-span-over-requires
-span-over-requires c κs = search needs
-
-world-requires : tie.Need-world-requires
-world-requires c κs = search needs
-
-cells-met-requires : tie.Need-cells-met-requires
-cells-met-requires c κs = search needs
-
 returns : tie.Need-returns
 unfolding cellsAcross
 returns c = simp (
@@ -27,4 +15,5 @@ returns c = simp (
 pub cells-across-spec : {M : Type 1} → statement M
 cells-across-spec =
     tie.close
-    (tie.spec local-axis-requires span-over-requires world-requires cells-met-requires returns)
+    (tie.spec
+    (λ c κs. search needs) (λ c κs. search needs) (λ c κs. search needs) (λ c κs. search needs) returns)

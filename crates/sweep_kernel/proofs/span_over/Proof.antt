@@ -8,15 +8,10 @@ returns : tie.Need-returns
 unfolding spanOver
 returns c = simp (eq-eqb _ _ (c .before .before .before .before .if1 .taken))
 
-smaller-requires : tie.Need-smaller-requires
-smaller-requires c κs = search needs
-
-larger-requires : tie.Need-larger-requires
-larger-requires c κs = search needs
-
 returns-2 : tie.Need-returns-2
 unfolding spanOver
 returns-2 c = simp (← c .larger .ensures, ← c .before .smaller .ensures, ne-eqb _ _ (c .before .before .before .before .if1 .left))
 
 pub span-over-spec : {M : Type 1} → statement M
-span-over-spec = tie.close (tie.spec returns smaller-requires larger-requires returns-2)
+span-over-spec =
+    tie.close (tie.spec returns (λ c κs. search needs) (λ c κs. search needs) returns-2)

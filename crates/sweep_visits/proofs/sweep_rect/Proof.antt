@@ -14,9 +14,6 @@ Inv-loop n t r p l budget spans links heads log₀ c₀ v₀ log c v =
 abbrev μ-loop : tie.MeasureT-loop
 μ-loop n t r p l budget spans links heads log₀ c₀ v₀ log c v = r .v1 + 1 - v
 
-loop-holds : tie.Need-loop-holds Inv-loop μ-loop
-loop-holds c = sweeping-start _ _ _ (c .before .before .before .before .pre .3)
-
 sweep-row-requires : tie.Need-sweep-row-requires Inv-loop μ-loop
 sweep-row-requires c κs = (
   c .before .before .before .before .before .before .before .before .pre .0,
@@ -26,33 +23,28 @@ sweep-row-requires c κs = (
 )
 
 same-length : tie.Need-same-length Inv-loop μ-loop
-same-length c = halted-of _ _ (c .before .x .given .1) (c .before .before .before .before .before .sweep-row .ensures)
-    .same ∙ c .before .before .before .before .before .before .before .before .before .loop .inv .went .same
+same-length c = let visited = c .before .before .before .before .before in
+    halted-of _ _ (c .before .x .given .1) (visited .sweep-row .ensures) .same
+    ∙ visited .before .before .before .before .loop .inv .went .same
 
 returns : tie.Need-returns Inv-loop μ-loop
 unfolding rectEntries
-returns c = sweeping-halt _ _ _ _
-    (c .before .before .before .before .before .before .before .before .before .loop .inv)
-    (omega (arith, c .before .before .before .before .before .before .before .if1 .taken))
-    (halted-of _ _ (c .before .x .given .1) (c .before .before .before .before .before .sweep-row .ensures))
+returns c =
+    let visited = c .before .before .before .before .before in
+    sweeping-halt _ _ _ _ (visited .before .before .before .before .loop .inv) (omega (arith, visited .before .before .if1 .taken))
+    (halted-of _ _ (c .before .x .given .1) (visited .sweep-row .ensures))
 
 add-v : tie.Need-add-v Inv-loop μ-loop
-add-v c = let h = c .before .before .before .before .before .before .before .if1 .taken in
-    let k = c .before .before .before .before .before .before .before .before .before .before .before .before .before
-    .before .pre .2 in let w = c .before .before .before .before .before .before .before .before .before .before
-    .before .before .before .before .pre .0 .tall in search needs
-
-loop-less : tie.Need-loop-less Inv-loop μ-loop
-loop-less c = omega (arith, c .before .before .before .before .before .before .before .if1 .taken)
+add-v c =
+    let tested = c .before .before .before .before .before .before .before in
+    let asked = tested .before .before .before .before .before .before .before .pre in
+    let h = tested .if1 .taken in let k = asked .2 in let w = asked .0 .tall in search needs
 
 loop-again : tie.Need-loop-again Inv-loop μ-loop
-loop-again c = sweeping-next _ _ _ _
-    (c .before .before .before .before .before .before .before .before .before .loop .inv)
-    (omega (arith, c .before .before .before .before .before .before .before .if1 .taken))
-    (went-of _ _ (c .before .x2 .given .1) (c .before .before .before .before .before .sweep-row .ensures))
-
-same-length-2 : tie.Need-same-length-2 Inv-loop μ-loop
-same-length-2 c = c .before .before .loop .inv .went .same
+loop-again c =
+    let visited = c .before .before .before .before .before in
+    sweeping-next _ _ _ _ (visited .before .before .before .before .loop .inv) (omega (arith, visited .before .before .if1 .taken))
+    (went-of _ _ (c .before .x2 .given .1) (visited .sweep-row .ensures))
 
 returns-2 : tie.Need-returns-2 Inv-loop μ-loop
 unfolding rectEntries
@@ -62,5 +54,7 @@ pub sweep-rect-spec : {M : Type 1} → statement M
 sweep-rect-spec =
     tie.close
     (tie.spec
-    Inv-loop μ-loop loop-holds sweep-row-requires (λ c. search needs) same-length returns (λ c. search needs) add-v
-    loop-less loop-again same-length-2 returns-2)
+    Inv-loop μ-loop (λ c. sweeping-start _ _ _ (c .before .before .before .before .pre .3)) sweep-row-requires (λ c. search needs)
+    same-length returns (λ c. search needs) add-v
+    (λ c. omega (arith, c .before .before .before .before .before .before .before .if1 .taken)) loop-again
+    (λ c. c .before .before .loop .inv .went .same) returns-2)

@@ -16,9 +16,6 @@ Inv-loop n t r v p l budget spans links heads log₀ c₀ u₀ log c u =
 abbrev μ-loop : tie.MeasureT-loop
 μ-loop n t r v p l budget spans links heads log₀ c₀ u₀ log c u = r .u1 + 1 - u
 
-loop-holds : tie.Need-loop-holds Inv-loop μ-loop
-loop-holds c = sweeping-start _ _ _ (c .before .before .before .before .pre .3)
-
 visit-ray-requires : tie.Need-visit-ray-requires Inv-loop μ-loop
 visit-ray-requires c κs = (
   ray-ready (c .before .before .before .before .before .before .before .before .pre .0) _ _
@@ -28,33 +25,28 @@ visit-ray-requires c κs = (
 )
 
 same-length : tie.Need-same-length Inv-loop μ-loop
-same-length c = halted-of _ _ (c .before .x .given .1) (c .before .before .before .before .before .visit-ray .ensures)
-    .same ∙ c .before .before .before .before .before .before .before .before .before .loop .inv .went .same
+same-length c = let visited = c .before .before .before .before .before in
+    halted-of _ _ (c .before .x .given .1) (visited .visit-ray .ensures) .same
+    ∙ visited .before .before .before .before .loop .inv .went .same
 
 returns : tie.Need-returns Inv-loop μ-loop
 unfolding rowEntries
-returns c = sweeping-halt _ _ _ _
-    (c .before .before .before .before .before .before .before .before .before .loop .inv)
-    (omega (arith, c .before .before .before .before .before .before .before .if1 .taken))
-    (halted-of _ _ (c .before .x .given .1) (c .before .before .before .before .before .visit-ray .ensures))
+returns c =
+    let visited = c .before .before .before .before .before in
+    sweeping-halt _ _ _ _ (visited .before .before .before .before .loop .inv) (omega (arith, visited .before .before .if1 .taken))
+    (halted-of _ _ (c .before .x .given .1) (visited .visit-ray .ensures))
 
 add-u : tie.Need-add-u Inv-loop μ-loop
-add-u c = let h = c .before .before .before .before .before .before .before .if1 .taken in
-    let k = c .before .before .before .before .before .before .before .before .before .before .before .before .before
-    .before .pre .1 in let w = c .before .before .before .before .before .before .before .before .before .before
-    .before .before .before .before .pre .0 .wide in search needs
-
-loop-less : tie.Need-loop-less Inv-loop μ-loop
-loop-less c = omega (arith, c .before .before .before .before .before .before .before .if1 .taken)
+add-u c =
+    let tested = c .before .before .before .before .before .before .before in
+    let asked = tested .before .before .before .before .before .before .before .pre in
+    let h = tested .if1 .taken in let k = asked .1 in let w = asked .0 .wide in search needs
 
 loop-again : tie.Need-loop-again Inv-loop μ-loop
-loop-again c = sweeping-next _ _ _ _
-    (c .before .before .before .before .before .before .before .before .before .loop .inv)
-    (omega (arith, c .before .before .before .before .before .before .before .if1 .taken))
-    (went-of _ _ (c .before .x2 .given .1) (c .before .before .before .before .before .visit-ray .ensures))
-
-same-length-2 : tie.Need-same-length-2 Inv-loop μ-loop
-same-length-2 c = c .before .before .loop .inv .went .same
+loop-again c =
+    let visited = c .before .before .before .before .before in
+    sweeping-next _ _ _ _ (visited .before .before .before .before .loop .inv) (omega (arith, visited .before .before .if1 .taken))
+    (went-of _ _ (c .before .x2 .given .1) (visited .visit-ray .ensures))
 
 returns-2 : tie.Need-returns-2 Inv-loop μ-loop
 unfolding rowEntries
@@ -64,5 +56,7 @@ pub sweep-row-spec : {M : Type 1} → statement M
 sweep-row-spec =
     tie.close
     (tie.spec
-    Inv-loop μ-loop loop-holds visit-ray-requires (λ c. search needs) same-length returns (λ c. search needs) add-u
-    loop-less loop-again same-length-2 returns-2)
+    Inv-loop μ-loop (λ c. sweeping-start _ _ _ (c .before .before .before .before .pre .3)) visit-ray-requires (λ c. search needs)
+    same-length returns (λ c. search needs) add-u
+    (λ c. omega (arith, c .before .before .before .before .before .before .before .if1 .taken)) loop-again
+    (λ c. c .before .before .loop .inv .went .same) returns-2)

@@ -1,5 +1,5 @@
 use borrow.Author.Needs.{needs}
-use Rattle.sweep_walk.proofs.Tracks.{first-0, first-more}
+use Rattle.sweep_walk.proofs.AxisRays.{first-0, first-more}
 use Rattle.sweep_walk.proofs.first_axis.Statement.{statement}
 use Rattle.sweep_walk.proofs.first_axis.Tie as tie
 

@@ -1,5 +1,5 @@
 use borrow.Author.Needs.{needs}
-use Rattle.sweep_walk.proofs.Tracks.{second-0, second-1, second-more}
+use Rattle.sweep_walk.proofs.AxisRays.{second-0, second-1, second-more}
 use Rattle.sweep_walk.proofs.second_axis.Statement.{statement}
 use Rattle.sweep_walk.proofs.second_axis.Tie as tie
 

@@ -1,11 +1,16 @@
 use borrow.Author.Needs.{needs}
 use mathlib.Core.Path.{_∙_}
-use Rattle.sweep_model.specs.SweepEntries.{setting}
+use Rattle.sweep_model.specs.SweepEntries.{Setting, setting}
 use Rattle.sweep_visits.proofs.Walks.{halted-of, went-of}
 use Rattle.sweep_walk.proofs.Chords.{first-halts, both-walked, logged-same}
 use Rattle.sweep_walk.proofs.sweep_chord.Statement.{statement}
 use Rattle.store.specs.Store.{cells}
 use Rattle.sweep_walk.proofs.sweep_chord.Tie as tie
+
+-- the setting of a call
+abbrev here : tie.Start → Setting
+here a = setting (a .args .spec) (a .args .g) (a .args .k) (a .args .p)
+    (cells (a .args .spans .now) (a .args .links .now) (a .args .heads .now))
 
 sweep-axis-requires : tie.Need-sweep-axis-requires
 sweep-axis-requires c κs = c .before .before .before .before .before .before .before .pre
@@ -16,8 +21,7 @@ same-length c = halted-of _ _ (c .before .x .given .1) (c .before .before .befor
 returns : tie.Need-returns
 returns c =
     let a = c .before .before .before .before .before .before .before .before .before .before .before .before .before in
-    let s = setting (a .args .spec) (a .args .g) (a .args .k) (a .args .p)
-    (cells (a .args .spans .now) (a .args .links .now) (a .args .heads .now)) in
+    let s = here a in
     first-halts s (a .args .chord)
     (c .before .before .before .before .before .before .before .before .first-axis .result)
     (c .before .before .before .before .before .before .before .before .first-axis .ensures)
@@ -41,8 +45,7 @@ returns-2 : tie.Need-returns-2
 returns-2 c =
     let a = c .before .before .before .before .before .before .before .before .before .before .before .before .before
     .before .before .before .before in
-    let s = setting (a .args .spec) (a .args .g) (a .args .k) (a .args .p)
-    (cells (a .args .spans .now) (a .args .links .now) (a .args .heads .now)) in
+    let s = here a in
     both-walked s (a .args .chord) _ (c .before .before .sweep-axis2 .result)
     (c .before .before .before .before .before .before .before .before .before .before .before .before .first-axis
     .result) (c .before .before .before .before .before .before .before .before .before .before .before

@@ -4,16 +4,11 @@ use borrow.Author.Needs.{needs}
 use Rattle.tridexel.proofs.tridexel_contains.Statement.{statement}
 use Rattle.tridexel.proofs.tridexel_contains.Tie as tie
 
-contains-requires : tie.Need-contains-requires
-contains-requires c κs = search needs
-
-hand-bool-requires : tie.Need-hand-bool-requires
-hand-bool-requires c κs = search needs
-
 returns : tie.Need-returns
 returns c =
     answered _ _ _ (c .before .before .contains .result) _ _ _ (λ k p. compare-above _ _ k p)
     (c .before .before .contains .ensures) (c .hand-bool .ensures)
 
 pub tridexel-contains-spec : {M : Type 1} → statement M
-tridexel-contains-spec = tie.close (tie.spec contains-requires hand-bool-requires returns)
+tridexel-contains-spec =
+    tie.close (tie.spec (λ c κs. search needs) (λ c κs. search needs) returns)

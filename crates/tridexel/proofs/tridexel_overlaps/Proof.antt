@@ -4,16 +4,11 @@ use borrow.Author.Needs.{needs}
 use Rattle.tridexel.proofs.tridexel_overlaps.Statement.{statement}
 use Rattle.tridexel.proofs.tridexel_overlaps.Tie as tie
 
-overlaps-requires : tie.Need-overlaps-requires
-overlaps-requires c κs = search needs
-
-hand-bool-requires : tie.Need-hand-bool-requires
-hand-bool-requires c κs = search needs
-
 returns : tie.Need-returns
 returns c =
     answered _ _ _ (c .before .before .overlaps .result) _ _ _ (λ k p. compare-above _ _ k p)
     (c .before .before .overlaps .ensures) (c .hand-bool .ensures)
 
 pub tridexel-overlaps-spec : {M : Type 1} → statement M
-tridexel-overlaps-spec = tie.close (tie.spec overlaps-requires hand-bool-requires returns)
+tridexel-overlaps-spec =
+    tie.close (tie.spec (λ c κs. search needs) (λ c κs. search needs) returns)

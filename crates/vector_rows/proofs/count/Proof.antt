@@ -1,5 +1,5 @@
 -- `vector_rows::count` meets its contract.
-use Rattle.vector_rows.specs.Tallies.{counted}
+use Rattle.vector_rows.specs.RowCounts.{counted}
 use borrow.Author.Tests.{le-ltb, lt-ltb}
 use borrow.Author.Needs.{needs}
 use Rattle.vector_rows.proofs.count.Statement.{statement}

@@ -1,5 +1,5 @@
 -- `vector_rows::first_of` meets its contract.
-use Rattle.vector_rows.specs.Tallies.{firstDiffering}
+use Rattle.vector_rows.specs.RowCounts.{firstDiffering}
 use borrow.Author.Tests.{eq-eqb, ne-eqb}
 use Rattle.vector_rows.proofs.first_of.Statement.{statement}
 use Rattle.vector_rows.proofs.first_of.Tie as tie

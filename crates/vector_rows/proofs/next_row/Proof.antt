@@ -7,4 +7,4 @@ pub next-row-spec : {M : Type 1} → statement M
 next-row-spec =
     tie.close (tie.spec (λ c κs. search needs) (λ c κs. search needs) (λ c κs. search needs) (λ c. search needs)
     (λ c. let counted = c .before .before .before .before in
-    rw (← counted .before .told .ensures, ← counted .count .ensures) (c .before .before .read-on .ensures)))
+    rw (← counted .before .row-outcome .ensures, ← counted .count .ensures) (c .before .before .read-on .ensures)))

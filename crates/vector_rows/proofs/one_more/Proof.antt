@@ -1,5 +1,5 @@
 -- `vector_rows::one_more` meets its contract.
-use Rattle.vector_rows.specs.Tallies.{up}
+use Rattle.vector_rows.specs.RowCounts.{up}
 use borrow.Author.Tests.{eq-eqb, ne-eqb}
 use borrow.Author.Needs.{needs}
 use Rattle.vector_rows.proofs.one_more.Statement.{statement}

@@ -1,5 +1,5 @@
 -- `vector_rows::start` meets its contract.
-use Rattle.vector_rows.specs.Tallies.{none}
+use Rattle.vector_rows.specs.RowCounts.{none}
 use mathlib.Core.Path.{refl}
 use Rattle.vector_rows.proofs.start.Statement.{statement}
 use Rattle.vector_rows.proofs.start.Tie as tie

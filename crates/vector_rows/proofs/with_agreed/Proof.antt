@@ -1,5 +1,5 @@
 -- `vector_rows::with_agreed` meets its contract.
-use Rattle.vector_rows.specs.Tallies.{agreed, upAt}
+use Rattle.vector_rows.specs.RowCounts.{agreed, upAt}
 use borrow.Author.Needs.{needs}
 use Rattle.vector_rows.proofs.with_agreed.Statement.{statement}
 use Rattle.vector_rows.proofs.with_agreed.Tie as tie

@@ -1,5 +1,5 @@
 -- `vector_rows::with_differed` meets its contract.
-use Rattle.vector_rows.specs.Tallies.{differed, upAt}
+use Rattle.vector_rows.specs.RowCounts.{differed, upAt}
 use borrow.Author.Needs.{needs}
 use Rattle.vector_rows.proofs.with_differed.Statement.{statement}
 use Rattle.vector_rows.proofs.with_differed.Tie as tie

@@ -1,5 +1,5 @@
 -- `vector_rows::with_missed` meets its contract.
-use Rattle.vector_rows.specs.Tallies.{missed}
+use Rattle.vector_rows.specs.RowCounts.{missed}
 use borrow.Author.Needs.{needs}
 use Rattle.vector_rows.proofs.with_missed.Statement.{statement}
 use Rattle.vector_rows.proofs.with_missed.Tie as tie

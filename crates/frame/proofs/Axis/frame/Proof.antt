@@ -5,38 +5,26 @@ use Rattle.frame.proofs.Axis.frame.Tie as tie
 use Rattle.frame.proofs.Axis.frame.Reads as reads
 use Rattle.frame.proofs.Axis.frame.Lts as lts
 
--- src/lib.rt:44:24
--- src/lib.rt:48:24
--- src/lib.rt:52:24
--- src/lib.rt:56:24
--- src/lib.rt:60:24
--- src/lib.rt:64:24
--- src/lib.rt:39:5
 returns : tie.Need-returns
 unfolding frameOf
 returns c = rw (c .enum-told .given .1)
 
--- src/lib.rt:39:5
 returns-2 : tie.Need-returns-2
 unfolding frameOf
 returns-2 c = rw (c .enum-told2 .given .1)
 
--- src/lib.rt:39:5
 returns-3 : tie.Need-returns-3
 unfolding frameOf
 returns-3 c = rw (c .enum-told3 .given .1)
 
--- src/lib.rt:39:5
 returns-4 : tie.Need-returns-4
 unfolding frameOf
 returns-4 c = rw (c .enum-told4 .given .1)
 
--- src/lib.rt:39:5
 returns-5 : tie.Need-returns-5
 unfolding frameOf
 returns-5 c = rw (c .enum-told5 .given .1)
 
--- src/lib.rt:39:5
 returns-6 : tie.Need-returns-6
 unfolding frameOf
 returns-6 c = rw (c .enum-told6 .given .1)

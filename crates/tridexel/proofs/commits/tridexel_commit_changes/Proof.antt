@@ -5,21 +5,6 @@ use Rattle.tridexel.proofs.commits.tridexel_commit_changes.Statement.{s
 use Rattle.stock.specs.Stock.{stock}
 use Rattle.tridexel.proofs.commits.tridexel_commit_changes.Tie as tie
 
-commit-changes-on-requires : tie.Need-commit-changes-on-requires
-commit-changes-on-requires c κs = search needs
-
-hand-commit-requires : tie.Need-hand-commit-requires
-hand-commit-requires c κs = search needs
-
-same-length : tie.Need-same-length
-same-length c = search needs
-
-same-length-2 : tie.Need-same-length-2
-same-length-2 c = search needs
-
-same-length-3 : tie.Need-same-length-3
-same-length-3 c = search needs
-
 returns : tie.Need-returns
 returns c =
     let a = c .before .before .before .before .before .before .before .before .before .before .before .before .before
@@ -33,4 +18,7 @@ returns c =
 
 pub tridexel-commit-changes-spec : {M : Type 1} → statement M
 tridexel-commit-changes-spec =
-    tie.close (tie.spec commit-changes-on-requires hand-commit-requires same-length same-length-2 same-length-3 returns)
+    tie.close
+    (tie.spec
+    (λ c κs. search needs) (λ c κs. search needs) (λ c. search needs) (λ c. search needs) (λ c. search needs)
+    returns)

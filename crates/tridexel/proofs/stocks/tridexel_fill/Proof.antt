@@ -4,21 +4,6 @@ use borrow.Author.Needs.{needs}
 use Rattle.tridexel.proofs.stocks.tridexel_fill.Statement.{statement}
 use Rattle.tridexel.proofs.stocks.tridexel_fill.Tie as tie
 
-fill-requires : tie.Need-fill-requires
-fill-requires c κs = search needs
-
-hand-fill-requires : tie.Need-hand-fill-requires
-hand-fill-requires c κs = search needs
-
-same-length : tie.Need-same-length
-same-length c = search needs
-
-same-length-2 : tie.Need-same-length-2
-same-length-2 c = search needs
-
-same-length-3 : tie.Need-same-length-3
-same-length-3 c = search needs
-
 returns : tie.Need-returns
 returns c =
     answered _ _ _ (c .before .before .before .before .before .before .before .before .before .fill .result) _ _ _
@@ -28,4 +13,6 @@ returns c =
 pub tridexel-fill-spec : {M : Type 1} → statement M
 tridexel-fill-spec =
     tie.close
-    (tie.spec fill-requires hand-fill-requires same-length same-length-2 same-length-3 returns)
+    (tie.spec
+    (λ c κs. search needs) (λ c κs. search needs) (λ c. search needs) (λ c. search needs) (λ c. search needs)
+    returns)

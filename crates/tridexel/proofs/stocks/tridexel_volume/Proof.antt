@@ -4,16 +4,11 @@ use borrow.Author.Needs.{needs}
 use Rattle.tridexel.proofs.stocks.tridexel_volume.Statement.{statement}
 use Rattle.tridexel.proofs.stocks.tridexel_volume.Tie as tie
 
-volume-requires : tie.Need-volume-requires
-volume-requires c κs = search needs
-
-hand-volume-requires : tie.Need-hand-volume-requires
-hand-volume-requires c κs = search needs
-
 returns : tie.Need-returns
 returns c =
     answered _ _ _ (c .before .before .volume .result) _ _ _ (λ k p. volume-above _ _ _ _ k p)
     (c .before .before .volume .ensures) (c .hand-volume .ensures)
 
 pub tridexel-volume-spec : {M : Type 1} → statement M
-tridexel-volume-spec = tie.close (tie.spec volume-requires hand-volume-requires returns)
+tridexel-volume-spec =
+    tie.close (tie.spec (λ c κs. search needs) (λ c κs. search needs) returns)

@@ -5,21 +5,6 @@ use Rattle.tridexel.proofs.sweeps.tridexel_sweep.Statement.{statement}
 use Rattle.store.specs.Store.{cells}
 use Rattle.tridexel.proofs.sweeps.tridexel_sweep.Tie as tie
 
-axis-of-requires : tie.Need-axis-of-requires
-axis-of-requires c κs = search needs
-
-shape-of-requires : tie.Need-shape-of-requires
-shape-of-requires c κs = search needs
-
-sweep-requires : tie.Need-sweep-requires
-sweep-requires c κs = search needs
-
-hand-sweep-requires : tie.Need-hand-sweep-requires
-hand-sweep-requires c κs = search needs
-
-same-length : tie.Need-same-length
-same-length c = search needs
-
 returns : tie.Need-returns
 returns c =
     let a = c .before .before .before .before .before .before .before .before .before .before .before .before .before .before .before in
@@ -34,4 +19,8 @@ returns c =
     (c .before .before .before .before .before .sweep .ensures) (c .hand-sweep .ensures)
 
 pub tridexel-sweep-spec : {M : Type 1} → statement M
-tridexel-sweep-spec = tie.close (tie.spec axis-of-requires shape-of-requires sweep-requires hand-sweep-requires same-length returns)
+tridexel-sweep-spec =
+    tie.close
+    (tie.spec
+    (λ c κs. search needs) (λ c κs. search needs) (λ c κs. search needs) (λ c κs. search needs) (λ c. search needs)
+    returns)

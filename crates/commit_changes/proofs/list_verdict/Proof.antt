@@ -1,11 +1,11 @@
--- `commit_changes::judge_list` meets its contract: the sums of the check are the pairs that the changes free and lay,
+-- `commit_changes::list_verdict` meets its contract: the sums of the check are the pairs that the changes free and lay,
 -- so the total is the number of intervals after them and needs no more than 64 bits.
 use borrow.Author.Needs.{needs}
 use native.Mathlib.Omega.{arith}
 use Rattle.commit_changes.proofs.Verdicts.{bad-list, freed-fewer, total-fits, over-budget, last-generation, list-fits}
-use Rattle.commit_changes.proofs.judge_list.Statement.{statement}
+use Rattle.commit_changes.proofs.list_verdict.Statement.{statement}
 use Rattle.stock.specs.Stock.{stock}
-use Rattle.commit_changes.proofs.judge_list.Tie as tie
+use Rattle.commit_changes.proofs.list_verdict.Tie as tie
 
 returns : tie.Need-returns
 returns c = let a = c .before .before .before .before .before .before .before .before .args in
@@ -70,8 +70,8 @@ returns-4 c =
     (c .before .before .before .before .before .before .check-changes .ensures) _
     (c .before .before .before .before .cur .given .1) (pre .0) (pre .1) (c .before .if1 .left) (c .if2 .left)
 
-pub judge-list-spec : {M : Type 1} → statement M
-judge-list-spec =
+pub list-verdict-spec : {M : Type 1} → statement M
+list-verdict-spec =
     tie.close
     (tie.spec
     (λ c κs. search needs) (λ c. search needs) (λ c. search needs) returns sub-total add-total returns-2 returns-3

@@ -1,13 +1,13 @@
-use Rattle.sweep_model.specs.Kernel.{laneOf}
+use Rattle.sweep_model.specs.Kernel.{chordOnAxisOf}
 use borrow.Author.Needs.{needs}
-use Rattle.sweep_kernel.proofs.lane_of.Statement.{statement}
-use Rattle.sweep_kernel.proofs.lane_of.Tie as tie
+use Rattle.sweep_kernel.proofs.chord_on_axis.Statement.{statement}
+use Rattle.sweep_kernel.proofs.chord_on_axis.Tie as tie
 
 returns : tie.Need-returns
-unfolding laneOf
+unfolding chordOnAxisOf
 returns c = simp (
-  ← c .before .side-of2 .ensures,
-  ← c .before .before .side-of .ensures,
+  ← c .before .axis-scale2 .ensures,
+  ← c .before .before .axis-scale .ensures,
   ← c .before .before .before .reach-of .ensures,
   ← c .before .before .before .before .before .before .larger .ensures,
   ← c .before .before .before .before .before .before .before .smaller .ensures,
@@ -18,8 +18,8 @@ returns c = simp (
   ← c .before .before .before .before .before .before .before .before .before .before .before .before .local-axis .ensures,
 )
 
-pub lane-of-spec : {M : Type 1} → statement M
-lane-of-spec =
+pub chord-on-axis-spec : {M : Type 1} → statement M
+chord-on-axis-spec =
     tie.close
     (tie.spec
     (λ c κs. search needs) (λ c κs. search needs) (λ c κs. search needs) (λ c κs. search needs) (λ c κs. search needs)

@@ -34,15 +34,15 @@ module _ {n : ℕ} {spans : List Float} {links : List ℕ} where
       (same-if (t .gone p) (holds hits p) (t .only p) (λ h. t .all p (held-below hits p h) h))) (t .walked)
 
   -- all points lie between the infinities, where no hit reaches in from before, so that taking them from the start takes all
-  pub whole-walked : {head : ℕ} {given before after : List Float} {r t : Rest} (hits : List Float)
+  pub all-walked : {head : ℕ} {given before after : List Float} {r t : Rest} (hits : List Float)
       → StartPost n spans links head r → TakeHitsPost n spans links (neg top) top (neg top) given before after r t
       → sound (listFrom n spans links head) ≡ true → ((x : Float) → holds given x ≡ holds hits x)
       → ListWalked n spans links (listFrom n spans links head) (less (listFrom n spans links head) hits) top t
-  whole-walked {given = given} hits begun takes s e =
-      taken-all hits (takes .taken _ (holds hits) bottom-top whole (taken-none (holds hits) s begun))
+  all-walked {given = given} hits begun takes s e =
+      taken-all hits (takes .taken _ (holds hits) bottom-top everywhere (taken-none (holds hits) s begun))
     where
-      whole : Stretch (neg top) top (neg top) given (holds hits)
-      whole = record {
+      everywhere : Stretch (neg top) top (neg top) given (holds hits)
+      everywhere = record {
         only-front = λ x h. absurd (clash _ (and-right (le (neg top) x) (lt x (neg top)) h) (none-below x));
         only-pairs = λ x h. sym (e x) ∙ h;
         all = λ x h k. inr (e x ∙ k);

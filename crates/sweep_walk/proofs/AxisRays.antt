@@ -35,7 +35,7 @@ use Rattle.sweep_visits.specs.declared.Progress.{Progress}
 use Rattle.sweep_visits.specs.declared.Progress.the-variants.{At}
 use Rattle.sweep_model.specs.declared.AxisRays.{AxisRays}
 use Rattle.sweep_visits.proofs.Walks.{went-none}
-use Rattle.sweep_model.specs.SweepEntries.{trackOf, Setting, laneIn, axisEntries, firstAxis, secondAxis}
+use Rattle.sweep_model.specs.SweepEntries.{axisRaysOf, Setting, chordOnAxisIn, axisEntries, firstAxis, secondAxis}
 use Rattle.sweep_visits.specs.Steps.{WalkPost, Went, AxisReady}
 use Rattle.sweep_walk.specs.Steps.{Sweepable}
 use Rattle.grid.specs.Facts.{GridFacts}
@@ -49,8 +49,8 @@ module _ (spec : DexelStockSpec) (g : DexelGrid) (c : Cells) (s : Sweepable spec
   pub few-rays : rayCount g < 2 ^ 64
   few-rays = omega (arith, s .facts .rays, s .facts .ceiling)
 
-  ready : (a : WorldAxis) → AxisReady (spec .«max_intervals») (trackOf g a) (c .spans) (c .links) (c .heads)
-  unfolding trackOf raysAlong
+  ready : (a : WorldAxis) → AxisReady (spec .«max_intervals») (axisRaysOf g a) (c .spans) (c .links) (c .heads)
+  unfolding axisRaysOf raysAlong
   ready a =
       let o : offset g a + raysAlong g a ≤ rayCount g = offset-le g a in
       let m : rayCount g ≤ spec .«max_rays» = s .facts .rays in
@@ -108,42 +108,42 @@ pub record RectReady (n : ℕ) (t : AxisRays) (c : Cells) (q : RayRange) : Type 
 
 pub rect-ready : (spec : DexelStockSpec) (g : DexelGrid) (c : Cells) → Sweepable spec g c
     → (p : Profile) (l : ChordOnAxis) (a : WorldAxis) (t : AxisRays) (r : RayRect) (q : RayRange)
-    → t ≡ trackOf g a → r ≡ rectangleOf spec g p l a → r ≡ Rays q → RectReady (spec .«max_intervals») t c q
+    → t ≡ axisRaysOf g a → r ≡ rectangleOf spec g p l a → r ≡ Rays q → RectReady (spec .«max_intervals») t c q
 rect-ready spec g c s p l a t r q e h k =
     subst (λ (x : AxisRays). RectReady (spec .«max_intervals») x c q) (sym e)
     (made (subst (Inside (cellsAlong g (crossOf a .u)) (cellsAlong g (crossOf a .v))) (sym h ∙ k)
     (rectangle-inside spec g (s .facts) p l a)))
   where
     made : (q .u1 < cellsAlong g (crossOf a .u)) × (q .v1 < cellsAlong g (crossOf a .v))
-        → RectReady (spec .«max_intervals») (trackOf g a) c q
-    made i = record { rays = ready spec g c s a; row = unfold trackOf in i .0; rows = unfold trackOf in i .1 }
+        → RectReady (spec .«max_intervals») (axisRaysOf g a) c q
+    made i = record { rays = ready spec g c s a; row = unfold axisRaysOf in i .0; rows = unfold axisRaysOf in i .1 }
 
 -- ---- one axis of a chord
 module _ (s : Setting) (c : Chord) (a : WorldAxis) where
-  axis-is : (l : ChordOnAxis) (r : RayRect) → l ≡ laneIn s c a → r ≡ rectangleOf (s .spec) (s .grid) (s .profile) l a
+  axis-is : (l : ChordOnAxis) (r : RayRect) → l ≡ chordOnAxisIn s c a → r ≡ rectangleOf (s .spec) (s .grid) (s .profile) l a
       → axisEntries s c a ≡ rectangleEntries
-      (rayEntry (s .spec .«max_intervals») (trackOf (s .grid) a) (s .profile) l (s .cells .spans)
+      (rayEntry (s .spec .«max_intervals») (axisRaysOf (s .grid) a) (s .profile) l (s .cells .spans)
       (s .cells .links) (s .cells .heads)) r
   unfolding axisEntries
   axis-is l r e h =
       sym (ap (λ (x : ChordOnAxis). rectangleEntries
-      (rayEntry (s .spec .«max_intervals») (trackOf (s .grid) a) (s .profile) x (s .cells .spans)
+      (rayEntry (s .spec .«max_intervals») (axisRaysOf (s .grid) a) (s .profile) x (s .cells .spans)
       (s .cells .links) (s .cells .heads)) (rectangleOf (s .spec) (s .grid) (s .profile) x a)) e)
-      ∙ ap (rectangleEntries (rayEntry (s .spec .«max_intervals») (trackOf (s .grid) a) (s .profile) l
+      ∙ ap (rectangleEntries (rayEntry (s .spec .«max_intervals») (axisRaysOf (s .grid) a) (s .profile) l
       (s .cells .spans) (s .cells .links) (s .cells .heads))) (sym h)
 
   pub axis-none : {budget : ℕ} {start : VisitCursor} {log : List Float} (l : ChordOnAxis) (r : RayRect)
-      → l ≡ laneIn s c a → r ≡ rectangleOf (s .spec) (s .grid) (s .profile) l a → r ≡ NoRays → start .at ≤ length log
+      → l ≡ chordOnAxisIn s c a → r ≡ rectangleOf (s .spec) (s .grid) (s .profile) l a → r ≡ NoRays → start .at ≤ length log
       → WalkPost budget (axisEntries s c a) start log (At start) log
   axis-none {budget} {start} {log} l r e h k room =
       subst (λ (es : List (List Float)). Went budget es start log start log)
       (sym (axis-is l r e h ∙ ap (rectangleEntries
-      (rayEntry (s .spec .«max_intervals») (trackOf (s .grid) a) (s .profile) l (s .cells .spans)
+      (rayEntry (s .spec .«max_intervals») (axisRaysOf (s .grid) a) (s .profile) l (s .cells .spans)
       (s .cells .links) (s .cells .heads))) k)) (went-none room)
 
   pub axis-some : (budget : ℕ) (start : VisitCursor) (log after : List Float) (x : Progress) (l : ChordOnAxis)
       (t : AxisRays) (r : RayRect) (q : RayRange)
-      → l ≡ laneIn s c a → t ≡ trackOf (s .grid) a → r ≡ rectangleOf (s .spec) (s .grid) (s .profile) l a → r ≡ Rays q
+      → l ≡ chordOnAxisIn s c a → t ≡ axisRaysOf (s .grid) a → r ≡ rectangleOf (s .spec) (s .grid) (s .profile) l a → r ≡ Rays q
       → WalkPost budget (rectEntries
       (rayEntry (s .spec .«max_intervals») t (s .profile) l (s .cells .spans) (s .cells .links) (s .cells .heads))
       q) start log x after
@@ -153,13 +153,13 @@ module _ (s : Setting) (c : Chord) (a : WorldAxis) where
       (ap (λ (y : AxisRays). rectEntries
       (rayEntry (s .spec .«max_intervals») y (s .profile) l (s .cells .spans) (s .cells .links) (s .cells .heads)) q) f
       ∙ sym (axis-is l r e h ∙ ap (rectangleEntries
-      (rayEntry (s .spec .«max_intervals») (trackOf (s .grid) a) (s .profile) l (s .cells .spans)
+      (rayEntry (s .spec .«max_intervals») (axisRaysOf (s .grid) a) (s .profile) l (s .cells .spans)
       (s .cells .links) (s .cells .heads))) k)) w
 
-pub track-is : (g : DexelGrid) (a : WorldAxis) (w : CrossAxes) (o m n : ℕ) → w ≡ crossOf a → o ≡ offset g a
-    → m ≡ cellsAlong g (w .u) → n ≡ cellsAlong g (w .v) → record { axis = a; first = o; row = m; rows = n } ≡ trackOf g a
-unfolding trackOf
-track-is g a w o m n e h k l = rw (← e, h, k, l)
+pub axis-rays-is : (g : DexelGrid) (a : WorldAxis) (w : CrossAxes) (o m n : ℕ) → w ≡ crossOf a → o ≡ offset g a
+    → m ≡ cellsAlong g (w .u) → n ≡ cellsAlong g (w .v) → record { axis = a; first = o; row = m; rows = n } ≡ axisRaysOf g a
+unfolding axisRaysOf
+axis-rays-is g a w o m n e h k l = rw (← e, h, k, l)
 
 -- ---- the two world axes other than the tool's
 module _ (f : Frame) (w : WorldAxis) (e : w ≡ worldAxisOf f (localAxis 2)) where
