@@ -32,12 +32,12 @@ static void *room(size_t items) {
 
 static double comb[2 * PAIRS], hits[2 * PAIRS], *spans, *log_of, *work;
 static uint64_t *links, *heads, generation, intervals, allowance, changed, visits, cells[3];
-static size_t spans_len, work_len, pairs, two[2], entries;
+static size_t spans_len, work_len, pairs, two[2], entries, by_entry;
 /* for each world axis, whose plan lengths differ */
 static double chords[3][16];
 static tridexel_spec spec = {.version = 1, .max_mm = {SIDE, SIDE, SIDE}, .cell_size_mm = SIDE / CELLS, .max_rays = RAYS};
 static double many[6 * ENTRIES], one[6 * ENTRIES], steps[3], volumes[10];
-static uint32_t yes, moved[2];
+static uint32_t yes, moved[2], reason;
 
 /* A place among `of` for each i, in no order; `of` is not a multiple of 7919. */
 static size_t shuffled(size_t i, size_t of) { return i * 7919 % of; }
@@ -90,6 +90,10 @@ static uint32_t contains(void) { return tridexel_contains(comb, 2 * PAIRS, comb,
 static uint32_t overlaps(void) { return tridexel_overlaps(comb, 2 * PAIRS, comb + 2, 2 * PAIRS - 2, &yes); }
 static uint32_t merge(void) {
   return tridexel_merge(comb, 2 * PAIRS, comb, 2 * PAIRS, 0, SIDE, hits, 2 * PAIRS, hits, PAIRS, work, work_len, moved, two);
+}
+/* A place in the last pair and in no hit, so that every pair and every entry is looked at. */
+static uint32_t trace(void) {
+  return tridexel_trace(comb, 2 * PAIRS, comb, 2 * PAIRS, 0, SIDE, many, 6 * ENTRIES, comb[2 * PAIRS - 2], &reason, &by_entry);
 }
 static uint32_t grid(void) { return tridexel_grid(spec, MM, 2, cells, steps); }
 static uint32_t fill(void) { return tridexel_fill(spec, MM, 2, spans, spans_len, links, spans_len, heads, 2 * RAYS, &generation, &intervals); }
@@ -242,6 +246,7 @@ int main(int count, char **words) {
   measure("tridexel_contains", 0, LIMIT, contains);
   measure("tridexel_overlaps", 0, LIMIT, overlaps);
   measure("tridexel_merge", 0, LIMIT, merge);
+  measure("tridexel_trace", 0, LIMIT, trace);
   measure("tridexel_grid", 0, LIMIT, grid);
   measure("tridexel_fill", 0, LIMIT, fill);
   measure("tridexel_volume", 0, LIMIT, volume);

@@ -11,10 +11,12 @@
  *   5 beam               6 tool                               7 chord or guard                        8 a visit beyond the budget
  *   9 more changed rays than allowed   10 more intervals than max_intervals   11 a list or store not sound, part of an item over
  *  12 a buffer shorter than needed     13 a bad change        14 base generation differs              15 generation at its maximum
- *  16 log full at a hit                17 a log entry that names no ray
+ *  16 log full at a hit                17 a log entry that names no ray          19 a place that is NaN
+ *  18 is given by the program merge_ray alone
  *
  * A slice is a pointer and the number of its items; the pointer of an empty slice is that of any object, not NULL. Slices and numbers that are written
- * overlap no other of the call. Numbers are IEEE 754 binary64; lengths are millimetres, volumes cubic millimetres.
+ * overlap no other of the call. Numbers are IEEE 754 binary64; lengths are millimetres, volumes cubic millimetres. Calls are made in the default floating-point
+ * environment: rounding to nearest, subnormals kept (not flushed to zero, as the start-up code of -ffast-math has them).
  *
  * Stack: a call of tridexel_commit_log touches at most 40 KB, one of any other function at most 52 KB (on lists of some thousand pairs below 3 KB as built for
  * x86-64). This is no part of the proofs; examples/stack.c measures each function on a thread of 64 KB.
@@ -57,6 +59,26 @@ uint32_t tridexel_overlaps(const double *a, size_t a_len, const double *b, size_
 uint32_t tridexel_merge(const double *possible, size_t possible_len, const double *certain, size_t certain_len, double lo, double hi,
                         const double *outer, size_t outer_len, const double *inner, size_t inner_len, double *work, size_t work_len,
                         uint32_t moved[2], size_t pairs[2]);
+
+/* Why a place on a ray shows as it does after log entries were merged into the ray. Exactly one reason is the true one. With the first two
+ * the place is air, not in possible after the entries; with the next two it is possible and not certain, with the last it is certain. */
+enum {
+  TRIDEXEL_NOT_POSSIBLE = 1, /* not possible before */
+  TRIDEXEL_REMOVED,          /* possible before and removed, by the first entry whose inner pair holds the place */
+  TRIDEXEL_MADE_UNCERTAIN,   /* certain before and no longer, in no inner pair, through the first entry whose outer pair holds the place */
+  TRIDEXEL_NOT_CERTAIN,      /* possible but not certain before, and in no inner pair */
+  TRIDEXEL_STILL_CERTAIN
+};
+
+/* The reason for `place`, a coordinate along the ray; linear time in pairs and entries. lo and hi are the ray's bounds (LAYOUT 5). possible and certain are its
+ * lists before the entries (LAYOUT 6), copied before the commit, which overwrites the store. `log` has the entries that name the ray (LAYOUT 8), in the order
+ * in which they were merged. Each one handed in counts as one of this ray, whatever its axis and index are: a whole log gives reasons of no ray. A place in
+ * space lies on up to three rays, and each answers for itself. Which lists and entries to take over several commits: LAYOUT 11; examples/why.c does it.
+ * A pair holds p where lo <= p < hi, so both zeros are one point and a pair without lo < hi holds none. `*reason` becomes a number from above; `*entry`
+ * becomes, for TRIDEXEL_REMOVED and TRIDEXEL_MADE_UNCERTAIN, the number k of the entry, counted from 1, which begins at cell 6(k - 1) of `log`, else 0.
+ * Refusals: 11 (part of an entry or of a pair over; a ray not valid within its bounds), 19. 12 has no cause: no buffer is lent to be written. */
+uint32_t tridexel_trace(const double *possible, size_t possible_len, const double *certain, size_t certain_len, double lo, double hi, const double *log,
+                        size_t log_len, double place, uint32_t *reason, size_t *entry);
 
 /* ---- stocks */
 

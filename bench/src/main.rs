@@ -13,6 +13,7 @@ mod spans;
 mod stock;
 mod sweep;
 mod timing;
+mod trace;
 
 use timing::{Count, Rows, Table};
 
@@ -24,6 +25,7 @@ fn modules() -> Vec<Module> {
         ("spans", spans::rows),
         ("geometry", geometry::rows),
         ("merge", merge::rows),
+        ("trace", trace::rows),
         ("stock", stock::rows),
         ("sweep", sweep::rows),
         ("commits", commits::rows),

@@ -1,7 +1,7 @@
 //! Stock rays for milling cells, with proofs: a safe binding to `libtridexel.a`.
 //!
 //! A [`Stock`] owns the buffers that the library lends from its caller, and only the library writes them, so its store is always sound. Every call
-//! either succeeds or is refused by document 01's number ([`Refusal`]); a refused call changes nothing.
+//! either succeeds or is refused by a number ([`Refusal`]); a refused call changes nothing.
 //!
 //! ```
 //! use tridexel::{Axis, Chord, Cutter, Pass, Shape, Spec, Stock};
@@ -31,6 +31,7 @@
 mod refusal;
 mod stock;
 mod tool;
+mod trace;
 
 pub mod raw;
 pub mod spans;
@@ -38,6 +39,7 @@ pub mod spans;
 pub use refusal::{Blame, Refusal};
 pub use stock::{Change, Grid, Log, LogEntry, Pair, Ray, Spec, Stock, Tally, Volume};
 pub use tool::{Axis, Chord, Cutter, Pass, Shape};
+pub use trace::{Reason, trace};
 
 /// Nothing for 0, else the refusal.
 fn accepted(number: u32) -> Result<(), Refusal> {

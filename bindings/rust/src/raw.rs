@@ -64,6 +64,19 @@ unsafe extern "C" {
         moved: *mut [u32; 2],
         pairs: *mut [usize; 2],
     ) -> u32;
+    pub fn tridexel_trace(
+        possible: *const f64,
+        possible_len: usize,
+        certain: *const f64,
+        certain_len: usize,
+        lo: f64,
+        hi: f64,
+        log: *const f64,
+        log_len: usize,
+        place: f64,
+        reason: *mut u32,
+        entry: *mut usize,
+    ) -> u32;
     pub fn tridexel_grid(spec: RawSpec, units: *const u8, units_len: usize, cells: *mut [u64; 3], steps: *mut [f64; 3]) -> u32;
     pub fn tridexel_fill(
         spec: RawSpec,

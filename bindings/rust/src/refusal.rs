@@ -12,7 +12,7 @@ pub enum Blame {
 
 macro_rules! refusals {
     ($($name:ident = $number:literal, $blame:ident, $text:literal;)*) => {
-        /// Document 01's refusals by cause.
+        /// The refusals by cause, of document 01 and of the requests of document 02.
         #[derive(Clone, Copy, Debug, Eq, PartialEq)]
         #[repr(u32)]
         pub enum Refusal {
@@ -64,6 +64,7 @@ refusals! {
     LastGeneration = 15, CallingProgram, "the generation is at its maximum";
     LogFull = 16, BudgetSetter, "the log is full at a hit";
     NoRay = 17, CallingProgram, "a log entry names no ray";
+    Place = 19, CallingProgram, "the place is a NaN";
 }
 
 impl std::error::Error for Refusal {}

@@ -88,6 +88,13 @@ pub struct LogEntry {
     pub inner: Pair,
 }
 
+impl LogEntry {
+    /// The six doubles of the C interface.
+    pub fn cells(&self) -> [f64; 6] {
+        [self.axis, self.index, self.outer[0], self.outer[1], self.inner[0], self.inner[1]]
+    }
+}
+
 /// The hits of a sweep, in visiting order.
 #[derive(Clone, Debug, Default, PartialEq)]
 pub struct Log {
@@ -99,8 +106,7 @@ pub struct Log {
 impl Log {
     /// A log of these entries, such as one that came over a wire.
     pub fn of(entries: &[LogEntry]) -> Log {
-        let cells = entries.iter().flat_map(|e| [e.axis, e.index, e.outer[0], e.outer[1], e.inner[0], e.inner[1]]).collect();
-        Log { cells, visits: 0 }
+        Log { cells: entries.iter().flat_map(LogEntry::cells).collect(), visits: 0 }
     }
 
     pub fn len(&self) -> usize {
@@ -113,6 +119,11 @@ impl Log {
 
     pub fn entries(&self) -> impl Iterator<Item = LogEntry> + '_ {
         self.cells.chunks_exact(6).map(|c| LogEntry { axis: c[0], index: c[1], outer: [c[2], c[3]], inner: [c[4], c[5]] })
+    }
+
+    /// The entries that name this ray along an axis, 0 to 2, in the log's order, as [`crate::trace`] takes them.
+    pub fn entries_on(&self, axis: usize, index: u64) -> Vec<[f64; 6]> {
+        self.entries().filter(|e| e.axis == axis as f64 && e.index == index as f64).map(|e| e.cells()).collect()
     }
 }
 

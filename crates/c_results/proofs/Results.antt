@@ -11,6 +11,7 @@ use Rattle.grid.specs.declared.GridAnswer.{GridAnswer}
 use Rattle.grid.specs.declared.GridAnswer.the-variants.{Accepted, Refused}
 use Rattle.grid.specs.declared.DexelStockSpec.{DexelStockSpec}
 use Rattle.refusal.specs.Refusal.{Cause, Due}
+use Rattle.ray_trace.specs.Trace.{traceCauses}
 use Rattle.spans.specs.Results.{listCauses}
 use Rattle.stock_fill.specs.Uncut.{fillCauses}
 use Rattle.stock_volume.specs.Volume.{volumeCauses}
@@ -57,6 +58,10 @@ list-above short bad k = due-above (listCauses short bad) k (omega arith, (omega
 
 pub compare-above : (a b : List Float) (k : ℕ) → Due (compareCauses a b) k → 0 < k
 compare-above a b k = due-above (compareCauses a b) k (omega arith, tt)
+
+pub trace-above : (lo hi : Float) (possible certain log : List Float) (place : Float) (k : ℕ)
+    → Due (traceCauses lo hi possible certain log place) k → 0 < k
+trace-above lo hi possible certain log place k = due-above (traceCauses lo hi possible certain log place) k (omega arith, (omega arith, tt))
 
 pub grid-above : (s : DexelStockSpec) (units : List ℕ) (k : ℕ) → Due (gridCauses s units) k → 0 < k
 unfolding gridCauses

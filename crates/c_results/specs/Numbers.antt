@@ -16,6 +16,8 @@ use Rattle.stock.specs.declared.Tally.{Tally}
 use Rattle.stock_fill.specs.declared.FillAnswer.{FillAnswer}
 use Rattle.stock_volume.specs.declared.VolumeAnswer.{VolumeAnswer}
 use Rattle.stock.specs.declared.CommitAnswer.{CommitAnswer}
+use Rattle.ray_trace.specs.declared.TraceAnswer.{TraceAnswer}
+use Rattle.ray_trace.specs.declared.TraceAnswer.the-variants.{NotPossible, RemovedBy, UncertainBy, NotCertain, StillCertain}
 use Rattle.sweep.specs.declared.SweepAnswer.{SweepAnswer}
 use Rattle.sweep.specs.declared.Totals.{Totals}
 
@@ -105,3 +107,19 @@ totals entries visits = record { entries = entries; visits = visits }
 abbrev pub sweepNumbers : SweepAnswer → Totals → Type 0
 sweepNumbers (SweepAnswer.Accepted t) n = n ≡ t
 sweepNumbers (SweepAnswer.Refused k) n = ⊥
+
+-- the reason, 1 to 5 in the order of request W-201 of document 02, and the number of its entry, 0 where it names none
+pub record TraceCells : Type 0 where
+  pub reason : ℕ
+  pub entry : ℕ
+
+abbrev pub traceCells : (reason entry : ℕ) → TraceCells
+traceCells reason entry = record { reason = reason; entry = entry }
+
+abbrev pub traceNumbers : TraceAnswer → TraceCells → Type 0
+traceNumbers NotPossible n = n ≡ traceCells 1 0
+traceNumbers (RemovedBy k) n = n ≡ traceCells 2 k
+traceNumbers (UncertainBy k) n = n ≡ traceCells 3 k
+traceNumbers NotCertain n = n ≡ traceCells 4 0
+traceNumbers StillCertain n = n ≡ traceCells 5 0
+traceNumbers (TraceAnswer.Refused k) n = ⊥

@@ -7,12 +7,14 @@ ghost use Rattle.spans.specs.declared.ListAnswer.{ListAnswer};
 ghost use Rattle.stock.specs.declared.CommitAnswer.{CommitAnswer};
 ghost use Rattle.stock_fill.specs.declared.FillAnswer.{FillAnswer};
 ghost use Rattle.stock_volume.specs.declared.VolumeAnswer.{VolumeAnswer};
+ghost use Rattle.ray_trace.specs.declared.TraceAnswer.{TraceAnswer};
 ghost use Rattle.sweep.specs.declared.SweepAnswer.{SweepAnswer};
 ghost use Rattle.c_results.specs.Numbers.{HandedAs, listNumbers, boolNumbers, mergeNumbers, partCells, digit};
 ghost use Rattle.c_results.specs.Numbers.{gridNumbers, gridCells, fillNumbers, tally, volumeNumbers};
-ghost use Rattle.c_results.specs.Numbers.{commitNumbers, sweepNumbers, totals};
+ghost use Rattle.c_results.specs.Numbers.{commitNumbers, sweepNumbers, totals, traceNumbers, traceCells};
 use grid::GridAnswer;
 use ray_merge::MergeAnswer;
+use ray_trace::TraceAnswer;
 use span_compare::BoolAnswer;
 use spans::ListAnswer;
 use stock::CommitAnswer;
@@ -165,6 +167,43 @@ pub fn hand_sweep(s: SweepAnswer, entries: &mut usize, visits: &mut u64) -> u32
             return 0;
         }
         SweepAnswer::Refused(k) => {
+            return k;
+        }
+    }
+}
+
+// Hands the reason of a place back as numbers.
+pub fn hand_trace(t: TraceAnswer, reason: &mut u32, by_entry: &mut usize) -> u32
+    ensures { λ r. ⌜ HandedAs traceNumbers TraceAnswer.Refused t r
+        (traceCells (now (reason .entry)) (now («by_entry» .entry))) (traceCells (now (reason .exit)) (now («by_entry» .exit))) ⌝ }
+{
+    match t {
+        TraceAnswer::NotPossible => {
+            *reason = 1;
+            *by_entry = 0;
+            return 0;
+        }
+        TraceAnswer::RemovedBy(k) => {
+            *reason = 2;
+            *by_entry = k;
+            return 0;
+        }
+        TraceAnswer::UncertainBy(k) => {
+            *reason = 3;
+            *by_entry = k;
+            return 0;
+        }
+        TraceAnswer::NotCertain => {
+            *reason = 4;
+            *by_entry = 0;
+            return 0;
+        }
+        TraceAnswer::StillCertain => {
+            *reason = 5;
+            *by_entry = 0;
+            return 0;
+        }
+        TraceAnswer::Refused(k) => {
             return k;
         }
     }

@@ -1,7 +1,6 @@
 -- The entries of a log grouped by ray in a buffer: cell r holds the first place of ray r, cell rays + i the place
 -- after place i on the same ray. A cell holds one more than a place, or 0 where there is none.
 use mathlib.Core.Path.{_≡_}
-use mathlib.Core.Bool.{Bool, true, false}
 use mathlib.Core.List.{List, [], _∷_}
 use Prim.Native.Nat.{ℕ, zero, suc, _+_, _≤_, _<_}
 use lib.ListN.{length, getD}
@@ -9,7 +8,7 @@ use lib.Ieee.{Float, nan}
 use Rattle.log_numbers.specs.Numbers.{numberAt}
 use Rattle.grid.specs.Rays.{rayCount}
 use Rattle.grid.specs.declared.DexelGrid.{DexelGrid}
-use Rattle.log_model.specs.Logs.{entryCount, HitKind, outer, inner}
+use Rattle.log_model.specs.Logs.{entryCount}
 use Rattle.log_entries.specs.Named.{EachNamed, namedFrom}
 
 -- from the number k on, the cells name these places one after the other, each from `from` to `to`
@@ -30,8 +29,3 @@ pub record GroupPost (g : DexelGrid) (log before after : List Float) : Type 0 wh
   pub size : length after ≡ length before
   pub grouped : Grouped g log after
   pub past : (q : ℕ) → rayCount g + entryCount log ≤ q → getD after q nan ≡ getD before q nan
-
--- the kind of the hits that are asked for
-abbrev pub hitKindOf : (isInner : Bool) → HitKind
-hitKindOf true = inner
-hitKindOf false = outer

@@ -8,7 +8,8 @@ ghost use Rattle.grid.specs.Rays.{rayCount};
 ghost use Rattle.log_model.specs.Logs.{entries, entryCount, hitLo, hitHi, hitsOnRay};
 ghost use Rattle.log_entries.specs.Named.{EachNamed};
 ghost use Rattle.store_read.specs.Reading.{ReadListPost};
-ghost use Rattle.log_group.specs.Groups.{Grouped, GroupPost, hitKindOf};
+ghost use Rattle.log_group.specs.Groups.{Grouped, GroupPost};
+ghost use Rattle.log_model.specs.Steps.{hitKindOf};
 use grid::DexelGrid;
 use log_model::Entry;
 

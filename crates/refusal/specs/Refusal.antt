@@ -1,10 +1,10 @@
--- Refusals by cause. Each entry lists its causes in document 01's order; the first that is present decides the answer.
+-- Refusals by cause. Each entry lists its causes in the order of document 01 or 02; the first that is present decides the answer.
 use mathlib.Core.Path.{_≡_}
 use mathlib.Core.List.{List, [], _∷_}
 use mathlib.Core.Logic.{_⊎_}
 use Prim.Native.Nat.{ℕ}
 
--- a cause: document 01's number for it, and what it is for it to be present
+-- a cause: its number in document 01 or 02, and what it is for it to be present
 pub record Cause : Type 1 where
   pub number : ℕ
   pub present : Type 0

@@ -14,8 +14,11 @@ ghost use Rattle.span_compare.specs.Verdicts.{ComparePost, compareCauses, Conta
 ghost use Rattle.span_compare.specs.declared.BoolAnswer.{BoolAnswer};
 ghost use Rattle.ray_merge.specs.Merge.{MergePost};
 ghost use Rattle.ray_merge.specs.declared.MergeAnswer.{MergeAnswer};
+ghost use Rattle.ray_trace.specs.Trace.{TracePost};
+ghost use Rattle.ray_trace.specs.declared.TraceAnswer.{TraceAnswer};
 ghost use Rattle.spans.specs.declared.ListAnswer.{ListAnswer};
 ghost use Rattle.c_results.specs.Numbers.{AnsweredBy, listNumbers, boolNumbers, mergeNumbers, partCells};
+ghost use Rattle.c_results.specs.Numbers.{traceNumbers, traceCells};
 
 // `span_normalize::normalize`; `pairs` becomes the number of pairs.
 #[no_mangle]
@@ -98,4 +101,25 @@ pub extern "C" fn tridexel_merge(
 {
     let m = ray_merge::merge(possible, certain, lo, hi, outer, inner, work);
     c_results::hand_merge(m, moved, pairs)
+}
+
+// `ray_trace::trace`; `reason` becomes 1 not possible before, 2 removed, 3 made uncertain, 4 not certain before, 5 still certain, and
+// `by_entry` the number of the entry that removed the place or made it uncertain, counted from 1, else 0.
+#[no_mangle]
+pub extern "C" fn tridexel_trace(
+    possible: &[f64],
+    certain: &[f64],
+    lo: f64,
+    hi: f64,
+    log: &[f64],
+    place: f64,
+    reason: &mut u32,
+    by_entry: &mut usize,
+) -> u32
+    ensures { λ r. ⌜ AnsweredBy traceNumbers TraceAnswer.Refused (TracePost lo hi (now (possible .entry)) (now (certain .entry))
+        (now (log .entry)) place) r
+        (traceCells (now (reason .entry)) (now («by_entry» .entry))) (traceCells (now (reason .exit)) (now («by_entry» .exit))) ⌝ }
+{
+    let t = ray_trace::trace(possible, certain, lo, hi, log, place);
+    c_results::hand_trace(t, reason, by_entry)
 }

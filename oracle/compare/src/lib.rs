@@ -14,6 +14,7 @@ pub mod spans;
 pub mod stock;
 pub mod strips;
 pub mod sweep;
+pub mod trace;
 
 use function::Function;
 
@@ -25,6 +26,7 @@ pub fn modules() -> Vec<(&'static str, Vec<Function>)> {
         ("strips", strips::functions()),
         ("grid", grid::functions()),
         ("merge", merge::functions()),
+        ("trace", trace::functions()),
         ("stock", stock::functions()),
         ("program", program::functions()),
         ("sweep", sweep::functions()),

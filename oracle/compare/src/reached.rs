@@ -6,9 +6,9 @@ pub type Group = (&'static str, &'static [&'static str]);
 /// No description is due refusal 4 (docs/DIFFERENCES.md).
 pub const DEAD: &str = "4 (cannot come)";
 
-/// Names for document 01's refusal numbers.
-pub const NUMBERS: [&str; 19] =
-    ["accepted", "1", "2", "3", DEAD, "5", "6", "7", "8", "9", "10", "11", "12", "13", "14", "15", "16", "17", "18"];
+/// Names for the refusal numbers.
+pub const NUMBERS: [&str; 20] =
+    ["accepted", "1", "2", "3", DEAD, "5", "6", "7", "8", "9", "10", "11", "12", "13", "14", "15", "16", "17", "18", "19"];
 
 /// Decades of a size; what is smaller counts to the first, what is larger to the last.
 pub const DECADES: [&str; 12] = ["1e-5", "1e-4", "1e-3", "1e-2", "1e-1", "1", "10", "100", "1e3", "1e4", "1e5", "1e6"];

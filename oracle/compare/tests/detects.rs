@@ -9,6 +9,7 @@ use compare::{
     },
     stock::{self, blank, blanks, compare_fill, compare_volume, fill, stock, stocks, volume},
     sweep::{self, Lending, compare_sweep},
+    trace::{self, Traced, compare_trace, query, trace},
 };
 use harness::store::LentStore;
 
@@ -200,6 +201,120 @@ fn merge_faults() {
         }),
         ("a work buffer of four pairs per hit pair", |[p, c, o, i], b, w, parts| match merge([p, c, o, i], b, w, parts) {
             12 if w.len() / 2 >= 4 * [p, c, o, i].iter().map(|l| l.len() / 2).sum::<usize>() => 0,
+            code => code,
+        }),
+    ];
+    for (name, port) in faults {
+        assert!(difference(port).is_some(), "not found: {name}");
+    }
+}
+
+type Trace = fn([&[f64]; 3], [f64; 2], f64, &mut Traced) -> u32;
+
+#[test]
+fn trace_faults() {
+    let difference = |port: Trace| {
+        let compare = move |q: &_, reached: &mut _| compare_trace(q, port, reached);
+        first(Function::counting("trace", trace::WANTED, trace::edges(), query, compare))
+    };
+    assert_eq!(difference(trace), None);
+    /// The log with each entry changed.
+    fn each(log: &[f64], change: fn(&mut [f64; 6])) -> Vec<f64> {
+        let mut log = log.to_vec();
+        log.as_chunks_mut::<6>().0.iter_mut().for_each(change);
+        log
+    }
+    let faults: [(&str, Trace); 16] = [
+        ("entries counted from 0", |lists, b, p, t| {
+            let code = trace(lists, b, p, t);
+            if code == 0 && t.entry > 0 {
+                t.entry -= 1;
+            }
+            code
+        }),
+        ("the last entry in place of the first", |[l, c, log], b, p, t| {
+            let code = trace([l, c, log], b, p, t);
+            if code == 0 && t.entry > 0 {
+                let at = 8 - 2 * t.reason as usize;
+                let holds = |e: &[f64; 6]| e[at] <= p && p < e[at + 1];
+                t.entry = log.as_chunks::<6>().0.iter().rposition(holds).unwrap() + 1;
+            }
+            code
+        }),
+        ("outer and inner pairs exchanged", |[l, c, log], b, p, t| {
+            let swapped = each(log, |e| *e = [e[0], e[1], e[4], e[5], e[2], e[3]]);
+            trace([l, c, &swapped], b, p, t)
+        }),
+        ("pairs that hold their upper end", |[l, c, log], b, p, t| {
+            let wider = each(log, |e| (e[3], e[5]) = (e[3].next_up(), e[5].next_up()));
+            trace([l, c, &wider], b, p, t)
+        }),
+        ("pairs that do not hold their lower end", |[l, c, log], b, p, t| {
+            let narrower = each(log, |e| (e[2], e[4]) = (e[2].next_up(), e[4].next_up()));
+            trace([l, c, &narrower], b, p, t)
+        }),
+        ("an inner pair counts within its outer one only", |[l, c, log], b, p, t| {
+            let within = each(log, |e| (e[4], e[5]) = (e[4].max(e[2]), e[5].min(e[3])));
+            trace([l, c, &within], b, p, t)
+        }),
+        ("minus zero below plus zero", |[l, c, log], b, p, t| {
+            let code = trace([l, c, log], b, p, t);
+            if code == 0 && p.to_bits() == (-0f64).to_bits() { trace([l, c, log], b, p.next_down(), t) } else { code }
+        }),
+        ("an infinite place not possible", |lists, b, p, t| {
+            let code = trace(lists, b, p, t);
+            if code == 0 && p.is_infinite() {
+                *t = Traced { reason: 1, entry: 0 };
+            }
+            code
+        }),
+        ("entries that name no ray left out", |[l, c, log], b, p, t| {
+            let named = each(log, |e| {
+                if !(0. ..=2.).contains(&e[0]) {
+                    e[2..].fill(0.);
+                }
+            });
+            trace([l, c, &named], b, p, t)
+        }),
+        ("19 before 11", |lists, b, p, t| match trace(lists, b, p, t) {
+            11 if p.is_nan() => 19,
+            code => code,
+        }),
+        ("part of an entry left out", |[l, c, log], b, p, t| trace([l, c, log.as_chunks::<6>().0.as_flattened()], b, p, t)),
+        ("a refused call that writes the entry", |lists, b, p, t| {
+            let code = trace(lists, b, p, t);
+            if code != 0 {
+                t.entry = 0;
+            }
+            code
+        }),
+        ("a refused call that writes the reason", |lists, b, p, t| {
+            let code = trace(lists, b, p, t);
+            if code != 0 {
+                t.reason = 1;
+            }
+            code
+        }),
+        ("a NaN place not possible", |lists, b, p, t| match trace(lists, b, p, t) {
+            19 => {
+                *t = Traced { reason: 1, entry: 0 };
+                0
+            }
+            code => code,
+        }),
+        ("made uncertain where a later inner pair removes", |[l, c, log], b, p, t| {
+            let code = trace([l, c, log], b, p, t);
+            if code == 0 && t.reason == 2 {
+                let before = &log[..6 * (t.entry - 1)];
+                let mut earlier = *t;
+                if trace([l, c, before], b, p, &mut earlier) == 0 && earlier.reason == 3 {
+                    *t = earlier;
+                }
+            }
+            code
+        }),
+        ("possible and certain exchanged", |[l, c, log], b, p, t| match trace([l, c, log], b, p, t) {
+            0 if trace([c, l, log], b, p, t) != 0 => trace([c, c, log], b, p, t),
             code => code,
         }),
     ];

@@ -3,6 +3,7 @@ use compare::{
     merge::ray_and_room,
     spans::{list_and_room, normalize_refusal, two_list_refusal, two_lists_and_room},
     stock::{blank, fill_refusal, stock, volume_refusal},
+    trace::query,
 };
 use harness::{generate::Gen, pairs};
 use oracle::dexel::opened as rust;
@@ -62,6 +63,23 @@ fn rays() {
     }
     assert!(share(refused[0]) >= 40 && share(refused[11]) >= 10 && share(refused[12]) >= 10, "{refused:?}");
     assert!(moved.as_flattened().iter().all(|n| share(*n) >= 2), "possible and certain moved {moved:?}");
+}
+
+/// Camlib's merges and the request's own words give one reason.
+#[test]
+fn queries() {
+    let (mut refused, mut traced) = ([0; 20], [0; 6]);
+    for k in 0..CASES {
+        let q = query(&mut Gen::new(1, "inputs", k));
+        let number = q.refusal();
+        refused[number as usize] += 1;
+        if number == 0 {
+            assert_eq!(q.traced(), q.by_words(), "{q:?}");
+            traced[q.traced().reason as usize] += 1;
+        }
+    }
+    assert!(share(refused[0]) >= 40 && share(refused[11]) >= 10 && share(refused[19]) >= 2, "{refused:?}");
+    assert!((1..=5).all(|reason| share(traced[reason]) >= 3), "{traced:?}");
 }
 
 #[test]

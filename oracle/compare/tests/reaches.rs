@@ -2,8 +2,9 @@
 use compare::modules;
 
 /// How many cases each function is given that counts what they reach.
-const CASES: [(&str, u64); 10] = [
+const CASES: [(&str, u64); 11] = [
     ("merge", 20_000),
+    ("trace", 20_000),
     ("fill", 20_000),
     ("volume", 20_000),
     ("merge_ray", 5_000),

@@ -4,7 +4,7 @@ use native.Mathlib.Omega.{arith}
 use mathlib.Core.Path.{ap}
 use Prim.Native.Nat.{_-_}
 use lib.ListN.{length, length-set}
-use Rattle.log_group.specs.Groups.{hitKindOf}
+use Rattle.log_model.specs.Steps.{hitKindOf}
 use Rattle.log_group.proofs.Gathering.{Gathering, Turn, turn, gathers, gathered, again}
 use Rattle.log_group.proofs.gather_hits.Statement.{statement}
 use Rattle.log_group.proofs.gather_hits.Tie as tie

@@ -7,7 +7,7 @@ use lib.ListN.{length, take, drop, length-drop}
 use lib.Seq.{length-take-le}
 use Rattle.log_model.specs.Logs.{entries, hitsOnRay}
 use Rattle.log_entries.proofs.Sizes.{named-even}
-use Rattle.log_group.specs.Groups.{hitKindOf}
+use Rattle.log_model.specs.Steps.{hitKindOf}
 use Rattle.log_merge.proofs.Loading.{copied-size, hits-loaded}
 use Rattle.log_merge.proofs.load_hits.Statement.{statement}
 use Rattle.log_merge.proofs.load_hits.Tie as tie

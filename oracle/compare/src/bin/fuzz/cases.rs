@@ -11,6 +11,7 @@ use compare::{
     merge::ray_and_room,
     spans::{list_and_room, two_lists_and_room},
     sweep::{AXES, chord},
+    trace::query,
 };
 use harness::{commits::Commit, generate::Gen, runs, store::small_spec};
 
@@ -24,6 +25,7 @@ pub fn run(t: &mut Trial, seed: u64, case: u64) {
         Entry::Subtract | Entry::Intersect => combine(t, g, entry, near),
         Entry::Contains | Entry::Overlaps => relate(t, g, entry, near),
         Entry::Merge => merge(t, g, near),
+        Entry::Trace => trace(t, g, near),
         _ => over_stock(t, g, entry, near),
     }
 }
@@ -100,6 +102,27 @@ fn merge(t: &mut Trial, g: &mut Gen, near: bool) {
     let [p, c, o, i] = lists.each_ref().map(|l| l.len() / 2);
     let work = fitted(room(g, 2 * (4 * (p + c) + 8 * (o + i))));
     lists::merge(t, lists.each_ref().map(|l| l.as_slice()), bounds, &work);
+}
+
+fn trace(t: &mut Trial, g: &mut Gen, near: bool) {
+    let mut numbers = [double(g), double(g), double(g)];
+    let mut lists: [Vec<u64>; 3];
+    if near {
+        let q = query(g);
+        lists = q.lists().map(bits);
+        let [lo, hi] = q.ray.bounds;
+        if !g.once_in(20) {
+            numbers = [lo, hi, q.place].map(f64::to_bits);
+        }
+        mutate_lists(g, &mut lists);
+    } else {
+        lists = std::array::from_fn(|_| buffer(g, double));
+        if g.once_in(2) {
+            lists[..2].iter_mut().for_each(Vec::clear);
+        }
+    }
+    let [lo, hi, place] = numbers;
+    lists::trace(t, lists.each_ref().map(|l| l.as_slice()), [lo, hi], place);
 }
 
 // ---- stocks

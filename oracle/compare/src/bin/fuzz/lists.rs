@@ -1,4 +1,4 @@
-//! The list functions and the one-ray merge.
+//! The list functions, the one-ray merge and the trace of a place.
 use crate::{
     trial::{Entry, Lent, MARK, Trial},
     words::doubles,
@@ -6,6 +6,7 @@ use crate::{
 use compare::{
     merge::Ray,
     spans::{is_sound, normalize_refusal, two_list_refusal},
+    trace::{Query, Traced},
 };
 use tridexel::raw;
 
@@ -113,4 +114,35 @@ fn merged(t: &Trial, own: [usize; 2], work: &Lent, [moved, pairs]: [&Lent; 2]) {
         }
     }
     t.require(zero(rest), "a cell of the work buffer past the new lists that is not plus zero");
+}
+
+/// 11 exactly for part of an entry over or a ray not valid, then 19 exactly for a place that is NaN; accepted: the reason by the request's words.
+pub fn trace(t: &mut Trial, lists: [&[u64]; 3], bounds: [u64; 2], place: u64) {
+    t.begin(Entry::Trace);
+    let [p, c, log] = lists.map(|l| t.read(l));
+    let ([lo, hi], place) = (bounds.map(f64::from_bits), f64::from_bits(place));
+    let (reason, entry) = (t.write(&[MARK as u32]), t.write(&[MARK]));
+    let code = unsafe {
+        raw::tridexel_trace(
+            p.cells(),
+            p.len,
+            c.cells(),
+            c.len,
+            lo,
+            hi,
+            log.cells(),
+            log.len,
+            place,
+            reason.cells(),
+            entry.cells(),
+        )
+    };
+    t.end(code);
+    let [possible, certain, log] = lists.map(doubles);
+    let q = Query { ray: Ray { bounds: [lo, hi], possible, certain, outer: vec![], inner: vec![] }, log, place };
+    t.require(code == q.refusal(), "another answer is due");
+    if code == 0 {
+        let traced = Traced { reason: t.after::<u32>(&reason)[0], entry: t.number(&entry) as usize };
+        t.require(traced == q.by_words(), "another reason is due");
+    }
 }

@@ -15,6 +15,7 @@ pub enum Entry {
     Contains,
     Overlaps,
     Merge,
+    Trace,
     Grid,
     Fill,
     Volume,
@@ -24,13 +25,14 @@ pub enum Entry {
 }
 
 impl Entry {
-    pub const ALL: [Entry; 12] = [
+    pub const ALL: [Entry; 13] = [
         Entry::Normalize,
         Entry::Subtract,
         Entry::Intersect,
         Entry::Contains,
         Entry::Overlaps,
         Entry::Merge,
+        Entry::Trace,
         Entry::Grid,
         Entry::Fill,
         Entry::Volume,
@@ -39,11 +41,12 @@ impl Entry {
         Entry::Sweep,
     ];
 
-    /// The answers that document 01 allows.
+    /// The answers that the documents allow.
     pub fn answers(self) -> &'static [u32] {
         match self {
             Entry::Normalize | Entry::Subtract | Entry::Intersect | Entry::Merge => &[0, 11, 12],
             Entry::Contains | Entry::Overlaps => &[0, 11],
+            Entry::Trace => &[0, 11, 19],
             Entry::Grid => &[0, 1, 2, 3, 4],
             Entry::Fill => &[0, 1, 2, 3, 4, 12],
             Entry::Volume => &[0, 1, 2, 3, 4, 11, 12],
@@ -54,8 +57,8 @@ impl Entry {
     }
 }
 
-/// The answers 0 to 17, and one place for every other.
-pub const ANSWERS: usize = 19;
+/// The answers 0 to 19, and one place for every other.
+pub const ANSWERS: usize = 21;
 
 /// What the process that calls tells the one that waits for it. All zero at first.
 #[derive(Default)]
@@ -180,7 +183,7 @@ impl<'a> Trial<'a> {
     /// of a sweep are looked at there). What may only be read cannot be written: its pages are read-only.
     pub fn end(&mut self, code: u32) {
         let known = self.entry.answers().contains(&code);
-        let place = if code <= 17 { code as usize } else { ANSWERS - 1 };
+        let place = (code as usize).min(ANSWERS - 1);
         self.shared.answers[self.entry as usize][place].fetch_add(1, Relaxed);
         self.require(known, "an answer that is not among its refusals");
         let rooms = self.reads[..self.read].iter().chain(&self.writes[..self.written]);
