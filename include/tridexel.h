@@ -7,12 +7,13 @@
  * refusal (LAYOUT 14), 0 where the call is accepted. A refused call leaves every buffer and every number as it was; the one exception is named at
  * tridexel_sweep. A number is given exactly when its cause holds and none before it, in the order named at the function, does.
  *
- *   1 description        2 more cells or rays than max_rays   3 twice the rays exceed max_intervals   4 a step below the resolution
+ *   1 a description or units out of limits, a budget of 0 too   2 more rays, or cells along an axis, than max_rays   3 twice the rays exceed max_intervals
  *   5 beam               6 tool                               7 chord or guard                        8 a visit beyond the budget
  *   9 more changed rays than allowed   10 more intervals than max_intervals   11 a list or store not sound, part of an item over
  *  12 a buffer shorter than needed     13 a bad change        14 base generation differs              15 generation at its maximum
  *  16 log full at a hit                17 a log entry that names no ray          19 a place that is NaN
  *  18 is given by the program merge_ray alone
+ *   4 is retired: no description gets it, and no other cause will have the number; a `case 4` on the result of a call can go (LAYOUT 14)
  *
  * A slice is a pointer and the number of its items; the pointer of an empty slice is that of any object, not NULL. Slices and numbers that are written
  * overlap no other of the call. Numbers are IEEE 754 binary64; lengths are millimetres, volumes cubic millimetres. Calls are made in the default floating-point
@@ -95,7 +96,7 @@ typedef struct {
   uint64_t max_intervals;
 } tridexel_spec;
 
-/* Cells and steps along x, y, z; how rays are numbered: LAYOUT 5. Refusals: 1, 2, 3, 4. */
+/* Cells and steps along x, y, z; how rays are numbered: LAYOUT 5. Refusals: 1, 2, 3. */
 uint32_t tridexel_grid(tridexel_spec spec, const uint8_t *units, size_t units_len, uint64_t cells[3], double steps[3]);
 
 /* The lent store of a stock is `spans`, `links` and `heads` (LAYOUT 6); cells past those that it needs are neither read nor written. The generation and the
@@ -106,17 +107,17 @@ uint32_t tridexel_grid(tridexel_spec spec, const uint8_t *units, size_t units_le
 #define TRIDEXEL_RECORD_CELLS(max_intervals) (2 * (size_t)(max_intervals))
 #define TRIDEXEL_HEAD_CELLS(rays) (2 * (size_t)(rays))
 
-/* Lays the uncut stock: one full pair in each list. The cells may hold anything before. Refusals: 1 to 4, 12. */
+/* Lays the uncut stock: one full pair in each list. The cells may hold anything before. Refusals: 1 to 3, 12. */
 uint32_t tridexel_fill(tridexel_spec spec, const uint8_t *units, size_t units_len, double *spans, size_t spans_len, uint64_t *links, size_t links_len,
                        uint64_t *heads, size_t heads_len, uint64_t *generation, uint64_t *intervals);
 
 /* Ten numbers: certain and possible by the rays along x, then y, then z; remaining lower, upper; removed lower, upper (LAYOUT 13).
- * Refusals: 1 to 4, 12, 11. */
+ * Refusals: 1 to 3, 12, 11. */
 uint32_t tridexel_volume(tridexel_spec spec, const uint8_t *units, size_t units_len, const double *spans, size_t spans_len, const uint64_t *links,
                          size_t links_len, const uint64_t *heads, size_t heads_len, uint64_t intervals, double volume[10]);
 
 /* Commits a change list made on the stock at generation `base`: six numbers per change in `changes`, its lists end to end in `pairs` (LAYOUT 9).
- * Accepted: the store has the new lists, the generation steps, `*changed` becomes the number of changes. Refusals: 1 to 4, 12, 11, 14, 13, 10, 15. */
+ * Accepted: the store has the new lists, the generation steps, `*changed` becomes the number of changes. Refusals: 1 to 3, 12, 11, 14, 13, 10, 15. */
 uint32_t tridexel_commit_changes(tridexel_spec spec, const uint8_t *units, size_t units_len, double *spans, size_t spans_len, uint64_t *links,
                                  size_t links_len, uint64_t *heads, size_t heads_len, uint64_t *generation, uint64_t *intervals, uint64_t base,
                                  const uint64_t *changes, size_t changes_len, const double *pairs, size_t pairs_len, uint64_t *changed);
@@ -126,7 +127,7 @@ uint32_t tridexel_commit_changes(tridexel_spec spec, const uint8_t *units, size_
 
 /* Commits a log, six doubles per entry (LAYOUT 8): possible loses the inner hits of each ray, certain the outer and the inner ones; at most `allowance`
  * rays may change. Accepted: the store has the new lists, the generation steps, `*changed` becomes the number of changed rays, `work` is all plus zero.
- * Refusals: 1 to 4, 12, 11, 15, 17, 9, 10. */
+ * Refusals: 1 to 3, 12, 11, 15, 17, 9, 10. */
 uint32_t tridexel_commit_log(tridexel_spec spec, const uint8_t *units, size_t units_len, double *spans, size_t spans_len, uint64_t *links,
                              size_t links_len, uint64_t *heads, size_t heads_len, uint64_t *generation, uint64_t *intervals, const double *log,
                              size_t log_len, uint64_t allowance, double *work, size_t work_len, uint64_t *changed);
@@ -161,7 +162,7 @@ typedef struct {
 
 /* The rays across the tool that a list of chords hits. A chord is eight doubles: world ends a and b, the error e, the plan length (hypot of the two
  * differences across the tool axis; LAYOUT 10). Accepted: `*entries` log entries (LAYOUT 8) stand in `log` in visiting order, every cell past them is
- * plus zero, `*visits` is the number of rays visited. A number that names no axis or no shape is 6. Refusals: 1 to 4, 12, 11, 5, 6, 7, then per visit 8
+ * plus zero, `*visits` is the number of rays visited. A number that names no axis or no shape is 6. Refusals: 1 to 3, 12, 11, 5, 6, 7, then per visit 8
  * before 16; 8 and 16 leave the whole log plus zero, every other refusal leaves it as it was. */
 uint32_t tridexel_sweep(tridexel_spec spec, const uint8_t *units, size_t units_len, const double *spans, size_t spans_len, const uint64_t *links,
                         size_t links_len, const uint64_t *heads, size_t heads_len, uint64_t intervals, uint64_t axis, uint64_t shape, double m, double n,

@@ -13,6 +13,8 @@ pub enum Blame {
 macro_rules! refusals {
     ($($name:ident = $number:literal, $blame:ident, $text:literal;)*) => {
         /// The refusals by cause, of document 01 and of the requests of document 02.
+        ///
+        /// 4, once `Resolution`, is retired: no description gets it, and an arm for it can go.
         #[derive(Clone, Copy, Debug, Eq, PartialEq)]
         #[repr(u32)]
         pub enum Refusal {
@@ -50,7 +52,6 @@ refusals! {
     Description = 1, BlankAuthor, "the blank's description is out of its limits";
     TooManyRays = 2, BlankAuthor, "an axis has more cells, or all grids more rays, than max_rays";
     TooFewIntervals = 3, BlankAuthor, "twice the rays exceed max_intervals";
-    Resolution = 4, BlankAuthor, "a step is below the resolution";
     Beam = 5, ToolAndChordAuthor, "a beam is no tool";
     Tool = 6, ToolAndChordAuthor, "a number of the tool is out of its limits";
     Chord = 7, ToolAndChordAuthor, "a number of a chord, or the guard, is out of its limits";

@@ -17,7 +17,7 @@ pub struct Spec {
 }
 
 impl Spec {
-    /// The grid of the blank. 1 to 4: the blank's author.
+    /// The grid of the blank. 1 to 3: the blank's author.
     pub fn grid(&self) -> Result<Grid, Refusal> {
         let mut g = Grid { cells: [0; 3], steps: [0.; 3] };
         accepted(unsafe { raw::tridexel_grid(self.into(), UNITS.as_ptr(), UNITS.len(), &mut g.cells, &mut g.steps) })?;
@@ -139,7 +139,7 @@ pub struct Stock {
 }
 
 impl Stock {
-    /// The uncut stock of a blank. 1 to 4: the blank's author.
+    /// The uncut stock of a blank. 1 to 3: the blank's author.
     pub fn fill(spec: Spec) -> Result<Stock, Refusal> {
         let grid = spec.grid()?;
         let records = 2 * spec.max_intervals as usize;

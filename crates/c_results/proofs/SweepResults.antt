@@ -1,8 +1,8 @@
 -- The numbers that C gets stand for the sweep's answer, for the axis and the shape that its numbers name.
-use mathlib.Core.Path.{_≡_, subst}
+use mathlib.Core.Path.{_≡_, refl, subst}
+use mathlib.Core.Bool.{true}
 use mathlib.Core.List.{List}
-use native.Mathlib.Omega.{arith}
-use Prim.Native.Nat.{ℕ, _<_}
+use Prim.Native.Nat.{ℕ}
 use lib.Ieee.{Float}
 use lib.ListN.{length}
 use Rattle.grid.specs.Causes.{gridCauses}
@@ -16,32 +16,14 @@ use Rattle.sweep_model.specs.SweepEntries.{Setting}
 use Rattle.sweep.specs.declared.Totals.{Totals}
 use Rattle.sweep.specs.declared.SweepAnswer.{SweepAnswer}
 use Rattle.c_results.specs.Numbers.{AnsweredBy, HandedAs, sweepNumbers}
-use Rattle.c_results.proofs.Results.{answered, due-above}
+use Rattle.c_results.proofs.Results.{isGiven, answered, due-given}
 use Rattle.store.specs.Store.{Cells}
 
-sweep-above : (units : List ℕ) (s : Setting) (intervals : ℕ) (chords : List Float) (budget len k : ℕ)
-    → Due (sweepCauses units s intervals chords budget len) k → 0 < k
+pub sweep-given : (units : List ℕ) (s : Setting) (intervals : ℕ) (chords : List Float) (budget len k : ℕ)
+    → Due (sweepCauses units s intervals chords budget len) k → isGiven k ≡ true
 unfolding gridCauses
-sweep-above units s intervals chords budget len k =
-    due-above (sweepCauses units s intervals chords budget len) k (
-      omega arith,
-      (
-        omega arith,
-        (
-          omega arith,
-          (
-            omega arith,
-            (
-              omega arith,
-              (
-                omega arith,
-                (omega arith, (omega arith, (omega arith, (omega arith, (omega arith, tt))))),
-              ),
-            ),
-          ),
-        ),
-      ),
-    )
+sweep-given units s intervals chords budget len k =
+    due-given (sweepCauses units s intervals chords budget len) k refl
 
 module _ (spec : DexelStockSpec) (units : List ℕ) (c : Cells) (intervals : ℕ) (cutter : PreparedCutter)
     (guard : Float) (chords : List Float) (budget : ℕ) (log after : List Float) where
@@ -54,6 +36,6 @@ module _ (spec : DexelStockSpec) (units : List ℕ) (c : Cells) (intervals : ℕ
       → AnsweredBy sweepNumbers SweepAnswer.Refused (Promise b k) r x y
   sweep-answered a b h k s r x y e f p n =
       answered sweepNumbers SweepAnswer.Refused (Promise b k) s r x y
-      (λ j q. sweep-above units (settingOf spec b k cutter guard c) intervals chords budget (length log) j (q .0))
+      (λ j q. sweep-given units (settingOf spec b k cutter guard c) intervals chords budget (length log) j (q .0))
       (subst (λ (z : Axis). Promise z k s) e (subst (λ (z : CutterShape). Promise a z s) f p))
       n

@@ -42,7 +42,7 @@ changeCauses spec g base s changes pairs =
     ∷ cause 14 (base ≡ s .generation → ⊥)
     ∷ changeListCauses spec g s changes pairs
 
--- and 1, 2, 3, 4 first
+-- and 1, 2, 3 first
 abbrev pub changeCommitCauses : DexelStockSpec → (units : List ℕ) → (base : ℕ) → Stock → List ℕ → List Float → List Cause
 changeCommitCauses spec units base s changes pairs = gridCauses spec units ++ changeCauses spec (gridIn spec) base s changes pairs
 

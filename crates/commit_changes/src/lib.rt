@@ -154,7 +154,7 @@ fn commit_grid(
     }
 }
 
-// The commit of a change list on plain numbers and slices. Refusals: 1, 2, 3, 4, 12, 11, 14, 13, 10, 15.
+// The commit of a change list on plain numbers and slices. Refusals: 1, 2, 3, 12, 11, 14, 13, 10, 15.
 pub fn commit_changes_on(
     generation: u64,
     intervals: u64,

@@ -50,7 +50,7 @@ LogCellsOnAnyGrid (NoGrid k) spec s log work a t work′ = work′ ≡ work
 -- THE LOG COMMIT: what a run of logs is made of, and every cell of every buffer
 pub record LogCommitPost (spec : DexelStockSpec) (units : List ℕ) (s : Stock) (log : List Float) (allowance : ℕ)
     (work : List Float) (a : CommitAnswer) (t : Stock) (work′ : List Float) : Type 0 where
-  -- the answer of `grid`, by document 01's causes 1 to 4
+  -- the answer of `grid`, by document 01's causes 1 to 3
   pub described : GridAnswer
   pub by : ByCauses spec units described
   pub promise : CommitOnAnyGrid described spec s (commitOf log allowance work) (answerOf a) t

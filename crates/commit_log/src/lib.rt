@@ -58,7 +58,7 @@ fn commit_grid(
     }
 }
 
-// The log commit on the numbers of the small record. Refusals: 1, 2, 3, 4, 12, 11, 15, 17, 9, 10.
+// The log commit on the numbers of the small record. Refusals: 1, 2, 3, 12, 11, 15, 17, 9, 10.
 pub fn commit_log_on(
     generation: u64,
     intervals: u64,

@@ -19,7 +19,7 @@ use Rattle.doubles.specs.Rounding.{Whole, FloorOf, CeilOf}
 -- ---- whole numbers c and q, with a and b the sizes of the doubles that hold them over the denominators d and j
 
 -- a double whose value is c is whole
-value-whole : (w : Float) (s : Bool) (c : ℕ) → HasValue w s c 1 → Whole w
+pub value-whole : (w : Float) (s : Bool) (c : ℕ) → HasValue w s c 1 → Whole w
 value-whole nan s c h = h
 value-whole (inf t) s c h = h
 value-whole (fin t m e) s c h = ap (λ (z : ℕ). z % down e) (sym (mul-one (m * up e)) ∙ h .1) ∙ mul-mod-left c (down e)

@@ -2,7 +2,7 @@
 -- same causes as whole numbers do. Assumes nothing.
 use mathlib.Core.Path.{_≡_, refl, sym, ap, _∙_, subst}
 use mathlib.Core.Logic.{inl, inr}
-use mathlib.Core.Bool.{Bool, true, false, cond, not, true≢false}
+use mathlib.Core.Bool.{Bool, true, false, cond, not}
 use mathlib.Core.List.{List}
 use Prim.Native.Nat.{ℕ, zero, suc, _*_, _^_, _≤_, _<_}
 use native.Mathlib.Omega.{arith}
@@ -13,9 +13,9 @@ use Rattle.doubles.specs.Constants.{two}
 use Rattle.refusal.specs.Refusal.{Due, NoneDue}
 use Rattle.grid.specs.Axes.{byDigit, worldAxis, alongOf, cellsAlong}
 use Rattle.grid.specs.Grid.{whole}
-use Rattle.grid.specs.FromSpec.{anyAbove, isMm, sizesOf, extentsOf, misdescribed, raysOf, tooFine, gridOver, gridOf}
+use Rattle.grid.specs.FromSpec.{anyAbove, isMm, sizesOf, extentsOf, misdescribed, raysOf, gridOver, gridOf}
 use Rattle.grid.specs.Rays.{rayCount}
-use Rattle.grid.specs.Causes.{Misdescribed, Crowded, OverBudget, TooFine, dimsIn, gridIn, gridCauses, ByCauses, GridPost}
+use Rattle.grid.specs.Causes.{Misdescribed, Crowded, OverBudget, dimsIn, gridIn, gridCauses, ByCauses, GridPost}
 use Rattle.grid.specs.Causes.{units-not-mm}
 use Rattle.grid.specs.declared.Vec3.{Vec3}
 use Rattle.grid.specs.declared.WorldAxis.{WorldAxis}
@@ -24,7 +24,7 @@ use Rattle.grid.specs.declared.GridAnswer.{GridAnswer}
 use Rattle.grid.specs.declared.GridAnswer.the-variants.{Accepted, Refused}
 use Rattle.grid.proofs.Counts.{Cells, cells-whole, above-is, some-cell, cast-exact}
 use Rattle.grid.proofs.Sums.{wholes, total-test, total-exact, twice-test}
-use Rattle.grid.proofs.Described.{each, below-axis, not-below, above-axis, not-above, not-mm, passes, clause, no-clause}
+use Rattle.grid.proofs.Described.{each, above-axis, not-above, not-mm, passes, clause, no-clause}
 
 -- ---- the cells along an axis
 
@@ -118,43 +118,23 @@ module _ (s : DexelStockSpec) (ceiling : s .«max_rays» < 2 ^ 32) where
 
 -- ---- the answer
 
--- `gridOver` from refusal 4 on, from 3 on, and from the second test of 2 on
-abbrev from4 : DexelStockSpec → GridAnswer
-from4 s = cond (tooFine (s .«min_mm») (s .«max_mm») (gridIn s)) (Refused 4) (Accepted (gridIn s))
-
+-- `gridOver` from refusal 3 on, and from the second test of 2 on
 abbrev from3 : DexelStockSpec → GridAnswer
-from3 s = cond (lt (whole (s .«max_intervals»)) (mul binary64 two (raysOf (dimsIn s)))) (Refused 3) (from4 s)
+from3 s = cond (lt (whole (s .«max_intervals»)) (mul binary64 two (raysOf (dimsIn s)))) (Refused 3) (Accepted (gridIn s))
 
 abbrev from2 : DexelStockSpec → GridAnswer
 from2 s = cond (lt (whole (s .«max_rays»)) (raysOf (dimsIn s))) (Refused 2) (from3 s)
 
 module _ (s : DexelStockSpec) (units : List ℕ) where
-  -- a step test that fails is one on no axis
-  fine : tooFine (s .«min_mm») (s .«max_mm») (gridIn s) ≡ false → TooFine s (gridIn s) → ⊥
-  unfolding TooFine tooFine
-  fine e (a, t) = true≢false (sym t ∙ not-below _ _ e a)
-
-  coarse : tooFine (s .«min_mm») (s .«max_mm») (gridIn s) ≡ true → TooFine s (gridIn s)
-  unfolding TooFine tooFine
-  coarse e = below-axis _ _ e
-
   module _ (n1 : Misdescribed s (sizesOf s) units → ⊥) where
-    -- refusal 4, and acceptance
-    fourth : (Crowded s (gridIn s) → ⊥) → (OverBudget s (gridIn s) → ⊥) → (b : Bool) → tooFine (s .«min_mm») (s .«max_mm») (gridIn s) ≡ b
-        → ByCauses s units (cond b (Refused 4) (Accepted (gridIn s)))
-    unfolding Due NoneDue gridCauses
-    fourth n2 n3 true e = inr (n1, inr (n2, inr (n3, inl (coarse e, refl))))
-    fourth n2 n3 false e = ((n1, (n2, (n3, (fine e, tt)))), refl)
-
     module _ (ceiling : s .«max_rays» < 2 ^ 32) (f : Few s ceiling) where
       third : rayCount (gridIn s) ≤ s .«max_rays» → (b : Bool) → lt (whole (s .«max_intervals»)) (mul binary64 two (raysOf (dimsIn s))) ≡ b
-          → ByCauses s units (cond b (Refused 3) (from4 s))
-      unfolding Due gridCauses OverBudget
+          → ByCauses s units (cond b (Refused 3) (Accepted (gridIn s)))
+      unfolding Due NoneDue gridCauses OverBudget
       third l true e = inr (n1, inr (not-crowded s ceiling f l, inl (ltb-true _ _ (sym (intervals-test s ceiling f l) ∙ e), refl)))
       third l false e =
           let k : 2 * rayCount (gridIn s) ≤ s .«max_intervals» = ltb-false _ _ (sym (intervals-test s ceiling f l) ∙ e) in
-          fourth (not-crowded s ceiling f l) (λ (o : s .«max_intervals» < 2 * rayCount (gridIn s)). omega arith)
-          (tooFine (s .«min_mm») (s .«max_mm») (gridIn s)) refl
+          ((n1, (not-crowded s ceiling f l, ((λ (o : s .«max_intervals» < 2 * rayCount (gridIn s)). omega arith), tt))), refl)
 
       second : (b : Bool) → lt (whole (s .«max_rays»)) (raysOf (dimsIn s)) ≡ b
           → ByCauses s units (cond b (Refused 2) (from3 s))

@@ -68,7 +68,7 @@ pub data Cells : Float → Type 0 where
   endless : Cells (inf false)
   counted : (n : ℕ) → 0 < n → HasValue (whole n) false n 1 → Cells (whole n)
 
-one-whole : one ≡ whole 1
+pub one-whole : one ≡ whole 1
 unfolding ofBits ofInt
 one-whole = refl
 

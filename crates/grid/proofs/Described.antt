@@ -8,7 +8,7 @@ use native.Mathlib.Omega.{arith}
 use borrow.Author.Tests.{ltb-true, ltb-false, eqb-true, eqb-false}
 use lib.Dec.{eqb}
 use lib.ListN.{length}
-use lib.Ieee.{Float, nan, inf, fin, ofBits, neg, lt, le, eq, isNan}
+use lib.Ieee.{Float, nan, inf, fin, ofBits, neg, lt, le, eq}
 use lib.Ieee.Scale.{finite}
 use Rattle.doubles.specs.Constants.{million, millionth}
 use Rattle.doubles.specs.Ranges.{OutOf}
@@ -21,6 +21,7 @@ use Rattle.grid.specs.Grid.{isBetween, allBetween}
 use Rattle.grid.specs.FromSpec.{leastSize, anyBelow, anyAbove, isMm, extentsOf, misdescribed}
 use Rattle.grid.specs.Causes.{mm, Misdescribed, version-not-1, units-not-mm, min-out, max-out, size-out, no-rays}
 use Rattle.grid.specs.Causes.{too-many-rays, no-intervals, thin}
+use Rattle.grid.specs.Retired.{BoxFits}
 use Rattle.grid.specs.declared.Vec3.{Vec3}
 use Rattle.grid.specs.declared.WorldAxis.{WorldAxis}
 use Rattle.grid.specs.declared.DexelStockSpec.{DexelStockSpec}
@@ -133,13 +134,10 @@ within-axis p lo hi h =
 -- the eight tests of a description that passes them
 pub record Passes (s : DexelStockSpec) (sizes : Vec3) : Type 0 where
   pub version : s .version ≡ 1
-  pub min : (a : WorldAxis) → isBetween (alongOf (s .«min_mm») a) (neg million) million ≡ true
-  pub max : (a : WorldAxis) → isBetween (alongOf (s .«max_mm») a) (neg million) million ≡ true
-  pub size : (a : WorldAxis) → isBetween (alongOf sizes a) leastSize million ≡ true
+  pub box : BoxFits s sizes
   pub some-rays : s .«max_rays» ≡ 0 → ⊥
   pub few-rays : s .«max_rays» ≤ 4294967295
   pub some-intervals : s .«max_intervals» ≡ 0 → ⊥
-  pub thick : (a : WorldAxis) → lt (alongOf (extentsOf s) a) millionth ≡ false
 
 module _ (s : DexelStockSpec) (sizes : Vec3) where
   pub passes : misdescribed s sizes (extentsOf s) ≡ false → Passes s sizes
@@ -154,26 +152,28 @@ module _ (s : DexelStockSpec) (sizes : Vec3) where
       let b7 = or-neither _ _ (b6 .1) in
       record {
         version = eqb-true _ _ (not-false _ (b1 .0));
-        min = within-axis (s .«min_mm») (neg million) million (not-false _ (b2 .0));
-        max = within-axis (s .«max_mm») (neg million) million (not-false _ (b3 .0));
-        size = within-axis sizes leastSize million (not-false _ (b4 .0));
+        box = record {
+          min = within-axis (s .«min_mm») (neg million) million (not-false _ (b2 .0));
+          max = within-axis (s .«max_mm») (neg million) million (not-false _ (b3 .0));
+          size = within-axis sizes leastSize million (not-false _ (b4 .0));
+          thick = not-below (extentsOf s) millionth (b7 .1);
+        };
         some-rays = eqb-false _ _ (b5 .0);
         few-rays = ltb-false _ _ (b6 .0);
         some-intervals = eqb-false _ _ (b7 .0);
-        thick = not-below (extentsOf s) millionth (b7 .1);
       }
 
   pub no-clause : (units : List ℕ) → isMm units ≡ true → Passes s sizes → Misdescribed s sizes units → ⊥
   unfolding isBetween
   no-clause units m p (version-not-1 h) = h (p .version)
   no-clause units m p (units-not-mm h) = h (mm-list units m)
-  no-clause units m p (min-out a h) = not-out (neg million) million (alongOf (s .«min_mm») a) (p .min a) h
-  no-clause units m p (max-out a h) = not-out (neg million) million (alongOf (s .«max_mm») a) (p .max a) h
-  no-clause units m p (size-out a h) = not-out leastSize million (alongOf sizes a) (p .size a) h
+  no-clause units m p (min-out a h) = not-out (neg million) million (alongOf (s .«min_mm») a) (p .box .min a) h
+  no-clause units m p (max-out a h) = not-out (neg million) million (alongOf (s .«max_mm») a) (p .box .max a) h
+  no-clause units m p (size-out a h) = not-out leastSize million (alongOf sizes a) (p .box .size a) h
   no-clause units m p (no-rays h) = p .some-rays h
   no-clause units m p (too-many-rays h) = let l = p .few-rays in omega arith
   no-clause units m p (no-intervals h) = p .some-intervals h
-  no-clause units m p (thin a h) = true≢false (sym h ∙ p .thick a)
+  no-clause units m p (thin a h) = true≢false (sym h ∙ p .box .thick a)
 
   pub clause : (units : List ℕ) → misdescribed s sizes (extentsOf s) ≡ true → Misdescribed s sizes units
   unfolding misdescribed
@@ -189,3 +189,11 @@ module _ (s : DexelStockSpec) (sizes : Vec3) where
       (λ k. ⊎-elim (λ t. no-intervals (eqb-true _ _ t))
       (λ t. let o = below-axis (extentsOf s) millionth t in thin (o .0) (o .1))
       (or-cases _ _ k)) (or-cases _ _ k)) (or-cases _ _ k)) (or-cases _ _ k)) (or-cases _ _ k)) (or-cases _ _ k)) (or-cases _ _ h)
+
+  -- where 1 has no cause every test passes
+  pub no-clause-passes : (units : List ℕ) → (Misdescribed s sizes units → ⊥) → Passes s sizes
+  no-clause-passes units n = go (misdescribed s sizes (extentsOf s)) refl
+    where
+      go : (b : Bool) → misdescribed s sizes (extentsOf s) ≡ b → Passes s sizes
+      go true e = absurd (n (clause units e))
+      go false e = passes e

@@ -16,10 +16,11 @@ use lib.Ieee.Order.{round-mono}
 use lib.Ieee.Fits.{down-pos}
 use Rattle.doubles.specs.Constants.{million, millionth}
 use Rattle.doubles.specs.Doubles.{Number}
-use Rattle.doubles.proofs.Order.{le→side, side→lt, fin-number, not-lt→le}
+use Rattle.doubles.proofs.Order.{le→side, side→lt, fin-number, not-lt→le, le→not-lt}
 use Rattle.doubles.proofs.Whole.{neg-round}
+use Rattle.logic.proofs.Bools.{clash}
 use Rattle.grid.specs.Grid.{whole}
-use Rattle.grid.proofs.Counts.{value}
+use Rattle.grid.proofs.Counts.{value, above-inf}
 use Rattle.doubles.proofs.Ranges.{finite-number}
 use Rattle.grid.proofs.Sums.{Plain, endless, number, round-plain}
 
@@ -61,12 +62,7 @@ round-plain-sized n d k p h small = go (round binary64 false n d) (round-plain n
     below = unfold ofInt in is-true _ (round-mono binary64 n d k 1 p (lit< tt) (rw mul-one h))
 
     go : (x : Float) → Plain x → le x (whole k) ≡ true → Sized k x
-    go x endless l = absurd (none (whole k) (value k small) l)
-      where
-        none : (w : Float) → HasValue w false k 1 → le (inf false) w ≡ true → ⊥
-        none nan v l = v
-        none (inf s) v l = v
-        none (fin s m e) v l = true≢false (sym l ∙ unfold le lt eq in refl)
+    go x endless l = absurd (clash _ (above-inf k small) (le→not-lt (inf false) (whole k) l))
     go x (number m e) l = at-most (whole k) k m e (value k small) l
 
 round-sized : (s : Bool) (n d k : ℕ) → 0 < d → n ≤ k * d → k ≤ 2 ^ 53 → Sized k (round binary64 s n d)
@@ -118,6 +114,10 @@ pub micro-number : Number millionth
 unfolding ofBits isNan
 micro-number = refl
 
+pub negative-below : (m : ℕ) (e : ℤ) → lt (fin true m e) millionth ≡ true
+unfolding ofBits
+negative-below m e = side→lt (fin true m e) millionth (fin-number true m e) micro-number (let p = down-pos e in omega arith)
+
 negative-low : (n d : ℕ) → lt (round binary64 true n d) millionth ≡ true
 unfolding ofBits
 negative-low n d = subst (λ (x : Float). lt x millionth ≡ true) (neg-round binary64 false n d)
@@ -125,8 +125,7 @@ negative-low n d = subst (λ (x : Float). lt x millionth ≡ true) (neg-round bi
   where
     go : (x : Float) → Plain x → lt (neg x) millionth ≡ true
     go x endless = unfold neg lt in refl
-    go x (number m e) = unfold neg in
-        side→lt (fin true m e) millionth (fin-number true m e) (micro-number) (let p = down-pos e in omega arith)
+    go x (number m e) = unfold neg in negative-below m e
 
 zero-low : (n d : ℕ) → 0 < d → n ≡ 0 → lt (round binary64 false n d) millionth ≡ true
 unfolding ofBits lt round

@@ -4,6 +4,8 @@ pub mod Causes
 pub mod Counts
 pub mod Described
 pub mod Extents
+pub mod StepLeast
 pub mod Facts
+pub mod Retired
 pub mod Lookup
 pub mod Sums

@@ -8,8 +8,8 @@ use lib.Ieee.{neg, lt}
 use Rattle.doubles.specs.Constants.{million, millionth}
 use Rattle.doubles.specs.Ranges.{OutOf}
 use Rattle.refusal.specs.Refusal.{Cause, cause, Due, NoneDue}
-use Rattle.grid.specs.Axes.{alongOf, cellsAlong, stepAlong}
-use Rattle.grid.specs.FromSpec.{leastSize, sizesOf, extentsOf, dimsOf, gridWith, leastStep, gridOf}
+use Rattle.grid.specs.Axes.{alongOf, cellsAlong}
+use Rattle.grid.specs.FromSpec.{leastSize, sizesOf, extentsOf, dimsOf, gridWith, gridOf}
 use Rattle.grid.specs.Rays.{rayCount}
 use Rattle.grid.specs.declared.Vec3.{Vec3}
 use Rattle.grid.specs.declared.WorldAxis.{WorldAxis}
@@ -42,10 +42,6 @@ Crowded s g = ((a : WorldAxis) × (s .«max_rays» < cellsAlong g a)) ⊎ (s .«
 unfoldable pub OverBudget : DexelStockSpec → DexelGrid → Type 0
 OverBudget s g = s .«max_intervals» < 2 * rayCount g
 
--- 4 a step below max (1e-6, 128 epsilon × magnitude)
-unfoldable pub TooFine : DexelStockSpec → DexelGrid → Type 0
-TooFine s g = (a : WorldAxis) × (lt (stepAlong g a) (leastStep (s .«min_mm») (s .«max_mm»)) ≡ true)
-
 -- the cells along each axis, as doubles; and the grid with them: cells = ceil (extent / cell size), at least 1, and step = extent / cells
 abbrev pub dimsIn : DexelStockSpec → Vec3
 dimsIn s = dimsOf (extentsOf s) (sizesOf s)
@@ -53,13 +49,12 @@ dimsIn s = dimsOf (extentsOf s) (sizesOf s)
 abbrev pub gridIn : DexelStockSpec → DexelGrid
 gridIn s = gridWith (extentsOf s) (dimsIn s)
 
--- document 01's order: 1, 2, 3, 4
+-- in document 01's order: 1, 2, 3
 unfoldable pub gridCauses : DexelStockSpec → (units : List ℕ) → List Cause
 gridCauses s units =
     cause 1 (Misdescribed s (sizesOf s) units)
     ∷ cause 2 (Crowded s (gridIn s))
     ∷ cause 3 (OverBudget s (gridIn s))
-    ∷ cause 4 (TooFine s (gridIn s))
     ∷ []
 
 -- an answer of `grid` by these causes
@@ -67,7 +62,8 @@ abbrev pub ByCauses : DexelStockSpec → (units : List ℕ) → GridAnswer → T
 ByCauses s units (Refused k) = Due (gridCauses s units) k
 ByCauses s units (Accepted g) = NoneDue (gridCauses s units) × (g ≡ gridIn s)
 
--- what `grid` promises: the Rust's answer, number for number, and that it is document 01's, by its causes
+-- what `grid` promises: the Rust's answer, number for number (by `grid-as-rust` in proofs/Retired.antt with its last test
+-- too), and that it is document 01's, by its causes
 pub record GridPost (s : DexelStockSpec) (units : List ℕ) (r : GridAnswer) : Type 0 where
   pub is : r ≡ gridOf s units
   pub by : ByCauses s units r

@@ -2,9 +2,9 @@
 use mathlib.Core.Path.{_≡_}
 use mathlib.Core.Bool.{true}
 use Prim.Native.Nat.{_*_, _^_, _≤_, _<_}
-use lib.Ieee.{lt}
+use lib.Ieee.{lt, le}
 use lib.Ieee.Scale.{finite}
-use Rattle.doubles.specs.Constants.{plusZero}
+use Rattle.doubles.specs.Constants.{millionth}
 use Rattle.grid.specs.Axes.{alongOf, cellsAlong, stepAlong}
 use Rattle.grid.specs.Grid.{whole}
 use Rattle.grid.specs.FromSpec.{raysOf}
@@ -33,4 +33,4 @@ pub record GridFacts (s : DexelStockSpec) (g : DexelGrid) : Type 0 where
   pub max-finite : (a : WorldAxis) → finite (alongOf (s .«max_mm») a) ≡ true
   pub box : (a : WorldAxis) → lt (alongOf (s .«min_mm») a) (alongOf (s .«max_mm») a) ≡ true
   pub step-finite : (a : WorldAxis) → finite (stepAlong g a) ≡ true
-  pub step-above : (a : WorldAxis) → lt plusZero (stepAlong g a) ≡ true
+  pub step-least : (a : WorldAxis) → le millionth (stepAlong g a) ≡ true

@@ -1,6 +1,7 @@
 -- `grid` of document 01, as the Rust works it out: each operation on doubles is rounded, in the Rust's order, and the
--- tests are those of the Rust. specs/Causes.antt has the refusals in document 01's own words; `grid-by-causes` in
--- proofs/Causes.antt shows that they say the same.
+-- tests are those of the Rust but its last, which fails for no description that passes the others (specs/Retired.antt).
+-- specs/Causes.antt has the refusals in document 01's own words; `grid-by-causes` in proofs/Causes.antt shows that they say
+-- the same.
 use mathlib.Core.Bool.{Bool, cond, not, _&&_, _||_}
 use mathlib.Core.List.{List}
 use Prim.Native.Nat.{ℕ}
@@ -8,7 +9,7 @@ use lib.Dec.{eqb, ltb}
 use lib.ListN.{length, getD}
 use lib.Ieee.{Float, binary64, ofBits, toUnsigned, add, sub, mul, div, neg, lt}
 use Rattle.doubles.specs.Constants.{million, millionth, one, two}
-use Rattle.doubles.specs.Doubles.{largerOf, ceilOf, absOf}
+use Rattle.doubles.specs.Doubles.{largerOf, ceilOf}
 use Rattle.grid.specs.declared.Vec3.{Vec3}
 use Rattle.grid.specs.declared.DexelStockSpec.{DexelStockSpec}
 use Rattle.grid.specs.declared.DexelGrid.{DexelGrid}
@@ -16,15 +17,9 @@ use Rattle.grid.specs.declared.GridAnswer.{GridAnswer}
 use Rattle.grid.specs.declared.GridAnswer.the-variants.{Accepted, Refused}
 use Rattle.grid.specs.Grid.{whole, allBetween}
 
--- 128, 1e-5 and 2 ^ -52 (Rust's `f64::EPSILON`)
-abbrev pub c128 : Float
-c128 = ofBits binary64 0x4060_0000_0000_0000
-
+-- 1e-5
 abbrev pub leastSize : Float
 leastSize = ofBits binary64 0x3ee4_f8b5_88e3_68f1
-
-abbrev pub epsilon : Float
-epsilon = ofBits binary64 0x3cb0_0000_0000_0000
 
 -- ---- tests on three numbers, one per axis
 
@@ -89,32 +84,15 @@ gridWith e d =
 abbrev pub raysOf : (dims : Vec3) → Float
 raysOf d = add binary64 (add binary64 (mul binary64 (d .x) (d .y)) (mul binary64 (d .y) (d .z))) (mul binary64 (d .z) (d .x))
 
--- ---- refusal 4
-
--- the largest size of a bound, at least 1
-unfoldable pub magnitudeOf : (min max : Vec3) → Float
-magnitudeOf p q =
-    largerOf (largerOf (largerOf (largerOf (largerOf (largerOf one (absOf (p .x))) (absOf (p .y))) (absOf (p .z)))
-    (absOf (q .x))) (absOf (q .y))) (absOf (q .z))
-
--- max (1e-6, 128 epsilon × magnitude)
-unfoldable pub leastStep : (min max : Vec3) → Float
-leastStep p q = largerOf millionth (mul binary64 (mul binary64 c128 epsilon) (magnitudeOf p q))
-
-unfoldable pub tooFine : (min max : Vec3) → DexelGrid → Bool
-tooFine p q g = anyBelow (record { x = g .s0; y = g .s1; z = g .s2 }) (leastStep p q)
-
 -- ---- the answer
 
--- refusals 2, 3 and 4, over the cells along each axis
+-- refusals 2 and 3, over the cells along each axis
 unfoldable pub gridOver : DexelStockSpec → (extents dims : Vec3) → GridAnswer
 gridOver s extents dims =
-    let g = gridWith extents dims in
     cond (anyAbove dims (whole (s .«max_rays»))) (Refused 2)
     (cond (lt (whole (s .«max_rays»)) (raysOf dims)) (Refused 2)
     (cond (lt (whole (s .«max_intervals»)) (mul binary64 two (raysOf dims))) (Refused 3)
-    (cond (tooFine (s .«min_mm») (s .«max_mm») g) (Refused 4)
-    (Accepted g))))
+    (Accepted (gridWith extents dims))))
 
 unfoldable pub gridOf : DexelStockSpec → (units : List ℕ) → GridAnswer
 gridOf s units =

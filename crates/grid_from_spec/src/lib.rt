@@ -6,7 +6,7 @@ ghost use lib.Ieee.{neg};
 ghost use Rattle.doubles.specs.Constants.{million};
 ghost use Rattle.grid.specs.Grid.{allBetween};
 ghost use Rattle.grid.specs.FromSpec.{leastSize, anyBelow, anyAbove, isMm, misdescribed, cellCount, dimsOf};
-ghost use Rattle.grid.specs.FromSpec.{gridWith, magnitudeOf, tooFine, gridOver};
+ghost use Rattle.grid.specs.FromSpec.{gridWith, gridOver};
 ghost use Rattle.grid.specs.Causes.{GridPost};
 use grid::DexelGrid;
 use grid::DexelStockSpec;
@@ -123,32 +123,7 @@ fn grid_with(extents: Vec3, dims: Vec3) -> DexelGrid
     }
 }
 
-// The largest size of a bound, at least 1.
-fn magnitude(p: Vec3, q: Vec3) -> f64
-    ensures { λ r. ⌜ r ≡ magnitudeOf p q ⌝ }
-{
-    let x = doubles_minmax::larger(1.0, doubles::abs(p.x));
-    let y = doubles_minmax::larger(x, doubles::abs(p.y));
-    let z = doubles_minmax::larger(y, doubles::abs(p.z));
-    let u = doubles_minmax::larger(z, doubles::abs(q.x));
-    let v = doubles_minmax::larger(u, doubles::abs(q.y));
-    doubles_minmax::larger(v, doubles::abs(q.z))
-}
-
-// Refusal 4: a step below what doubles of this size resolve.
-fn is_too_fine(min: Vec3, max: Vec3, g: DexelGrid) -> bool
-    ensures { λ r. ⌜ r ≡ tooFine min max g ⌝ }
-{
-    let steps = Vec3 {
-        x: g.s0,
-        y: g.s1,
-        z: g.s2,
-    };
-    let least = doubles_minmax::larger(1e-6, 128.0 * 2.220446049250313e-16 * magnitude(min, max));
-    any_below(steps, least)
-}
-
-// Refusals 2, 3 and 4 and the grid, over the cells along each axis.
+// Refusals 2 and 3 and the grid, over the cells along each axis.
 fn grid_over(spec: DexelStockSpec, extents: Vec3, dims: Vec3) -> GridAnswer
     ensures { λ r. ⌜ r ≡ gridOver spec extents dims ⌝ }
 {
@@ -163,14 +138,10 @@ fn grid_over(spec: DexelStockSpec, extents: Vec3, dims: Vec3) -> GridAnswer
     if 2.0 * rays > std::num::nearest_u64_to_f64(spec.max_intervals) {
         return GridAnswer::Refused(3);
     }
-    let g = grid_with(extents, dims);
-    if is_too_fine(spec.min_mm, spec.max_mm, g) {
-        return GridAnswer::Refused(4);
-    }
-    GridAnswer::Accepted(g)
+    GridAnswer::Accepted(grid_with(extents, dims))
 }
 
-// The grids that a description asks for, or why it is refused: 1, 2, 3 or 4.
+// The grids that a description asks for, or why it is refused: 1, 2 or 3.
 pub fn grid(spec: DexelStockSpec, units: &[u8]) -> GridAnswer
     ensures { λ r. ⌜ GridPost spec (now (units .entry)) r ⌝ }
 {

@@ -105,7 +105,7 @@ fn main() {
     let mut w = [0; 29];
     let mut r = vector_rows::first_row(16, &mut w);
     while r.left > 0 {
-        r = vector_rows::next_row(r, w[15], 5, agrees(&w), 16, &mut w);
+        r = vector_rows::next_row(r, w[15], 4, agrees(&w), 16, &mut w);
     }
-    vector_rows::print(b"accepted 1 2 3 4", r.counts);
+    vector_rows::print(b"accepted 1 2 3", r.counts);
 }

@@ -10,14 +10,14 @@ use borrow.Author.Tests.{eqb-true}
 use lib.Dec.{T, lit<, eqb}
 use lib.ListN.{length, getD, replicate}
 use lib.Ieee.{Float, nan, inf, binary64, fits, lt, le, eq, neg, ofInt, ofBits, toUnsigned, isNan, sub, add, mul, div}
-use Rattle.doubles.specs.Doubles.{largerOf, ceilOf, absOf}
+use Rattle.doubles.specs.Doubles.{largerOf, ceilOf}
 use Rattle.logic.proofs.Bools.{or-cases, and-left, and-right, clash, not-true}
 use Rattle.spans.specs.Spans.{All, Double, holds, sound, equal, ListOf}
 use Rattle.doubles.proofs.Order.{lt-number, eq-refl}
 use Rattle.spans.proofs.Pieces.{agree, by-ends, of-list, in-left, in-right, both-of}
 use Rattle.grid.specs.Axes.{byDigit}
 use Rattle.grid.specs.Grid.{allBetween, isBetween, whole}
-use Rattle.grid.specs.FromSpec.{gridOf, isMm, misdescribed, anyBelow, gridOver, anyAbove, cellCount, tooFine, leastStep, magnitudeOf}
+use Rattle.grid.specs.FromSpec.{gridOf, isMm, misdescribed, anyBelow, gridOver, anyAbove, cellCount}
 use Rattle.grid.specs.Rays.{rayCount, raysAlong, offset, rayAxis, boundsOf, Ray}
 use Rattle.grid.specs.declared.GridAnswer.the-variants.{Accepted}
 use Rattle.store.specs.Store.{usedAt, places, RecordChain, ends, more, placesOf, chained, endsAt, cells}
@@ -41,8 +41,8 @@ use Rattle.doubles.specs.Rounding.{ratio}
 use Rattle.log_model.specs.RunCorrect.{HitsIncluded, Alike, StoresAgree}
 
 accepted-box : gridOf (exampleBox 8) (109 ∷ 109 ∷ []) ≡ Accepted exampleGrid
-unfolding gridOf isMm misdescribed allBetween isBetween anyBelow gridOver anyAbove cellCount tooFine leastStep
-    magnitudeOf largerOf ceilOf absOf le lt neg ofBits ofInt toUnsigned isNan sub add mul div
+unfolding gridOf isMm misdescribed allBetween isBetween anyBelow gridOver anyAbove cellCount
+    largerOf ceilOf le lt neg ofBits ofInt toUnsigned isNan sub add mul div
 accepted-box = refl
 
 -- minus zero names axis 0; an axis of 3, a fraction, a negative number, an infinity and NaN name no ray

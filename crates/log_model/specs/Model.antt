@@ -92,7 +92,7 @@ unfolding setsAfter entries
 TooManyIntervals spec g s c = (n : ℕ) × IntervalTotal g (setsAfter g s (entries (c .log))) n × (spec .«max_intervals» < n)
 
 -- Document 01's order for a log commit, on a store that lends b, whose lists hold the sets s, at generation n.
--- `Unsound` says that the store is not sound. The causes 1 to 4 are those of `grid`, which has accepted the
+-- `Unsound` says that the store is not sound. The causes 1 to 3 are those of `grid`, which has accepted the
 -- description.
 unfoldable pub logCommitCauses : DexelStockSpec → (g : DexelGrid) → Capacity → Type 0 → Sets g → ℕ → Commit → List Cause
 unfolding LogBuffersShort LogInputBad NamesNoRay TooManyRays TooManyIntervals

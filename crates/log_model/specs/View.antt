@@ -22,7 +22,7 @@ lentStore spec g = record {
   Sound = SoundStock spec g;
 }
 
--- A log commit on the lent store, whatever the description is. The answer of `grid` stands first: its causes 1 to 4 come before all others.
+-- A log commit on the lent store, whatever the description is. The answer of `grid` stands first: its causes 1 to 3 come before all others.
 unfoldable pub CommitOnAnyGrid : GridAnswer → DexelStockSpec → Stock → Commit → LogAnswer → Stock → Type 0
 CommitOnAnyGrid (Refused k) spec s c a t = (a ≡ refused k) × (t ≡ s)
 CommitOnAnyGrid (Accepted g) spec s c a t = CommitStep spec g (lentStore spec g) s c a t

@@ -61,6 +61,6 @@ abbrev pub FillPost : List Cause → DexelStockSpec → DexelGrid → Cells → 
 FillPost causes spec g before after (Refused k) = Due causes k × (after ≡ before)
 FillPost causes spec g before after (Accepted t) = NoneDue causes × (t ≡ uncutTally g) × (after ≡ uncut spec g before)
 
--- document 01's order for the fill: 1, 2, 3, 4, 12
+-- document 01's order for the fill: 1, 2, 3, 12
 abbrev pub fillCauses : DexelStockSpec → (units : List ℕ) → Cells → List Cause
 fillCauses spec units c = gridCauses spec units ++ roomCauses spec (gridIn spec) c

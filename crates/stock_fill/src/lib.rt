@@ -104,7 +104,7 @@ fn fill_grid(
     })
 }
 
-// Lays the uncut store of a blank. Refusals: 1, 2, 3, 4, 12.
+// Lays the uncut store of a blank. Refusals: 1, 2, 3, 12.
 pub fn fill(
     spec: DexelStockSpec,
     units: &[u8],

@@ -81,6 +81,6 @@ abbrev pub VolumePost : List Cause → DexelStockSpec → DexelGrid → Cells �
 VolumePost causes spec g c intervals (Refused k) = Due causes k
 VolumePost causes spec g c intervals (Accepted w) = NoneDue causes × SoundCells spec g c intervals × (w ≡ volumeOf spec g c)
 
--- document 01's order for `volume`: 1, 2, 3, 4, 12, 11
+-- document 01's order for `volume`: 1, 2, 3, 12, 11
 abbrev pub volumeCauses : DexelStockSpec → (units : List ℕ) → Cells → ℕ → List Cause
 volumeCauses spec units c intervals = gridCauses spec units ++ storeCauses spec (gridIn spec) c intervals

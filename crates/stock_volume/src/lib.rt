@@ -204,7 +204,7 @@ fn measure(
     measure_rays(spec, g, spans, links, heads)
 }
 
-// The volume of a stock. Refusals: 1, 2, 3, 4, 12, 11.
+// The volume of a stock. Refusals: 1, 2, 3, 12, 11.
 pub fn volume(
     spec: DexelStockSpec,
     units: &[u8],

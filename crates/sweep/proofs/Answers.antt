@@ -138,8 +138,7 @@ module _ (k : ℕ) (log : List Float) where
   grid-kept spec units (inl d) = kept 1 (d .1) refl
   grid-kept spec units (inr (n, inl d)) = kept 2 (d .1) refl
   grid-kept spec units (inr (n, inr (m, inl d))) = kept 3 (d .1) refl
-  grid-kept spec units (inr (n, inr (m, inr (o, inl d)))) = kept 4 (d .1) refl
-  grid-kept spec units (inr (n, inr (m, inr (o, inr (p, d))))) = absurd d
+  grid-kept spec units (inr (n, inr (m, inr (o, d)))) = absurd d
 
   cleared : (k ≡ 8) ⊎ (k ≡ 16) → replicate (length log) plusZero ≡ refusedLog k log
   unfolding refusedLog

@@ -9,7 +9,7 @@ use Rattle.doubles.specs.Doubles.{largerOf, smallerOf, absOf, clampOf, floorOf,
 use Rattle.doubles_sqrt.specs.Root.{squareRoot}
 use Rattle.grid.specs.Axes.{byDigit}
 use Rattle.grid.specs.Grid.{isBetween, allBetween}
-use Rattle.grid.specs.FromSpec.{anyBelow, anyAbove, isMm, misdescribed, cellCount, magnitudeOf, leastStep, tooFine, gridOver, gridOf}
+use Rattle.grid.specs.FromSpec.{anyBelow, anyAbove, isMm, misdescribed, cellCount, gridOver, gridOf}
 use Rattle.grid.specs.Causes.{mm, gridIn, gridCauses}
 use Rattle.grid.specs.declared.GridAnswer.the-variants.{Accepted as Griddable}
 use Rattle.grid.proofs.Facts.{grid-facts}
@@ -67,8 +67,8 @@ total-right = refl
 
 -- ---- the first example has no cause, so a sweep with these arguments is accepted
 grid-made : gridOf blank mm ≡ Griddable (gridIn blank)
-unfolding blank gridOf gridOver misdescribed isMm isBetween allBetween anyBelow anyAbove cellCount magnitudeOf
-    leastStep tooFine byDigit largerOf absOf ceilOf ofBits ofInt toUnsigned add sub mul div neg lt le eq isNan
+unfolding blank gridOf gridOver misdescribed isMm isBetween allBetween anyBelow anyAbove cellCount
+    byDigit largerOf ceilOf ofBits ofInt toUnsigned add sub mul div neg lt le eq isNan
 grid-made = refl
 
 three-rays : rayCount (gridIn blank) ≡ 3

@@ -55,7 +55,7 @@ visitCauses s chords budget len = cause 8 (walkOf s chords budget len ≡ Stop 8
 abbrev pub causesIn : Setting → (intervals : ℕ) → (chords : List Float) → (budget len : ℕ) → List Cause
 causesIn s intervals chords budget len = settingCauses s intervals chords ++ visitCauses s chords budget len
 
--- document 01's order for the sweep: 1 to 4 first
+-- document 01's order for the sweep: 1 to 3 first
 abbrev pub sweepCauses : (units : List ℕ) → Setting → (intervals : ℕ) → (chords : List Float) → (budget len : ℕ) → List Cause
 sweepCauses units s intervals chords budget len = gridCauses (s .spec) units ++ causesIn s intervals chords budget len
 

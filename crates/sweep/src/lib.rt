@@ -140,7 +140,7 @@ fn sweep_grid(
     }
 }
 
-// The rays across the tool that a swept cutter meets, as a log. Refusals: 1, 2, 3, 4, 12, 11, 5, 6, 7, then per visit 8 before 16.
+// The rays across the tool that a swept cutter meets, as a log. Refusals: 1, 2, 3, 12, 11, 5, 6, 7, then per visit 8 before 16.
 pub fn sweep(
     spec: DexelStockSpec,
     units: &[u8],

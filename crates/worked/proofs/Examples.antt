@@ -7,14 +7,14 @@ use mathlib.Core.List.{List, [], _∷_, _++_, List·Memᴰ, List·Memᴰ·head, 
 use lib.Dec.{T, eqb, eqb→eq}
 use lib.Ieee.{Float, binary64, ofBits, toBits, ofInt, toUnsigned, sub, mul, div, le, fits, isNan}
 use lib.Ieee.Bits.{ofBits-toBits}
-use Rattle.doubles.specs.Doubles.{absOf, ceilOf}
+use Rattle.doubles.specs.Doubles.{ceilOf}
 use Rattle.logic.proofs.Bools.{and-left, and-right, not-true, not-false, or-cases}
 use Rattle.spans.specs.Spans.{All, Point, holds, sound, retained, Within, Outside, NormalOf}
 use Rattle.spans.proofs.Pieces.{agree, by-ends, Piecewise, of-list, of-none, in-left, in-right, one-of}
 use Rattle.spans.specs.Overlay.{lessOf, commonOf}
 use Rattle.grid.specs.Grid.{isBetween, allBetween}
 use Rattle.grid.specs.Rays.{rayCount}
-use Rattle.grid.specs.FromSpec.{anyBelow, anyAbove, isMm, misdescribed, cellCount, magnitudeOf, leastStep, tooFine, gridOver, gridOf}
+use Rattle.grid.specs.FromSpec.{anyBelow, anyAbove, isMm, misdescribed, cellCount, gridOver, gridOf}
 use Rattle.doubles_sqrt.specs.Root.{squareRoot}
 use Rattle.strips.specs.Strip.{bandDistance, halfChord, chordStrip, diskStrip}
 use Rattle.cutter.specs.Cutter.{isFinite, offTool, arcAt, cuttingRadius, radiusAt}
@@ -161,8 +161,8 @@ all (e ∷ es) h = (right e (h .0), all es (h .1))
 
 pub examples-right : WorkedRight workedExamples
 unfolding workedExamples is-normal says holds sound retained lessOf commonOf
-    gridOf gridOver misdescribed isMm isBetween allBetween anyBelow anyAbove cellCount magnitudeOf leastStep tooFine rayCount
+    gridOf gridOver misdescribed isMm isBetween allBetween anyBelow anyAbove cellCount rayCount
     diskStrip chordStrip halfChord bandDistance squareRoot radiusAt offTool isFinite cuttingRadius arcAt worldOf
-    absOf ceilOf ofBits toBits ofInt toUnsigned sub mul div le fits isNan
+    ceilOf ofBits toBits ofInt toUnsigned sub mul div le fits isNan
 examples-right = all workedExamples
     (refl, (refl, (refl, (refl, (refl, (refl, (refl, (refl, (refl, ((refl, refl), (refl, (refl, (refl, tt)))))))))))))

@@ -3,7 +3,10 @@ use crate::{
     function::{Function, Outcome, Words},
     strips,
 };
-use harness::grid::{Answer, Place, Query, UNITS, bound_place, center_place, edges, places, query};
+use harness::{
+    generate::Gen,
+    grid::{Answer, Place, Query, UNITS, bound_place, center_place, edges, fine_query, places, query},
+};
 use tridexel::raw;
 pub use tridexel::raw::RawSpec as DexelStockSpec;
 
@@ -134,12 +137,18 @@ fn compare_bound(p: &Place) -> Outcome {
     strips::answers((0, [p.cell_bound(), 0.]), (0, [port, 0.]))
 }
 
+fn question(g: &mut Gen) -> Query {
+    if g.once_in(4) { fine_query(g) } else { query(g) }
+}
+
+fn compare_grid(q: &Query) -> Outcome {
+    let (rust, port) = (q.answer().words(), port(q).words());
+    if rust == port { Outcome::Same } else { Outcome::differs(None, rust, port) }
+}
+
 pub fn functions() -> Vec<Function> {
     vec![
-        Function::new("grid", edges(), query, |q| {
-            let (rust, port) = (q.answer().words(), port(q).words());
-            if rust == port { Outcome::Same } else { Outcome::differs(None, rust, port) }
-        }),
+        Function::new("grid", edges(), question, compare_grid),
         Function::new("ray_center", places(), center_place, compare_center),
         Function::new("cell_bound", places(), bound_place, compare_bound),
     ]

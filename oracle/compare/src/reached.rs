@@ -3,12 +3,9 @@
 /// Things to reach, under a name. Every one of them is printed, also one that never came.
 pub type Group = (&'static str, &'static [&'static str]);
 
-/// No description is due refusal 4 (docs/DIFFERENCES.md).
-pub const DEAD: &str = "4 (cannot come)";
-
-/// Names for the refusal numbers.
+/// Names for the refusal numbers. 4 is retired, so no function wants it.
 pub const NUMBERS: [&str; 20] =
-    ["accepted", "1", "2", "3", DEAD, "5", "6", "7", "8", "9", "10", "11", "12", "13", "14", "15", "16", "17", "18", "19"];
+    ["accepted", "1", "2", "3", "4", "5", "6", "7", "8", "9", "10", "11", "12", "13", "14", "15", "16", "17", "18", "19"];
 
 /// Decades of a size; what is smaller counts to the first, what is larger to the last.
 pub const DECADES: [&str; 12] = ["1e-5", "1e-4", "1e-3", "1e-2", "1e-1", "1", "10", "100", "1e3", "1e4", "1e5", "1e6"];
@@ -79,10 +76,10 @@ impl Reached {
         })
     }
 
-    /// What never came and could have.
+    /// What never came.
     pub fn missing(&self) -> Vec<String> {
         let never = |(group, things): &(&str, Vec<(&str, u64)>)| {
-            let never = things.iter().filter(|(thing, times)| *times == 0 && *thing != DEAD);
+            let never = things.iter().filter(|(_, times)| *times == 0);
             never.map(|(thing, _)| format!("{group} {thing}")).collect::<Vec<_>>()
         };
         self.0.iter().flat_map(never).collect()

@@ -2,7 +2,7 @@
 use crate::{
     function::{Function, Outcome, Words},
     grid::{DexelGrid, DexelStockSpec, described},
-    reached::{COUNTS, DEAD, DECADES, Group, NUMBERS, Reached, minus_zero},
+    reached::{COUNTS, DECADES, Group, NUMBERS, Reached, minus_zero},
 };
 use harness::{
     generate::Gen,
@@ -99,7 +99,7 @@ type Volume = fn(DexelStockSpec, &[u8], (&[f64], &[u64], &[u64]), u64, &mut [f64
 
 const POISON: u64 = 0xdead_beef;
 
-/// Document 01's 1 to 4, then 12: too few whole records or heads.
+/// Document 01's 1 to 3, then 12: too few whole records or heads.
 fn short(q: &Query, [spans, links, heads]: [usize; 3]) -> u32 {
     match q.spec().grid() {
         Err(e) => rust::grid_code(&e),
@@ -130,7 +130,7 @@ pub fn fill_refusal(b: &Blank) -> u32 {
 
 /// What blanks reach.
 pub const FILLED: &[Group] = &[
-    ("refused", &["accepted", "1", "2", "3", DEAD, "12"]),
+    ("refused", &["accepted", "1", "2", "3", "12"]),
     // of the accepted ones
     ("extent", &DECADES),
     ("bound", &DECADES),
@@ -234,7 +234,7 @@ pub fn volume_refusal(s: &Stock) -> u32 {
 
 /// What stocks reach.
 pub const MEASURED: &[Group] = &[
-    ("refused", &["accepted", "1", "2", "3", DEAD, "11", "12"]),
+    ("refused", &["accepted", "1", "2", "3", "11", "12"]),
     // of the accepted ones
     ("extent", &DECADES),
     ("bound", &DECADES),

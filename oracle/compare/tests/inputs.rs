@@ -89,7 +89,6 @@ fn blanks() {
         refused[fill_refusal(&blank(&mut Gen::new(1, "inputs", k))) as usize] += 1;
     }
     assert!(share(refused[0]) >= 40 && share(refused[12]) >= 10, "{refused:?}");
-    // 4 is never due: an extent of 1e-6 or more has no step below 1e-6, and 128 epsilon of the largest size is less
     assert!((1..=3).all(|number| refused[number] >= 20), "{refused:?}");
 }
 

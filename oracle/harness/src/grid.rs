@@ -105,6 +105,31 @@ fn near(g: &mut Gen, n: u64) -> u64 {
     }
 }
 
+/// Both ends of a side at any place: the least extent, or up to six cells.
+fn fine_side(g: &mut Gen, cell: f64) -> [f64; 2] {
+    let lo = match g.below(4) {
+        0 => 0.,
+        1 => g.within(-1e6, 1e6),
+        2 => g.pick(&[-1e6, 1e6 - 1e-4]),
+        _ => g.scale(1e-6, 1e5),
+    };
+    let extent = match g.below(3) {
+        0 => 1e-6,
+        1 => cell * (1 + g.below(5)) as f64,
+        _ => cell * g.within(0.1, 6.),
+    };
+    let hi = lo + nudged(g, extent);
+    [lo, nudged(g, hi)]
+}
+
+/// A blank of a few of the smallest cells, so of the finest steps.
+pub fn fine(g: &mut Gen) -> Query {
+    let (least, wide) = (nudged(g, 1e-5), g.within(1e-5, 2e-5));
+    let cell = g.pick(&[1e-5, least, wide]);
+    let sides = [(); 3].map(|_| fine_side(g, cell));
+    Query::new(sides.map(|s| s[0]), sides.map(|s| s[1]), cell)
+}
+
 fn shape(g: &mut Gen) -> Query {
     let of = |f: &mut dyn FnMut() -> f64| -> [f64; 3] { [f(), f(), f()] };
     match g.below(5) {
@@ -143,7 +168,18 @@ fn shape(g: &mut Gen) -> Query {
 }
 
 pub fn query(g: &mut Gen) -> Query {
-    let mut q = shape(g);
+    let q = shape(g);
+    varied(g, q)
+}
+
+/// A question about a blank of a few of the smallest cells.
+pub fn fine_query(g: &mut Gen) -> Query {
+    let q = fine(g);
+    varied(g, q)
+}
+
+/// The same blank with budgets that are met or missed, now and then another fault, and asked at a place.
+fn varied(g: &mut Gen, mut q: Query) -> Query {
     q.max_rays = near(g, q.max_rays);
     q.max_intervals = near(g, q.max_intervals);
     if g.once_in(20) {

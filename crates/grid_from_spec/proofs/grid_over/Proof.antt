@@ -1,11 +1,11 @@
 -- `grid_from_spec::grid_over` meets its contract: each answer from the tests that lead to it. Assumes nothing.
 use mathlib.Core.Path.{_≡_}
-use mathlib.Core.Bool.{Bool, true, false, cond}
+use mathlib.Core.Bool.{cond}
 use lib.Ieee.{binary64, lt, mul}
 use borrow.Author.Needs.{needs}
 use Rattle.doubles.specs.Constants.{two}
 use Rattle.grid.specs.Grid.{whole}
-use Rattle.grid.specs.FromSpec.{raysOf, gridWith, tooFine, gridOver}
+use Rattle.grid.specs.FromSpec.{raysOf, gridWith, gridOver}
 use Rattle.grid.specs.declared.GridAnswer.the-variants.{Accepted, Refused}
 use Rattle.grid_from_spec.proofs.grid_over.Statement.{statement}
 use Rattle.grid_from_spec.proofs.grid_over.Tie as tie
@@ -26,8 +26,7 @@ returns-2 c =
 few-rays : (c : tie.Else2) → let a = c .before .before .before .before .before .before .before .args in
     gridOver (a .spec) (a .extents) (a .dims)
     ≡ cond (lt (whole (a .spec .«max_intervals»)) (mul binary64 two (raysOf (a .dims)))) (Refused 3)
-    (cond (tooFine (a .spec .«min_mm») (a .spec .«max_mm») (gridWith (a .extents) (a .dims))) (Refused 4)
-    (Accepted (gridWith (a .extents) (a .dims))))
+    (Accepted (gridWith (a .extents) (a .dims)))
 unfolding gridOver
 few-rays c =
     let n = c .before .before .before in
@@ -36,30 +35,14 @@ few-rays c =
 returns-3 : tie.Need-returns-3
 returns-3 c = rw (few-rays (c .before .before), ← c .before .nearest-u64-to-f642 .ensures, c .if3 .taken)
 
--- and where the intervals are many enough, by the test of the steps
-by-steps : (c : tie.After-is-too-fine) (fine : Bool) → c .is-too-fine .result ≡ fine
-    → let a = c .before .before .before .before .before .before .before .before .before .before .before .args in
-    cond fine (Refused 4) (Accepted (c .before .grid-with .result)) ≡ gridOver (a .spec) (a .extents) (a .dims)
-by-steps c fine e =
-    let u = c .before .before in
-    rw (
-      few-rays (u .before .before),
-      ← u .before .nearest-u64-to-f642 .ensures,
-      u .if3 .left,
-      ← c .before .grid-with .ensures,
-      ← c .is-too-fine .ensures,
-      e,
-    )
-
 returns-4 : tie.Need-returns-4
-returns-4 c = by-steps (c .before) true (c .if4 .taken)
-
-returns-5 : tie.Need-returns-5
-returns-5 c = by-steps (c .before) false (c .if4 .left)
+returns-4 c =
+    let u = c .before in
+    rw (few-rays (u .before .before), ← u .before .nearest-u64-to-f642 .ensures, u .if3 .left, ← c .grid-with .ensures)
 
 pub grid-over-spec : {M : Type 1} → statement M
 grid-over-spec =
     tie.close
     (tie.spec
     (λ c κs. search needs) (λ c κs. search needs) returns returns-2 (λ c κs. search needs) returns-3
-    (λ c κs. search needs) (λ c κs. search needs) returns-4 returns-5)
+    (λ c κs. search needs) returns-4)

@@ -1,12 +1,12 @@
 -- `tridexel::tridexel_intersect` meets its contract.
-use Rattle.c_results.proofs.Results.{answered, list-above}
+use Rattle.c_results.proofs.Results.{answered, list-given}
 use borrow.Author.Needs.{needs}
 use Rattle.tridexel.proofs.tridexel_intersect.Statement.{statement}
 use Rattle.tridexel.proofs.tridexel_intersect.Tie as tie
 
 returns : tie.Need-returns
 returns c =
-    answered _ _ _ (c .before .before .before .before .intersect .result) _ _ _ (λ k p. list-above _ _ k (p .0))
+    answered _ _ _ (c .before .before .before .before .intersect .result) _ _ _ (λ k p. list-given _ _ k (p .0))
     (c .before .before .before .before .intersect .ensures) (c .hand-list .ensures)
 
 pub tridexel-intersect-spec : {M : Type 1} → statement M

@@ -1,12 +1,12 @@
 //! What the sweeps reach: refusals, shapes, axes, hits, rays that are touched exactly, sizes and places, and minus zeros.
 use super::{Case, ENTRY, rust_sweep::Entry, stock_over, touching};
-use crate::reached::{COUNTS, DEAD, DECADES, Group, NUMBERS, Reached, decade, minus_zero};
+use crate::reached::{COUNTS, DECADES, Group, NUMBERS, Reached, decade, minus_zero};
 use harness::cutters::SHAPES;
 
 const AXES: [&str; 6] = ["+x", "-x", "+y", "-y", "+z", "-z"];
 
 pub const WANTED: &[Group] = &[
-    ("refused", &["accepted", "1", "2", "3", DEAD, "5", "6", "7", "8", "11", "12", "16"]),
+    ("refused", &["accepted", "1", "2", "3", "5", "6", "7", "8", "11", "12", "16"]),
     // of the accepted sweeps
     ("sweep", &["no chord", "no visit", "no hit", "hit"]),
     ("log", &["exact", "longer", "much longer"]),

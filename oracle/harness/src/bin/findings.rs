@@ -1,6 +1,6 @@
 //! Where the Rust and document 01 part, or where the Rust surprises: each finding is run on a small input and printed with it.
 //! `findings [NAME [COUNT]]`: all findings, or the one of this name; COUNT is for those that try random inputs.
-use harness::{cutters, generate::Gen, hex};
+use harness::{cutters, generate::Gen, grid, hex};
 use oracle::{
     dexel::{Axis, DexelStock, Ray, RayChange, Spans, opened as rust, opened::sweep},
     motion::{Curve, Motion, MoveKind},
@@ -15,7 +15,7 @@ const INF: f64 = f64::INFINITY;
 /// A name, what was found, and the run that shows it.
 type Finding = (&'static str, &'static str, fn(u64));
 
-const FINDINGS: [Finding; 24] = [
+const FINDINGS: [Finding; 25] = [
     ("zeros", "`max` and `min` of two zeros of opposite sign: Rust leaves open which one comes back", zeros),
     ("joined-zeros", "which of the given zeros stands at an end of a normalised list follows the order of joining", joined_zeros),
     ("prepare", "`Cutter::prepare` refuses cutters whose numbers, worked out in its own way, the port accepts", prepare),
@@ -34,6 +34,7 @@ const FINDINGS: [Finding; 24] = [
     ),
     ("volume-order", "uncut stock: the remaining volume's lower bound is above its upper bound, by rounding", volume_order),
     ("volume-removed", "uncut stock: the removed volume's lower bound is above zero, by rounding", volume_removed),
+    ("least-step", "no step is below the resolution limit, so the error for it never comes", least_step),
     ("rounded-quotient", "cells come from the rounded quotient: fewer than the exact ceiling", rounded_quotient),
     ("cell-lookup", "the cell that a coordinate is put in is not the one whose bounds hold it", cell_lookup),
     (
@@ -248,6 +249,25 @@ fn volume_removed(_: u64) {
     for (max, cell, v) in found.filter(|(_, _, v)| v.removed_lower_mm3 > 0.).take(2) {
         println!("  box 0 to {max:?}, cell {cell}: removed at least {:e}; grids {:?}", v.removed_lower_mm3, v.grids_mm3);
     }
+}
+
+fn least_step(count: u64) {
+    let (mut accepted, mut one, mut more, mut limit) = (0u64, INF, INF, 0f64);
+    for case in 0..count {
+        let q = grid::fine(&mut Gen::new(1, "least-step", case));
+        let answer = q.answer();
+        assert_ne!(answer.refused, 4, "{q:?}");
+        if answer.refused == 0 {
+            accepted += 1;
+            for (cells, step) in answer.cells.into_iter().zip(answer.steps) {
+                let least = if cells == 1 { &mut one } else { &mut more };
+                *least = least.min(step);
+            }
+            limit = q.min.iter().chain(&q.max).fold(limit, |most, x| most.max(128. * f64::EPSILON * x.abs()));
+        }
+    }
+    println!("  of {count} blanks {accepted} are accepted; the least step of one cell is {one:e}, of more {more:e},");
+    println!("  and 128 epsilon times the largest bound {limit:e}");
 }
 
 fn rounded_quotient(_: u64) {

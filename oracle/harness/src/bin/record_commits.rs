@@ -81,7 +81,7 @@ impl Cells {
 }
 
 impl Brought {
-    /// 1 to 4, then 12: too few whole records, heads or work pairs.
+    /// 1 to 3, then 12: too few whole records, heads or work pairs.
     fn short(&self) -> u32 {
         let spec = self.query.spec();
         match spec.grid() {

@@ -1,4 +1,4 @@
-//! Records camlib's answers for the program `grid_vectors`: document 01's examples, then seeded descriptions.
+//! Records camlib's answers for the program `grid_vectors`: document 01's examples, then seeded descriptions, the last of the finest steps.
 //!
 //!     cd oracle && cargo run --release --bin record_grid > ../crates/grid_vectors/stdin
 //!
@@ -7,11 +7,12 @@
 //! ray's centre, the boundary of cell i, the cell of x and the ray's number. Of a description that is refused, all after the number are 0.
 use harness::{
     generate::Gen,
-    grid::{Query, edges, query},
+    grid::{Query, edges, fine_query, query},
 };
 
 const SEED: u64 = 1;
 const ROWS: u64 = 1200;
+const FINE_ROWS: u64 = 200;
 
 fn bits(x: f64) -> u64 {
     if x.is_nan() { 0x7ff8_0000_0000_0000 } else { x.to_bits() }
@@ -36,5 +37,8 @@ fn main() {
     }
     for case in 0..ROWS {
         println!("{}", row(&query(&mut Gen::new(SEED, "grid", case))));
+    }
+    for case in 0..FINE_ROWS {
+        println!("{}", row(&fine_query(&mut Gen::new(SEED, "fine", case))));
     }
 }

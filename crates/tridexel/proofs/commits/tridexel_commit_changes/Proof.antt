@@ -1,5 +1,5 @@
 -- `tridexel::commits::tridexel_commit_changes` meets its contract.
-use Rattle.c_results.proofs.Results.{answered, changes-above}
+use Rattle.c_results.proofs.Results.{answered, changes-given}
 use borrow.Author.Needs.{needs}
 use Rattle.tridexel.proofs.commits.tridexel_commit_changes.Statement.{statement}
 use Rattle.stock.specs.Stock.{stock}
@@ -10,7 +10,7 @@ returns c =
     let a = c .before .before .before .before .before .before .before .before .before .before .before .before .before
     .before .before .before .before .before .before .before .args in
     answered _ _ _ (c .before .before .before .before .before .before .before .before .commit-changes-on .result
-    .answer) _ _ _ (λ k p. changes-above (a .spec) (a .units .now) (a .base)
+    .answer) _ _ _ (λ k p. changes-given (a .spec) (a .units .now) (a .base)
     (stock (a .spans .now) (a .links .now) (a .heads .now) (a .generation .now) (a .intervals .now))
     (a .changes .now) (a .pairs .now) k (p .0))
     (c .before .before .before .before .before .before .before .before .commit-changes-on .ensures)

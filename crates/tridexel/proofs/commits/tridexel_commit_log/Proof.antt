@@ -1,5 +1,5 @@
 -- `tridexel::commits::tridexel_commit_log` meets its contract.
-use Rattle.c_results.proofs.Results.{answered, commit-above}
+use Rattle.c_results.proofs.Results.{answered, commit-given}
 use borrow.Author.Needs.{needs}
 use Rattle.tridexel.proofs.commits.tridexel_commit_log.Statement.{statement}
 use Rattle.tridexel.proofs.commits.tridexel_commit_log.Tie as tie
@@ -7,7 +7,7 @@ use Rattle.tridexel.proofs.commits.tridexel_commit_log.Tie as tie
 returns : tie.Need-returns
 returns c =
     answered _ _ _ (c .before .before .before .before .before .before .before .before .before .before .commit-log-on
-    .result .answer) _ _ _ (λ k p. commit-above _ _ _ _ _ _ _ _ k p)
+    .result .answer) _ _ _ (λ k p. commit-given _ _ _ _ _ _ _ _ k p)
     (c .before .before .before .before .before .before .before .before .before .before .commit-log-on .ensures)
     (c .hand-commit .ensures)
 

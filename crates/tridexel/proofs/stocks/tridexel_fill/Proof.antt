@@ -1,5 +1,5 @@
 -- `tridexel::stocks::tridexel_fill` meets its contract.
-use Rattle.c_results.proofs.Results.{answered, fill-above}
+use Rattle.c_results.proofs.Results.{answered, fill-given}
 use borrow.Author.Needs.{needs}
 use Rattle.tridexel.proofs.stocks.tridexel_fill.Statement.{statement}
 use Rattle.tridexel.proofs.stocks.tridexel_fill.Tie as tie
@@ -7,7 +7,7 @@ use Rattle.tridexel.proofs.stocks.tridexel_fill.Tie as tie
 returns : tie.Need-returns
 returns c =
     answered _ _ _ (c .before .before .before .before .before .before .before .before .before .fill .result) _ _ _
-    (λ k p. fill-above _ _ _ k (p .0))
+    (λ k p. fill-given _ _ _ k (p .0))
     (c .before .before .before .before .before .before .before .before .before .fill .ensures) (c .hand-fill .ensures)
 
 pub tridexel-fill-spec : {M : Type 1} → statement M

@@ -98,7 +98,7 @@ impl Stock {
         self.store(cells).sound(&self.rust_spec())
     }
 
-    /// 1 to 4, then 12 and 11, for the store and for what comes beside it; or the cells.
+    /// 1 to 3, then 12 and 11, for the store and for what comes beside it; or the cells.
     fn due(&self, short: impl Fn(Cells) -> bool, over: bool) -> Result<Cells, u32> {
         let cells = self.cells()?;
         if self.short(cells) || short(cells) {
@@ -150,7 +150,7 @@ pub fn grid(t: &mut Trial, s: &Stock) {
     }
 }
 
-/// 1 to 4 exactly where the grid has them, then 12 exactly for a short store; accepted: generation 0, twice the rays as intervals, head k first record k.
+/// 1 to 3 exactly where the grid has them, then 12 exactly for a short store; accepted: generation 0, twice the rays as intervals, head k first record k.
 pub fn fill(t: &mut Trial, s: &mut Stock) -> u32 {
     t.begin(Entry::Fill);
     let u = t.read(&s.units);
@@ -183,7 +183,7 @@ pub fn fill(t: &mut Trial, s: &mut Stock) -> u32 {
     code
 }
 
-/// 1 to 4 exactly where the grid has them, then 12 exactly for a short store, 11 exactly for one that is not sound; accepted: ten finite numbers.
+/// 1 to 3 exactly where the grid has them, then 12 exactly for a short store, 11 exactly for one that is not sound; accepted: ten finite numbers.
 pub fn volume(t: &mut Trial, s: &Stock) {
     t.begin(Entry::Volume);
     let u = t.read(&s.units);
@@ -396,7 +396,7 @@ fn call_sweep(s: &Stock, u: &Lent, [spans, links, heads]: &[Lent; 3], p: &Pass, 
     }
 }
 
-/// 1 to 4, 12, 11, 5, 6 and 7 exactly where they are due; 8 and 16: the log is plus zero, both numbers as before; accepted: no more visits than the
+/// 1 to 3, 12, 11, 5, 6 and 7 exactly where they are due; 8 and 16: the log is plus zero, both numbers as before; accepted: no more visits than the
 /// budget, each entry on a ray across the tool, plus zero past them.
 pub fn sweep(t: &mut Trial, s: &Stock, p: &Pass) -> Option<Vec<u64>> {
     t.begin(Entry::Sweep);

@@ -47,12 +47,12 @@ impl Entry {
             Entry::Normalize | Entry::Subtract | Entry::Intersect | Entry::Merge => &[0, 11, 12],
             Entry::Contains | Entry::Overlaps => &[0, 11],
             Entry::Trace => &[0, 11, 19],
-            Entry::Grid => &[0, 1, 2, 3, 4],
-            Entry::Fill => &[0, 1, 2, 3, 4, 12],
-            Entry::Volume => &[0, 1, 2, 3, 4, 11, 12],
-            Entry::CommitChanges => &[0, 1, 2, 3, 4, 10, 11, 12, 13, 14, 15],
-            Entry::CommitLog => &[0, 1, 2, 3, 4, 9, 10, 11, 12, 15, 17],
-            Entry::Sweep => &[0, 1, 2, 3, 4, 5, 6, 7, 8, 11, 12, 16],
+            Entry::Grid => &[0, 1, 2, 3],
+            Entry::Fill => &[0, 1, 2, 3, 12],
+            Entry::Volume => &[0, 1, 2, 3, 11, 12],
+            Entry::CommitChanges => &[0, 1, 2, 3, 10, 11, 12, 13, 14, 15],
+            Entry::CommitLog => &[0, 1, 2, 3, 9, 10, 11, 12, 15, 17],
+            Entry::Sweep => &[0, 1, 2, 3, 5, 6, 7, 8, 11, 12, 16],
         }
     }
 }
