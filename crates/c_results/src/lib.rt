@@ -1,4 +1,6 @@
 // Answers handed back as C has them: the refusal's number, 0 where the call is accepted, and numbers in cells that the caller lends.
+#![tactic(auto)]
+
 ghost use Rattle.std.specs.Prelude.{◌≡◌};
 ghost use Rattle.span_compare.specs.declared.BoolAnswer.{BoolAnswer};
 ghost use Rattle.grid.specs.declared.GridAnswer.{GridAnswer};

@@ -1,4 +1,6 @@
 // Frees and lays the lists of the rays that a change list names. All are freed before the first is laid.
+#![tactic(auto)]
+
 ghost use Rattle.std.specs.Prelude.{◌≡◌, List, ℕ, ◌+◌, ◌*◌, ◌^◌, ◌<◌, Float};
 ghost use Rattle.store.specs.Updates.{laid_all, applied};
 ghost use Rattle.change_apply.specs.Passes.{ChangesFit, FreeChangesPost, ChangesFreed};

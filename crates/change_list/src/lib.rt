@@ -1,4 +1,6 @@
 // A change list, and its check against a stock, one ray's change at a time.
+#![tactic(auto)]
+
 ghost use Rattle.std.specs.Prelude.{◌≡◌, ◌+◌, ◌*◌, ◌%◌, ◌^◌, ◌≤◌, ◌<◌, length, true, ◌&&◌};
 ghost use Rattle.grid.specs.Axes.{world_axis};
 ghost use Rattle.grid.specs.Rays.{ray_count, rays_along};
@@ -15,7 +17,7 @@ ghost use Rattle.store.specs.Store.{cells};
 use grid::{DexelGrid, DexelStockSpec, WorldAxis};
 
 // The six numbers of a change: its ray, and how many pairs its four lists have.
-#[derive(Drop)]
+#[derive(Clone, Copy)]
 pub struct ChangeHead {
     pub axis: u64,
     pub index: u64,
@@ -26,7 +28,7 @@ pub struct ChangeHead {
 }
 
 // How far a check of changes has come: the cell of the pairs, one more than the last ray, and the sums of pairs before and after.
-#[derive(Drop)]
+#[derive(Clone, Copy)]
 pub struct ChangeCursor {
     pub at: usize,
     pub from: u64,
@@ -34,7 +36,7 @@ pub struct ChangeCursor {
     pub after: usize,
 }
 
-#[derive(Drop)]
+#[derive(Clone, Copy)]
 pub enum ChangeCheck {
     Next(ChangeCursor),
     Bad,

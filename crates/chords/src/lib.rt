@@ -1,4 +1,6 @@
 // The lent chords, and document 01's limits for them and for the guard (refusal 7).
+#![tactic(auto)]
+
 ghost use Rattle.std.specs.Prelude.{◌≡◌, not, ◌+◌, ◌*◌, ◌≤◌, length};
 ghost use Rattle.logic.specs.Logic.{Decides};
 ghost use Rattle.sweep_model.specs.Chords.{point_at, chord_of};

@@ -1,4 +1,6 @@
 // Applies an accepted log: the lists of all changed rays are replaced in the store.
+#![tactic(auto)]
+
 ghost use Rattle.commit_apply.specs.Apply.{ApplyPre, ApplyPost};
 ghost use Rattle.store.specs.Store.{cells};
 

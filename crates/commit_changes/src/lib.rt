@@ -1,4 +1,6 @@
 // The commit of a change list.
+#![tactic(auto)]
+
 ghost use Rattle.std.specs.Prelude.{◌≡◌, ◌*◌, ◌%◌, length};
 ghost use Rattle.grid.specs.Rays.{ray_count};
 ghost use Rattle.stock.specs.Stock.{SoundCells, stock};
@@ -13,7 +15,7 @@ use grid::{DexelGrid, DexelStockSpec, GridAnswer};
 use stock::{CommitAnswer, Outcome, Tally};
 
 // The interval total that a change list leaves, or why it is refused.
-#[derive(Drop)]
+#[derive(Clone, Copy)]
 pub enum ChangeVerdict {
     Fits(u64),
     Refused(u32),

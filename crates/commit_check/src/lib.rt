@@ -1,4 +1,6 @@
 // Which refusal a log commit gets from its tests, or none.
+#![tactic(auto)]
+
 ghost use Rattle.std.specs.Prelude.{◌≡◌, ◌*◌, ◌/◌, ◌^◌, ◌<◌, ltb, length};
 ghost use Rattle.log_model.specs.Logs.{work_needed};
 ghost use Rattle.commit_check.specs.Tests.{LogCheckPost};

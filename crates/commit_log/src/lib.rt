@@ -1,4 +1,6 @@
 // The log commit: merge and commit at once.
+#![tactic(auto)]
+
 ghost use Rattle.std.specs.Prelude.{◌+◌};
 ghost use Rattle.commit_log.specs.LogCommit.{LogCommitPost};
 ghost use Rattle.stock.specs.Stock.{stock};

@@ -1,4 +1,6 @@
 // Runs a list of log commits on one stock, each on what the one before left.
+#![tactic(auto)]
+
 ghost use Rattle.std.specs.Prelude.{◌≡◌, ◌+◌, ◌*◌, ◌<◌, ◌≤◌, length, set};
 ghost use Rattle.commit_run.specs.RunLogs.{RunLogsPre, log_from, answered, RunStepPost, RunLogsPost};
 ghost use Rattle.stock.specs.Stock.{stock};

@@ -8,10 +8,12 @@
 // called with the small record by value, as the C interface calls them. For each entry it writes how many rows agree
 // and how many differ, and how many runs were started, then how many rows can't be read, and the number of the first
 // row that differs.
+#![tactic(auto)]
+
 use stock::{CommitAnswer, Outcome, Tally};
 
 // The store of a run and its small record.
-#[derive(Drop)]
+#[derive(Clone, Copy)]
 struct Store {
     spans: [f64; 30],
     links: [u64; 30],
@@ -20,7 +22,7 @@ struct Store {
 }
 
 // Whether a row agrees, and the store that it leaves.
-#[derive(Drop)]
+#[derive(Clone, Copy)]
 struct Shown {
     agrees: bool,
     store: Store,

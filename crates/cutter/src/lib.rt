@@ -1,10 +1,12 @@
 // The cutting part of a tool as radius by height: z = 0 is the tip, +z points toward the spindle (tool.rs; `Profile` of sweep.rs).
+#![tactic(auto)]
+
 ghost use Rattle.std.specs.Prelude.{◌≡◌};
 ghost use Rattle.cutter.specs.Cutter.{is_finite, arc_at, cutting_radius, off_tool, shank_diameter, radius_at, cut_radius, cut_max, cut_min};
 
 // Document 01's `CutterShape`: Bull has the corner radius, Drill the point angle, Chamfer the included angle and the
 // tip diameter, Dovetail the flank angle.
-#[derive(Drop)]
+#[derive(Clone, Copy)]
 pub enum CutterShape {
     Flat,
     Ball,
@@ -19,7 +21,7 @@ pub enum CutterShape {
 
 // A cutter's numbers beside its shape. Where there is no neck its diameter is the shank's.
 #[repr(C)]
-#[derive(Drop)]
+#[derive(Clone, Copy)]
 pub struct PreparedCutter {
     pub diameter_mm: f64,
     pub cutting_length_mm: f64,
@@ -33,14 +35,14 @@ pub struct PreparedCutter {
 }
 
 // A section across the tool axis: its radius and whether it cuts, or none at that height.
-#[derive(Drop)]
+#[derive(Clone, Copy)]
 pub enum ProfileSlice {
     Cutting(f64),
     NonCutting(f64),
     Outside,
 }
 
-#[derive(Drop)]
+#[derive(Clone, Copy)]
 pub enum Radius {
     Is(f64),
     Outside,

@@ -1,4 +1,6 @@
 // Refusals 5 and 6: whether a tool is within document 01's limits.
+#![tactic(auto)]
+
 ghost use Rattle.std.specs.Prelude.{◌≡◌, ◌&&◌};
 ghost use Rattle.cutter.specs.Steps.{above_zero, from_zero, is_not_nan, sizes_fit, heights_fit, lengths_fit};
 ghost use Rattle.cutter.specs.Steps.{diameters_fit, shape_fits, within_limits, is_beam};
@@ -6,7 +8,7 @@ ghost use Rattle.cutter_check.specs.Steps.{ToolCheckPost};
 
 use cutter::{CutterShape, PreparedCutter};
 
-#[derive(Drop)]
+#[derive(Clone, Copy)]
 pub enum ToolCheck {
     Accepted,
     Refused(u32),

@@ -1,4 +1,6 @@
 // Doubles: floor, ceiling, size and the cut to a whole number. The definitions of all functions on doubles and their laws stand here.
+#![tactic(auto)]
+
 ghost use Rattle.std.specs.Prelude.{◌≡◌};
 ghost use Rattle.std.specs.Float.Ieee.{to_unsigned};
 ghost use Rattle.doubles.specs.Doubles.{floor_of, ceil_of, abs_of};
@@ -36,7 +38,7 @@ pub fn ceil(x: f64) -> f64
 }
 
 // Rust's `cmp::Ordering`.
-#[derive(Drop)]
+#[derive(Clone, Copy)]
 pub enum Ordering {
     Less,
     Equal,

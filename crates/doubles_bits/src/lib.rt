@@ -1,4 +1,6 @@
 // Doubles by their bits: to a pattern and back, and the `total_cmp` order.
+#![tactic(auto)]
+
 ghost use Rattle.std.specs.Prelude.{◌≡◌};
 ghost use Rattle.std.specs.Float.{binary64};
 ghost use Rattle.std.specs.Float.Ieee.{of_bits, to_bits};

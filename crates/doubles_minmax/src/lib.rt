@@ -1,4 +1,6 @@
 // Rust's `max`, `min` and `clamp` of doubles.
+#![tactic(auto)]
+
 ghost use Rattle.std.specs.Prelude.{◌≡◌};
 ghost use Rattle.doubles.specs.Doubles.{larger_of, smaller_of, clamp_of};
 

@@ -1,4 +1,6 @@
 // The correctly rounded square root of a double, worked out from its bit pattern with whole numbers.
+#![tactic(auto)]
+
 ghost use Rattle.std.specs.Prelude.{◌≡◌, ◌*◌, ◌^◌, ◌<◌, ◌≤◌};
 ghost use Rattle.std.specs.Float.{binary64};
 ghost use Rattle.std.specs.Float.Ieee.{of_bits};
@@ -6,7 +8,7 @@ ghost use Rattle.doubles_sqrt.specs.Root.{whole_root, square_root};
 ghost use Rattle.doubles_sqrt.specs.Radicand.{RadicandOf, Normalized, Guess, RootOf};
 
 // A radicand m * 2^52 * 4^half, in units of the square of the smallest positive double.
-#[derive(Drop)]
+#[derive(Clone, Copy)]
 struct Radicand {
     m: u64,
     half: u64,

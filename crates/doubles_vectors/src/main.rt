@@ -5,6 +5,7 @@
 // before each of these four, and a newline. An argument that the function does not take is 0. The one NaN is 7ff8000000000000.
 // For each function it writes how many rows agree and how many differ, then how many can't be read, and the number
 // of the first row that differs.
+#![tactic(auto)]
 
 fn order_number(o: doubles::Ordering) -> u64 {
     match o {

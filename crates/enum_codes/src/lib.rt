@@ -1,4 +1,6 @@
 // Axes and cutter shapes from the numbers that name them, in the order of their declarations from 0.
+#![tactic(auto)]
+
 ghost use Rattle.std.specs.Prelude.{◌≡◌};
 ghost use Rattle.enum_codes.specs.Codes.{axis_of, named_shape, shape_of};
 

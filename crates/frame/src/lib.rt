@@ -1,11 +1,13 @@
 // The tool's frame: a signed permutation of the world axes whose last local axis is the tool's.
+#![tactic(auto)]
+
 ghost use Rattle.std.specs.Prelude.{◌≡◌};
 ghost use Rattle.frame.specs.Frame.{axis_digit, frame_of, world_axis_of, local_axis_of, sign_along, local_at, local_of, world_of};
 
 use grid::{Vec3, WorldAxis};
 
 // A tool axis along a signed world axis: the direction from the tool's tip toward the spindle.
-#[derive(Drop)]
+#[derive(Clone, Copy)]
 pub enum Axis {
     PosX,
     NegX,
@@ -16,18 +18,18 @@ pub enum Axis {
 }
 
 // Document 01's local axis, a digit 0 to 2. 2 and every larger digit is the tool's own axis, so that every function over it is total.
-#[derive(Drop)]
+#[derive(Clone, Copy)]
 pub struct LocalAxis(pub u8);
 
 // local[0] = world[first]; the next two world axes follow in a cycle, and have the sign.
-#[derive(Drop)]
+#[derive(Clone, Copy)]
 pub struct Frame {
     pub first: WorldAxis,
     pub sign: f64,
 }
 
 // The two ends of an interval along an axis.
-#[derive(Drop)]
+#[derive(Clone, Copy)]
 pub struct Pair {
     pub lo: f64,
     pub hi: f64,

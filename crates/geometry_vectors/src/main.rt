@@ -4,11 +4,13 @@
 // with a space before, and a newline. The answer is the number of its case and two doubles. What a function does not take or give is 0.
 // Doubles are compared as numbers, since Rust leaves the sign of a zero open. For each function it writes how many rows agree and how
 // many differ, then how many can't be read, and the number of the first row that differs.
+#![tactic(auto)]
+
 use cutter::{ProfileSlice, Radius};
 use cutter_check::ToolCheck;
 use strips::{PlanePoint, Strip};
 
-#[derive(Drop)]
+#[derive(Clone, Copy)]
 struct Answer {
     kind: u64,
     a: f64,

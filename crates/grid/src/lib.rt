@@ -1,10 +1,12 @@
 // The description of a blank, its grid, and what each has along a world axis.
+#![tactic(auto)]
+
 ghost use Rattle.std.specs.Prelude.{◌≡◌};
 ghost use Rattle.grid.specs.Axes.{along_of, cells_along, step_along, cross_of};
 ghost use Rattle.grid.specs.Grid.{is_between, all_between};
 
 #[repr(C)]
-#[derive(Drop)]
+#[derive(Clone, Copy)]
 pub struct Vec3 {
     pub x: f64,
     pub y: f64,
@@ -12,11 +14,11 @@ pub struct Vec3 {
 }
 
 // Document 01's world axis, a digit 0 to 2. 2 and every larger digit is z, so that every function over it is total.
-#[derive(Drop)]
+#[derive(Clone, Copy)]
 pub struct WorldAxis(pub u8);
 
 // The two axes across a ray.
-#[derive(Drop)]
+#[derive(Clone, Copy)]
 pub struct CrossAxes {
     pub u: WorldAxis,
     pub v: WorldAxis,
@@ -24,7 +26,7 @@ pub struct CrossAxes {
 
 // A blank's description, version 1. Its units are lent beside it.
 #[repr(C)]
-#[derive(Drop)]
+#[derive(Clone, Copy)]
 pub struct DexelStockSpec {
     pub version: u32,
     pub min_mm: Vec3,
@@ -36,7 +38,7 @@ pub struct DexelStockSpec {
 
 // The cells along each axis, and their widths.
 #[repr(C)]
-#[derive(Drop)]
+#[derive(Clone, Copy)]
 pub struct DexelGrid {
     pub c0: u64,
     pub c1: u64,
@@ -46,7 +48,7 @@ pub struct DexelGrid {
     pub s2: f64,
 }
 
-#[derive(Drop)]
+#[derive(Clone, Copy)]
 pub enum GridAnswer {
     Accepted(DexelGrid),
     Refused(u32),
@@ -54,14 +56,14 @@ pub enum GridAnswer {
 
 // A ray's coordinates on the two axes across it.
 #[repr(C)]
-#[derive(Drop)]
+#[derive(Clone, Copy)]
 pub struct RayCenter {
     pub u: f64,
     pub v: f64,
 }
 
 // The two ends of the box along a ray.
-#[derive(Drop)]
+#[derive(Clone, Copy)]
 pub struct RayBounds {
     pub lo: f64,
     pub hi: f64,

@@ -1,4 +1,6 @@
 // Where the cells of a grid lie, and the centres of its rays.
+#![tactic(auto)]
+
 ghost use Rattle.std.specs.Prelude.{◌≡◌, ◌<◌};
 ghost use Rattle.grid.specs.Axes.{cells_along, cross_of};
 ghost use Rattle.grid.specs.Rays.{cell_at};

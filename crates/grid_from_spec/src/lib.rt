@@ -1,4 +1,6 @@
 // The grid of a blank: its description tested, its cells and steps worked out.
+#![tactic(auto)]
+
 ghost use Rattle.std.specs.Prelude.{◌≡◌, not, ◌||◌, nat_eq, nat_lt};
 ghost use Rattle.std.specs.Float.Ieee.{neg};
 ghost use Rattle.doubles.specs.Constants.{million};

@@ -1,4 +1,6 @@
 // The three grids of rays through a blank: how many rays there are, how they are numbered, and between which faces each runs.
+#![tactic(auto)]
+
 ghost use Rattle.std.specs.Prelude.{◌≡◌, ◌<◌, ◌^◌};
 ghost use Rattle.grid.specs.Rays.{rays_along, ray_count, offset, ray_number, ray_axis, bounds_of};
 

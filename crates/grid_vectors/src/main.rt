@@ -4,6 +4,8 @@
 // the answer; oracle/harness/src/bin/record_grid.rs, which records them, says which is which. The one NaN is 7ff8000000000000.
 // For accepted descriptions and for each refusal it writes how many rows agree and how many differ, then how many can't be read, and
 // the number of the first row that differs.
+#![tactic(auto)]
+
 ghost use Rattle.grid_vectors.specs.Facts.{FactsOf};
 ghost use Rattle.grid.specs.Facts.{GridFacts};
 

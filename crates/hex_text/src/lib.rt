@@ -1,8 +1,10 @@
 // Hexadecimal numbers at fixed places of a text, for programs that read recorded answers.
+#![tactic(auto)]
+
 ghost use Rattle.std.specs.Prelude.{◌≡◌};
 ghost use Rattle.hex_text.specs.Hex.{hex_digit, hex_at};
 // A number that was read, or none: the text ends before it, or something else than a digit stands there.
-#[derive(Drop)]
+#[derive(Clone, Copy)]
 pub enum Word {
     Value(u64),
     Missing,

@@ -1,5 +1,7 @@
 // Inner functions under C names, for the oracle and the benchmark only: each is its crate's function of the same name, and asks what
 // that asks. An answer that is an enum comes back as a number or as a struct of numbers.
+#![tactic(auto)]
+
 ghost use Rattle.std.specs.Prelude.{◌≡◌, ◌<◌, ◌^◌};
 ghost use Rattle.std.specs.Float.{binary64};
 ghost use Rattle.std.specs.Float.Ieee.{of_bits, to_bits, to_unsigned};
@@ -121,7 +123,7 @@ pub extern "C" fn tridexel_inner_total_cmp(a: f64, b: f64) -> u32
 // The strips. An answer is 1 and the two ends, or 0.
 
 #[repr(C)]
-#[derive(Drop)]
+#[derive(Clone, Copy)]
 pub struct StripNumbers {
     pub hit: u64,
     pub lo: f64,
@@ -188,7 +190,7 @@ pub extern "C" fn tridexel_inner_stadium_strip(
 // The cutter. A shape goes in as its number and its own numbers.
 
 #[repr(C)]
-#[derive(Drop)]
+#[derive(Clone, Copy)]
 pub struct RadiusNumbers {
     pub kind: u64,
     pub radius: f64,

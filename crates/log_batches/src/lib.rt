@@ -1,5 +1,7 @@
 // The entries of a batch of rays, gathered as keys in a lent buffer and sorted, so that those of a ray stand together. The batch has as
 // many rays as their entries fit the buffer.
+#![tactic(auto)]
+
 ghost use Rattle.std.specs.Prelude.{◌+◌, ◌*◌, ◌^◌, ◌<◌, ◌≤◌, length, nat_lt};
 ghost use Rattle.grid.specs.Rays.{ray_count};
 ghost use Rattle.log_model.specs.Logs.{entry_count};
@@ -11,7 +13,7 @@ use grid::DexelGrid;
 
 // How many rays the batch has, and how many keys. It is full where the entries of its first ray alone do not fit:
 // its keys then say nothing.
-#[derive(Drop)]
+#[derive(Clone, Copy)]
 pub struct Batch {
     pub width: usize,
     pub count: usize,

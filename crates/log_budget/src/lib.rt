@@ -1,6 +1,8 @@
 // Whether a log commit keeps its two budgets, found out before anything is written: the rays that would change, and the pairs that all
 // lists would have. The entries are taken in batches of rays that fit local arrays, and a ray whose own entries do not fit in stretches of
 // numbers.
+#![tactic(auto)]
+
 ghost use Rattle.std.specs.Prelude.{◌≡◌, true, ◌⊎◌, ◌+◌, ◌*◌, ◌^◌, ◌≤◌, ◌<◌, length};
 ghost use Rattle.grid.specs.Rays.{ray_count};
 ghost use Rattle.log_model.specs.Logs.{entry_count};
@@ -22,7 +24,7 @@ const KEYS: usize = 3072;
 const CELLS: usize = 1024;
 
 // Which of the two budgets a commit would not keep, if any.
-#[derive(Drop)]
+#[derive(Clone, Copy)]
 pub enum BudgetAnswer {
     Kept,
     Rays,
@@ -30,7 +32,7 @@ pub enum BudgetAnswer {
 }
 
 // The first ray that is not counted, how many rays to try next, and the totals.
-#[derive(Drop)]
+#[derive(Clone, Copy)]
 pub struct CountNextAnswer {
     pub next: usize,
     pub guess: usize,

@@ -1,5 +1,7 @@
 // The count of one ray for the budgets of a log commit: whether it would change, and how many pairs its lists would have. The hits of a ray
 // that has few entries are read by their keys, those of any other in stretches of numbers.
+#![tactic(auto)]
+
 ghost use Rattle.std.specs.Prelude.{◌≡◌, ◌+◌, ◌<◌, length};
 ghost use Rattle.store_read.specs.Reading.{Readable};
 ghost use Rattle.log_model.specs.Logs.{entry_count};
@@ -14,7 +16,7 @@ use grid::{DexelGrid, DexelStockSpec};
 use log_left::Rest;
 
 // One list: whether it would change, its pairs, and the pairs it would then have.
-#[derive(Drop)]
+#[derive(Clone, Copy)]
 pub struct ListCount {
     pub changes: bool,
     pub before: u64,
@@ -22,14 +24,14 @@ pub struct ListCount {
 }
 
 // The rays that would change, and the pairs of all lists, as far as counted.
-#[derive(Drop)]
+#[derive(Clone, Copy)]
 pub struct RayTotals {
     pub changed: u64,
     pub pairs: u64,
 }
 
 // Both lists of a ray as far as they are walked, and where the stretch of numbers ends that was taken from them.
-#[derive(Drop)]
+#[derive(Clone, Copy)]
 pub struct RayWalks {
     pub possible: Rest,
     pub certain: Rest,

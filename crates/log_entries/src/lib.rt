@@ -1,4 +1,6 @@
 // Reads a log: its entries, and which rays they name. A log is read here only; the sweep writes it.
+#![tactic(auto)]
+
 ghost use Rattle.std.specs.Prelude.{◌≡◌, ◌+◌, ◌^◌, ◌<◌, true};
 ghost use Rattle.grid.specs.Rays.{ray_count};
 ghost use Rattle.log_model.specs.Logs.{entry_at, entry_count, is_whole, whole_of, names_some_ray, entry_ray};

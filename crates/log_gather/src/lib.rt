@@ -1,5 +1,7 @@
 // The hits of some entries of a log, gathered in a lent buffer for one stretch of numbers: as many as fit, which decides where the
 // stretch ends.
+#![tactic(auto)]
+
 ghost use Rattle.std.specs.Prelude.{◌<◌, ◌≡◌, length};
 ghost use Rattle.spans.specs.Overlay.{lower_of};
 ghost use Rattle.log_model.specs.Logs.{entry_count};
@@ -10,7 +12,7 @@ use log_model::Entry;
 
 // The hits of a stretch as they are gathered: the cells in use, where the stretch ends, and how far the hits that begin at or before
 // its start reach.
-#[derive(Drop)]
+#[derive(Clone, Copy)]
 pub struct HeldHits {
     pub count: usize,
     pub end: f64,

@@ -1,4 +1,6 @@
 // Groups the entries of a log by ray: the entries of each ray are chained in the work buffer, in the log's order.
+#![tactic(auto)]
+
 ghost use Rattle.std.specs.Prelude.{◌≡◌, ◌+◌, ◌<◌, ◌≤◌, length, get_or, set};
 ghost use Rattle.std.specs.Float.{nan};
 ghost use Rattle.log_numbers.specs.Numbers.{number_cell};

@@ -1,4 +1,6 @@
 // Keys in a lent buffer, each of which stands for an entry of a log.
+#![tactic(auto)]
+
 ghost use Rattle.std.specs.Prelude.{◌≤◌, ◌<◌, length};
 ghost use Rattle.log_keys.specs.KeysKept.{KeepPost};
 

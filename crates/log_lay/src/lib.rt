@@ -1,4 +1,6 @@
 // Frees and lays the lists of the changed rays of a log commit. All are freed before the first is laid.
+#![tactic(auto)]
+
 ghost use Rattle.std.specs.Prelude.{◌≡◌, ℕ};
 ghost use Rattle.store.specs.Updates.{freed_all, laid_all};
 ghost use Rattle.log_lay.specs.Updates.{updates_from};
@@ -49,7 +51,7 @@ pub fn free_all(
 }
 
 // Where laying stands: no record before place `from` is free, and the next new list stands at cell `at` of the work buffer.
-#[derive(Drop)]
+#[derive(Clone, Copy)]
 pub struct LayPlace {
     pub from: usize,
     pub at: usize,

@@ -1,11 +1,13 @@
 // A list of a lent store less hits that come in ascending order, counted while its chain is walked once: nothing is copied or written.
+#![tactic(auto)]
+
 ghost use Rattle.std.specs.Prelude.{◌≡◌, ◌-◌, ◌<◌, true, ◌≢◌};
 ghost use Rattle.store_read.specs.Reading.{Readable};
 ghost use Rattle.log_left.specs.Steps.{StartPost, BeginPost, ClosePairPost, CutPairPost, PassPost, TakePost, FinishPost};
 
 // A list that is being walked. What comes before `from` is decided: whether a point of it was taken, and how many pairs are left of it.
 // Undecided are the pair of the record from `from` on, and the pairs of the records behind it; with record 0 there is nothing more.
-#[derive(Drop)]
+#[derive(Clone, Copy)]
 pub struct Rest {
     pub at: u64,
     pub from: f64,
@@ -14,7 +16,7 @@ pub struct Rest {
 }
 
 // What became of a list: whether it changed, and how many pairs it has.
-#[derive(Drop)]
+#[derive(Clone, Copy)]
 pub struct ListLeft {
     pub moved: bool,
     pub pairs: u64,

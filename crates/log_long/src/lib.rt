@@ -1,5 +1,7 @@
 // The entries of one ray in a log, gathered in a lent buffer for one stretch of numbers: those with a hit that begins in it, as many as
 // fit, which decides where the stretch ends. Of the hits that begin at or before its start only how far they reach is kept.
+#![tactic(auto)]
+
 ghost use Rattle.std.specs.Prelude.{◌≡◌, ◌+◌, ◌*◌, ◌^◌, ◌<◌, ◌≤◌, length, slice_index};
 ghost use Rattle.std.specs.Float.Ieee.{lt};
 ghost use Rattle.grid.specs.Rays.{ray_count};
@@ -17,14 +19,14 @@ const GROUP: usize = 55;
 const CELLS: usize = 110;
 
 // How many keys there are, and where the stretch ends.
-#[derive(Drop)]
+#[derive(Clone, Copy)]
 pub struct HeldKeys {
     pub count: usize,
     pub end: f64,
 }
 
 // The keys, and how far the outer and the inner hits reach that begin at or before the start of the stretch.
-#[derive(Drop)]
+#[derive(Clone, Copy)]
 pub struct LongPart {
     pub keys: HeldKeys,
     pub outer: f64,

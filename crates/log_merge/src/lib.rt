@@ -1,4 +1,6 @@
 // Merges the hits of a log into the rays of a store: the new lists of each ray that changes, one ray after the other, in the work buffer.
+#![tactic(auto)]
+
 ghost use Rattle.std.specs.Prelude.{◌≡◌, ◌+◌, ◌*◌, ◌^◌, ◌<◌, ◌≤◌, length, set};
 ghost use Rattle.log_numbers.specs.Numbers.{number_cell};
 ghost use Rattle.grid.specs.Rays.{ray_count};
@@ -14,7 +16,7 @@ ghost use Rattle.store.specs.Store.{cells};
 use grid::{DexelGrid, DexelStockSpec};
 
 // Whether a ray changes, and if so how many pairs its new lists have.
-#[derive(Drop)]
+#[derive(Clone, Copy)]
 pub struct RayUpdate {
     pub changed: bool,
     pub possible: usize,
@@ -22,7 +24,7 @@ pub struct RayUpdate {
 }
 
 // The cells that a ray's lists and the lists that normalising makes of its hits have.
-#[derive(Drop)]
+#[derive(Clone, Copy)]
 pub struct Sizes {
     pub possible: usize,
     pub certain: usize,

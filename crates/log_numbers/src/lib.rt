@@ -1,4 +1,6 @@
 // Whole numbers in the cells of a buffer of doubles. They are moved as bits, so that no number is rounded.
+#![tactic(auto)]
+
 ghost use Rattle.std.specs.Prelude.{◌≡◌, ◌<◌, length, set};
 ghost use Rattle.log_numbers.specs.Numbers.{number_cell, number_at};
 

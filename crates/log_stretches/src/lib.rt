@@ -1,5 +1,7 @@
 // The hits of some entries of a log taken from a list in ascending order, however many they are: one stretch of numbers after the other,
 // each with as many hits as a lent buffer holds. Of the hits that begin at or before a stretch only how far they reach counts.
+#![tactic(auto)]
+
 ghost use Rattle.std.specs.Prelude.{◌<◌, length, take};
 ghost use Rattle.store_read.specs.Reading.{Readable};
 ghost use Rattle.log_model.specs.Logs.{entry_count};

@@ -1,4 +1,5 @@
 // Merges the ray that standard input describes, and writes its lists, or why it is refused, to standard output.
+#![tactic(auto)]
 
 // One byte more than the longest readable input, 257 lines of 36 bytes: what is longer is seen to be.
 const MOST: usize = 9253;

@@ -1,4 +1,6 @@
 // Pairs of doubles moved in place, so that the pairs stay the same.
+#![tactic(auto)]
+
 ghost use Rattle.std.specs.Prelude.{◌+◌, ◌*◌, ◌≤◌, length};
 ghost use Rattle.pair_moves.specs.Pairs.{SamePairs};
 

@@ -1,6 +1,8 @@
 // Pairs of doubles sorted in place by their first number. The contracts say that the pairs stay the same; the order
 // is for speed only, since what reads the pairs afterwards is right for every order. With a NaN among the first
 // numbers any order comes out.
+#![tactic(auto)]
+
 ghost use Rattle.std.specs.Prelude.{◌+◌, ◌*◌, ◌/◌, ◌≤◌, ◌<◌, length};
 ghost use Rattle.pair_moves.specs.Pairs.{SamePairs};
 

@@ -1,4 +1,6 @@
 // Whether two lent lists are document 01's valid ray.
+#![tactic(auto)]
+
 ghost use Rattle.std.specs.Prelude.{◌≡◌, true};
 ghost use Rattle.spans.specs.Rays.{bounded, ValidRay};
 

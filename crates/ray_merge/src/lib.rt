@@ -1,4 +1,6 @@
 // The one-ray merge, in which possible loses the inner hits and certain the outer and the inner ones, and a ray's lists after it.
+#![tactic(auto)]
+
 ghost use Rattle.std.specs.Prelude.{◌≡◌, ◌+◌, ◌-◌, ◌*◌, ◌/◌, ◌%◌, ◌≤◌, ◌<◌, length, false};
 ghost use Rattle.ray_merge.specs.Merge.{MergePost};
 ghost use Rattle.ray_subtract.specs.Steps.{PlacedAt, NormalizedAt, MergeInputs, MergeListsPost};
@@ -9,7 +11,7 @@ ghost use Rattle.ray_merge.specs.Handed.{ListMoved, PossibleMoved, CertainMoved}
 use ray_subtract::{MergedList, MergedLists};
 
 // Possible and certain, or why the call is refused.
-#[derive(Drop)]
+#[derive(Clone, Copy)]
 pub enum MergeAnswer {
     Lists(MergedList, MergedList),
     Refused(u32),

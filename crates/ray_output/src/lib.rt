@@ -1,4 +1,6 @@
 // The text that the program writes.
+#![tactic(auto)]
+
 ghost use Rattle.std.specs.Prelude.{◌||◌, ◌≡◌, [], ◌∷◌, ◌+◌, ◌*◌, ◌%◌, ◌≤◌, ◌<◌, length};
 ghost use Rattle.ray_input.specs.Steps.{Appended};
 ghost use Rattle.ray_output.specs.Output.{glyph, hex, field_text, line_text, lines_text, end_text, refused_text};

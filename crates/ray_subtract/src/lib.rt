@@ -1,4 +1,6 @@
 // What the hits of one ray take from its lists, worked out in a buffer.
+#![tactic(auto)]
+
 ghost use Rattle.std.specs.Prelude.{◌≡◌, not, ◌+◌, ◌-◌, ◌*◌, ◌/◌, ◌^◌, ◌≤◌, ◌<◌, length};
 ghost use Rattle.spans.specs.Spans.{equal};
 ghost use Rattle.ray_subtract.specs.Subtract.{new_cells};
@@ -10,13 +12,13 @@ ghost use Rattle.ray_subtract.specs.Steps.{MergeWithinPost};
 use spans::Place;
 
 // One list after a merge: whether it moved, and how many pairs it has.
-#[derive(Drop)]
+#[derive(Clone, Copy)]
 pub struct MergedList {
     pub moved: bool,
     pub pairs: usize,
 }
 
-#[derive(Drop)]
+#[derive(Clone, Copy)]
 pub struct MergedLists {
     pub possible: MergedList,
     pub certain: MergedList,

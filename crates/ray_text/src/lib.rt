@@ -1,4 +1,6 @@
 // The program on slices: a text is read, its ray merged and printed.
+#![tactic(auto)]
+
 ghost use Rattle.std.specs.Prelude.{◌≡◌, true, ◌≤◌, length};
 ghost use Rattle.ray_input.specs.Format.{readable};
 ghost use Rattle.ray_text.specs.Run.{ProgramRan, Printed, ray_causes, Small};

@@ -3,6 +3,8 @@
 // A case is a head of ten bytes, the input and the output that it must give. The head has the two lengths in four
 // hexadecimal digits each, with a space between them and a newline behind. It writes how many cases agree and differ,
 // how many can't be read, and the number of the first that differs.
+#![tactic(auto)]
+
 use vector_rows::{RowCounts, RowOutcome};
 
 // The most bytes of an input or an output.

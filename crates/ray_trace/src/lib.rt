@@ -1,4 +1,6 @@
 // Why a place on a ray shows as it does: which log entry removed it or made it uncertain, or that none did.
+#![tactic(auto)]
+
 ghost use Rattle.std.specs.Prelude.{◌≡◌, []};
 ghost use Rattle.spans.specs.Spans.{holds};
 ghost use Rattle.log_model.specs.Logs.{entries};
@@ -10,7 +12,7 @@ ghost use Rattle.ray_trace.specs.Steps.{FoundAt};
 use log_model::Entry;
 
 // The reason, entries counted from 1, or why the call is refused.
-#[derive(Drop)]
+#[derive(Clone, Copy)]
 pub enum TraceAnswer {
     // Not possible before.
     NotPossible,

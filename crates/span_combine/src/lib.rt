@@ -1,4 +1,6 @@
 // What two sound lists leave of each other: one less the other, and the points in both.
+#![tactic(auto)]
+
 ghost use Rattle.std.specs.Prelude.{length};
 ghost use Rattle.spans.specs.Results.{ListPost};
 ghost use Rattle.span_combine.specs.Combine.{combine_causes, LessOf, CommonOf};

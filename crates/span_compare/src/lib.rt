@@ -1,10 +1,12 @@
 // Two span lists compared: whether one has all points of the other, and whether they have one in common.
+#![tactic(auto)]
+
 ghost use Rattle.span_compare.specs.Verdicts.{ComparePost, compare_causes, Contains, Overlaps};
 
 use spans::both_sound;
 
 // Whether something holds of two lists, or why the call is refused.
-#[derive(Drop)]
+#[derive(Clone, Copy)]
 pub enum BoolAnswer {
     Yes,
     No,

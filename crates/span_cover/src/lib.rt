@@ -1,4 +1,6 @@
 // Whether one sound list has all points of another, and whether two have one in common.
+#![tactic(auto)]
+
 ghost use Rattle.std.specs.Prelude.{◌≡◌, true};
 ghost use Rattle.spans.specs.Spans.{sound};
 ghost use Rattle.span_cover.specs.Cover.{Covers, Meets};

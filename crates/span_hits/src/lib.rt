@@ -1,22 +1,24 @@
 // A reader over a lent list of hits: it holds the list and its place, and hands out the next pair that is not dropped.
+#![tactic(auto)]
+
 ghost use Rattle.std.specs.Prelude.{◌≡◌, ◌-◌, drop};
 ghost use Rattle.span_hits.specs.Hits.{next_hit, found_as};
 // The list that is lent, and the place of the next pair.
-#[derive(Drop)]
+#[derive(Clone, Copy)]
 pub struct HitReader<'a> {
     pub hits: &'a [f64],
     pub at: usize,
 }
 
 // A pair, or none left.
-#[derive(Drop)]
+#[derive(Clone, Copy)]
 pub enum NextHit {
     Pair(f64, f64),
     End,
 }
 
 // A hit, and the place past it.
-#[derive(Drop)]
+#[derive(Clone, Copy)]
 pub struct Found {
     pub hit: NextHit,
     pub at: usize,

@@ -1,4 +1,6 @@
 // A pair worked into a sound list, in a lent slice of doubles.
+#![tactic(auto)]
+
 ghost use Rattle.std.specs.Prelude.{◌≡◌, ◌+◌, ◌≤◌, length, take, true};
 ghost use Rattle.std.specs.Float.Ieee.{lt, le};
 ghost use Rattle.spans.specs.Spans.{sound};

@@ -1,4 +1,6 @@
 // Passes over pairs: copied, worked into the sound list of those in front of them in place, or joined as they are read.
+#![tactic(auto)]
+
 ghost use Rattle.std.specs.Prelude.{◌≡◌, ◌+◌, ◌%◌, ◌≤◌, ◌++◌, length, take};
 ghost use Rattle.spans.specs.Spans.{retained, NormalOf};
 ghost use Rattle.spans.specs.Steps.{FilledFront};

@@ -1,4 +1,6 @@
 // The sound list of arbitrary pairs, in lent slices of doubles.
+#![tactic(auto)]
+
 ghost use Rattle.std.specs.Prelude.{◌≡◌, ◌+◌, ◌%◌, ◌≤◌, length, take, ◌++◌};
 ghost use Rattle.spans.specs.Spans.{NormalOf};
 ghost use Rattle.spans.specs.Results.{ListPost};

@@ -1,4 +1,6 @@
 // Two sound lists laid over each other: the list of one less the other, and that of the points in both, filled into a buffer.
+#![tactic(auto)]
+
 ghost use Rattle.std.specs.Prelude.{◌≡◌, true, ◌+◌, ◌≤◌, length};
 ghost use Rattle.spans.specs.Spans.{sound};
 ghost use Rattle.spans.specs.Steps.{FilledFront};

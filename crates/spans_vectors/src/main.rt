@@ -5,11 +5,13 @@
 // compared as numbers, since which of two zeros stands there is open; all other cells of a buffer are compared bit
 // for bit. For each function it writes how many rows agree and how many differ, then how many can't be read, and the
 // number of the first row that differs.
+#![tactic(auto)]
+
 use span_compare::BoolAnswer;
 use spans::ListAnswer;
 
 // A refusal's number or 0, and the number of pairs, or 1 for yes.
-#[derive(Drop)]
+#[derive(Clone, Copy)]
 struct Reply {
     refused: u64,
     count: u64,

@@ -1,4 +1,6 @@
 // The stock: the lent store with its small record, and its check.
+#![tactic(auto)]
+
 ghost use Rattle.std.specs.Prelude.{◌≡◌, ◌*◌, ◌<◌};
 ghost use Rattle.grid.specs.Rays.{ray_count};
 ghost use Rattle.stock.specs.Stock.{ValidAt, ValidTo, SoundCells, is_short};
@@ -10,21 +12,21 @@ ghost use Rattle.store.specs.Store.{cells, ChainsSound};
 use grid::{DexelGrid, DexelStockSpec};
 
 // Document 01's small record of a stock.
-#[derive(Drop)]
+#[derive(Clone, Copy)]
 pub struct Tally {
     pub generation: u64,
     pub intervals: u64,
 }
 
 // The answer of both commits: how many rays changed, or why the call is refused.
-#[derive(Drop)]
+#[derive(Clone, Copy)]
 pub enum CommitAnswer {
     Changed(u64),
     Refused(u32),
 }
 
 // A commit's answer, and what the small record is to hold after it: its old values where the commit is refused.
-#[derive(Drop)]
+#[derive(Clone, Copy)]
 pub struct Outcome {
     pub answer: CommitAnswer,
     pub generation: u64,

@@ -1,4 +1,6 @@
 // The fill: lays the uncut store of a blank.
+#![tactic(auto)]
+
 ghost use Rattle.std.specs.Prelude.{◌≡◌, ◌*◌, ◌≤◌, length};
 ghost use Rattle.grid.specs.Rays.{ray_count};
 ghost use Rattle.grid.specs.Causes.{grid_in};
@@ -10,7 +12,7 @@ use grid::{DexelGrid, DexelStockSpec, GridAnswer};
 use stock::Tally;
 
 // A record of the uncut store. None has a next.
-#[derive(Drop)]
+#[derive(Clone, Copy)]
 pub struct UncutRecord {
     pub lo: f64,
     pub hi: f64,
@@ -71,7 +73,7 @@ fn fill_heads(heads: &mut [u64], m: usize)
 }
 
 // The small record of the stock that is laid, or why the call is refused.
-#[derive(Drop)]
+#[derive(Clone, Copy)]
 pub enum FillAnswer {
     Accepted(Tally),
     Refused(u32),

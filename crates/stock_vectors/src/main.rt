@@ -5,6 +5,8 @@
 // are compared as numbers, all other cells bit for bit; every cell of a buffer is 7 before the call. For each
 // function it writes how many rows agree and how many differ, then how many can't be read, and the number of the
 // first row that differs.
+#![tactic(auto)]
+
 use ray_merge::MergeAnswer;
 use ray_subtract::MergedList;
 use stock_fill::FillAnswer;

@@ -1,4 +1,6 @@
 // The volume of a stock.
+#![tactic(auto)]
+
 ghost use Rattle.std.specs.Prelude.{◌≡◌, ◌<◌};
 ghost use Rattle.grid.specs.Rays.{ray_count, offset};
 ghost use Rattle.grid.specs.Causes.{grid_in};
@@ -12,14 +14,14 @@ ghost use Rattle.store.specs.Store.{cells};
 use grid::{DexelGrid, DexelStockSpec, GridAnswer, WorldAxis};
 
 // What one grid says of the remaining material.
-#[derive(Drop)]
+#[derive(Clone, Copy)]
 pub struct AxisVolume {
     pub certain: f64,
     pub possible: f64,
 }
 
 // The Rust's `DexelVolume`: for each grid the certain and the possible remaining material, and what the three say together.
-#[derive(Drop)]
+#[derive(Clone, Copy)]
 pub struct DexelVolume {
     pub x_certain_mm3: f64,
     pub x_possible_mm3: f64,
@@ -34,14 +36,14 @@ pub struct DexelVolume {
 }
 
 // The volume, or why the call is refused.
-#[derive(Drop)]
+#[derive(Clone, Copy)]
 pub enum VolumeAnswer {
     Accepted(DexelVolume),
     Refused(u32),
 }
 
 // Whether the rays that were looked at are valid, and if so the sums over them.
-#[derive(Drop)]
+#[derive(Clone, Copy)]
 pub struct AxisSums {
     pub valid: bool,
     pub volume: AxisVolume,

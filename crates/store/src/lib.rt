@@ -1,4 +1,6 @@
 // The lent store: what its cells hold for a ray and for a record, and its check in linear time with no memory of its own.
+#![tactic(auto)]
+
 ghost use Rattle.std.specs.Prelude.{◌≡◌, true, ◌+◌, ◌-◌, ◌*◌, ◌<◌, ◌≤◌, length};
 ghost use Rattle.store.specs.Store.{is_plus_zero, used_at, ChainsSound, cells};
 ghost use Rattle.store.specs.Layout.{heads_of, record_of};
@@ -6,7 +8,7 @@ ghost use Rattle.store.specs.Walks.{walk_from, walk_all};
 ghost use Rattle.logic.specs.Logic.{count_to};
 
 // The numbers of the first records of a ray's two lists, zero for an empty one.
-#[derive(Drop)]
+#[derive(Clone, Copy)]
 pub struct RayHeads {
     pub possible: u64,
     pub certain: u64,
@@ -31,7 +33,7 @@ pub fn possible_head(heads: &[u64], ray: usize) -> u64
 }
 
 // A record as a reader of its list sees it: its pair, and the number of the next record.
-#[derive(Drop)]
+#[derive(Clone, Copy)]
 pub struct Record {
     pub lo: f64,
     pub hi: f64,
@@ -91,7 +93,7 @@ pub fn count_used(spans: &[f64], links: &[u64], n: usize) -> usize
     c
 }
 
-#[derive(Drop)]
+#[derive(Clone, Copy)]
 pub enum ChainWalk {
     Ends(usize),
     Broken,

@@ -1,4 +1,6 @@
 // Reads the lists of a lent store off their chains, and tests and measures its rays there, with no memory of its own.
+#![tactic(auto)]
+
 ghost use Rattle.std.specs.Prelude.{◌≡◌, true, not, ◌&&◌, ◌+◌, ◌≤◌, length};
 ghost use Rattle.std.specs.Float.Ieee.{lt, le};
 ghost use Rattle.spans.specs.Spans.{sound, equal};
@@ -96,7 +98,7 @@ fn starts_within(spans: &[f64], links: &[u64], n: usize, head: u64, low: f64) ->
 }
 
 // Whether a list passes a test, and if so the sum of its pairs' lengths.
-#[derive(Drop)]
+#[derive(Clone, Copy)]
 pub struct ListSum {
     pub good: bool,
     pub length: f64,
@@ -212,7 +214,7 @@ fn sound_within(spans: &[f64], links: &[u64], n: usize, outer: u64, inner: u64) 
 }
 
 // Whether a ray is valid, and if so the lengths of its two lists.
-#[derive(Drop)]
+#[derive(Clone, Copy)]
 pub struct RaySums {
     pub valid: bool,
     pub possible: f64,

@@ -1,4 +1,6 @@
 // Lays lists in the lowest free records of a lent store and frees them: one list, and both lists of a ray.
+#![tactic(auto)]
+
 ghost use Rattle.std.specs.Prelude.{◌≡◌, ◌+◌, ◌-◌, ◌*◌, ◌<◌, ◌≤◌, length};
 ghost use Rattle.store.specs.Store.{free_from, put_span, put_link, RecordChain, places, freed_spans, freed_links, cells};
 ghost use Rattle.store.specs.Fills.{NextFree, FreeCursor, FillListPre, FillListPost};
@@ -21,7 +23,7 @@ fn next_free(spans: &[f64], links: &[u64], n: usize, from: usize) -> usize
 }
 
 // The record number of a list's head, and the place past its last record.
-#[derive(Drop)]
+#[derive(Clone, Copy)]
 pub struct ListFilled {
     pub head: u64,
     pub cursor: usize,

@@ -1,32 +1,34 @@
 // Extents along x of polygons, disks and stadiums within a band of y (sweep.rs: `polygon_strip`, `disk_strip`, `stadium_strip`).
+#![tactic(auto)]
+
 ghost use Rattle.std.specs.Prelude.{◌≡◌, ◌++◌, ◌∷◌, [], ◌+◌, ◌<◌, ◌≤◌};
 ghost use Rattle.strips.specs.Strip.{band_distance, half_chord, chord_strip, disk_strip, hull, side_strip, stadium_strip};
 ghost use Rattle.strips.specs.Polygon.{inside, crossing, edge, clip, widen, widen_all, empty, polygon_strip};
 ghost use Rattle.strips.specs.Steps.{corners};
 
 #[repr(C)]
-#[derive(Drop)]
+#[derive(Clone, Copy)]
 pub struct PlanePoint {
     pub x: f64,
     pub y: f64,
 }
 
 // An extent along x, from the first end to the second, or none.
-#[derive(Drop)]
+#[derive(Clone, Copy)]
 pub enum Strip {
     Hit(f64, f64),
     Miss,
 }
 
 // The corners of a clipped polygon: the first n of at.
-#[derive(Drop)]
+#[derive(Clone, Copy)]
 struct Points {
     n: usize,
     at: [PlanePoint; 8],
 }
 
 // The smallest and the largest x so far, and whether there was a point.
-#[derive(Drop)]
+#[derive(Clone, Copy)]
 struct Extent {
     lo: f64,
     hi: f64,

@@ -1,4 +1,6 @@
 // Document 01's lateral sweep: its tests, its walk over the chords, and the end of its log.
+#![tactic(auto)]
+
 ghost use Rattle.std.specs.Prelude.{◌≡◌, ◌≤◌, length};
 ghost use Rattle.sweep_model.specs.SweepEntries.{setting};
 ghost use Rattle.sweep.specs.Answer.{setting_of, causes_in, sweep_causes, SweepPost};
@@ -14,20 +16,20 @@ use sweep_model::{Kernel, Profile};
 use sweep_visits::Progress;
 
 // The number of entries in the log, and document 01's visit total.
-#[derive(Drop)]
+#[derive(Clone, Copy)]
 pub struct Totals {
     pub entries: usize,
     pub visits: u64,
 }
 
 // The totals of a sweep, or why the call is refused.
-#[derive(Drop)]
+#[derive(Clone, Copy)]
 pub enum SweepAnswer {
     Accepted(Totals),
     Refused(u32),
 }
 
-#[derive(Drop)]
+#[derive(Clone, Copy)]
 pub enum SweepCheck {
     Admitted,
     Declined(u32),

@@ -1,4 +1,6 @@
 // What a chord has in common for all rays of a world axis, and the rectangle of rays that it visits (sweep.rs: `Kernel::rays`).
+#![tactic(auto)]
+
 ghost use Rattle.std.specs.Prelude.{◌≡◌};
 ghost use Rattle.sweep_model.specs.Kernel.{profile_of, plan_point, reach_of, axis_scale_of, chord_on_axis_of};
 ghost use Rattle.sweep_model.specs.Kernel.{span_over, cells_met, cells_across, rectangle_of};

@@ -1,5 +1,7 @@
 // The lateral sweep as document 01 and camlib's sweep.rs define it: its types here, the definitions in specs/. What a
 // chord does to a ray, which rays it visits, and the log of all visits.
+#![tactic(auto)]
+
 use cutter::{CutterShape, PreparedCutter};
 use frame::{Frame, LocalAxis, Pair};
 use grid::{Vec3, WorldAxis};
@@ -7,7 +9,7 @@ use strips::PlanePoint;
 
 // The cutting part (sweep.rs 114-120). The shape and the cutter's numbers give its sections; `radius`, half the
 // diameter, is what visits go by.
-#[derive(Drop)]
+#[derive(Clone, Copy)]
 pub struct Profile {
     pub shape: CutterShape,
     pub cutter: PreparedCutter,
@@ -16,14 +18,14 @@ pub struct Profile {
 
 // How chords and rays are compared (sweep.rs 286-293): the tool's frame, and the guard that widens what the tool may
 // touch and narrows what it certainly removes.
-#[derive(Drop)]
+#[derive(Clone, Copy)]
 pub struct Kernel {
     pub frame: Frame,
     pub guard: f64,
 }
 
 // A chord in the tool's frame (sweep.rs 381-386).
-#[derive(Drop)]
+#[derive(Clone, Copy)]
 pub struct Chord {
     // the ends, the third coordinate along the tool
     pub a: Vec3,
@@ -35,7 +37,7 @@ pub struct Chord {
 }
 
 // The cells along a world axis across a ray, as the centres of its cells need them (sweep.rs 359-361).
-#[derive(Drop)]
+#[derive(Clone, Copy)]
 pub struct AxisScale {
     // the sign of its local axis
     pub sign: f64,
@@ -46,7 +48,7 @@ pub struct AxisScale {
 }
 
 // What a chord has in common for all rays of a world axis (sweep.rs 912-928).
-#[derive(Drop)]
+#[derive(Clone, Copy)]
 pub struct ChordOnAxis {
     pub frame: Frame,
     // the local axis of the rays
@@ -71,14 +73,14 @@ pub struct ChordOnAxis {
 }
 
 // Cells from the first to the second, both met, or none.
-#[derive(Drop)]
+#[derive(Clone, Copy)]
 pub enum CellRange {
     Met(u64, u64),
     Missed,
 }
 
 // Rays from u0 to u1 in a row, and rows from v0 to v1, the last ones too.
-#[derive(Drop)]
+#[derive(Clone, Copy)]
 pub struct RayRange {
     pub u0: u64,
     pub u1: u64,
@@ -87,14 +89,14 @@ pub struct RayRange {
 }
 
 // Document 01's clamped rectangle, or none where the chord misses the blank.
-#[derive(Drop)]
+#[derive(Clone, Copy)]
 pub enum RayRect {
     Rays(RayRange),
     NoRays,
 }
 
 // A ray's cross-section, as the tool sees it (sweep.rs 933-935).
-#[derive(Drop)]
+#[derive(Clone, Copy)]
 pub struct Section {
     // the band across the ray, from its lower edge to its higher
     pub y0: f64,
@@ -106,21 +108,21 @@ pub struct Section {
 
 // What a hit ray is given, in the world: where the tool may touch it, and where it certainly removes it; no inner is
 // [0, 0].
-#[derive(Drop)]
+#[derive(Clone, Copy)]
 pub struct HitPairs {
     pub outer: Pair,
     pub inner: Pair,
 }
 
 // Whether a visited ray is hit, and with which pairs.
-#[derive(Drop)]
+#[derive(Clone, Copy)]
 pub enum RayHit {
     On(HitPairs),
     Off,
 }
 
 // The rays of a world axis in the store.
-#[derive(Drop)]
+#[derive(Clone, Copy)]
 pub struct AxisRays {
     pub axis: WorldAxis,
     // the number of its first ray

@@ -1,5 +1,7 @@
 // One ray across the tool axis: tests of its possible list, the section that a swept cutter meets, and what the ray
 // adds to the log (sweep.rs: `spans_meet`, `across`; dexel.rs: `overlaps`).
+#![tactic(auto)]
+
 ghost use Rattle.std.specs.Prelude.{◌≡◌, true};
 ghost use Rattle.spans.specs.Spans.{sound};
 ghost use Rattle.store_read.specs.Reading.{Readable};

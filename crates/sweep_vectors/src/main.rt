@@ -5,10 +5,12 @@
 // compared as numbers, all other cells bit for bit; every cell of the log is 7 before the call. For accepted and for
 // refused sweeps it writes how many rows agree and how many differ, then how many can't be read, and the number of
 // the first row that differs.
+#![tactic(auto)]
+
 use sweep::SweepAnswer;
 
 // A sweep's answer as numbers, 0 for no refusal, and whether the store and the chords are as they were.
-#[derive(Drop)]
+#[derive(Clone, Copy)]
 struct Answer {
     refusal: u64,
     entries: u64,

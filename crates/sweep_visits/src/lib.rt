@@ -1,5 +1,7 @@
 // The walk over the rays of a rectangle, v outside and u inside: the visit budget, and an entry in the log for each
 // hit ray (sweep.rs: `Kernel::rays`).
+#![tactic(auto)]
+
 ghost use Rattle.std.specs.Prelude.{◌≡◌, ◌+◌, ◌<◌, ◌≤◌, [], ◌∷◌, ◌++◌, length, take, drop};
 ghost use Rattle.sweep_model.specs.Entries.{entry_of, ray_entry, row_entries, rect_entries};
 ghost use Rattle.sweep_visits.specs.Steps.{WalkPost, RayReady, AxisReady};
@@ -8,13 +10,13 @@ use grid::WorldAxis;
 use sweep_model::{AxisRays, ChordOnAxis, HitPairs, Profile, RayHit, RayRange};
 
 // The place of a walk: the rays visited, and where the next entry goes in the log.
-#[derive(Drop)]
+#[derive(Clone, Copy)]
 pub struct VisitCursor {
     pub visits: u64,
     pub at: usize,
 }
 
-#[derive(Drop)]
+#[derive(Clone, Copy)]
 pub enum Progress {
     At(VisitCursor),
     Stopped(u32),

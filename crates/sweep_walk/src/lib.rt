@@ -1,4 +1,6 @@
 // The walk of a sweep: chords in order, for each the two world axes other than the tool's, and the rays of each clamped rectangle.
+#![tactic(auto)]
+
 ghost use Rattle.std.specs.Prelude.{◌≡◌, ◌+◌, ◌<◌, ◌≤◌, ◌^◌, length};
 ghost use Rattle.grid.specs.Rays.{ray_count};
 ghost use Rattle.sweep_model.specs.SweepEntries.{axis_rays_of, setting, axis_entries, first_axis, second_axis, chord_entries, sweep_entries};

@@ -3,10 +3,12 @@
 // A row has 765 bytes: 45 words of 16 hexadecimal digits, a space or the newline after each.
 // oracle/compare/src/bin/record_trace.rs, which records them, says what they are. For refused rows and for each reason it writes how many
 // rows agree and how many differ, then how many can't be read, and the number of the first row that differs.
+#![tactic(auto)]
+
 use ray_trace::TraceAnswer;
 
 // The reason, 1 to 5, or 0; the refusal or 0; the number of the entry or 0.
-#[derive(Drop)]
+#[derive(Clone, Copy)]
 struct Reply {
     reason: u64,
     refused: u64,

@@ -1,6 +1,8 @@
 // The C interface: every entry under a C name. A slice is a pointer and a length, a number or an array handed back is a pointer.
 // The result is document 01's refusal number, 0 where the call is accepted. A refused call leaves every number and cell as it was,
 // but for 8 and 16, where the log of a sweep ends zero.
+#![tactic(auto)]
+
 mod commits;
 mod stocks;
 mod sweeps;

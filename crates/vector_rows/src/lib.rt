@@ -1,5 +1,7 @@
 // What programs that replay recorded answers share: the rows of the input, what their words say, whether the cells of a buffer are
 // the recorded ones, the counts of the rows, and how they are printed. Past a row every word is 0.
+#![tactic(auto)]
+
 ghost use Rattle.std.specs.Prelude.{◌≡◌, length, take, ◌+◌, ◌*◌, ◌^◌, ◌<◌, ◌≤◌};
 ghost use Rattle.std.specs.Float.{nan};
 ghost use Rattle.enum_codes.specs.Codes.{named_shape};
@@ -226,7 +228,7 @@ pub fn numbers_agree(cells: &[u64], w: &[u64], from: usize, room: usize) -> bool
 }
 
 // What a row showed of the function of this number, or that it can't be read.
-#[derive(Drop)]
+#[derive(Clone, Copy)]
 pub enum RowOutcome {
     Agrees(u64),
     Differs(u64),
@@ -235,7 +237,7 @@ pub enum RowOutcome {
 
 // How many rows of each function agree and differ, how many can't be read, how many there were, and the number of the
 // first that differs, from 1.
-#[derive(Drop)]
+#[derive(Clone, Copy)]
 pub struct RowCounts {
     pub agree: [u64; 16],
     pub differ: [u64; 16],
@@ -376,7 +378,7 @@ pub fn read_words(text: &[u8], at: usize, out: &mut [u64]) -> bool
 }
 
 // What was found of a row.
-#[derive(Drop)]
+#[derive(Clone, Copy)]
 enum RowFound {
     Words,
     Unread,
@@ -414,7 +416,7 @@ fn read_row(head: usize, out: &mut [u64]) -> RowFound
 
 // A replay: the counts so far, and how many more rows it may read, 0 where no row is at hand. A proved loop has to end, and nothing
 // says that the input does.
-#[derive(Drop)]
+#[derive(Clone, Copy)]
 pub struct Replay {
     pub counts: RowCounts,
     pub left: u64,
