@@ -1,0 +1,14 @@
+-- `c_results::hand_bool` meets its contract: each arm hands back the numbers of the case that it matched.
+use mathlib.Core.Path.{refl}
+use mathlib.Core.Logic.{inl, inr}
+use borrow.Author.Rules.{rules}
+use Rattle.c_results.proofs.hand_bool.Goals as goal
+
+pub returns-in-Yes : goal.returns-in-Yes
+returns-in-Yes c = inl (rw c.enum_told-1.given.1 refl, refl)
+
+pub returns-in-No : goal.returns-in-No
+returns-in-No c = inl (rw c.enum_told-in-No-1.given.1 refl, refl)
+
+pub returns-in-Refused : goal.returns-in-Refused
+returns-in-Refused c = inr (c.t-1.given.1, refl)

@@ -1,0 +1,11 @@
+-- `c_results::hand_list` meets its contract: each arm hands back the numbers of the case that it matched.
+use mathlib.Core.Path.{refl}
+use mathlib.Core.Logic.{inl, inr}
+use borrow.Author.Rules.{rules}
+use Rattle.c_results.proofs.hand_list.Goals as goal
+
+pub returns-in-Pairs : goal.returns-in-Pairs
+returns-in-Pairs c = inl (rw c.l-1.given.1 refl, refl)
+
+pub returns-in-Refused : goal.returns-in-Refused
+returns-in-Refused c = inr (c.l-in-Refused-1.given.1, refl)

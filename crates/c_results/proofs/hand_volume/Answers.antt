@@ -1,0 +1,11 @@
+-- `c_results::hand_volume` meets its contract: each arm hands back the numbers of the case that it matched.
+use mathlib.Core.Path.{refl}
+use mathlib.Core.Logic.{inl, inr}
+use borrow.Author.Rules.{rules}
+use Rattle.c_results.proofs.hand_volume.Goals as goal
+
+pub returns-in-Accepted : goal.returns-in-Accepted
+returns-in-Accepted c = inl (rw c.m-1.given.1 refl, refl)
+
+pub returns-in-Refused : goal.returns-in-Refused
+returns-in-Refused c = inr (c.m-in-Refused-1.given.1, refl)

@@ -1,0 +1,95 @@
+use borrow.Author.Rules.{rules}
+use native.Mathlib.Omega.{arith}
+use Prim.Native.Nat.{ℕ, ◌+◌, ◌*◌, ◌^◌, ◌≤◌, ◌<◌}
+use mir.Val.{Fits}
+use mir.Syntax.{w64}
+use lib.ListN.{length}
+use Rattle.commit_apply.proofs.Apply.{group-room, mergeable, sizes-fit, freeable, layable, done, cleared-size}
+use Rattle.commit_apply.proofs.apply_log.Goals as goal
+use Rattle.commit_apply.proofs.apply_log.Tie as tie
+
+-- ---- the calls before, from where the entries are counted
+abbrev merged : goal.After-entry_count → tie.After-merge_all-changed
+merged c = c.before.before.before.before
+
+abbrev grouped : goal.After-entry_count → tie.After-group
+grouped c = (merged c).before.before.before.before.before.before.before
+
+abbrev start : goal.After-entry_count → tie.Start
+start c = (grouped c).before.before.before.before.before.before.before
+
+-- the sizes lie in the work buffer
+room : (c : goal.After-entry_count) → let rays = c.total_rays-rays.result in rays + c.entry_count.result + 2 * rays ≤ length (start c).args.work.now
+room c = sizes-fit _ _ _ _ _ (start c).requires _ _ _ (grouped c).group.ensures (merged c).merge_all-changed.ensures _
+    c.total_rays-rays.ensures _ c.entry_count.ensures
+
+bound : (c : goal.After-entry_count) → length (start c).args.work.now < 2 ^ 64
+bound c = omega (arith, (start c).well_formed.1.1.1.1.1.1.0)
+
+sum_fits : (r e w : ℕ) → r + e + 2 * r ≤ w → w < 2 ^ 64 → Fits w64 (r + e)
+sum_fits r e w h b = omega arith
+
+twice-fits : (r e w : ℕ) → r + e + 2 * r ≤ w → w < 2 ^ 64 → Fits w64 (2 * r)
+twice-fits r e w h b = omega arith
+
+past_fits : (r e w : ℕ) → r + e + 2 * r ≤ w → w < 2 ^ 64 → Fits w64 (r + e + 2 * r)
+past_fits r e w h b = omega arith
+
+-- where the lists were freed, from where their cells are lent again
+abbrev freed : tie.After-lay-all-arg4 → tie.After-free_all
+freed c = c.before.before.before.before.before.before.before.before.before.before
+
+-- the cells and the work buffer at the end
+finished : tie.Need-returns
+finished c =
+    let cleared = c.before.before in
+    let laid = cleared.before.before.before.before.before.before.before.before in
+    let emptied = freed laid.before in
+    let counted = emptied.before.before.before.before.before in
+    done _ _ _ _ _ (start counted).pre _ _ _ (grouped counted).group.ensures (merged counted).merge-all.ensures _
+    counted.before.total-rays.ensures _ counted.entry-count.ensures _ emptied.free_all.ensures _ _ laid.lay-all.ensures
+    cleared.clear-from.ensures
+
+pub group-requires : goal.group-requires
+group-requires c =
+    let asked = c.requires in
+    (asked.named, group-room _ _ _ _ _ asked)
+
+pub merge_all-changed-requires : goal.merge_all-changed-requires
+merge_all-changed-requires c =
+    mergeable _ _ _ _ _ c.requires _ c.group.ensures
+
+pub overflow_add-sizes : goal.overflow_add-sizes
+overflow_add-sizes c = sum_fits c.total_rays-rays.result c.entry_count.result (length (start c).args.work.now) (room c) (bound c)
+
+pub free_all-requires : goal.free_all-requires
+free_all-requires c =
+    freeable _ _ _ _ _ (start c.before.before.before.before).requires _ _ _ (grouped c.before.before.before.before).group.ensures (merged c.before.before.before.before).merge_all-changed.ensures _
+    c.total_rays-rays.ensures _ c.entry_count.ensures
+
+pub overflow_mul-rays : goal.overflow_mul-rays
+overflow_mul-rays c =
+    let counted = (freed c).before.before.before.before.before in
+    twice-fits counted.before.total-rays.result counted.entry-count.result (length (start counted).args.work.now) (room counted)
+    (bound counted)
+
+pub overflow_add-sizes-2 : goal.overflow_add-sizes-2
+overflow_add-sizes-2 c =
+    let counted = (freed c).before.before.before.before.before in
+    past_fits counted.before.total-rays.result counted.entry-count.result (length (start counted).args.work.now) (room counted)
+    (bound counted)
+
+pub lay_all-requires : goal.lay_all-requires
+lay_all-requires c =
+    let counted = (freed c).before.before.before.before.before in
+    let first = grouped counted in
+    layable _ _ _ _ _ (start counted).requires _ _ _ first.group.ensures (merged counted).merge_all-changed.ensures _
+    counted.before.total-rays.ensures _ counted.entry-count.ensures _ (freed c).free_all.ensures
+    first.before.before.before.before.before.before.slice-known.given
+    first.before.before.before.shared-slice-known.given
+
+pub shape_of-work : goal.shape_of-work
+shape_of-work c = cleared-size _ _ _ _ _ _ _ _ (finished c)
+
+pub returns : goal.returns
+returns c = finished c

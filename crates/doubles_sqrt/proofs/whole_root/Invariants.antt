@@ -1,0 +1,15 @@
+-- `doubles_sqrt::whole_root` meets its contract: its loop steps down from a number that is no less than the root. Assumes nothing.
+use mathlib.Core.Path.{◌≡◌, subst}
+use Prim.Native.Nat.{ℕ, suc, ◌*◌, ◌-◌, ◌^◌, ◌≤◌, ◌<◌}
+use native.Mathlib.Nat.{mul-le-mul, lt_of_le_of_lt}
+use native.Mathlib.Omega.{arith}
+use borrow.Author.Rules.{rules}
+use Rattle.doubles_sqrt.proofs.WholeRoot.{whole-root, root-unique, square-lt}
+use Rattle.doubles_sqrt.specs.Root.{whole_root}
+use Rattle.doubles_sqrt.proofs.whole_root.Given as goal
+
+abbrev pub invariant-loop-root : goal.invariant-loop-root
+invariant-loop-root l = (l.m < suc l.root * suc l.root) × (l.root < 2 ^ 30)
+
+abbrev pub decreases-loop-root : goal.decreases-loop-root
+decreases-loop-root l = l.root

@@ -1,0 +1,28 @@
+use Rattle.frame.specs.Frame.{frame_of}
+use borrow.Author.Rules.{rules}
+use Rattle.frame.proofs.Axis.frame.Reads as reads
+use Rattle.frame.proofs.Axis.frame.Goals as goal
+
+pub returns-in-PosX : goal.returns-in-PosX
+unfolding frame_of
+returns-in-PosX c = rw c.enum_told-1.given.1
+
+pub returns-in-NegX : goal.returns-in-NegX
+unfolding frame_of
+returns-in-NegX c = rw c.enum_told-in-NegX-1.given.1
+
+pub returns-in-PosY : goal.returns-in-PosY
+unfolding frame_of
+returns-in-PosY c = rw c.enum_told-in-PosY-1.given.1
+
+pub returns-in-NegY : goal.returns-in-NegY
+unfolding frame_of
+returns-in-NegY c = rw c.enum_told-in-NegY-1.given.1
+
+pub returns-in-PosZ : goal.returns-in-PosZ
+unfolding frame_of
+returns-in-PosZ c = rw c.enum_told-in-PosZ-1.given.1
+
+pub returns-in-NegZ : goal.returns-in-NegZ
+unfolding frame_of
+returns-in-NegZ c = rw c.enum_told-in-NegZ-1.given.1

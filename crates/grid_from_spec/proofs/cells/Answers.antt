@@ -1,0 +1,8 @@
+-- `grid_from_spec::cells` meets its contract. Assumes nothing.
+use Rattle.grid.specs.FromSpec.{cell_count}
+use Rattle.std.proofs.Common.{rules}
+use Rattle.grid_from_spec.proofs.cells.Goals as goal
+
+pub returns : goal.returns
+unfolding cell_count
+returns c = simp (← c.larger.ensures, ← c.ceil.ensures)

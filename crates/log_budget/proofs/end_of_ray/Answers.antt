@@ -1,0 +1,43 @@
+use mathlib.Core.Path.{◌≡◌, ap, ◌∙◌}
+use mathlib.Core.List.{List}
+use Prim.Native.Nat.{ℕ, ◌-◌, ◌/◌, ◌≤◌, ◌<◌}
+use native.Mathlib.Omega.{arith}
+use native.Mathlib.Decide.{dec_lt}
+use borrow.Author.Rules.{rules}
+use lib.ListN.{get_or}
+use Rattle.log_budget.proofs.end_of_ray.Goals as goal
+
+-- the keys from i to just before j are of one ray
+record OneRay (keys : List ℕ) (m i n j : ℕ) : Type 0 where
+  past : i < j
+  most : j ≤ m
+  same : (t : ℕ) → i ≤ t → t < j → get_or keys t 0 / n ≡ get_or keys i 0 / n
+
+pub loop-j-init : goal.loop-j-init
+loop-j-init c =
+    record {
+      past = omega arith;
+      most = omega arith;
+      same = λ t a b. let only : t ≡ c.args.i = omega arith in ap (λ (k : ℕ). get_or c.args.keys.now k 0 / c.args.n) only;
+    }
+
+pub loop-j-preserved : goal.loop-j-preserved
+loop-j-preserved c =
+    record {
+      past = omega (arith, c.loop-j.invariant.past);
+      most = search rules;
+      same = λ t a b. elim (dec_lt t c.loop-j.j) [
+        | yes l ↦ c.loop-j.invariant.same t a l
+        | no l ↦ let last : t ≡ c.loop-j.j = omega arith in ap (λ (k : ℕ). get_or c.args.keys.now k 0 / c.args.n) last ∙ c.if-keys-j.false
+      ];
+    }
+
+pub returns-after-loop-j : goal.returns-after-loop-j
+returns-after-loop-j c =
+    let inv = c.loop-j.invariant in
+    record { past = inv.past; most = inv.most; same = inv.same; other = λ h. absurd (omega (arith, h)) }
+
+pub returns-then-keys-j : goal.returns-then-keys-j
+returns-then-keys-j c =
+    let inv = c.loop-j.invariant in
+    record { past = inv.past; most = inv.most; same = inv.same; other = λ _. c.if-keys-j.true }

@@ -1,0 +1,19 @@
+use mathlib.Core.Logic.{⊎_elim}
+use Prim.Native.Nat.{ℕ, ◌*◌, ◌^◌, ◌≤◌}
+use native.Mathlib.Nat.{mul-le-mul, div-le_self}
+use native.Mathlib.Omega.{arith}
+use borrow.Author.Rules.{rules}
+use Rattle.log_budget.proofs.guess.Goals as goal
+
+-- so many rays times a buffer's room stay far below what the machine's numbers hold
+small : (w room : ℕ) → w ≤ 0x100_0000_0000 → room ≤ 2 ^ 16 → w * room ≤ 2 ^ 56
+small w room a b = omega (arith, mul-le-mul a b)
+
+pub overflow_mul-next-then-room-count : goal.overflow_mul-next-then-room-count
+overflow_mul-next-then-room-count c = omega (arith, small c.smaller-w.result _ c.smaller-w.ensures.1 c.requires.1)
+
+pub overflow_add-result : goal.overflow_add-result
+overflow_add-result c =
+    let most = small c.smaller-w.result c.args.room c.smaller-w.ensures.1 c.requires.1 in
+    ⊎_elim (λ r. omega (arith, r.1, most, div-le_self (c.smaller-w.result * c.args.room) c.args.count))
+    (λ r. omega (arith, r.1, c.smaller-w.ensures.1)) c.if-room-count.branch

@@ -1,0 +1,11 @@
+-- `log_long::add_fronts` meets its contract.
+use Rattle.std.proofs.Common.{refl, rules}
+use Rattle.log_model.specs.Logs.{outer, inner, hit_lo, hit_hi}
+use Rattle.log_long.proofs.add_fronts.Goals as goal
+
+pub returns : goal.returns
+unfolding hit_lo hit_hi
+returns c = record {
+  keys_is = refl;
+  front_is = λ k. elim k [ outer ↦ c.further.ensures | inner ↦ c.further-2.ensures ];
+}

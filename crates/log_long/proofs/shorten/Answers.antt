@@ -1,0 +1,15 @@
+-- `log_long::shorten` meets its contract.
+use Rattle.std.proofs.Common.{ap, ◌∙◌, rules}
+use Rattle.log_long.specs.Long.{least_past}
+use Rattle.log_long.proofs.Stretching.{kept-roomy}
+use Rattle.log_long.proofs.shorten.Goals as goal
+
+pub entry_at-requires : goal.entry_at-requires
+entry_at-requires c =
+    c.requires.0.places c.near_middle-q.result c.near_middle-q.ensures
+
+pub returns : goal.returns
+returns c =
+    let at = c.least_past-end.ensures ∙ ap (least_past c.args.b) c.entry_at.ensures in
+    kept-roomy _ _ _ _ c.args.w _ _ c.keep_below-count.ensures
+    (c.near_middle-q.result, c.near_middle-q.ensures, at) c.requires.0

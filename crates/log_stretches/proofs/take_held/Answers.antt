@@ -1,0 +1,39 @@
+-- What reaches into the stretch is taken first, then the loop takes a pair a turn until one begins at or past the end.
+use borrow.Author.Rules.{rules}
+use mathlib.Core.Logic.{inl, inr}
+use Prim.Native.Nat.{◌-◌}
+use native.Mathlib.Omega.{arith}
+use lib.ListN.{take}
+use Rattle.logic.proofs.Bools.{not-true, not-false}
+use Rattle.log_stretches.proofs.Taking.{TakesFront, TakesSome, none-reaches, some-reaches, no-pair, pair-more, no_more}
+use Rattle.log_stretches.proofs.take_held.Reads as reads
+use Rattle.log_left.proofs.take.Reads as take-reads
+use Rattle.log_stretches.proofs.take_held.Goals as goal
+
+-- what reaches into the stretch, where the branches meet
+front-taken : (c : lts.Joined1 (take-reads.Asked, take-reads.Learnt) reads.Pre reads.Post invariant-loop decreases-loop)
+    → let given = c.before.before.before.before.args in
+    TakesFront given.n given.spans.now given.links.now given.b given.end given.front
+    (take given.m given.cells.now) given.r c.if1.t
+front-taken c = elim c.if1.branch [
+  | inl w ↦ rw w.2 (some-reaches _ _ _ _ _ _ w.0.taken w.1.ensures)
+  | inr w ↦ rw w.1 (none-reaches _ _ _ _ _ w.0.left c.before.before.before.before.requires.0)
+]
+
+pub loop-i-init : goal.loop-i-init
+loop-i-init c = no-pair _ _ _ _ _ (front-taken c).readable
+
+pub loop-i-preserved : goal.loop-i-preserved
+loop-i-preserved c =
+    pair-more _ _ _ _ _ c.requires.1 _ c.loop-i.i _ _ c.loop-i-test.true
+    (not-false _ c.if-not-cells-i.false-raw) c.take-t-in-loop-i.ensures c.loop-i.invariant
+
+pub returns-after-loop-i : goal.returns-after-loop-i
+returns-after-loop-i c =
+    no_more _ _ _ _ _ c.requires.1 _ c.loop-i.i _ _
+    (λ h. absurd (omega (arith, h, c.loop-i-test.false))) (front-taken c.before.before) c.loop-i.invariant
+
+pub returns-then-not-cells-i : goal.returns-then-not-cells-i
+returns-then-not-cells-i c =
+    no_more _ _ _ _ _ c.requires.1 _ c.loop-i.i _ _ (λ h. not-true _ c.if-not-cells-i.true-raw)
+    (front-taken c.before.before.before.before) c.loop-i.invariant

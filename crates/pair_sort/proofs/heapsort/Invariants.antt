@@ -1,0 +1,13 @@
+-- `pair_sort::heapsort` meets its contract.
+use borrow.Author.Rules.{rules}
+use native.Mathlib.Omega.{arith}
+use Prim.Native.Nat.{◌≤◌}
+use Rattle.pair_moves.specs.Pairs.{SamePairs}
+use Rattle.pair_moves.proofs.Laws.{unchanged, after}
+use Rattle.pair_sort.proofs.heapsort.Given as goal
+
+abbrev pub invariant-loop-e : goal.invariant-loop-e
+invariant-loop-e l = SamePairs l.initial.s l.s × (l.e ≤ l.n)
+
+abbrev pub decreases-loop-e : goal.decreases-loop-e
+decreases-loop-e l = l.e

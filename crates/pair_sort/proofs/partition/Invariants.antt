@@ -1,0 +1,14 @@
+-- `pair_sort::partition` meets its contract.
+use borrow.Author.Rules.{rules}
+use native.Mathlib.Omega.{arith}
+use Prim.Native.Nat.{◌-◌, ◌≤◌}
+use mathlib.Core.Logic.{⊎_elim}
+use Rattle.pair_moves.specs.Pairs.{SamePairs}
+use Rattle.pair_moves.proofs.Laws.{unchanged, after}
+use Rattle.pair_sort.proofs.partition.Given as goal
+
+abbrev pub invariant-loop-k : goal.invariant-loop-k
+invariant-loop-k l = SamePairs l.initial.s l.s × (l.l ≤ l.i) × (l.i ≤ l.k) × (l.k ≤ l.r)
+
+abbrev pub decreases-loop-k : goal.decreases-loop-k
+decreases-loop-k l = l.r - l.k

@@ -1,0 +1,13 @@
+-- `pair_sort::sift` meets its contract.
+use borrow.Author.Rules.{rules}
+use Prim.Native.Nat.{◌-◌}
+use Rattle.pair_moves.specs.Pairs.{SamePairs}
+use Rattle.pair_moves.proofs.Laws.{unchanged, after}
+use Rattle.pair_sort.proofs.sift.Goals as goal
+
+pub loop-i-init : goal.loop-i-init
+loop-i-init c = unchanged _
+
+pub loop-i-preserved : goal.loop-i-preserved
+loop-i-preserved c = after c.loop-i.invariant
+    c.swap_pairs.ensures

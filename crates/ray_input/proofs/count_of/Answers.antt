@@ -1,0 +1,28 @@
+-- `ray_input::count_of` meets its contract.
+use mathlib.Core.Path.{◌≡◌, sym, ◌∙◌}
+use mathlib.Core.Logic.{⊎_elim}
+use Prim.Native.Nat.{◌-◌, ◌≤◌}
+use Rattle.ray_input.specs.Format.{count}
+use Rattle.ray_input.proofs.Reading.{count_none, count-hit, count-miss, count_most}
+use borrow.Author.Rules.{rules}
+use native.Mathlib.Omega.{arith}
+use Rattle.ray_input.proofs.count_of.Goals as goal
+
+pub loop-k-init : goal.loop-k-init
+loop-k-init c = (omega arith, sym (count_none c.args.c c.args.s.now))
+
+pub overflow_add-m : goal.overflow_add-m
+overflow_add-m c =
+    omega (arith, count_most c.args.c c.args.s.now c.loop-k.k)
+
+pub loop-k-preserved : goal.loop-k-preserved
+loop-k-preserved c =
+    ⊎_elim
+    (λ w. (omega arith, w.1 ∙ omega (arith, count-hit c.args.c c.args.s.now c.loop-k.k w.0.taken)))
+    (λ w. (omega arith, w.1 ∙ omega (arith, count-miss c.args.c c.args.s.now c.loop-k.k w.0.left)))
+    c.if-s-k.branch
+
+pub returns : goal.returns
+returns c =
+    let end : c.loop-k.k ≡ c.args.n = omega arith in
+    rw end at c.loop-k.invariant.1

@@ -1,0 +1,34 @@
+use borrow.Author.Rules.{rules}
+use Rattle.logic.proofs.Bools.{not-true, not-false, clash}
+use Rattle.ray_trace.specs.Trace.{TracePre}
+use Rattle.ray_trace.proofs.Answers.{part-over, bad-ray, good, nan-place, no-cause-due, no-cause}
+use Rattle.ray_trace.proofs.trace.Goals as goal
+use Rattle.ray_trace.proofs.trace.Tie as tie
+
+-- whole entries and a valid ray
+accepted : (c : tie.Else-not-valid_ray) → TracePre c.args.lo c.args.hi c.args.possible.now c.args.certain.now c.args.log.now
+accepted c =
+    good c.args.lo c.args.hi c.args.possible.now c.args.certain.now c.args.log.now c.args.place _
+    c.is_whole_log.ensures c.if-not-is_whole_log.false-raw
+    (c.valid_ray.ensures.0 (not-false c.valid_ray.result c.if-not-valid_ray.false-raw))
+
+pub returns-then-not-is_whole_log : goal.returns-then-not-is_whole_log
+returns-then-not-is_whole_log c =
+    part-over c.args.lo c.args.hi c.args.possible.now c.args.certain.now c.args.log.now c.args.place _
+    c.is_whole_log.ensures c.if-not-is_whole_log.true-raw
+
+pub returns-then-not-valid_ray : goal.returns-then-not-valid_ray
+returns-then-not-valid_ray c =
+    bad-ray c.args.lo c.args.hi c.args.possible.now c.args.certain.now c.args.log.now c.args.place
+    (λ r. clash c.valid_ray.result (c.valid_ray.ensures.1 r) (not-true c.valid_ray.result c.if-not-valid_ray.true-raw))
+
+pub returns-then-place : goal.returns-then-place
+returns-then-place c =
+    nan-place c.args.lo c.args.hi c.args.possible.now c.args.certain.now c.args.log.now c.args.place (accepted c.before) c.if-place.true
+
+pub returns : goal.returns
+returns c =
+    let pre = accepted c.before.before in
+    no-cause _ _ _ c.reason_of.result
+    (no-cause-due c.args.lo c.args.hi c.args.possible.now c.args.certain.now c.args.log.now c.args.place pre c.if-place.false)
+    (λ q t. record { ray = pre.ray; reason_true = t }) c.reason_of.ensures

@@ -1,0 +1,32 @@
+-- `span_combine::checked` meets its contract.
+use native.Mathlib.Omega.{arith}
+use mathlib.Core.Path.{◌≡◌}
+use mathlib.Core.Bool.{false, ◌&&◌}
+use Prim.Native.Nat.{◌+◌, ◌/◌, ◌<◌}
+use lib.ListN.{length}
+use Rattle.spans.specs.Spans.{sound}
+use Rattle.span_combine.proofs.Answers.{checked-short, checked-bad, checked-none}
+use Rattle.logic.proofs.Bools.{found, found-not, clash}
+use borrow.Author.Rules.{rules}
+use Rattle.span_combine.proofs.checked.Goals as goal
+use Rattle.span_combine.proofs.checked.Tie as tie
+
+abbrev Short : tie.Start → Type 0
+Short s = s.args.room / 2 < length s.args.a.now / 2 + length s.args.b.now / 2
+
+abbrev Bad : tie.Start → Type 0
+Bad s = (sound s.args.a.now && sound s.args.b.now) ≡ false
+
+pub returns-then-room-a : goal.returns-then-room-a
+returns-then-room-a c =
+    checked-short (Short c.before.before.before) (Bad c.before.before.before) c.if-room-a.true
+
+pub returns-then-not-both_sound : goal.returns-then-not-both_sound
+returns-then-not-both_sound c =
+    checked-bad (Short c.before.before.before.before.before) (Bad c.before.before.before.before.before) (λ h. omega (arith, c.if-room-a.false))
+    (found-not _ _ c.both_sound.ensures c.if-not-both_sound.true-raw)
+
+pub returns : goal.returns
+returns c =
+    checked-none (Short c.before.before.before.before.before) (Bad c.before.before.before.before.before) (λ h. omega (arith, c.if-room-a.false))
+    (clash _ (found _ _ c.both_sound.ensures c.if-not-both_sound.false-raw))

@@ -1,0 +1,31 @@
+-- `spans::is_sound` meets its contract.
+use borrow.Author.Rules.{rules}
+use native.Mathlib.Omega.{arith}
+use Prim.Native.Nat.{◌-◌, ◌<◌}
+use mathlib.Core.Path.{◌≡◌, sym, ◌∙◌}
+use mathlib.Core.Logic.{⊎_elim}
+use lib.ListN.{length, get_or, take}
+use lib.Ieee.{nan, lt}
+use Rattle.spans.specs.Spans.{rising}
+use Rattle.spans.proofs.Sets.{rising-more, rising-one, sound-if-rising, unsound-odd, and-passed, and-failed}
+use Rattle.spans.proofs.is_sound.Goals as goal
+
+pub returns-then-s-ne0 : goal.returns-then-s-ne0
+returns-then-s-ne0 c = unsound-odd c.args.s.now c.if-s-ne0.true
+
+pub loop-k-init : goal.loop-k-init
+loop-k-init c = (omega arith, sym (rising-one c.args.s.now))
+
+pub loop-k-preserved : goal.loop-k-preserved
+loop-k-preserved c =
+    let s = c.args.s.now in
+    let k = c.loop-k.k in
+    let more = rising-more s k c.loop-k.invariant.0 c.loop-k-test.true in
+    let r = rising (take k s) in
+    let t = lt (get_or s (k - 1) nan) (get_or s k nan) in
+    ⊎_elim (λ w. (omega arith, w.1 ∙ and-failed r t w.0.taken ∙ sym more))
+    (λ w. (omega arith, w.1 ∙ c.loop-k.invariant.1 ∙ and-passed r t w.0.left ∙ sym more)) c.if-not-s-k.branch
+
+pub returns : goal.returns
+returns c = c.loop-k.invariant.1 ∙ sound-if-rising c.args.s.now c.loop-k.k
+    c.if-s-ne0.false c.loop-k-test.false

@@ -1,0 +1,16 @@
+use borrow.Author.Rules.{rules}
+use Prim.Native.Nat.{◌+◌}
+use mathlib.Core.Path.{◌≡◌, ap}
+use native.Mathlib.Omega.{arith}
+use lib.ListN.{length}
+use Rattle.store.specs.Store.{places}
+use Rattle.store.proofs.Chains.{less-step, places-within, places-zero}
+use Rattle.store_read.specs.Reading.{Linked}
+use Rattle.store_read.proofs.Steps.{link-step, link-next}
+use Rattle.store_read.proofs.list_pairs.Given as goal
+
+abbrev pub invariant-loop-k : goal.invariant-loop-k
+invariant-loop-k l = Linked l.n l.links l.k × (l.c + length (places l.links l.n l.k) ≡ length (places l.links l.n l.head))
+
+abbrev pub decreases-loop-k : goal.decreases-loop-k
+decreases-loop-k l = length (places l.links l.n l.k)

@@ -1,0 +1,94 @@
+use mathlib.Core.Path.{◌≡◌, refl, sym, ◌∙◌}
+use native.Mathlib.Omega.{arith}
+use borrow.Author.Rules.{rules}
+use lib.ListN.{length, length-set}
+use Rattle.store.specs.Store.{RecordChain, places, freed_spans, freed_links}
+use Rattle.store.proofs.Chains.{ChainStep, chain-step}
+use Rattle.store.proofs.Freeing.{Turn, turn, freed-end}
+use Rattle.store_write.proofs.free_chain.Reads as reads
+use Rattle.store_write.proofs.free_chain.Goals as goal
+
+-- the record that the loop comes to
+here : (c : lts.In-loop reads.Pre reads.Post invariant-loop decreases-loop)
+    → ChainStep c.before.loop.links c.before.before.args.n c.before.before.args.owner c.before.loop.k
+here c = chain-step _ _ _ _ c.before.loop.invariant.2 c.loop-test.true
+
+freeing : (c : lts.In-loop reads.Pre reads.Post invariant-loop decreases-loop)
+    → Turn c.before.loop.spans c.before.loop.links c.before.before.args.n
+    c.before.before.args.owner c.before.loop.k
+freeing c = turn _ _ _ _ _ c.before.loop.invariant.2 c.loop-test.true
+
+pub loop-k-init : goal.loop-k-init
+loop-k-init c = (refl, refl, c.requires.2, refl, refl)
+
+pub overflow_sub-i : goal.overflow_sub-i
+overflow_sub-i c = let h = (here c).counted in search rules
+
+pub overflow_mul-k : goal.overflow_mul-k
+overflow_mul-k c = let h = (here c).counted in search rules
+
+pub offset_bounds-links-i : goal.offset_bounds-links-i
+offset_bounds-links-i c = let h = (here c).counted in search rules
+
+pub bounds-links-i : goal.bounds-links-i
+bounds-links-i c = let h = (here c.before).counted in search rules
+
+pub overflow_mul-spans : goal.overflow_mul-spans
+overflow_mul-spans c = let h = (here c.before).counted in search rules
+
+pub offset_bounds-spans-i : goal.offset_bounds-spans-i
+offset_bounds-spans-i c = let h = (here c.before).counted in search rules
+
+pub bounds-spans-i : goal.bounds-spans-i
+bounds-spans-i c = let h = (here c.before).counted in search rules
+
+pub overflow_mul-spans-in-loop-k : goal.overflow_mul-spans-in-loop-k
+overflow_mul-spans-in-loop-k c = let h = (here c.before).counted in search rules
+
+pub overflow_add-spans : goal.overflow_add-spans
+overflow_add-spans c = let h = (here c.before).counted in search rules
+
+pub offset_bounds-spans-i-in-loop-k : goal.offset_bounds-spans-i-in-loop-k
+offset_bounds-spans-i-in-loop-k c = let h = (here c.before).counted in search rules
+
+pub bounds-spans-i-in-loop-k : goal.bounds-spans-i-in-loop-k
+bounds-spans-i-in-loop-k c = let h = (here c.before).counted in simp length-set (omega arith)
+
+pub overflow_mul-links : goal.overflow_mul-links
+overflow_mul-links c = let h = (here c.before).counted in search rules
+
+pub offset_bounds-links-i-in-loop-k : goal.offset_bounds-links-i-in-loop-k
+offset_bounds-links-i-in-loop-k c = let h = (here c.before).counted in search rules
+
+pub bounds-links-i-in-loop-k : goal.bounds-links-i-in-loop-k
+bounds-links-i-in-loop-k c = let h = (here c.before).counted in search rules
+
+pub overflow_mul-links-in-loop-k : goal.overflow_mul-links-in-loop-k
+overflow_mul-links-in-loop-k c = let h = (here c.before).counted in search rules
+
+pub overflow_add-links : goal.overflow_add-links
+overflow_add-links c = let h = (here c.before).counted in search rules
+
+pub offset_bounds-links-i-in-loop-k-2 : goal.offset_bounds-links-i-in-loop-k-2
+offset_bounds-links-i-in-loop-k-2 c = let h = (here c.before).counted in search rules
+
+pub bounds-links-i-in-loop-k-2 : goal.bounds-links-i-in-loop-k-2
+bounds-links-i-in-loop-k-2 c = let h = (here c.before).counted in simp length-set (omega arith)
+
+pub loop-k-smaller : goal.loop-k-smaller
+loop-k-smaller c = (freeing c.before).less
+
+pub loop-k-preserved : goal.loop-k-preserved
+loop-k-preserved c =
+    let t = freeing c.before in (
+      simp length-set c.loop-k.invariant.0,
+      simp length-set c.loop-k.invariant.1,
+      t.chain,
+      c.loop-k.invariant.3 ∙ t.spans_left,
+      c.loop-k.invariant.4 ∙ t.links_left,
+    )
+
+pub returns : goal.returns
+returns c = let e = freed-end c.loop-k.spans c.loop-k.links c.args.n
+    c.loop-k.k c.loop-k-test.false in
+    (sym (c.loop-k.invariant.3 ∙ e.0), sym (c.loop-k.invariant.4 ∙ e.1))

@@ -1,0 +1,34 @@
+-- The invariant: what is left to go in, after what went in, gives the whole extent.
+use Prim.Native.Nat.{◌+◌, ◌≤◌, ◌<◌, ◌-◌}
+use lib.Ieee.{nan}
+use mathlib.Core.Path.{◌≡◌, refl, sym, ◌∙◌}
+use native.Mathlib.Omega.{arith}
+use borrow.Author.Rules.{rules}
+use lib.ListN.{length, get_or, take, drop, drop_of_length-le}
+use lib.Seq.{length-take-le}
+use mathlib.Core.Logic.{⊎_elim}
+use Rattle.strips.specs.Polygon.{widen_all, edges, head_or}
+use Rattle.strips.proofs.PolygonLaws.{length-field, step, next-in, next-out, clip-edges}
+use Rattle.strips.proofs.widen_clip.Goals as goal
+
+pub loop-i-init : goal.loop-i-init
+loop-i-init c = (search rules, refl)
+
+pub loop-i-preserved : goal.loop-i-preserved
+loop-i-preserved c =
+    let l : length c.args.t3.at ≡ 8 = search (length-field, rules) in
+    let k : c.args.t3.n ≤ length c.args.t3.at = omega arith in
+    let i = c.loop-i.i in
+    let h : i < c.args.t3.n = omega arith in
+    let q : c.if-j-n.q ≡ head_or (get_or c.args.t3.at 0 (record { x = nan; y = nan })) (drop (i + 1) (take c.args.t3.n c.args.t3.at)) =
+    ⊎_elim (λ w. w.2 ∙ sym (next-in _ _ _ _ _ w.0.taken k)) (λ w. w.1 ∙ sym (next-out _ _ _ _ w.0.left k))
+    c.if-j-n.branch in
+    (omega arith, rw c.widen_edge-e.ensures (step _ _ _ _ _ _ _ i _ h k q ∙ c.loop-i.invariant.1))
+
+pub returns : goal.returns
+unfolding widen_all edges
+returns c =
+    let l : length c.args.t3.at ≡ 8 = search (length-field, rules) in
+    let k : c.args.t3.n ≤ length c.args.t3.at = omega arith in
+    let m : length (take c.args.t3.n c.args.t3.at) ≤ c.loop-i.i = omega (arith, length-take-le c.args.t3.n c.args.t3.at k) in
+    rw (clip-edges _ _ (record { x = nan; y = nan }) _ _ k) (rw (drop_of_length-le _ m) at c.loop-i.invariant.1)

@@ -1,0 +1,16 @@
+use Rattle.sweep_model.specs.Across.{outer_of}
+use Rattle.std.proofs.Common.{rules}
+use Rattle.sweep_ray.proofs.outer_of.Goals as goal
+
+pub returns-in-Outside : goal.returns-in-Outside
+unfolding outer_of
+returns-in-Outside c = simp (c.enum_told-1.given.1, ← c.cut_max-most.ensures)
+
+pub returns-in-Is : goal.returns-in-Is
+unfolding outer_of
+returns-in-Is c = simp (
+  ← c.outer_from.ensures,
+  ← c.stadium_strip.ensures,
+  c.most-1.given.1,
+  ← c.cut_max-most.ensures,
+)

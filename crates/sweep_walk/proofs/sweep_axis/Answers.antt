@@ -1,0 +1,52 @@
+use borrow.Author.Rules.{rules}
+use Rattle.sweep_model.specs.SweepEntries.{Setting, setting}
+use Rattle.sweep_walk.proofs.AxisRays.{few_rays, rect-ready, axis-none, axis-some}
+use Rattle.sweep_walk.proofs.Chords.{logged-same}
+use Rattle.store.specs.Store.{cells}
+use Rattle.sweep_walk.proofs.sweep_axis.Goals as goal
+use Rattle.sweep_walk.proofs.sweep_axis.Tie as tie
+
+-- the setting of a call
+abbrev here : tie.Start → Setting
+here a = setting a.args.spec a.args.g a.args.k a.args.p
+    (cells a.args.spans.now a.args.links.now a.args.heads.now)
+
+pub axis_rays-t-requires : goal.axis_rays-t-requires
+axis_rays-t-requires c = few_rays c.args.spec c.args.g (cells c.args.spans.now c.args.links.now c.args.heads.now)
+    c.requires.0
+
+pub rectangle_of-rect-requires : goal.rectangle_of-rect-requires
+rectangle_of-rect-requires c = c.requires.0.facts
+
+pub returns-in-NoRays : goal.returns-in-NoRays
+returns-in-NoRays c =
+    let s = here c.before.before.before.before.before.before.before.before.before in
+    axis-none s c.args.chord c.args.axis c.chord_on_axis-l.result
+    c.rectangle_of-rect.result c.chord_on_axis-l.ensures
+    c.rectangle_of-rect.ensures c.enum_told-1.given.1 c.requires.1
+
+pub sweep_rect-requires : goal.sweep_rect-requires
+sweep_rect-requires c =
+    let q = rect-ready c.args.spec c.args.g
+    (cells c.args.spans.now c.args.links.now c.args.heads.now) c.requires.0 c.args.p
+    c.chord_on_axis-l.result c.args.axis
+    c.axis_rays-t.result
+    c.rectangle_of-rect.result _
+    c.axis_rays-t.ensures
+    c.rectangle_of-rect.ensures c.rect-1.given.1 in
+    (q.rays, q.row, q.rows, c.requires.1)
+
+pub shape_of-log-in-Rays : goal.shape_of-log-in-Rays
+shape_of-log-in-Rays c = logged-same _ _ _ _ _ c.sweep_rect.result c.sweep_rect.ensures
+
+pub returns-in-Rays : goal.returns-in-Rays
+returns-in-Rays c =
+    let s = here c.before.before.before.before.before.before.before.before.before.before.before.before.before.before in
+    axis-some s c.args.chord c.args.axis _ _ _ _ c.sweep_rect.result
+    c.chord_on_axis-l.result
+    c.axis_rays-t.result
+    c.rectangle_of-rect.result _
+    c.chord_on_axis-l.ensures
+    c.axis_rays-t.ensures
+    c.rectangle_of-rect.ensures
+    c.rect-1.given.1 c.sweep_rect.ensures

@@ -1,0 +1,9 @@
+-- `tridexel::tridexel_contains` meets its contract.
+use Rattle.c_results.proofs.Results.{answered, compare-given}
+use borrow.Author.Rules.{rules}
+use Rattle.tridexel.proofs.tridexel_contains.Goals as goal
+
+pub returns : goal.returns
+returns c =
+    answered _ _ _ c.contains-t.result _ _ _ (λ k p. compare-given _ _ k p)
+    c.contains-t.ensures c.hand_bool.ensures

@@ -1,0 +1,15 @@
+-- `tridexel::tridexel_trace` meets its contract.
+use Rattle.c_results.proofs.Results.{answered, trace-given}
+use borrow.Author.Rules.{rules}
+use Rattle.tridexel.proofs.tridexel_trace.Goals as goal
+
+pub trace-t-requires : goal.trace-t-requires
+trace-t-requires c = search rules
+
+pub hand_trace-requires : goal.hand_trace-requires
+hand_trace-requires c = search rules
+
+pub returns : goal.returns
+returns c =
+    answered _ _ _ c.trace-t.result _ _ _ (λ k p. trace-given _ _ _ _ _ _ k p)
+    c.trace-t.ensures c.hand_trace.ensures

@@ -1,0 +1,20 @@
+-- `vector_rows::doubles_at` meets its contract.
+use Prim.Native.Nat.{◌-◌}
+use lib.ListN.{length}
+use lib.Ieee.{nan}
+use Rattle.vector_rows.specs.Words.{double_of}
+use Rattle.vector_rows.proofs.Cells.{FilledTo, none_filled, one-filled, all-filled}
+use borrow.Author.Rules.{rules}
+use Rattle.vector_rows.proofs.doubles_at.Goals as goal
+
+pub loop-k-init : goal.loop-k-init
+loop-k-init c = none_filled
+
+pub loop-k-preserved : goal.loop-k-preserved
+loop-k-preserved c = one-filled c.loop-k.invariant c.loop-k-test.true c.double_of.ensures
+
+pub shape_of-out : goal.shape_of-out
+shape_of-out c = c.loop-k.invariant.same
+
+pub returns : goal.returns
+returns c = all-filled c.loop-k.invariant c.loop-k-test.false

@@ -1,0 +1,12 @@
+-- `vector_rows::first_mut` meets its contract.
+use native.Mathlib.Omega.{arith}
+use mathlib.Core.Path.{sym}
+use lib.Seq.{length-take-le, take_all}
+use borrow.Author.Rules.{rules}
+use Rattle.vector_rows.proofs.first_mut.Goals as goal
+
+pub returns-then-cells-n : goal.returns-then-cells-n
+returns-then-cells-n c = sym (take_all _ _ c.if-cells-n.true)
+
+pub slice_bounds-result-end : goal.slice_bounds-result-end
+slice_bounds-result-end c = sym (length-take-le _ _ (omega arith))

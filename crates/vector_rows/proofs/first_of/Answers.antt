@@ -1,0 +1,10 @@
+-- `vector_rows::first_of` meets its contract.
+use Rattle.vector_rows.specs.RowCounts.{first_differing}
+use borrow.Author.Tests.{eq-eqb, ne_eqb}
+use Rattle.vector_rows.proofs.first_of.Goals as goal
+
+pub returns-then-first-eq0 : goal.returns-then-first-eq0
+returns-then-first-eq0 c = simp (eq-eqb _ _ c.if-first-eq0.true)
+
+pub returns : goal.returns
+returns c = simp (ne_eqb _ _ c.if-first-eq0.false)

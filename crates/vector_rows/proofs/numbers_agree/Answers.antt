@@ -1,0 +1,22 @@
+-- `vector_rows::numbers_agree` meets its contract.
+use Prim.Native.Nat.{◌-◌}
+use lib.ListN.{length}
+use Rattle.vector_rows.specs.Agreement.{number_right, one_wrong}
+use Rattle.vector_rows.proofs.Cells.{RightTo, none_right, one_right, all_right}
+use borrow.Author.Tests.{not-true, not-false}
+use borrow.Author.Rules.{rules}
+use Rattle.vector_rows.proofs.numbers_agree.Goals as goal
+
+pub loop-k-init : goal.loop-k-init
+loop-k-init c = none_right
+
+pub returns-then-not-number_agrees : goal.returns-then-not-number_agrees
+returns-then-not-number_agrees c = one_wrong _ c.loop-k-test.true
+    (rw (← c.word_of.ensures, ← c.number_agrees.ensures) (not-true _ c.if-not-number_agrees.true-raw))
+
+pub loop-k-preserved : goal.loop-k-preserved
+loop-k-preserved c = one_right c.loop-k.invariant
+    (rw (← c.word_of.ensures, ← c.number_agrees.ensures) (not-false _ c.if-not-number_agrees.false-raw))
+
+pub returns : goal.returns
+returns c = all_right c.loop-k.invariant c.loop-k-test.false

@@ -1,0 +1,13 @@
+-- `vector_rows::read_words` meets its contract.
+use mathlib.Core.Path.{sym, ◌∙◌}
+use Prim.Native.Nat.{◌-◌}
+use lib.ListN.{length}
+use borrow.Author.Rules.{rules}
+use Rattle.vector_rows.proofs.Reading.{ReadTo, none_read, one-read, read-stops, read-ends}
+use Rattle.vector_rows.proofs.read_words.Given as goal
+
+abbrev pub invariant-loop-i : goal.invariant-loop-i
+invariant-loop-i l = ReadTo l.text l.at (length l.initial.out) l.out l.i
+
+abbrev pub decreases-loop-i : goal.decreases-loop-i
+decreases-loop-i l = length l.initial.out - l.i

@@ -1,0 +1,7 @@
+-- `vector_rows::start` meets its contract.
+use Rattle.vector_rows.specs.RowCounts.{none}
+use mathlib.Core.Path.{refl}
+use Rattle.vector_rows.proofs.start.Goals as goal
+
+pub returns : goal.returns
+returns c = refl

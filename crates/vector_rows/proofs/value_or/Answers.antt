@@ -1,0 +1,10 @@
+-- `vector_rows::value_or` meets its contract.
+use Rattle.vector_rows.specs.ReadWords.{value_or}
+use borrow.Author.Rules.{rules}
+use Rattle.vector_rows.proofs.value_or.Goals as goal
+
+pub returns-in-Value : goal.returns-in-Value
+returns-in-Value c = simp c.w-1.given.1
+
+pub returns-in-Missing : goal.returns-in-Missing
+returns-in-Missing c = simp c.enum_told-1.given.1
