@@ -64,7 +64,7 @@ overflow_add-sizes c = sum_fits c.total_rays-rays.result c.entry_count.result (l
 
 pub free_all-requires : goal.free_all-requires
 free_all-requires c =
-    freeable _ _ _ _ _ (start c.before.before.before.before).requires _ _ _ (grouped c.before.before.before.before).group.ensures (merged c.before.before.before.before).merge_all-changed.ensures _
+    freeable _ _ _ _ _ (start (goal.at.free_all-requires c).After-total_rays-rays).requires _ _ _ (grouped (goal.at.free_all-requires c).After-total_rays-rays).group.ensures (merged (goal.at.free_all-requires c).After-total_rays-rays).merge_all-changed.ensures _
     c.total_rays-rays.ensures _ c.entry_count.ensures
 
 pub overflow_mul-rays : goal.overflow_mul-rays

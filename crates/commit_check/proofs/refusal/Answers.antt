@@ -82,14 +82,14 @@ returns-then-is_work_short c = work-due _ _ _ _ _ _ _ c.is_work_short.ensures c.
 
 pub returns-then-not-is_whole_log : goal.returns-then-not-is_whole_log
 returns-then-not-is_whole_log c =
-    part-due _ _ _ _ _ _ (room (after1 c.before.before)) (enough c.before.before) _ c.is_whole_log.ensures c.if-not-is_whole_log.true-raw
+    part-due _ _ _ _ _ _ (room (after1 (goal.at.returns-then-not-is_whole_log c).Else-is_work_short)) (enough (goal.at.returns-then-not-is_whole_log c).Else-is_work_short) _ c.is_whole_log.ensures c.if-not-is_whole_log.true-raw
 
 pub check_stock-requires : goal.check_stock-requires
 check_stock-requires c = room (after1 (after2 c))
 
 pub returns-then-not-check_stock : goal.returns-then-not-check_stock
 returns-then-not-check_stock c =
-    let e2 = after2 c.before.before in
+    let e2 = after2 (goal.at.returns-then-not-check_stock c).Else-not-is_whole_log in
     unsound-due _ _ _ _ _ _ (room (after1 e2)) (enough e2) _ c.check_stock.ensures c.if-not-check_stock.true-raw
 
 pub returns-then-generation-eq18446744073709551615 : goal.returns-then-generation-eq18446744073709551615
@@ -117,21 +117,21 @@ budget-requires c =
 
 pub returns-in-Rays : goal.returns-in-Rays
 returns-in-Rays c =
-    let e3 = after3 (after4 c.before.before.before) in
+    let e3 = after3 (after4 (goal.at.returns-in-Rays c).Else-not-names_all) in
     let e2 = after2 e3 in
-    rays-due _ _ _ _ _ _ (room (after1 e2)) (enough e2) (whole e3) (sound (after4 c.before.before.before)) c.if-generation-eq18446744073709551615.false (named c.before.before.before) _
+    rays-due _ _ _ _ _ _ (room (after1 e2)) (enough e2) (whole e3) (sound (after4 (goal.at.returns-in-Rays c).Else-not-names_all)) c.if-generation-eq18446744073709551615.false (named (goal.at.returns-in-Rays c).Else-not-names_all) _
     c.budget.ensures (doubles (after1 e2)) c.enum_told-1.given.1
 
 pub returns-in-Intervals : goal.returns-in-Intervals
 returns-in-Intervals c =
-    let e3 = after3 (after4 c.before.before.before) in
+    let e3 = after3 (after4 (goal.at.returns-in-Intervals c).Else-not-names_all) in
     let e2 = after2 e3 in
-    intervals-due _ _ _ _ _ _ (room (after1 e2)) (enough e2) (whole e3) (sound (after4 c.before.before.before)) c.if-generation-eq18446744073709551615.false (named c.before.before.before) _
+    intervals-due _ _ _ _ _ _ (room (after1 e2)) (enough e2) (whole e3) (sound (after4 (goal.at.returns-in-Intervals c).Else-not-names_all)) c.if-generation-eq18446744073709551615.false (named (goal.at.returns-in-Intervals c).Else-not-names_all) _
     c.budget.ensures (doubles (after1 e2)) c.enum_told-in-Intervals-1.given.1
 
 pub returns-in-Kept : goal.returns-in-Kept
 returns-in-Kept c =
-    let e3 = after3 (after4 c.before.before.before) in
+    let e3 = after3 (after4 (goal.at.returns-in-Kept c).Else-not-names_all) in
     let e2 = after2 e3 in
-    all-passed _ _ _ _ _ _ (room (after1 e2)) (enough e2) (whole e3) (sound (after4 c.before.before.before)) c.if-generation-eq18446744073709551615.false (named c.before.before.before) _
+    all-passed _ _ _ _ _ _ (room (after1 e2)) (enough e2) (whole e3) (sound (after4 (goal.at.returns-in-Kept c).Else-not-names_all)) c.if-generation-eq18446744073709551615.false (named (goal.at.returns-in-Kept c).Else-not-names_all) _
     c.budget.ensures (omega (arith, (start (after1 e2)).ranges.generation)) c.enum_told-in-Kept-1.given.1

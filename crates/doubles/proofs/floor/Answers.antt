@@ -20,7 +20,8 @@ pub truncating_f64_to_u64-requires : goal.truncating_f64_to_u64-requires
 unfolding of_bits
 truncating_f64_to_u64-requires c =
     let x = c.args.x in
-    above-in-range x (above x c.if-x-2.true c.if-x-3.true)
+    let r = above-in-range x (above x c.if-x-2.true c.if-x-3.true) in
+    record { lower_bound = r.0; upper_bound = r.1 }
 
 pub returns-then-x-3 : goal.returns-then-x-3
 unfolding of_bits
@@ -36,7 +37,9 @@ returns-then-x-2 c =
     floor-large c.args.x (of-true c.well_formed.0.1) c.if-x-2.true c.if-x-3.false
 
 pub truncating_f64_to_u64-whole-requires : goal.truncating_f64_to_u64-whole-requires
-truncating_f64_to_u64-whole-requires c = under-in-range c.args.x (low c)
+truncating_f64_to_u64-whole-requires c =
+    let r = under-in-range c.args.x (low c) in
+    record { lower_bound = r.0; upper_bound = r.1 }
 
 pub returns-then-nearest_u64_to_f64-size : goal.returns-then-nearest_u64_to_f64-size
 returns-then-nearest_u64_to_f64-size c =

@@ -6,7 +6,7 @@ use Rattle.doubles.proofs.to_u64.Goals as goal
 
 pub truncating_f64_to_u64-requires : goal.truncating_f64_to_u64-requires
 unfolding of_bits neg
-truncating_f64_to_u64-requires c = (of-true c.if-x.true, of-true c.if-x-2.true)
+truncating_f64_to_u64-requires c = record { lower_bound = of-true c.if-x.true; upper_bound = of-true c.if-x-2.true }
 
 pub returns-then-x-2 : goal.returns-then-x-2
 returns-then-x-2 c = c.truncating_f64_to_u64.ensures

@@ -24,8 +24,8 @@ returns-then-rays-max_rays c =
     rw (← c.nearest_u64_to_f64-max_rays.ensures, ← c.any_above.ensures, c.if-any_above.false, c.if-rays-max_rays.true)
 
 pub returns-then-rays-nearest_u64_to_f64 : goal.returns-then-rays-nearest_u64_to_f64
-returns-then-rays-nearest_u64_to_f64 c = rw (few_rays c.before.before, ← c.nearest_u64_to_f64.ensures, c.if-rays-nearest_u64_to_f64.true)
+returns-then-rays-nearest_u64_to_f64 c = rw (few_rays (goal.at.returns-then-rays-nearest_u64_to_f64 c).Else-rays-max_rays, ← c.nearest_u64_to_f64.ensures, c.if-rays-nearest_u64_to_f64.true)
 
 pub returns : goal.returns
 returns c =
-    rw (few_rays c.before.before.before, ← c.nearest_u64_to_f64.ensures, c.if-rays-nearest_u64_to_f64.false, ← c.grid_with.ensures)
+    rw (few_rays (goal.at.returns c).Else-rays-max_rays, ← c.nearest_u64_to_f64.ensures, c.if-rays-nearest_u64_to_f64.false, ← c.grid_with.ensures)

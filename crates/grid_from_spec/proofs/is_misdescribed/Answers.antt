@@ -30,8 +30,8 @@ returns-then-any_bound_off c =
     simp (parts, eq-eqb _ _ c.if-spec-ne1.false, ← c.any_bound_off.ensures, c.if-any_bound_off.true)
 
 pub returns-then-any_budget_off : goal.returns-then-any_budget_off
-returns-then-any_budget_off c = rw (past-bounds c.before.before, ← c.any_budget_off.ensures, c.if-any_budget_off.true)
+returns-then-any_budget_off c = rw (past-bounds (goal.at.returns-then-any_budget_off c).Else-any_bound_off, ← c.any_budget_off.ensures, c.if-any_budget_off.true)
 
 pub returns : goal.returns
 returns c =
-    rw (past-bounds c.before.before.before, ← c.any_budget_off.ensures, c.if-any_budget_off.false, ← c.any_below.ensures)
+    rw (past-bounds (goal.at.returns c).Else-any_bound_off, ← c.any_budget_off.ensures, c.if-any_budget_off.false, ← c.any_below.ensures)

@@ -52,9 +52,9 @@ digit-d-requires c = tt
 
 pub returns-then-d-eq16 : goal.returns-then-d-eq16
 returns-then-d-eq16 c =
-    inside _ _ _ Missing c.if-count-gt16.false (fit c.before.before.before.before.before)
+    inside _ _ _ Missing c.if-count-gt16.false (fit (goal.at.returns-then-d-eq16 c).Else-text-count-2)
     (sym (read-stop _ _ _ _ _ c.loop-i.invariant c.loop-i-test.true
-    (fit c.before.before.before.before.before) (le_of_eq (sym c.if-d-eq16.true ∙ c.digit-d.ensures))))
+    (fit (goal.at.returns-then-d-eq16 c).Else-text-count-2) (le_of_eq (sym c.if-d-eq16.true ∙ c.digit-d.ensures))))
 
 pub overflow_mul-value : goal.overflow_mul-value
 overflow_mul-value c =
@@ -82,11 +82,11 @@ loop-i-preserved c =
     let below : hex_digit j < 16 = omega (arith, c.digit-d.ensures, digit-le j, c.if-d-eq16.false) in
     subst (λ (z : ℕ). Read c.args.text.now c.args.at c.args.count
     (c.loop-i.value * 16 + z) (c.loop-i.i + 1)) (sym c.digit-d.ensures)
-    (read_more _ _ _ _ _ c.loop-i.invariant c.loop-i-test.true (fit c.before.before.before.before.before) below)
+    (read_more _ _ _ _ _ c.loop-i.invariant c.loop-i-test.true (fit (goal.at.loop-i-preserved c).Else-text-count-2) below)
 
 pub returns : goal.returns
 returns c =
     let last : c.loop-i.i ≡ c.args.count = omega (arith, c.loop-i.invariant.within, c.loop-i-test.false) in
-    inside _ _ _ _ c.if-count-gt16.false (fit c.before.before)
+    inside _ _ _ _ c.if-count-gt16.false (fit (goal.at.returns c).Else-text-count-2)
     (read_all _ _ _ _ (subst (λ (z : ℕ). Read c.args.text.now c.args.at c.args.count
     c.loop-i.value z) last c.loop-i.invariant))

@@ -63,9 +63,9 @@ pub loop-i-preserved : goal.loop-i-preserved
 loop-i-preserved c =
     let e = c.entry_count-n.ensures in
     let pre = c.requires in
-    let counted = rw e c.before.before.before c.count_ray-t.ensures in
+    let counted = rw e (goal.at.loop-i-preserved c).After-count_ray-arg-in-loop-i-1 c.count_ray-t.ensures in
     let fit = c.loop-i-test.true in
-    let run = rw e c.before.before.before c.end_of_ray-j.ensures in
+    let run = rw e (goal.at.loop-i-preserved c).After-count_ray-arg-in-loop-i-1 c.end_of_ray-j.ensures in
     (counted.size ∙ c.loop-i.invariant.0, reached-turn pre.0 pre.1 c.loop-i.invariant.1 fit run counted.prefixed)
 
 pub returns : goal.returns

@@ -24,30 +24,30 @@ entry_at-requires c = (turned-at c).below
 
 pub put_hit-requires : goal.put_hit-requires
 put_hit-requires c =
-    omega (arith, (turned-at c.before.before).room, c.loop-k.invariant.size)
+    omega (arith, (turned-at (goal.at.put_hit-requires c).In-loop-k).room, c.loop-k.invariant.size)
 
 pub overflow_add-rays : goal.overflow_add-rays
 overflow_add-rays c =
-    let t = turned-at c.before.before.before.before.before in
+    let t = turned-at (goal.at.overflow_add-rays c).In-loop-k in
     omega (arith, t.below, c.loop-k.invariant.past, t.room)
 
 pub number_at-k-requires-in-loop-k : goal.number_at-k-requires-in-loop-k
 number_at-k-requires-in-loop-k c =
-    let t = turned-at c.before.before.before.before.before in
+    let t = turned-at (goal.at.number_at-k-requires-in-loop-k c).In-loop-k in
     let inv = c.loop-k.invariant in
     omega (arith, t.below, inv.past, t.room, inv.size, simp length-set at (ap length c.put_hit.ensures))
 
 pub overflow_add-t : goal.overflow_add-t
-overflow_add-t c = omega (arith, (turned-at c.before.before.before.before.before.before).room)
+overflow_add-t c = omega (arith, (turned-at (goal.at.overflow_add-t c).In-loop-k).room)
 
 pub loop-k-smaller : goal.loop-k-smaller
-loop-k-smaller c = omega (arith, (turned-at c.before.before.before.before.before.before).room)
+loop-k-smaller c = omega (arith, (turned-at (goal.at.loop-k-smaller c).In-loop-k).room)
 
 pub loop-k-preserved : goal.loop-k-preserved
 loop-k-preserved c =
     again c.total_rays-rays.result c.args.log.now (hit_kind_of c.args.inner) c.args.ray c.args.at c.args.work.now
     c.loop-k.work c.loop-k.t c.loop-k.k c.entry_at.result c.put_hit.new.work
-    c.number_at-k-in-loop-k.result c.entry_at.ensures c.put_hit.ensures c.number_at-k-in-loop-k.ensures (turned-at c.before.before.before.before.before.before).again
+    c.number_at-k-in-loop-k.result c.entry_at.ensures c.put_hit.ensures c.number_at-k-in-loop-k.ensures (turned-at (goal.at.loop-k-preserved c).In-loop-k).again
 
 pub shape_of-work : goal.shape_of-work
 shape_of-work c = c.loop-k.invariant.size

@@ -37,14 +37,14 @@ begun-size y = cleared-size y.total_rays-rays.result y.args.work.now y.clear_fro
 pub slice_bounds-clear_from-end-2 : goal.slice_bounds-clear_from-end-2
 slice_bounds-clear_from-end-2 c =
     sym (length-take-le c.total_rays-rays.result c.args.work.now
-    (fits c.before))
+    (fits (goal.at.slice_bounds-clear_from-end-2 c).After-total_rays-rays))
 
 pub loop-i-init : goal.loop-i-init
 loop-i-init c =
     let e = c.total_rays-rays.ensures in
     rw c.entry_count-i.ensures (grouping-start c.args.g c.args.log.now (begun c.before.before.before) (begun c.before.before.before)
     (omega (arith, c.requires.1, begun-size c.before.before.before)) refl
-    (λ q h. cleared-none c.total_rays-rays.result c.args.work.now c.clear_from.new.b (fits c.before.before.before.before.before)
+    (λ q h. cleared-none c.total_rays-rays.result c.args.work.now c.clear_from.new.b (fits (goal.at.loop-i-init c).After-total_rays-rays)
     c.clear_from.ensures q (omega arith)) (λ q h. refl))
 
 pub ray_at-ray-requires : goal.ray_at-ray-requires
@@ -88,5 +88,5 @@ pub returns : goal.returns
 returns c =
     grouping-done c.args.g c.args.log.now (begun c.before.before.before.before) c.loop-i.work (omega (arith, c.requires.1, begun-size c.before.before.before.before.before))
     c.requires.0 c.loop-i.i (omega (arith, c.loop-i-test.false)) c.args.work.now (begun-size c.before.before.before.before.before)
-    (λ q h. cleared-past c.total_rays-rays.result c.args.work.now c.clear_from.new.b (fits c.before.before.before.before.before.before.before)
+    (λ q h. cleared-past c.total_rays-rays.result c.args.work.now c.clear_from.new.b (fits (goal.at.returns c).After-total_rays-rays)
     c.clear_from.ensures q (omega (arith, c.total_rays-rays.ensures))) c.loop-i.invariant

@@ -30,7 +30,7 @@ overflow_add-end c = omega (arith, room c)
 
 pub lay_ray-from-requires : goal.lay_ray-from-requires
 lay_ray-from-requires c = (
-  room c.before.before.before,
+  room (goal.at.lay_ray-from-requires c).After-number_at-second,
   c.requires.cursor,
   ray-layable _ _ _ _ _ _ c.requires _
       c.number_at-first.ensures c.if-first-eq0.false _

@@ -32,19 +32,19 @@ read_list-o-requires c =
 
 pub load_hits-no-requires : goal.load_hits-no-requires
 load_hits-no-requires c =
-    outer-ready (start c.before.before.before.before).requires (possible-read c.before.before.before.before.before.before.before) (certain-read c.before.before.before)
+    outer-ready (start (goal.at.load_hits-no-requires c).After-read_list-arg-2-1).requires (possible-read c.before.before.before.before.before.before.before) (certain-read c.before.before.before)
 
 pub overflow_add-o : goal.overflow_add-o
 overflow_add-o c =
     omega (
       arith,
-      inner-fits (start c.before.before.before.before).requires (possible-read c.before.before.before.before.before.before.before.before.before.before.before) (certain-read c.before.before.before.before.before.before.before) c.load_hits-no.ensures,
-      (start c.before.before.before.before).well_formed.1.1.1.1.1.1.0.1,
+      inner-fits (start (goal.at.overflow_add-o c).After-load_hits-arg-1).requires (possible-read c.before.before.before.before.before.before.before.before.before.before.before) (certain-read c.before.before.before.before.before.before.before) c.load_hits-no.ensures,
+      (start (goal.at.overflow_add-o c).After-load_hits-arg-1).well_formed.1.1.1.1.1.1.0.1,
     )
 
 pub load_hits-ni-requires : goal.load_hits-ni-requires
 load_hits-ni-requires c =
-    inner-ready (start c.before.before.before.before).requires (possible-read c.before.before.before.before.before.before.before.before.before.before.before) (certain-read c.before.before.before.before.before.before.before) c.load_hits-no.ensures
+    inner-ready (start (goal.at.load_hits-ni-requires c).After-load_hits-arg-1).requires (possible-read c.before.before.before.before.before.before.before.before.before.before.before) (certain-read c.before.before.before.before.before.before.before) c.load_hits-no.ensures
 
 pub returns : goal.returns
 returns c =

@@ -31,9 +31,9 @@ loop-i-preserved c =
 pub returns-after-loop-i : goal.returns-after-loop-i
 returns-after-loop-i c =
     no_more _ _ _ _ _ c.requires.1 _ c.loop-i.i _ _
-    (λ h. absurd (omega (arith, h, c.loop-i-test.false))) (front-taken c.before.before) c.loop-i.invariant
+    (λ h. absurd (omega (arith, h, c.loop-i-test.false))) (front-taken (goal.at.returns-after-loop-i c).Joined-b-front) c.loop-i.invariant
 
 pub returns-then-not-cells-i : goal.returns-then-not-cells-i
 returns-then-not-cells-i c =
     no_more _ _ _ _ _ c.requires.1 _ c.loop-i.i _ _ (λ h. not-true _ c.if-not-cells-i.true-raw)
-    (front-taken c.before.before.before.before) c.loop-i.invariant
+    (front-taken (goal.at.returns-then-not-cells-i c).Joined-b-front) c.loop-i.invariant

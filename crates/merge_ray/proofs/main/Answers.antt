@@ -23,4 +23,4 @@ pub slice_bounds-out-end : goal.slice_bounds-out-end
 slice_bounds-out-end c = fits c
 
 pub slice_bounds-write_all-end : goal.slice_bounds-write_all-end
-slice_bounds-write_all-end c = sym (length-take-le c.run-m.result c.run-m.new.out (fits c.before))
+slice_bounds-write_all-end c = sym (length-take-le c.run-m.result c.run-m.new.out (fits (goal.at.slice_bounds-write_all-end c).After-run-m))

@@ -17,13 +17,13 @@ returns-then-count_of-gt64 c =
 
 pub returns-then-count_of-gt64-2 : goal.returns-then-count_of-gt64-2
 returns-then-count_of-gt64-2 c =
-    many-c c.args.s.now c.args.n (p-few c.before.before) (rw (← c.count_of-2.ensures) c.if-count_of-gt64-2.true)
+    many-c c.args.s.now c.args.n (p-few (goal.at.returns-then-count_of-gt64-2 c).Else-count_of-gt64) (rw (← c.count_of-2.ensures) c.if-count_of-gt64-2.true)
 
 pub returns-then-count_of-gt64-3 : goal.returns-then-count_of-gt64-3
 returns-then-count_of-gt64-3 c =
-    many-o c.args.s.now c.args.n (p-few c.before.before.before.before) (c-few c.before.before) (rw (← c.count_of-3.ensures) c.if-count_of-gt64-3.true)
+    many-o c.args.s.now c.args.n (p-few (goal.at.returns-then-count_of-gt64-3 c).Else-count_of-gt64) (c-few (goal.at.returns-then-count_of-gt64-3 c).Else-count_of-gt64-2) (rw (← c.count_of-3.ensures) c.if-count_of-gt64-3.true)
 
 pub returns : goal.returns
 returns c =
-    rw c.count_of-4.ensures (last-count c.args.s.now c.args.n (p-few c.before.before.before.before.before) (c-few c.before.before.before)
+    rw c.count_of-4.ensures (last-count c.args.s.now c.args.n (p-few (goal.at.returns c).Else-count_of-gt64) (c-few (goal.at.returns c).Else-count_of-gt64-2)
     (rw (← c.count_of-3.ensures) c.if-count_of-gt64-3.false))

@@ -25,22 +25,22 @@ returns-then-not-is_letter c =
 
 pub returns-then-s-at-ne32 : goal.returns-then-s-at-ne32
 returns-then-s-at-ne32 c =
-    no-space c.args.s.now c.args.at (letter c.before.before) (ne_eqb _ _ c.if-s-at-ne32.true)
+    no-space c.args.s.now c.args.at (letter (goal.at.returns-then-s-at-ne32 c).Else-not-is_letter) (ne_eqb _ _ c.if-s-at-ne32.true)
 
 pub returns-then-not-is_number : goal.returns-then-not-is_number
 returns-then-not-is_number c =
-    no-lo c.args.s.now c.args.at (letter c.before.before.before.before) (eq-eqb _ _ c.if-s-at-ne32.false)
+    no-lo c.args.s.now c.args.at (letter (goal.at.returns-then-not-is_number c).Else-not-is_letter) (eq-eqb _ _ c.if-s-at-ne32.false)
     (found-not c.is_number.result _ c.is_number.ensures c.if-not-is_number.true-raw)
 
 pub returns-then-s-at-ne32-2 : goal.returns-then-s-at-ne32-2
 returns-then-s-at-ne32-2 c =
-    no_second c.args.s.now c.args.at (letter c.before.before.before.before.before.before) (eq-eqb _ _ c.if-s-at-ne32.false) (lo c.before.before) (ne_eqb _ _ c.if-s-at-ne32-2.true)
+    no_second c.args.s.now c.args.at (letter (goal.at.returns-then-s-at-ne32-2 c).Else-not-is_letter) (eq-eqb _ _ c.if-s-at-ne32.false) (lo (goal.at.returns-then-s-at-ne32-2 c).Else-not-is_number) (ne_eqb _ _ c.if-s-at-ne32-2.true)
 
 pub returns-then-not-is_number-2 : goal.returns-then-not-is_number-2
 returns-then-not-is_number-2 c =
-    no-hi c.args.s.now c.args.at (letter c.before.before.before.before.before.before.before.before) (eq-eqb _ _ c.if-s-at-ne32.false) (lo c.before.before.before.before) (eq-eqb _ _ c.if-s-at-ne32-2.false)
+    no-hi c.args.s.now c.args.at (letter (goal.at.returns-then-not-is_number-2 c).Else-not-is_letter) (eq-eqb _ _ c.if-s-at-ne32.false) (lo (goal.at.returns-then-not-is_number-2 c).Else-not-is_number) (eq-eqb _ _ c.if-s-at-ne32-2.false)
     (found-not c.is_number-2.result _ c.is_number-2.ensures c.if-not-is_number-2.true-raw)
 
 pub returns : goal.returns
 returns c =
-    last_byte c.args.s.now c.args.at (letter c.before.before.before.before.before.before.before.before.before) (eq-eqb _ _ c.if-s-at-ne32.false) (lo c.before.before.before.before.before) (eq-eqb _ _ c.if-s-at-ne32-2.false) (hi c.before)
+    last_byte c.args.s.now c.args.at (letter (goal.at.returns c).Else-not-is_letter) (eq-eqb _ _ c.if-s-at-ne32.false) (lo (goal.at.returns c).Else-not-is_number) (eq-eqb _ _ c.if-s-at-ne32-2.false) (hi (goal.at.returns c).Else-not-is_number-2)

@@ -30,14 +30,14 @@ pub bounds-w-at : goal.bounds-w-at
 bounds-w-at c = omega (arith, size c.before.before, c.requires.0, c.loop-j-test.true)
 
 pub overflow_add-y-in-loop-j : goal.overflow_add-y-in-loop-j
-overflow_add-y-in-loop-j c = omega (arith, two c.before.before, size c.before.before.before, c.requires.0)
+overflow_add-y-in-loop-j c = omega (arith, two (goal.at.overflow_add-y-in-loop-j c).In-loop-j, size c.before.before.before, c.requires.0)
 
 pub offset_bounds-w-at-in-loop-j : goal.offset_bounds-w-at-in-loop-j
-offset_bounds-w-at-in-loop-j c = omega (arith, two c.before.before, size c.before.before.before, c.requires.0)
+offset_bounds-w-at-in-loop-j c = omega (arith, two (goal.at.offset_bounds-w-at-in-loop-j c).In-loop-j, size c.before.before.before, c.requires.0)
 
 pub bounds-w-at-in-loop-j : goal.bounds-w-at-in-loop-j
 bounds-w-at-in-loop-j c =
-    omega (arith, two c.before.before.before, size c.before.before.before.before, c.requires.0)
+    omega (arith, two (goal.at.bounds-w-at-in-loop-j c).In-loop-j, size c.before.before.before.before, c.requires.0)
 
 pub put_pair-end-requires : goal.put_pair-end-requires
 put_pair-end-requires c = omega (arith, room c.before.before.before.before.before)

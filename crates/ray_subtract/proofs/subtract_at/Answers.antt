@@ -29,13 +29,13 @@ pub bounds-w-a : goal.bounds-w-a
 bounds-w-a c = omega (arith, size c.before.before, c.requires.0.room, c.loop-i-test.true)
 
 pub overflow_add-hi-in-loop-i : goal.overflow_add-hi-in-loop-i
-overflow_add-hi-in-loop-i c = omega (arith, two c.before, size c.before.before, c.requires.0.room)
+overflow_add-hi-in-loop-i c = omega (arith, two (goal.at.overflow_add-hi-in-loop-i c).In-loop-i, size c.before.before, c.requires.0.room)
 
 pub offset_bounds-w-a-in-loop-i : goal.offset_bounds-w-a-in-loop-i
-offset_bounds-w-a-in-loop-i c = omega (arith, two c.before, size c.before.before, c.requires.0.room)
+offset_bounds-w-a-in-loop-i c = omega (arith, two (goal.at.offset_bounds-w-a-in-loop-i c).In-loop-i, size c.before.before, c.requires.0.room)
 
 pub bounds-w-a-in-loop-i : goal.bounds-w-a-in-loop-i
-bounds-w-a-in-loop-i c = omega (arith, two c.before.before, size c.before.before.before, c.requires.0.room)
+bounds-w-a-in-loop-i c = omega (arith, two (goal.at.bounds-w-a-in-loop-i c).In-loop-i, size c.before.before.before, c.requires.0.room)
 
 pub overflow_add-b : goal.overflow_add-b
 overflow_add-b c = omega (arith, passed c.before.before.before.before, size c.before.before.before.before, c.requires.1.room)

@@ -93,7 +93,7 @@ put_end-requires c =
     omega (
       arith,
       (fit c.before.before.before.before.before.before.before.before.before.before.before.before.before).2,
-      (start c.before.before.before.before).requires.1,
+      (start (goal.at.put_end-requires c).After-certain_of).requires.1,
       c.put_lines-n.auto.out,
       c.put_lines-m.auto.out,
       c.put_lines-n.ensures.next,
@@ -115,7 +115,7 @@ returns-in-Lists c =
     c.args.out.now c.put_lines-n.new.out c.put_lines-m.new.out c.put_end.new.out c.put_lines-n.result
     c.put_lines-m.result c.put_end.result (lists c.before.before.before.before.before.before.before.before.before.before.before.before.before.before.before.before).0
     (subst (λ (l : List Float). Appended c.args.out.now 0 (lines_text letter_p l) c.put_lines-n.new.out
-    c.put_lines-n.result) (possible_is c.before.before.before.before.before.before.before.before.before.before.before.before.before) c.put_lines-n.ensures)
+    c.put_lines-n.result) (possible_is (goal.at.returns-in-Lists c).After-possible_of) c.put_lines-n.ensures)
     (subst (λ (l : List Float). Appended c.put_lines-n.new.out c.put_lines-n.result (lines_text letter_c l)
-    c.put_lines-m.new.out c.put_lines-m.result) (certain_is c.before.before.before.before.before.before.before) c.put_lines-m.ensures)
+    c.put_lines-m.new.out c.put_lines-m.result) (certain_is (goal.at.returns-in-Lists c).After-certain_of) c.put_lines-m.ensures)
     c.put_end.ensures

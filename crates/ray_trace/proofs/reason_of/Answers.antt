@@ -27,22 +27,22 @@ pub returns-then-k-ne0 : goal.returns-then-k-ne0
 unfolding NoneDue
 returns-then-k-ne0 c = (
   tt,
-  cut_away (possible-held c.before.before) (found_some inner _ _ _ c.first_holding-k.ensures c.if-k-ne0.true),
+  cut_away (possible-held (goal.at.returns-then-k-ne0 c).Else-not-holds_at) (found_some inner _ _ _ c.first_holding-k.ensures c.if-k-ne0.true),
 )
 
 pub returns-then-not-holds_at-2 : goal.returns-then-not-holds_at-2
 unfolding NoneDue
 returns-then-not-holds_at-2 c = (
   tt,
-  never_certain (possible-held c.before.before.before.before) (found-not _ _ c.holds_at-2.ensures c.if-not-holds_at-2.true-raw)
-      (inner-free c.before.before),
+  never_certain (possible-held (goal.at.returns-then-not-holds_at-2 c).Else-not-holds_at) (found-not _ _ c.holds_at-2.ensures c.if-not-holds_at-2.true-raw)
+      (inner-free (goal.at.returns-then-not-holds_at-2 c).Else-k-ne0),
 )
 
 pub returns-then-j-ne0 : goal.returns-then-j-ne0
 unfolding NoneDue
 returns-then-j-ne0 c = (
   tt,
-  made_uncertain (certain-held c.before.before) (inner-free c.before.before.before.before)
+  made_uncertain (certain-held (goal.at.returns-then-j-ne0 c).Else-not-holds_at-2) (inner-free (goal.at.returns-then-j-ne0 c).Else-k-ne0)
       (found_some outer _ _ _ c.first_holding-j.ensures c.if-j-ne0.true),
 )
 
@@ -50,6 +50,6 @@ pub returns : goal.returns
 unfolding NoneDue
 returns c = (
   tt,
-  untouched (certain-held c.before.before) (inner-free c.before.before.before.before)
+  untouched (certain-held (goal.at.returns c).Else-not-holds_at-2) (inner-free (goal.at.returns c).Else-k-ne0)
       (found_none outer _ _ _ c.first_holding-j.ensures c.if-j-ne0.false),
 )

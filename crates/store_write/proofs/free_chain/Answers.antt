@@ -31,56 +31,56 @@ pub offset_bounds-links-i : goal.offset_bounds-links-i
 offset_bounds-links-i c = let h = (here c).counted in search rules
 
 pub bounds-links-i : goal.bounds-links-i
-bounds-links-i c = let h = (here c.before).counted in search rules
+bounds-links-i c = let h = (here (goal.at.bounds-links-i c).In-loop-k).counted in search rules
 
 pub overflow_mul-spans : goal.overflow_mul-spans
-overflow_mul-spans c = let h = (here c.before).counted in search rules
+overflow_mul-spans c = let h = (here (goal.at.overflow_mul-spans c).In-loop-k).counted in search rules
 
 pub offset_bounds-spans-i : goal.offset_bounds-spans-i
-offset_bounds-spans-i c = let h = (here c.before).counted in search rules
+offset_bounds-spans-i c = let h = (here (goal.at.offset_bounds-spans-i c).In-loop-k).counted in search rules
 
 pub bounds-spans-i : goal.bounds-spans-i
-bounds-spans-i c = let h = (here c.before).counted in search rules
+bounds-spans-i c = let h = (here (goal.at.bounds-spans-i c).In-loop-k).counted in search rules
 
 pub overflow_mul-spans-in-loop-k : goal.overflow_mul-spans-in-loop-k
-overflow_mul-spans-in-loop-k c = let h = (here c.before).counted in search rules
+overflow_mul-spans-in-loop-k c = let h = (here (goal.at.overflow_mul-spans-in-loop-k c).In-loop-k).counted in search rules
 
 pub overflow_add-spans : goal.overflow_add-spans
-overflow_add-spans c = let h = (here c.before).counted in search rules
+overflow_add-spans c = let h = (here (goal.at.overflow_add-spans c).In-loop-k).counted in search rules
 
 pub offset_bounds-spans-i-in-loop-k : goal.offset_bounds-spans-i-in-loop-k
-offset_bounds-spans-i-in-loop-k c = let h = (here c.before).counted in search rules
+offset_bounds-spans-i-in-loop-k c = let h = (here (goal.at.offset_bounds-spans-i-in-loop-k c).In-loop-k).counted in search rules
 
 pub bounds-spans-i-in-loop-k : goal.bounds-spans-i-in-loop-k
-bounds-spans-i-in-loop-k c = let h = (here c.before).counted in simp length-set (omega arith)
+bounds-spans-i-in-loop-k c = let h = (here (goal.at.bounds-spans-i-in-loop-k c).In-loop-k).counted in simp length-set (omega arith)
 
 pub overflow_mul-links : goal.overflow_mul-links
-overflow_mul-links c = let h = (here c.before).counted in search rules
+overflow_mul-links c = let h = (here (goal.at.overflow_mul-links c).In-loop-k).counted in search rules
 
 pub offset_bounds-links-i-in-loop-k : goal.offset_bounds-links-i-in-loop-k
-offset_bounds-links-i-in-loop-k c = let h = (here c.before).counted in search rules
+offset_bounds-links-i-in-loop-k c = let h = (here (goal.at.offset_bounds-links-i-in-loop-k c).In-loop-k).counted in search rules
 
 pub bounds-links-i-in-loop-k : goal.bounds-links-i-in-loop-k
-bounds-links-i-in-loop-k c = let h = (here c.before).counted in search rules
+bounds-links-i-in-loop-k c = let h = (here (goal.at.bounds-links-i-in-loop-k c).In-loop-k).counted in search rules
 
 pub overflow_mul-links-in-loop-k : goal.overflow_mul-links-in-loop-k
-overflow_mul-links-in-loop-k c = let h = (here c.before).counted in search rules
+overflow_mul-links-in-loop-k c = let h = (here (goal.at.overflow_mul-links-in-loop-k c).In-loop-k).counted in search rules
 
 pub overflow_add-links : goal.overflow_add-links
-overflow_add-links c = let h = (here c.before).counted in search rules
+overflow_add-links c = let h = (here (goal.at.overflow_add-links c).In-loop-k).counted in search rules
 
 pub offset_bounds-links-i-in-loop-k-2 : goal.offset_bounds-links-i-in-loop-k-2
-offset_bounds-links-i-in-loop-k-2 c = let h = (here c.before).counted in search rules
+offset_bounds-links-i-in-loop-k-2 c = let h = (here (goal.at.offset_bounds-links-i-in-loop-k-2 c).In-loop-k).counted in search rules
 
 pub bounds-links-i-in-loop-k-2 : goal.bounds-links-i-in-loop-k-2
-bounds-links-i-in-loop-k-2 c = let h = (here c.before).counted in simp length-set (omega arith)
+bounds-links-i-in-loop-k-2 c = let h = (here (goal.at.bounds-links-i-in-loop-k-2 c).In-loop-k).counted in simp length-set (omega arith)
 
 pub loop-k-smaller : goal.loop-k-smaller
-loop-k-smaller c = (freeing c.before).less
+loop-k-smaller c = (freeing (goal.at.loop-k-smaller c).In-loop-k).less
 
 pub loop-k-preserved : goal.loop-k-preserved
 loop-k-preserved c =
-    let t = freeing c.before in (
+    let t = freeing (goal.at.loop-k-preserved c).In-loop-k in (
       simp length-set c.loop-k.invariant.0,
       simp length-set c.loop-k.invariant.1,
       t.chain,

@@ -44,7 +44,7 @@ returns-then-not-check_stock c =
 
 pub returns-in-Refused : goal.returns-in-Refused
 returns-in-Refused c =
-    check-tool-bad (here c.before.before.before.before.before.before.before.before.before.before) c.args.intervals c.args.chords.now (passed c.before.before.before.before.before) c.check_tool-tool.result _
+    check-tool-bad (here (goal.at.returns-in-Refused c).After-shared_slice_known-4-1) c.args.intervals c.args.chords.now (passed c.before.before.before.before.before) c.check_tool-tool.result _
     c.check_tool-tool.ensures c.tool-1.given.1
 
 pub returns-then-check_chords : goal.returns-then-check_chords

@@ -33,7 +33,7 @@ shape_of-log-in-Stopped c = (halted-of _ _ c.x-1.given.1 c.sweep_chord-x.ensures
 
 pub returns-in-Stopped : goal.returns-in-Stopped
 returns-in-Stopped c =
-    chord-halts (here c.before.before.before.before.before.before) c.args.chords.now c.loop-i.i c.loop-i.invariant c.chord_at-chord.result c.loop-i-test.true
+    chord-halts (here (goal.at.returns-in-Stopped c).After-sweep_chord-arg-1) c.args.chords.now c.loop-i.i c.loop-i.invariant c.chord_at-chord.result c.loop-i-test.true
     c.chord_at-chord.ensures (halted-of _ _ c.x-1.given.1 c.sweep_chord-x.ensures)
 
 pub overflow_add-i : goal.overflow_add-i
@@ -48,7 +48,7 @@ loop-i-smaller c = omega (arith, c.loop-i-test.true)
 
 pub loop-i-preserved : goal.loop-i-preserved
 loop-i-preserved c =
-    chord-next (here c.before.before.before.before.before.before) c.args.chords.now c.loop-i.i c.loop-i.invariant c.chord_at-chord.result c.loop-i-test.true
+    chord-next (here (goal.at.loop-i-preserved c).After-sweep_chord-arg-1) c.args.chords.now c.loop-i.i c.loop-i.invariant c.chord_at-chord.result c.loop-i-test.true
     c.chord_at-chord.ensures (went-of _ _ c.x-in-At-1.given.1 c.sweep_chord-x.ensures)
 
 pub shape_of-log : goal.shape_of-log
