@@ -5,10 +5,10 @@ use borrow.Author.Rules.{rules}
 use Rattle.c_results.proofs.hand_bool.Goals as goal
 
 pub returns-in-Yes : goal.returns-in-Yes
-returns-in-Yes c = inl (rw c.enum_told-1.given.1 refl, refl)
+returns-in-Yes c = inl (rw c.in-Yes.is refl, refl)
 
 pub returns-in-No : goal.returns-in-No
-returns-in-No c = inl (rw c.enum_told-in-No-1.given.1 refl, refl)
+returns-in-No c = inl (rw c.in-No.is refl, refl)
 
 pub returns-in-Refused : goal.returns-in-Refused
-returns-in-Refused c = inr (c.t-1.given.1, refl)
+returns-in-Refused c = inr (c.in-Refused.is, refl)

@@ -5,7 +5,7 @@ use borrow.Author.Rules.{rules}
 use Rattle.c_results.proofs.hand_commit.Goals as goal
 
 pub returns-in-Changed : goal.returns-in-Changed
-returns-in-Changed c = inl (rw c.a-1.given.1 refl, refl)
+returns-in-Changed c = inl (rw c.in-Changed.is refl, refl)
 
 pub returns-in-Refused : goal.returns-in-Refused
-returns-in-Refused c = inr (c.a-in-Refused-1.given.1, refl)
+returns-in-Refused c = inr (c.in-Refused.is, refl)

@@ -5,7 +5,7 @@ use borrow.Author.Rules.{rules}
 use Rattle.c_results.proofs.hand_grid.Goals as goal
 
 pub returns-in-Accepted : goal.returns-in-Accepted
-returns-in-Accepted c = inl (rw c.g-1.given.1 refl, refl)
+returns-in-Accepted c = inl (rw c.in-Accepted.is refl, refl)
 
 pub returns-in-Refused : goal.returns-in-Refused
-returns-in-Refused c = inr (c.g-in-Refused-1.given.1, refl)
+returns-in-Refused c = inr (c.in-Refused.is, refl)

@@ -5,7 +5,7 @@ use borrow.Author.Rules.{rules}
 use Rattle.c_results.proofs.hand_list.Goals as goal
 
 pub returns-in-Pairs : goal.returns-in-Pairs
-returns-in-Pairs c = inl (rw c.l-1.given.1 refl, refl)
+returns-in-Pairs c = inl (rw c.in-Pairs.is refl, refl)
 
 pub returns-in-Refused : goal.returns-in-Refused
-returns-in-Refused c = inr (c.l-in-Refused-1.given.1, refl)
+returns-in-Refused c = inr (c.in-Refused.is, refl)

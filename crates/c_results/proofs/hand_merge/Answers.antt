@@ -7,7 +7,7 @@ use Rattle.c_results.proofs.hand_merge.Goals as goal
 pub returns-in-Lists : goal.returns-in-Lists
 returns-in-Lists c = inl (
   rw (
-    c.m-1.given.1,
+    c.in-Lists.is,
     ← c.digit_of.ensures,
     ← c.digit_of-in-Lists.ensures,
   ) refl,
@@ -15,4 +15,4 @@ returns-in-Lists c = inl (
 )
 
 pub returns-in-Refused : goal.returns-in-Refused
-returns-in-Refused c = inr (c.m-in-Refused-1.given.1, refl)
+returns-in-Refused c = inr (c.in-Refused.is, refl)

@@ -37,7 +37,7 @@ returns-in_default c =
     c.head-h.ensures
     (subst (CheckChangePost c.args.spec c.args.g s c.args.pairs.now
     c.head-h.result c.loop-k.cur)
-    c.enum_told-1.given.1 c.check_change.ensures)
+    c.in_default.is c.check_change.ensures)
 
 pub loop-k-preserved : goal.loop-k-preserved
 loop-k-preserved c =
@@ -52,7 +52,7 @@ loop-k-preserved c =
           c.head-h.ensures
           (subst (CheckChangePost c.args.spec c.args.g s c.args.pairs.now
           c.head-h.result
-          c.loop-k.cur) c.next-1.given.1
+          c.loop-k.cur) c.in-Next.is
           c.check_change.ensures),
     )
 

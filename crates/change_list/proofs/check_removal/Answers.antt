@@ -5,6 +5,7 @@ use Rattle.change_list.proofs.ChangeTests.{old-sound, allowed-not-before, allowe
 use Rattle.stock.proofs.Rays.{sound-chained}
 use Rattle.store.specs.Store.{cells}
 use Rattle.change_list.proofs.check_removal.Goals as goal
+use Rattle.change_list.proofs.check_removal.Goals.{Start}
 
 pub matches_before-requires : goal.matches_before-requires
 matches_before-requires c = let s = cells c.args.spans.now c.args.links.now c.args.heads.now in
@@ -19,7 +20,7 @@ pub ray_bounds-bounds-requires : goal.ray_bounds-bounds-requires
 ray_bounds-bounds-requires c = omega (arith, c.requires.0.room.in_heads)
 
 pub is_removal-requires : goal.is_removal-requires
-is_removal-requires c = let a = c.before.before.before.before.before.before.before.before.before.before
+is_removal-requires c = let a = (goal.at.is_removal-requires c).Start
     in let s = cells a.args.spans.now a.args.links.now a.args.heads.now in
     old-sound a.args.spec a.args.g s a.args.ray a.args.p.now a.args.q.now a.pre.0
     a.pre.1 c.matches_before.result c.matches_before.ensures c.if-not-matches_before.false-raw

@@ -6,24 +6,24 @@ use mir.Syntax.{w64}
 use lib.ListN.{length}
 use Rattle.commit_apply.proofs.Apply.{group-room, mergeable, sizes-fit, freeable, layable, done, cleared-size}
 use Rattle.commit_apply.proofs.apply_log.Goals as goal
-use Rattle.commit_apply.proofs.apply_log.Tie as tie
+use Rattle.commit_apply.proofs.apply_log.Goals.{After-entry_count, After-free_all, After-group, After-merge_all-changed, After-total_rays-rays, Start}
 
 -- ---- the calls before, from where the entries are counted
-abbrev merged : goal.After-entry_count → tie.After-merge_all-changed
+abbrev merged : After-entry_count → After-merge_all-changed
 merged c = c.before.before.before.before
 
-abbrev grouped : goal.After-entry_count → tie.After-group
+abbrev grouped : After-entry_count → After-group
 grouped c = (merged c).before.before.before.before.before.before.before
 
-abbrev start : goal.After-entry_count → tie.Start
+abbrev start : After-entry_count → Start
 start c = (grouped c).before.before.before.before.before.before.before
 
 -- the sizes lie in the work buffer
-room : (c : goal.After-entry_count) → let rays = c.total_rays-rays.result in rays + c.entry_count.result + 2 * rays ≤ length (start c).args.work.now
+room : (c : After-entry_count) → let rays = c.total_rays-rays.result in rays + c.entry_count.result + 2 * rays ≤ length (start c).args.work.now
 room c = sizes-fit _ _ _ _ _ (start c).requires _ _ _ (grouped c).group.ensures (merged c).merge_all-changed.ensures _
     c.total_rays-rays.ensures _ c.entry_count.ensures
 
-bound : (c : goal.After-entry_count) → length (start c).args.work.now < 2 ^ 64
+bound : (c : After-entry_count) → length (start c).args.work.now < 2 ^ 64
 bound c = omega (arith, (start c).well_formed.1.1.1.1.1.1.0)
 
 sum_fits : (r e w : ℕ) → r + e + 2 * r ≤ w → w < 2 ^ 64 → Fits w64 (r + e)
@@ -36,7 +36,7 @@ past_fits : (r e w : ℕ) → r + e + 2 * r ≤ w → w < 2 ^ 64 → Fits w64 (r
 past_fits r e w h b = omega arith
 
 -- where the lists were freed, from where their cells are lent again
-abbrev freed : tie.After-lay-all-arg4 → tie.After-free_all
+abbrev freed : tie.After-lay-all-arg4 → After-free_all
 freed c = c.before.before.before.before.before.before.before.before.before.before
 
 -- the cells and the work buffer at the end

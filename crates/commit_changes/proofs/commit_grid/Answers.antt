@@ -15,7 +15,7 @@ apply_changes-requires c = (
   verdict-fitting c.args.spec c.args.g
       (stock c.args.spans.now c.args.links.now c.args.heads.now c.args.generation c.args.intervals) c.args.changes.now
       c.args.pairs.now c.args.base _ c.grid_verdict.ensures _
-      c.total-1.given.1,
+      c.in-Fits.is,
 )
 
 pub overflow_add-result : goal.overflow_add-result
@@ -25,7 +25,7 @@ overflow_add-result c =
       generation-steps c.args.spec c.args.g
           (stock c.args.spans.now c.args.links.now c.args.heads.now c.args.generation c.args.intervals) c.args.changes.now
           c.args.pairs.now c.args.base _ c.grid_verdict.ensures _
-          c.total-1.given.1
+          c.in-Fits.is
           (omega (
             arith,
             c.well_formed.0,
@@ -36,9 +36,9 @@ pub returns-in-Fits : goal.returns-in-Fits
 returns-in-Fits c =
     verdict-fits c.args.spec c.args.g (stock c.args.spans.now c.args.links.now c.args.heads.now c.args.generation
     c.args.intervals) c.args.changes.now c.args.pairs.now c.args.base _
-    c.grid_verdict.ensures _ c.total-1.given.1 _ c.apply_changes.ensures
+    c.grid_verdict.ensures _ c.in-Fits.is _ c.apply_changes.ensures
 
 pub returns-in-Refused : goal.returns-in-Refused
 returns-in-Refused c = verdict-refused c.args.spec c.args.g
     (stock c.args.spans.now c.args.links.now c.args.heads.now c.args.generation c.args.intervals) c.args.changes.now
-    c.args.pairs.now c.args.base _ c.grid_verdict.ensures _ c.k-1.given.1
+    c.args.pairs.now c.args.base _ c.grid_verdict.ensures _ c.in-Refused.is

@@ -8,7 +8,7 @@ use Rattle.commit_changes.proofs.list_verdict.Goals as goal
 
 pub returns-in_default : goal.returns-in_default
 returns-in_default c = bad-list c.args.spec c.args.g (stock c.args.spans.now c.args.links.now c.args.heads.now c.args.generation c.args.intervals)
-    c.args.changes.now c.args.pairs.now _ c.check_changes.ensures c.enum_told-1.given.1
+    c.args.changes.now c.args.pairs.now _ c.check_changes.ensures c.in_default.is
 
 pub overflow_sub-total : goal.overflow_sub-total
 overflow_sub-total c =
@@ -17,7 +17,7 @@ overflow_sub-total c =
       arith,
       freed-fewer c.args.spec c.args.g
           (stock c.args.spans.now c.args.links.now c.args.heads.now c.args.generation c.args.intervals) c.args.changes.now
-          c.args.pairs.now _ c.check_changes.ensures _ c.cur-1.given.1 pre.0 pre.1,
+          c.args.pairs.now _ c.check_changes.ensures _ c.in-Next.is pre.0 pre.1,
     )
 
 pub overflow_add-total : goal.overflow_add-total
@@ -27,7 +27,7 @@ overflow_add-total c =
       arith,
       total-fits c.args.spec c.args.g
           (stock c.args.spans.now c.args.links.now c.args.heads.now c.args.generation c.args.intervals) c.args.changes.now
-          c.args.pairs.now _ c.check_changes.ensures _ c.cur-1.given.1 pre.0
+          c.args.pairs.now _ c.check_changes.ensures _ c.in-Next.is pre.0
           pre.1 (omega (
             arith,
             c.well_formed.1.1.1.1.0,
@@ -43,7 +43,7 @@ returns-then-spec-total c =
     over-budget c.args.spec c.args.g (stock c.args.spans.now c.args.links.now c.args.heads.now c.args.generation
     c.args.intervals) c.args.changes.now c.args.pairs.now _
     c.check_changes.ensures _
-    c.cur-1.given.1 pre.0 pre.1 c.if-spec-total.true
+    c.in-Next.is pre.0 pre.1 c.if-spec-total.true
 
 pub returns-then-generation-eq18446744073709551615 : goal.returns-then-generation-eq18446744073709551615
 returns-then-generation-eq18446744073709551615 c =
@@ -51,7 +51,7 @@ returns-then-generation-eq18446744073709551615 c =
     last-generation c.args.spec c.args.g
     (stock c.args.spans.now c.args.links.now c.args.heads.now c.args.generation c.args.intervals) c.args.changes.now
     c.args.pairs.now _ c.check_changes.ensures _
-    c.cur-1.given.1 pre.0 pre.1 c.if-spec-total.false c.if-generation-eq18446744073709551615.true
+    c.in-Next.is pre.0 pre.1 c.if-spec-total.false c.if-generation-eq18446744073709551615.true
 
 pub returns : goal.returns
 returns c =
@@ -59,4 +59,4 @@ returns c =
     list-fits c.args.spec c.args.g (stock c.args.spans.now c.args.links.now c.args.heads.now c.args.generation
     c.args.intervals) c.args.changes.now c.args.pairs.now _
     c.check_changes.ensures _
-    c.cur-1.given.1 pre.0 pre.1 c.if-spec-total.false c.if-generation-eq18446744073709551615.false
+    c.in-Next.is pre.0 pre.1 c.if-spec-total.false c.if-generation-eq18446744073709551615.false

@@ -8,12 +8,12 @@ use Rattle.commit_log.proofs.commit_log_on.Goals as goal
 pub commit_grid-requires : goal.commit_grid-requires
 commit_grid-requires c = grid-facts _ _ _
     (sym c.grid.ensures.is
-    ∙ c.g-1.given.1)
+    ∙ c.in-Accepted.is)
 
 pub returns-in-Accepted : goal.returns-in-Accepted
 returns-in-Accepted c = on-grid _ _ _ _ _ _ _ _ _ _
     (sym c.grid.ensures.is
-    ∙ c.g-1.given.1) c.commit_grid.ensures
+    ∙ c.in-Accepted.is) c.commit_grid.ensures
 
 pub returns-in-Refused : goal.returns-in-Refused
-returns-in-Refused c = no-grid _ _ _ _ _ _ _ (sym c.grid.ensures.is ∙ c.k-1.given.1)
+returns-in-Refused c = no-grid _ _ _ _ _ _ _ (sym c.grid.ensures.is ∙ c.in-Refused.is)

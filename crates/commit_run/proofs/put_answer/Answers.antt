@@ -3,7 +3,7 @@ use borrow.Author.Rules.{rules}
 use Rattle.commit_run.proofs.put_answer.Goals as goal
 
 pub returns-in-Changed : goal.returns-in-Changed
-returns-in-Changed c = rw c.answer-1.given.1 c.put_numbers.ensures
+returns-in-Changed c = rw c.in-Changed.is c.put_numbers.ensures
 
 pub returns-in-Refused : goal.returns-in-Refused
-returns-in-Refused c = rw c.answer-in-Refused-1.given.1 c.put_numbers-in-Refused.ensures
+returns-in-Refused c = rw c.in-Refused.is c.put_numbers-in-Refused.ensures

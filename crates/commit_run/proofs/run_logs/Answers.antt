@@ -5,7 +5,6 @@ use Prim.Native.Nat.{◌-◌}
 use Rattle.commit_run.proofs.Turns.{RunTo, run-start, run-next, run_end}
 use Rattle.stock.specs.Stock.{stock}
 use Rattle.commit_run.proofs.run_logs.Goals as goal
-use Rattle.commit_run.proofs.run_logs.Tie as tie
 
 abbrev decreases-loop : tie.decreases-loop
 decreases-loop spec units spans₀ links₀ heads₀ logs ends allowances work₀ answers₀ count left₀ at₀ i₀ spans links heads work

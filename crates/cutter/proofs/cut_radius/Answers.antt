@@ -5,7 +5,7 @@ use Rattle.cutter.proofs.cut_radius.Goals as goal
 pub returns-in-Cutting : goal.returns-in-Cutting
 unfolding cut_radius
 returns-in-Cutting c = simp (
-  c.s-1.given.1,
+  c.in-Cutting.is,
   ← c.radius_at-s.ensures,
   ← c.clamp.ensures,
 )
@@ -13,11 +13,11 @@ returns-in-Cutting c = simp (
 pub returns-in-NonCutting : goal.returns-in-NonCutting
 unfolding cut_radius
 returns-in-NonCutting c = simp (
-  c.s-in-NonCutting-1.given.1,
+  c.in-NonCutting.is,
   ← c.radius_at-s.ensures,
   ← c.clamp.ensures,
 )
 
 pub returns-in-Outside : goal.returns-in-Outside
 unfolding cut_radius
-returns-in-Outside c = simp (c.enum_told-1.given.1, ← c.radius_at-s.ensures, ← c.clamp.ensures)
+returns-in-Outside c = simp (c.in-Outside.is, ← c.radius_at-s.ensures, ← c.clamp.ensures)

@@ -6,8 +6,9 @@ use native.Mathlib.Omega.{arith}
 use lib.Dec.{lit≤}
 use Rattle.doubles_sqrt.proofs.Scale.{moved, left_over}
 use Rattle.doubles_sqrt.proofs.normalized.Goals as goal
+use Rattle.doubles_sqrt.proofs.normalized.Goals.{In-loop-m}
 
-half-left : (c : goal.In-loop-m) → 0 < c.loop-m.half
+half-left : (c : In-loop-m) → 0 < c.loop-m.half
 half-left c =
     let a = c.args.a in
     let pre = c.requires in

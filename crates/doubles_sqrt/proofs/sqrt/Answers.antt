@@ -13,18 +13,18 @@ use Rattle.doubles.proofs.Order.{no_nan, zero-over-zero}
 use Rattle.doubles_sqrt.proofs.Result.{root-of-nan, root-of-zero, root-of-negative-zero, root-of-infinity}
 use Rattle.doubles_sqrt.proofs.Result.{root-of-negative, finite-is-no-nan, positive-under}
 use Rattle.doubles_sqrt.proofs.sqrt.Goals as goal
-use Rattle.doubles_sqrt.proofs.sqrt.Tie as tie
+use Rattle.doubles_sqrt.proofs.sqrt.Goals.{Start}
 
 -- what owning an `f64` tells: the format holds it
-held : (c : tie.Start) → T (fits binary64 c.args.x)
+held : (c : Start) → T (fits binary64 c.args.x)
 held c = of-true c.well_formed.0.1
 
 -- so it is read back from its pattern
-read : (c : tie.Start) → of_bits binary64 (to_bits binary64 c.args.x) ≡ c.args.x
+read : (c : Start) → of_bits binary64 (to_bits binary64 c.args.x) ≡ c.args.x
 read c = of_bits-to_bits binary64 c.args.x (held c)
 
 -- at a pattern k whose value is its own root
-own_root : (c : tie.Start) (k : ℕ) → to_bits binary64 c.args.x ≡ k → square_root binary64 (of_bits binary64 k) ≡ of_bits binary64 k → c.args.x ≡ square_root binary64 c.args.x
+own_root : (c : Start) (k : ℕ) → to_bits binary64 c.args.x ≡ k → square_root binary64 (of_bits binary64 k) ≡ of_bits binary64 k → c.args.x ≡ square_root binary64 c.args.x
 own_root c k e h = subst (λ (v : Float). v ≡ square_root binary64 v) (ap (λ (n : ℕ). of_bits binary64 n) (sym e) ∙ read c) (sym h)
 
 pub returns-then-x : goal.returns-then-x
@@ -36,24 +36,24 @@ pub float_to_bits-bits : goal.float_to_bits-bits
 float_to_bits-bits c = no_nan c.args.x c.if-x.false
 
 pub returns-then-bits-eq0 : goal.returns-then-bits-eq0
-returns-then-bits-eq0 c = own_root c.before.before 0 c.if-bits-eq0.true root-of-zero
+returns-then-bits-eq0 c = own_root (goal.at.returns-then-bits-eq0 c).Start 0 c.if-bits-eq0.true root-of-zero
 
 pub returns-then-bits : goal.returns-then-bits
-returns-then-bits c = own_root c.before.before.before 0x8000_0000_0000_0000 c.if-bits.true root-of-negative-zero
+returns-then-bits c = own_root (goal.at.returns-then-bits c).Start 0x8000_0000_0000_0000 c.if-bits.true root-of-negative-zero
 
 pub returns-then-bits-eq9218868437227405312 : goal.returns-then-bits-eq9218868437227405312
-returns-then-bits-eq9218868437227405312 c = own_root c.before.before.before.before 0x7ff0_0000_0000_0000 c.if-bits-eq9218868437227405312.true root-of-infinity
+returns-then-bits-eq9218868437227405312 c = own_root (goal.at.returns-then-bits-eq9218868437227405312 c).Start 0x7ff0_0000_0000_0000 c.if-bits-eq9218868437227405312.true root-of-infinity
 
 pub returns-then-bits-gt9223372036854775808 : goal.returns-then-bits-gt9223372036854775808
 returns-then-bits-gt9223372036854775808 c =
     zero-over-zero ∙ sym (root-of-negative (to_bits binary64 c.args.x) c.if-bits-gt9223372036854775808.true
-    (to_bits-lt binary64 c.args.x (held c.before.before.before.before.before))) ∙ ap (λ (v : Float). square_root binary64 v) (read c.before.before.before.before.before)
+    (to_bits-lt binary64 c.args.x (held (goal.at.returns-then-bits-gt9223372036854775808 c).Start))) ∙ ap (λ (v : Float). square_root binary64 v) (read (goal.at.returns-then-bits-gt9223372036854775808 c).Start)
 
 pub root_bits-requires : goal.root_bits-requires
 root_bits-requires c = (
   omega (arith, c.if-bits-eq0.false),
   positive-under (to_bits binary64 c.args.x)
-      (subst (λ (v : Float). T (not (is_nan v))) (sym (read c.before.before.before.before.before))
+      (subst (λ (v : Float). T (not (is_nan v))) (sym (read (goal.at.root_bits-requires c).Start))
       (no_nan c.args.x c.if-x.false)) c.if-bits-gt9223372036854775808.false c.if-bits.false
       c.if-bits-eq9218868437227405312.false,
 )
@@ -63,4 +63,4 @@ float_from_bits-result c = finite-is-no-nan c.root_bits.result c.root_bits.ensur
 
 pub returns : goal.returns
 returns c = c.root_bits.ensures.0
-    ∙ ap (λ (v : Float). square_root binary64 v) (read c.before.before.before.before.before.before)
+    ∙ ap (λ (v : Float). square_root binary64 v) (read (goal.at.returns c).Start)

@@ -6,9 +6,10 @@ use Rattle.grid.specs.Grid.{whole}
 use Rattle.grid.specs.FromSpec.{rays_of, grid_with, grid_over}
 use Rattle.grid.specs.declared.GridAnswer.TheVariants.{Accepted, Refused}
 use Rattle.grid_from_spec.proofs.grid_over.Goals as goal
+use Rattle.grid_from_spec.proofs.grid_over.Goals.{Else-rays-max_rays}
 
 -- the answer where the rays are few enough
-few_rays : (c : goal.Else-rays-max_rays) → grid_over c.args.spec c.args.extents c.args.dims ≡ cond (lt (whole c.args.spec.max_intervals) (mul binary64 two (rays_of c.args.dims))) (Refused 3) (Accepted (grid_with c.args.extents c.args.dims))
+few_rays : (c : Else-rays-max_rays) → grid_over c.args.spec c.args.extents c.args.dims ≡ cond (lt (whole c.args.spec.max_intervals) (mul binary64 two (rays_of c.args.dims))) (Refused 3) (Accepted (grid_with c.args.extents c.args.dims))
 unfolding grid_over
 few_rays c =
     rw (← c.nearest_u64_to_f64-max_rays.ensures, ← c.any_above.ensures, c.if-any_above.false, c.if-rays-max_rays.false)

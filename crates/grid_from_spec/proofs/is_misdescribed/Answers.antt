@@ -8,6 +8,7 @@ use Rattle.grid.specs.declared.DexelStockSpec.{DexelStockSpec}
 use Rattle.grid.specs.Grid.{all_between}
 use Rattle.grid.specs.FromSpec.{least_size, any_below, misdescribed}
 use Rattle.grid_from_spec.proofs.is_misdescribed.Goals as goal
+use Rattle.grid_from_spec.proofs.is_misdescribed.Goals.{Else-any_bound_off}
 
 -- the tests of the bounds together, and those of the budgets
 parts : (s : DexelStockSpec) (sizes extents : Vec3) → misdescribed s sizes extents ≡ (not (eqb s.version 1)
@@ -18,7 +19,7 @@ unfolding misdescribed
 parts s sizes extents = simp or_assoc
 
 -- the budgets and the extents decide where the bounds are in their limits
-past-bounds : (c : goal.Else-any_bound_off) → misdescribed c.args.spec c.args.sizes c.args.extents ≡ ((eqb c.args.spec.max_rays 0 || (ltb 4294967295 c.args.spec.max_rays || eqb c.args.spec.max_intervals 0)) || any_below c.args.extents millionth)
+past-bounds : (c : Else-any_bound_off) → misdescribed c.args.spec c.args.sizes c.args.extents ≡ ((eqb c.args.spec.max_rays 0 || (ltb 4294967295 c.args.spec.max_rays || eqb c.args.spec.max_intervals 0)) || any_below c.args.extents millionth)
 past-bounds c =
     simp (parts, eq-eqb _ _ c.if-spec-ne1.false, ← c.any_bound_off.ensures, c.if-any_bound_off.false)
 

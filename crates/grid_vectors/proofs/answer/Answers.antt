@@ -5,4 +5,4 @@ use borrow.Author.Rules.{rules}
 use Rattle.grid_vectors.proofs.answer.Goals as goal
 
 pub asked-requires : goal.asked-requires
-asked-requires c = subst (FactsOf c.args.spec) c.r-1.given.1 c.gridded-r.ensures
+asked-requires c = subst (FactsOf c.args.spec) c.in-Accepted.is c.gridded-r.ensures

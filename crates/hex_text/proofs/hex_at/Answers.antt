@@ -11,6 +11,7 @@ use Rattle.hex_text.specs.declared.Word.{Word}
 use Rattle.hex_text.specs.declared.Word.TheVariants.{Missing}
 use Rattle.hex_text.proofs.Digits.{digit-le, Read, read_none, read_more, read-stop, read_all, small_at}
 use Rattle.hex_text.proofs.hex_at.Goals as goal
+use Rattle.hex_text.proofs.hex_at.Goals.{Else-text-count-2}
 
 -- the text ends before the number does
 past : (text : List ℕ) (k n : ℕ) → n ≤ 16 → length text < k + n → Missing ≡ hex_at text k n
@@ -22,7 +23,7 @@ unfolding hex_at
 inside text k n w l h e = simp (le-leb n 16 l, le-leb (k + n) (length text) h) e
 
 -- the number's place, known past the tests
-fit : (c : goal.Else-text-count-2) → c.args.at + c.args.count ≤ length c.args.text.now
+fit : (c : Else-text-count-2) → c.args.at + c.args.count ≤ length c.args.text.now
 fit c = omega arith
 
 pub returns-then-count-gt16 : goal.returns-then-count-gt16

@@ -4,7 +4,7 @@ use borrow.Author.Rules.{rules}
 use Rattle.inner.proofs.radius_numbers.Goals as goal
 
 pub returns-in-Is : goal.returns-in-Is
-returns-in-Is c = simp c.s-1.given.1
+returns-in-Is c = simp c.in-Is.is
 
 pub returns-in-Outside : goal.returns-in-Outside
-returns-in-Outside c = simp c.enum_told-1.given.1
+returns-in-Outside c = simp c.in-Outside.is

@@ -4,10 +4,10 @@ use borrow.Author.Rules.{rules}
 use Rattle.inner.proofs.slice_numbers.Goals as goal
 
 pub returns-in-Cutting : goal.returns-in-Cutting
-returns-in-Cutting c = simp c.s-1.given.1
+returns-in-Cutting c = simp c.in-Cutting.is
 
 pub returns-in-NonCutting : goal.returns-in-NonCutting
-returns-in-NonCutting c = simp c.s-in-NonCutting-1.given.1
+returns-in-NonCutting c = simp c.in-NonCutting.is
 
 pub returns-in-Outside : goal.returns-in-Outside
-returns-in-Outside c = simp c.enum_told-1.given.1
+returns-in-Outside c = simp c.in-Outside.is

@@ -4,7 +4,7 @@ use borrow.Author.Rules.{rules}
 use Rattle.inner.proofs.strip_numbers.Goals as goal
 
 pub returns-in-Hit : goal.returns-in-Hit
-returns-in-Hit c = simp c.s-1.given.1
+returns-in-Hit c = simp c.in-Hit.is
 
 pub returns-in-Miss : goal.returns-in-Miss
-returns-in-Miss c = simp c.enum_told-1.given.1
+returns-in-Miss c = simp c.in-Miss.is

@@ -5,8 +5,8 @@ use Rattle.inner.proofs.tridexel_inner_check_tool.Goals as goal
 
 pub returns-in-Accepted : goal.returns-in-Accepted
 returns-in-Accepted c = rw (← c.named_shape.ensures)
-    (accepted c.named_shape.result c.args.c _ c.enum_told-1.given.1 c.check_tool-t.ensures)
+    (accepted c.named_shape.result c.args.c _ c.in-Accepted.is c.check_tool-t.ensures)
 
 pub returns-in-Refused : goal.returns-in-Refused
-returns-in-Refused c = rw (← c.named_shape.ensures) (refused c.named_shape.result c.args.c _ _ c.t-1.given.1
+returns-in-Refused c = rw (← c.named_shape.ensures) (refused c.named_shape.result c.args.c _ _ c.in-Refused.is
     c.check_tool-t.ensures)

@@ -5,10 +5,10 @@ use Rattle.inner.specs.Orderings.{ordering_code}
 use Rattle.inner.proofs.tridexel_inner_total_cmp.Goals as goal
 
 pub returns-in-Less : goal.returns-in-Less
-returns-in-Less c = ap ordering_code (sym c.enum_told-1.given.1 ∙ c.total_cmp-o.ensures)
+returns-in-Less c = ap ordering_code (sym c.in-Less.is ∙ c.total_cmp-o.ensures)
 
 pub returns-in-Equal : goal.returns-in-Equal
-returns-in-Equal c = ap ordering_code (sym c.enum_told-in-Equal-1.given.1 ∙ c.total_cmp-o.ensures)
+returns-in-Equal c = ap ordering_code (sym c.in-Equal.is ∙ c.total_cmp-o.ensures)
 
 pub returns-in-Greater : goal.returns-in-Greater
-returns-in-Greater c = ap ordering_code (sym c.enum_told-in-Greater-1.given.1 ∙ c.total_cmp-o.ensures)
+returns-in-Greater c = ap ordering_code (sym c.in-Greater.is ∙ c.total_cmp-o.ensures)

@@ -11,6 +11,7 @@ use Rattle.log_budget.proofs.Passing.{start, changed-so-far, all-counted}
 use Rattle.log_gather.proofs.Entries.{same_shape}
 use Rattle.store.specs.Store.{cells}
 use Rattle.log_budget.proofs.count_all.Goals as goal
+use Rattle.log_budget.proofs.count_all.Goals.{After-fit_width-width}
 
 pub total_rays-rays-requires : goal.total_rays-rays-requires
 total_rays-rays-requires c = omega (arith, few_rays c.requires.0)
@@ -40,7 +41,7 @@ count_next-s-requires c =
       record {
         some = c.fit_width-width.ensures.0;
         inside = omega (arith, rays, c.loop-first-test.true, c.fit_width-width.ensures.1);
-        fits = rw c.entry_count-n.ensures c.before.before c.fit_width-width.ensures.2;
+        fits = rw c.entry_count-n.ensures (goal.at.count_next-s-requires c).After-fit_width-width c.fit_width-width.ensures.2;
         keys_some = omega (arith, inv.2, pre.2);
         keys_few = omega (arith, inv.2, pre.3);
       },

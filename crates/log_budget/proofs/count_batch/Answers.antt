@@ -6,6 +6,7 @@ use lib.ListN.{length}
 use Rattle.log_budget.proofs.Turns.{CountedBelow, ray-fits, reached-start, ray-asked, keys-of-ray, reached-turn, reached-end}
 use Rattle.store.specs.Store.{cells}
 use Rattle.log_budget.proofs.count_batch.Goals as goal
+use Rattle.log_budget.proofs.count_batch.Goals.{After-count_ray-arg-in-loop-i-1, At-loop-i}
 
 pub loop-i-init : goal.loop-i-init
 loop-i-init c =
@@ -56,7 +57,7 @@ count_ray-t-requires c =
     let pre = c.requires in
     let s = c.loop-i.invariant.1 in
     let fit = c.loop-i-test.true in
-    let run = rw e c.before.before.before.before.before c.end_of_ray-j.ensures in
+    let run = rw e (goal.at.count_ray-t-requires c).At-loop-i c.end_of_ray-j.ensures in
     rw e (ray-asked pre.0 pre.1 s fit _ c.loop-i.invariant.0, keys-of-ray pre.0 pre.1 s fit run)
 
 pub loop-i-preserved : goal.loop-i-preserved

@@ -6,13 +6,13 @@ use borrow.Author.Rules.{rules}
 use Rattle.grid.specs.Rays.{ray_count}
 use Rattle.log_budget.proofs.Sorting.{full-batch, sorted-batch}
 use Rattle.log_budget.proofs.next_batch.Goals as goal
-use Rattle.log_budget.proofs.next_batch.Tie as tie
+use Rattle.log_budget.proofs.next_batch.Goals.{After-gather_rays-w}
 
-abbrev inside : (c : tie.After-gather_rays-w) → c.args.first + c.args.width ≤ ray_count c.args.g
+abbrev inside : (c : After-gather_rays-w) → c.args.first + c.args.width ≤ ray_count c.args.g
 inside c = c.requires.2.inside
 
 pub returns-then-w : goal.returns-then-w
-returns-then-w c = full-batch (inside c.before.before.before) c.gather_rays-w.ensures refl refl c.if-w.true
+returns-then-w c = full-batch (inside (goal.at.returns-then-w c).After-gather_rays-w) c.gather_rays-w.ensures refl refl c.if-w.true
 
 pub sort_keys-requires : goal.sort_keys-requires
 sort_keys-requires c = c.gather_rays-w.ensures.room c.if-w.false
@@ -23,9 +23,9 @@ ascends-requires c =
 
 pub returns-then-ascends : goal.returns-then-ascends
 returns-then-ascends c =
-    sorted-batch (inside c.before.before.before.before.before.before.before.before.before) c.gather_rays-w.ensures c.sort_keys.ensures
+    sorted-batch (inside (goal.at.returns-then-ascends c).After-gather_rays-w) c.gather_rays-w.ensures c.sort_keys.ensures
     (λ _. c.ascends.ensures c.if-ascends.true)
 
 pub returns : goal.returns
 returns c =
-    full-batch (inside c.before.before.before.before.before.before.before.before.before) c.gather_rays-w.ensures c.sort_keys.ensures.size refl refl
+    full-batch (inside (goal.at.returns c).After-gather_rays-w) c.gather_rays-w.ensures c.sort_keys.ensures.size refl refl

@@ -6,10 +6,10 @@ use Rattle.log_model.proofs.Entries.{entry_in}
 use Rattle.logic.proofs.Bools.{not-true, not-false}
 use Rattle.log_entries.specs.Named.{EachNamed}
 use Rattle.log_entries.proofs.names_all.Goals as goal
-use Rattle.log_entries.proofs.names_all.Tie as tie
+use Rattle.log_entries.proofs.names_all.Goals.{After-named}
 
 -- the answer for the entry at place i
-answer : (c : tie.After-named) → names_some_ray c.args.g (entry_at c.args.log.now c.loop-i.i) ≡ c.named.result
+answer : (c : After-named) → names_some_ray c.args.g (entry_at c.args.log.now c.loop-i.i) ≡ c.named.result
 answer c = sym (c.named.ensures ∙ ap (names_some_ray _) c.entry_at.ensures)
 
 pub loop-i-init : goal.loop-i-init
@@ -24,14 +24,14 @@ returns-then-not-named c =
       no = λ _. (
         entry_at log c.loop-i.i,
         entry_in log c.loop-i.i (omega arith),
-        answer c.before ∙ not-true _ c.if-not-named.true-raw,
+        answer (goal.at.returns-then-not-named c).After-named ∙ not-true _ c.if-not-named.true-raw,
       );
     }
 
 pub loop-i-preserved : goal.loop-i-preserved
 loop-i-preserved c = (
   omega arith,
-  below_more _ _ c.loop-i.invariant.1 (answer c.before ∙ not-false _ c.if-not-named.false-raw),
+  below_more _ _ c.loop-i.invariant.1 (answer (goal.at.loop-i-preserved c).After-named ∙ not-false _ c.if-not-named.false-raw),
 )
 
 pub returns : goal.returns

@@ -7,8 +7,9 @@ use lib.ListN.{length, length-set}
 use Rattle.log_model.specs.Steps.{hit_kind_of}
 use Rattle.log_group.proofs.Gathering.{Gathering, Turn, turn, gathers, gathered, again}
 use Rattle.log_group.proofs.gather_hits.Goals as goal
+use Rattle.log_group.proofs.gather_hits.Goals.{In-loop-k}
 
-turned-at : (c : goal.In-loop-k) → Turn c.total_rays-rays.result c.args.log.now (hit_kind_of c.args.inner) c.args.ray c.args.at c.args.work.now c.loop-k.work c.loop-k.t c.loop-k.k
+turned-at : (c : In-loop-k) → Turn c.total_rays-rays.result c.args.log.now (hit_kind_of c.args.inner) c.args.ray c.args.at c.args.work.now c.loop-k.work c.loop-k.t c.loop-k.k
 turned-at c =
     turn c.total_rays-rays.result c.args.log.now (hit_kind_of c.args.inner) c.args.ray c.args.at c.args.work.now
     c.loop-k.work c.loop-k.t c.loop-k.k c.loop-k-test.true c.loop-k.invariant

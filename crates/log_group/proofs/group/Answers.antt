@@ -14,7 +14,7 @@ use Rattle.log_entries.specs.Named.{EachNamed}
 use Rattle.log_entries.proofs.Places.{each_below}
 use Rattle.log_group.proofs.Chains.{Grouping, grouping-start, grouping-step, grouping-done, cleared-size, cleared-none, cleared-past}
 use Rattle.log_group.proofs.group.Goals as goal
-use Rattle.log_group.proofs.group.Tie as tie
+use Rattle.log_group.proofs.group.Goals.{After-clear_from, After-ray_at-ray, After-total_rays-rays, After-work-1}
 
 named : (g : DexelGrid) (log : List Float) (i : ℕ) → EachNamed g log → i < entry_count log → names_some_ray g (entry_at log i) ≡ true
 unfolding EachNamed
@@ -23,14 +23,14 @@ named g log i all h = all i h
 again : (i : ℕ) → 0 < i → i ≡ suc (i - 1)
 again i h = omega arith
 
-fits : (t : goal.After-total_rays-rays) → t.total_rays-rays.result ≤ length t.args.work.now
+fits : (t : After-total_rays-rays) → t.total_rays-rays.result ≤ length t.args.work.now
 fits t = omega (arith, t.total_rays-rays.ensures, t.requires.1)
 
 -- the buffer where the loop begins
-abbrev begun : tie.After-clear_from → List Float
+abbrev begun : After-clear_from → List Float
 begun y = let t = y.before.before in y.clear-from.new.0 ++ drop t.total-rays.result t.before.before.before.args.work.now
 
-begun-size : (y : tie.After-clear_from) → length (begun y) ≡ length y.args.work.now
+begun-size : (y : After-clear_from) → length (begun y) ≡ length y.args.work.now
 begun-size y = cleared-size y.total_rays-rays.result y.args.work.now y.clear_from.new.b
     (fits y.before.before) y.clear_from.ensures
 
@@ -42,8 +42,8 @@ slice_bounds-clear_from-end-2 c =
 pub loop-i-init : goal.loop-i-init
 loop-i-init c =
     let e = c.total_rays-rays.ensures in
-    rw c.entry_count-i.ensures (grouping-start c.args.g c.args.log.now (begun c.before.before.before) (begun c.before.before.before)
-    (omega (arith, c.requires.1, begun-size c.before.before.before)) refl
+    rw c.entry_count-i.ensures (grouping-start c.args.g c.args.log.now (begun (goal.at.loop-i-init c).After-clear_from) (begun (goal.at.loop-i-init c).After-clear_from)
+    (omega (arith, c.requires.1, begun-size (goal.at.loop-i-init c).After-clear_from)) refl
     (λ q h. cleared-none c.total_rays-rays.result c.args.work.now c.clear_from.new.b (fits (goal.at.loop-i-init c).After-total_rays-rays)
     c.clear_from.ensures q (omega arith)) (λ q h. refl))
 
@@ -65,7 +65,7 @@ link-requires c =
         c.ray_at-ray.ensures,
         each_below c.args.g c.args.log.now c.requires.0 (c.loop-i.i - 1) below,
       ),
-      omega (arith, c.total_rays-rays.ensures, c.requires.1, c.loop-i.invariant.size, begun-size c.before.before.before.before.before.before.before),
+      omega (arith, c.total_rays-rays.ensures, c.requires.1, c.loop-i.invariant.size, begun-size (goal.at.link-requires c).After-clear_from),
     )
 
 pub loop-i-smaller : goal.loop-i-smaller
@@ -74,19 +74,19 @@ loop-i-smaller c = omega (arith, c.loop-i-test.true)
 pub loop-i-preserved : goal.loop-i-preserved
 loop-i-preserved c =
     let below : c.loop-i.i - 1 < entry_count c.args.log.now = omega (arith, c.loop-i-test.true, c.loop-i.invariant.most) in
-    grouping-step c.args.g c.args.log.now (begun c.before.before.before.before) c.loop-i.work (omega (arith, c.requires.1, begun-size c.before.before.before.before.before.before.before.before.before.before))
+    grouping-step c.args.g c.args.log.now (begun (goal.at.loop-i-preserved c).After-ray_at-ray) c.loop-i.work (omega (arith, c.requires.1, begun-size (goal.at.loop-i-preserved c).After-clear_from))
     (c.loop-i.i - 1) below c.ray_at-ray.result c.ray_at-ray.ensures
     (omega (arith, c.ray_at-ray.ensures, each_below c.args.g c.args.log.now c.requires.0 (c.loop-i.i - 1) below))
-    (subst (λ (n : ℕ). Grouping c.args.g c.args.log.now (begun c.before.before.before.before) c.loop-i.work n)
+    (subst (λ (n : ℕ). Grouping c.args.g c.args.log.now (begun (goal.at.loop-i-preserved c).After-ray_at-ray) c.loop-i.work n)
     (again c.loop-i.i c.loop-i-test.true) c.loop-i.invariant)
     c.total_rays-rays.result c.total_rays-rays.ensures (omega arith) c.link.new.work c.link.ensures
 
 pub shape_of-work : goal.shape_of-work
-shape_of-work c = c.loop-i.invariant.size ∙ begun-size c.before.before.before.before.before
+shape_of-work c = c.loop-i.invariant.size ∙ begun-size (goal.at.shape_of-work c).After-clear_from
 
 pub returns : goal.returns
 returns c =
-    grouping-done c.args.g c.args.log.now (begun c.before.before.before.before) c.loop-i.work (omega (arith, c.requires.1, begun-size c.before.before.before.before.before))
-    c.requires.0 c.loop-i.i (omega (arith, c.loop-i-test.false)) c.args.work.now (begun-size c.before.before.before.before.before)
+    grouping-done c.args.g c.args.log.now (begun (goal.at.returns c).After-work-1) c.loop-i.work (omega (arith, c.requires.1, begun-size (goal.at.returns c).After-clear_from))
+    c.requires.0 c.loop-i.i (omega (arith, c.loop-i-test.false)) c.args.work.now (begun-size (goal.at.returns c).After-clear_from)
     (λ q h. cleared-past c.total_rays-rays.result c.args.work.now c.clear_from.new.b (fits (goal.at.returns c).After-total_rays-rays)
     c.clear_from.ensures q (omega (arith, c.total_rays-rays.ensures))) c.loop-i.invariant

@@ -7,9 +7,10 @@ use Prim.Native.Nat.{◌+◌, ◌-◌, ◌*◌, ◌≤◌}
 use lib.ListN.{length}
 use Rattle.log_lay.proofs.Turns.{laid_same, lists-room, ray-layable, laid-new}
 use Rattle.log_lay.proofs.lay_if_changed.Goals as goal
+use Rattle.log_lay.proofs.lay_if_changed.Goals.{After-number_at-second}
 
 -- the two lists lie in the work buffer
-room : (c : goal.After-number_at-second) → c.args.place.at + 2 * (c.number_at-first.result - 1) + 2 * c.number_at-second.result ≤ length c.args.work.now
+room : (c : After-number_at-second) → c.args.place.at + 2 * (c.number_at-first.result - 1) + 2 * c.number_at-second.result ≤ length c.args.work.now
 room c = lists-room _ _ _ _ _ _ c.requires _
     c.number_at-first.ensures c.if-first-eq0.false _ c.number_at-second.ensures
 

@@ -10,9 +10,9 @@ use Rattle.log_entries.proofs.Sizes.{named-even}
 use Rattle.log_model.specs.Steps.{hit_kind_of}
 use Rattle.log_merge.proofs.Loading.{copied-size, hits-loaded}
 use Rattle.log_merge.proofs.load_hits.Goals as goal
-use Rattle.log_merge.proofs.load_hits.Tie as tie
+use Rattle.log_merge.proofs.load_hits.Goals.{After-gather_hits-e}
 
-part-long : (y : tie.After-gather_hits-e) → let w = y.gather_hits-e.new.work in length (take (length w - y.args.at) (drop y.args.at w)) ≡ length y.args.work.now - y.args.at
+part-long : (y : After-gather_hits-e) → let w = y.gather_hits-e.new.work in length (take (length w - y.args.at) (drop y.args.at w)) ≡ length y.args.work.now - y.args.at
 part-long y =
     let w = y.gather_hits-e.new.work in
     let size = copied-size (hits_on_ray y.args.g (entries y.args.log.now) y.args.ray (hit_kind_of y.args.inner)) y.args.work.now
@@ -23,7 +23,7 @@ pub normalize_front-requires : goal.normalize_front-requires
 normalize_front-requires c =
     let e = c.gather_hits-e.ensures in (
       omega (arith, e.past, named-even c.args.g c.args.ray (hit_kind_of c.args.inner) (entries c.args.log.now)),
-      omega (arith, e.past, c.requires.3, part-long c.before.before.before),
+      omega (arith, e.past, c.requires.3, part-long (goal.at.normalize_front-requires c).After-gather_hits-e),
     )
 
 pub returns : goal.returns

@@ -9,6 +9,7 @@ use Rattle.log_stretches.proofs.Taking.{TakesFront, TakesSome, none-reaches, som
 use Rattle.log_stretches.proofs.take_held.Reads as reads
 use Rattle.log_left.proofs.take.Reads as take-reads
 use Rattle.log_stretches.proofs.take_held.Goals as goal
+use Rattle.log_stretches.proofs.take_held.Goals.{Joined-b-front}
 
 -- what reaches into the stretch, where the branches meet
 front-taken : (c : lts.Joined1 (take-reads.Asked, take-reads.Learnt) reads.Pre reads.Post invariant-loop decreases-loop)

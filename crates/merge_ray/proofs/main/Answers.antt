@@ -7,9 +7,10 @@ use Rattle.ray_input.proofs.Writing.{same_size}
 use borrow.Author.Rules.{rules}
 use native.Mathlib.Omega.{arith}
 use Rattle.merge_ray.proofs.main.Goals as goal
+use Rattle.merge_ray.proofs.main.Goals.{After-run-m}
 
 -- the text lies within the buffer
-fits : (c : goal.After-run-m) → c.run-m.result ≤ length c.run-m.new.out
+fits : (c : After-run-m) → c.run-m.result ≤ length c.run-m.new.out
 fits c =
     let e = c.run-m.ensures in
     omega (

@@ -9,9 +9,9 @@ use Rattle.ray_input.proofs.double_at.Goals as goal
 pub returns-in-Value : goal.returns-in-Value
 returns-in-Value c = c.of_bits.ensures
     ∙ ap (λ (w : Word). of_bits binary64 (value_of w))
-    (sym c.v-1.given.1 ∙ c.word_at.ensures)
+    (sym c.in-Value.is ∙ c.word_at.ensures)
 
 pub returns-in-Missing : goal.returns-in-Missing
 returns-in-Missing c = c.of_bits-in-Missing.ensures
     ∙ ap (λ (w : Word). of_bits binary64 (value_of w))
-    (sym c.enum_told-1.given.1 ∙ c.word_at.ensures)
+    (sym c.in-Missing.is ∙ c.word_at.ensures)

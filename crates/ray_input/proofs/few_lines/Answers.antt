@@ -4,11 +4,12 @@ use Rattle.ray_input.specs.Format.{letter_p, letter_c, count}
 use Rattle.ray_input.proofs.Reading.{many-p, many-c, many-o, last-count}
 use borrow.Author.Rules.{rules}
 use Rattle.ray_input.proofs.few_lines.Goals as goal
+use Rattle.ray_input.proofs.few_lines.Goals.{Else-count_of-gt64, Else-count_of-gt64-2}
 
-p-few : (c : goal.Else-count_of-gt64) → count letter_p c.args.s.now c.args.n ≤ 64
+p-few : (c : Else-count_of-gt64) → count letter_p c.args.s.now c.args.n ≤ 64
 p-few c = rw (← c.count_of.ensures) c.if-count_of-gt64.false
 
-c-few : (c : goal.Else-count_of-gt64-2) → count letter_c c.args.s.now c.args.n ≤ 64
+c-few : (c : Else-count_of-gt64-2) → count letter_c c.args.s.now c.args.n ≤ 64
 c-few c = rw (← c.count_of-2.ensures) c.if-count_of-gt64-2.false
 
 pub returns-then-count_of-gt64 : goal.returns-then-count_of-gt64

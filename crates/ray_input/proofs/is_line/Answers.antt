@@ -9,14 +9,15 @@ use Rattle.logic.proofs.Bools.{found, found-not}
 use Rattle.ray_input.proofs.Reading.{no-letter, no-space, no-lo, no_second, no-hi, last_byte}
 use borrow.Author.Rules.{rules}
 use Rattle.ray_input.proofs.is_line.Goals as goal
+use Rattle.ray_input.proofs.is_line.Goals.{Else-not-is_letter, Else-not-is_number, Else-not-is_number-2}
 
-letter : (c : goal.Else-not-is_letter) → is_letter (get_or c.args.s.now c.args.at 0) ≡ true
+letter : (c : Else-not-is_letter) → is_letter (get_or c.args.s.now c.args.at 0) ≡ true
 letter c = found c.is_letter.result _ c.is_letter.ensures c.if-not-is_letter.false-raw
 
-lo : (c : goal.Else-not-is_number) → is_number c.args.s.now (c.args.at + 2) ≡ true
+lo : (c : Else-not-is_number) → is_number c.args.s.now (c.args.at + 2) ≡ true
 lo c = found c.is_number.result _ c.is_number.ensures c.if-not-is_number.false-raw
 
-hi : (c : goal.Else-not-is_number-2) → is_number c.args.s.now (c.args.at + 19) ≡ true
+hi : (c : Else-not-is_number-2) → is_number c.args.s.now (c.args.at + 19) ≡ true
 hi c = found c.is_number-2.result _ c.is_number-2.ensures c.if-not-is_number-2.false-raw
 
 pub returns-then-not-is_letter : goal.returns-then-not-is_letter

@@ -8,17 +8,17 @@ use Rattle.ray_merge.proofs.certain_of.Goals as goal
 
 pub returns-then-work-pairs : goal.returns-then-work-pairs
 returns-then-work-pairs c =
-    rw (c.answer-1.given.1, c.if-p.true) (
-      handed-short c.answer-1.given.0.1.0 c.args.before.now c.args.work.now (2 * c.answer-1.given.0.0.pairs) (omega (arith, c.if-work-pairs.true)),
+    rw (c.in-Lists.is, c.if-p.true) (
+      handed-short c.in-Lists.c c.args.before.now c.args.work.now (2 * c.in-Lists.p.pairs) (omega (arith, c.if-work-pairs.true)),
       λ _. refl,
       λ _ h. absurd (omega (arith, c.if-work-pairs.true, h)),
     )
 
 pub returns-then-p : goal.returns-then-p
-returns-then-p c = rw (c.answer-1.given.1, c.if-p.true) c.handed_back.ensures
+returns-then-p c = rw (c.in-Lists.is, c.if-p.true) c.handed_back.ensures
 
 pub returns-else-p : goal.returns-else-p
-returns-else-p c = rw (c.answer-1.given.1, c.if-p.false) c.handed_back-in-Lists.ensures
+returns-else-p c = rw (c.in-Lists.is, c.if-p.false) c.handed_back-in-Lists.ensures
 
 pub returns-in-Refused : goal.returns-in-Refused
-returns-in-Refused c = rw c.enum_told-1.given.1 (refl, λ _. refl, tt)
+returns-in-Refused c = rw c.in-Refused.is (refl, λ _. refl, tt)

@@ -9,12 +9,12 @@ use Rattle.ray_merge.proofs.Answers.{refuse-short, refuse-bad, accept}
 use borrow.Author.Rules.{rules}
 use native.Mathlib.Omega.{arith}
 use Rattle.ray_merge.proofs.merge.Goals as goal
-use Rattle.ray_merge.proofs.merge.Tie as tie
+use Rattle.ray_merge.proofs.merge.Goals.{After-c-1, Else-not-valid_ray, Else-work-possible}
 
-not_short : (c : tie.Else-work-possible) → ¬ (length c.args.work.now / 2 < work_pairs c.args.possible.now c.args.certain.now c.args.outer.now c.args.inner.now)
+not_short : (c : Else-work-possible) → ¬ (length c.args.work.now / 2 < work_pairs c.args.possible.now c.args.certain.now c.args.outer.now c.args.inner.now)
 not_short c h = omega (arith, c.if-work-possible.false)
 
-good : (c : tie.Else-not-valid_ray) → MergePre c.args.lo c.args.hi c.args.possible.now c.args.certain.now c.args.outer.now c.args.inner.now
+good : (c : Else-not-valid_ray) → MergePre c.args.lo c.args.hi c.args.possible.now c.args.certain.now c.args.outer.now c.args.inner.now
 good c =
     record { outer_whole = c.if-outer-ne0.false; inner_whole = c.if-inner-ne0.false; ray = c.valid_ray.ensures.0 (not-false c.valid_ray.result c.if-not-valid_ray.false-raw) }
 
@@ -25,22 +25,22 @@ returns-then-work-possible c  =
 pub returns-then-outer-ne0 : goal.returns-then-outer-ne0
 returns-then-outer-ne0 c  =
     refuse-bad c.args.lo c.args.hi c.args.possible.now c.args.certain.now c.args.outer.now c.args.inner.now c.args.work.now
-    (not_short c.before) (λ m. c.if-outer-ne0.true m.outer_whole)
+    (not_short (goal.at.returns-then-outer-ne0 c).Else-work-possible) (λ m. c.if-outer-ne0.true m.outer_whole)
 
 pub returns-then-inner-ne0 : goal.returns-then-inner-ne0
 returns-then-inner-ne0 c  =
     refuse-bad c.args.lo c.args.hi c.args.possible.now c.args.certain.now c.args.outer.now c.args.inner.now c.args.work.now
-    (not_short c.before.before) (λ m. c.if-inner-ne0.true m.inner_whole)
+    (not_short (goal.at.returns-then-inner-ne0 c).Else-work-possible) (λ m. c.if-inner-ne0.true m.inner_whole)
 
 pub returns-then-not-valid_ray : goal.returns-then-not-valid_ray
 returns-then-not-valid_ray c  =
     refuse-bad c.args.lo c.args.hi c.args.possible.now c.args.certain.now c.args.outer.now c.args.inner.now c.args.work.now
-    (not_short c.before.before.before.before)
+    (not_short (goal.at.returns-then-not-valid_ray c).Else-work-possible)
     (λ m. clash c.valid_ray.result (c.valid_ray.ensures.1 m.ray) (not-true c.valid_ray.result c.if-not-valid_ray.true-raw))
 
 pub merge_lists-parts-requires : goal.merge_lists-parts-requires
 merge_lists-parts-requires c  =
-    let m = good c.before in
+    let m = good (goal.at.merge_lists-parts-requires c).Else-not-valid_ray in
     record {
       possible_sound = m.ray.possible_sound;
       certain_sound = m.ray.certain_sound;
@@ -72,5 +72,5 @@ pub returns : goal.returns
 returns c  =
     accept c.args.lo c.args.hi c.args.possible.now c.args.certain.now c.args.outer.now c.args.inner.now c.args.work.now
     c.merge_lists-parts.new.work c.clear_from.new.b c.merge_lists-parts.result
-    (c.cells.result + c.cells-2.result) (not_short c.before.before.before.before.before.before.before.before.before.before.before.before.before.before.before.before) (good c.before.before.before.before.before.before.before.before.before.before.before.before) c.merge_lists-parts.ensures
-    (ap₂ (λ (x c.before.before.before.before.before.before : ℕ). x + c.before.before.before.before.before.before) c.cells.ensures c.cells-2.ensures) c.clear_from.ensures
+    (c.cells.result + c.cells-2.result) (not_short (goal.at.returns c).Else-work-possible) (good (goal.at.returns c).Else-not-valid_ray) c.merge_lists-parts.ensures
+    (ap₂ (λ (x (goal.at.returns c).After-c-1 : ℕ). x + (goal.at.returns c).After-c-1) c.cells.ensures c.cells-2.ensures) c.clear_from.ensures

@@ -5,7 +5,6 @@ use Rattle.ray_output.specs.Output.{end_text}
 use Rattle.ray_input.specs.Steps.{Appended}
 use borrow.Author.Rules.{rules}
 use Rattle.ray_output.proofs.put_end.Goals as goal
-use Rattle.ray_output.proofs.put_end.Tie as tie
 
 returns-3 : tie.Need-returns-3
 unfolding end_text

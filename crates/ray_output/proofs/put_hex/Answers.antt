@@ -6,9 +6,9 @@ use Rattle.ray_output.proofs.Printing.{Hexing, hex-start, hex-step, hex-size, he
 use borrow.Author.Rules.{rules}
 use native.Mathlib.Omega.{arith}
 use Rattle.ray_output.proofs.put_hex.Goals as goal
-use Rattle.ray_output.proofs.put_hex.Tie as tie
+use Rattle.ray_output.proofs.put_hex.Goals.{At-loop-k}
 
-size : (l : tie.At-loop-k) → length l.loop-k.out ≡ length l.args.out.now
+size : (l : At-loop-k) → length l.loop-k.out ≡ length l.args.out.now
 size l =
     hex-size l.args.out.now l.args.at l.args.v l.requires l.loop-k.k l.loop-k.rest l.loop-k.out l.loop-k.invariant
 
@@ -16,7 +16,7 @@ pub loop-k-init : goal.loop-k-init
 loop-k-init c = hex-start c.args.out.now c.args.at c.args.v c.requires
 
 pub bounds-out-at : goal.bounds-out-at
-bounds-out-at c = omega (arith, size c.before.before, c.requires, c.loop-k.invariant.most)
+bounds-out-at c = omega (arith, size (goal.at.bounds-out-at c).At-loop-k, c.requires, c.loop-k.invariant.most)
 
 pub loop-k-preserved : goal.loop-k-preserved
 loop-k-preserved c =
@@ -27,7 +27,7 @@ loop-k-preserved c =
     (subst (λ (n : ℕ). Hexing c.args.out.now c.args.at c.args.v n c.loop-k.rest c.loop-k.out) back c.loop-k.invariant))
 
 pub shape_of-out : goal.shape_of-out
-shape_of-out c = size c.before
+shape_of-out c = size (goal.at.shape_of-out c).At-loop-k
 
 pub returns : goal.returns
 returns c =

@@ -7,9 +7,9 @@ use Rattle.ray_output.proofs.Printing.{Lining, lining-start, lining-next, lining
 use borrow.Author.Rules.{rules}
 use native.Mathlib.Omega.{arith}
 use Rattle.ray_output.proofs.put_lines.Goals as goal
-use Rattle.ray_output.proofs.put_lines.Tie as tie
+use Rattle.ray_output.proofs.put_lines.Goals.{At-loop-k}
 
-size : (l : tie.At-loop-k) → length l.loop-k.out ≡ length l.args.out.now
+size : (l : At-loop-k) → length l.loop-k.out ≡ length l.args.out.now
 size l = lining-size l.loop-k.invariant
 
 pub loop-k-init : goal.loop-k-init
@@ -21,7 +21,7 @@ bounds-list-k-in-loop-k c = omega (arith, c.loop-k.invariant.even, c.requires.0,
 pub put_line-n-requires : goal.put_line-n-requires
 put_line-n-requires c = omega (
   arith,
-  size c.before.before.before.before,
+  size (goal.at.put_line-n-requires c).At-loop-k,
   lining-next c.loop-k.invariant,
   c.loop-k.invariant.even,
   c.requires.0,
@@ -37,7 +37,7 @@ loop-k-preserved c =
     c.put_line-n.ensures
 
 pub shape_of-out : goal.shape_of-out
-shape_of-out c = size c.before
+shape_of-out c = size (goal.at.shape_of-out c).At-loop-k
 
 pub returns : goal.returns
 returns c =

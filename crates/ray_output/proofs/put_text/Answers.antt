@@ -10,13 +10,13 @@ use Rattle.ray_input.proofs.Writing.{put-none, put_then, same_size}
 use borrow.Author.Rules.{rules}
 use native.Mathlib.Omega.{arith}
 use Rattle.ray_output.proofs.put_text.Goals as goal
-use Rattle.ray_output.proofs.put_text.Tie as tie
+use Rattle.ray_output.proofs.put_text.Goals.{At-loop-k}
 
-size : (l : tie.At-loop-k) → length l.loop-k.out ≡ length l.args.out.now
+size : (l : At-loop-k) → length l.loop-k.out ≡ length l.args.out.now
 size l =
     same_size l.args.out.now l.args.at (take l.loop-k.k l.args.text.now) l.loop-k.out l.loop-k.n l.loop-k.invariant.1
 
-taken : (l : tie.At-loop-k) → length (take l.loop-k.k l.args.text.now) ≡ l.loop-k.k
+taken : (l : At-loop-k) → length (take l.loop-k.k l.args.text.now) ≡ l.loop-k.k
 taken l = length-take-le l.loop-k.k l.args.text.now l.loop-k.invariant.0
 
 next : (s : List ℕ) (k : ℕ) → k < length s → take k s ++ (get_or s k 0 ∷ []) ≡ take (k + 1) s
@@ -26,7 +26,7 @@ pub loop-k-init : goal.loop-k-init
 loop-k-init c = (omega arith, put-none c.args.out.now c.args.at (omega (arith, c.requires)))
 
 pub put_byte-n-requires : goal.put_byte-n-requires
-put_byte-n-requires c = omega (arith, size c.before.before.before, c.loop-k.invariant.1.next, taken c.before.before.before, c.requires, c.loop-k-test.true)
+put_byte-n-requires c = omega (arith, size (goal.at.put_byte-n-requires c).At-loop-k, c.loop-k.invariant.1.next, taken (goal.at.put_byte-n-requires c).At-loop-k, c.requires, c.loop-k-test.true)
 
 pub loop-k-preserved : goal.loop-k-preserved
 loop-k-preserved c = (
@@ -38,7 +38,7 @@ loop-k-preserved c = (
 )
 
 pub shape_of-out : goal.shape_of-out
-shape_of-out c = size c.before
+shape_of-out c = size (goal.at.shape_of-out c).At-loop-k
 
 pub returns : goal.returns
 returns c =

@@ -8,18 +8,18 @@ use Rattle.ray_subtract.proofs.Sparing.{reduced-still, reduced-moved, both-still
 use borrow.Author.Rules.{rules}
 use native.Mathlib.Omega.{arith}
 use Rattle.ray_subtract.proofs.take_both.Goals as goal
-use Rattle.ray_subtract.proofs.take_both.Tie as tie
+use Rattle.ray_subtract.proofs.take_both.Goals.{Start}
 
-hits-sound : (s : tie.Start) → sound (less_hits s.args.c s.args.nc s.args.no s.args.ni s.args.w.now) ≡ true
+hits-sound : (s : Start) → sound (less_hits s.args.c s.args.nc s.args.no s.args.ni s.args.w.now) ≡ true
 hits-sound s = (less-both-list _ _ _ s.requires.0.is_sound s.requires.1.is_sound s.requires.2.is_sound).is_sound
 
 pub returns-then-not-is_hit : goal.returns-then-not-is_hit
 returns-then-not-is_hit c =
-    reduced-still c.requires.0.is_sound (hits-sound c.before.before.before) c.is_hit.result c.is_hit.ensures c.if-not-is_hit.true-raw
+    reduced-still c.requires.0.is_sound (hits-sound (goal.at.returns-then-not-is_hit c).Start) c.is_hit.result c.is_hit.ensures c.if-not-is_hit.true-raw
     (part_length c.args.c c.args.nc c.args.w.now c.requires.0.room)
     (both-still _ _ _ c.requires.0.is_sound c.requires.1.is_sound c.requires.2.is_sound)
 
 pub returns : goal.returns
 returns c =
-    reduced-moved c.requires.0.is_sound (hits-sound c.before.before.before.before.before.before.before) c.is_hit.result c.is_hit.ensures c.if-not-is_hit.false-raw
+    reduced-moved c.requires.0.is_sound (hits-sound (goal.at.returns c).Start) c.is_hit.result c.is_hit.ensures c.if-not-is_hit.false-raw
     (omega (arith, c.requires.0.room, c.requires.3, c.requires.4)) c.subtract_both-r.ensures

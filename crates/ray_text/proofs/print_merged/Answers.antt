@@ -16,56 +16,56 @@ use Rattle.ray_text.proofs.Running.{due-ray, even-lists, writes, refuses}
 use borrow.Author.Rules.{rules}
 use native.Mathlib.Omega.{arith}
 use Rattle.ray_text.proofs.print_merged.Goals as goal
-use Rattle.ray_text.proofs.print_merged.Tie as tie
+use Rattle.ray_text.proofs.print_merged.Goals.{After-certain_of, After-out-in-Lists-1, After-possible_of, After-put_lines-m, After-put_lines-n, After-slice_known-in-Lists-2-1, In-Lists, In-Refused, Start}
 
 -- the answer where the merge refused
-due : (c : tie.In-Refused) → Due (merge_causes c.args.lo c.args.hi c.args.possible.now c.args.certain.now c.args.outer.now c.args.inner.now 3072) c.answer-1.given.0.0
-due c = (rw c.answer-1.given.1 at c.merge-answer.ensures).0
+due : (c : In-Refused) → Due (merge_causes c.args.lo c.args.hi c.args.possible.now c.args.certain.now c.args.outer.now c.args.inner.now 3072) c.in-Refused.k
+due c = (rw c.in-Refused.is at c.merge-answer.ensures).0
 
 -- the two lists, and the buffer, where it did not
-abbrev start : tie.In-Lists → tie.Start
+abbrev start : In-Lists → Start
 start c = c.before.before.before.before.before.before.before.before.before.before.before
 
-abbrev first : tie.In-Lists → MergedList
+abbrev first : In-Lists → MergedList
 first c = c.before.answer2.given.0.0
 
-abbrev second : tie.In-Lists → MergedList
+abbrev second : In-Lists → MergedList
 second c = c.before.answer2.given.0.1.0
 
-abbrev buffer : tie.In-Lists → List Float
+abbrev buffer : In-Lists → List Float
 buffer c = c.before.before.before.before.merge.new.1.1.1.1.1.1.0
 
-abbrev possible-new : tie.In-Lists → List Float
+abbrev possible-new : In-Lists → List Float
 possible-new c = handed_back (first c) (start c).args.possible.now (buffer c) 0
 
-abbrev certain-new : tie.In-Lists → List Float
+abbrev certain-new : In-Lists → List Float
 certain-new c = handed_back (second c) (start c).args.certain.now (buffer c) (new_cells (first c))
 
-lists : (c : tie.In-Lists) → let a = (start c).args in NoneDue (merge_causes a.lo a.hi a.possible.now a.certain.now a.outer.now a.inner.now 3072) × MergeEffect a.lo a.hi a.possible.now a.certain.now a.outer.now a.inner.now (first c) (second c) (buffer c)
-lists c = rw c.answer-in-Lists-1.given.1 at c.merge-answer.ensures
+lists : (c : In-Lists) → let a = (start c).args in NoneDue (merge_causes a.lo a.hi a.possible.now a.certain.now a.outer.now a.inner.now 3072) × MergeEffect a.lo a.hi a.possible.now a.certain.now a.outer.now a.inner.now (first c) (second c) (buffer c)
+lists c = rw c.in-Lists.is at c.merge-answer.ensures
 
-size : (c : tie.In-Lists) → length (buffer c) ≡ 3072
+size : (c : In-Lists) → length (buffer c) ≡ 3072
 size c = c.merge-answer.auto.work
 
 -- the new lists are of pairs, and their lines fit the text
-fit : (c : tie.In-Lists) → (length (possible-new c) % 2 ≡ 0) × (length (certain-new c) % 2 ≡ 0) × (18 * length (possible-new c) + 18 * length (certain-new c) + 8 ≤ 65536)
+fit : (c : In-Lists) → (length (possible-new c) % 2 ≡ 0) × (length (certain-new c) % 2 ≡ 0) × (18 * length (possible-new c) + 18 * length (certain-new c) + 8 ≤ 65536)
 fit c =
     let a = (start c).args in
     even-lists a.lo a.hi a.possible.now a.certain.now a.outer.now a.inner.now (start c).requires.0
     (first c) (second c) (buffer c) (size c) (lists c).1
 
-possible_is : (c : goal.After-possible_of) → c.possible_of.result.now ≡ possible-new c.before.before.before
+possible_is : (c : After-possible_of) → c.possible_of.result.now ≡ possible-new c.before.before.before
 possible_is c = c.possible_of.ensures.0
 
-certain_is : (c : goal.After-certain_of) → c.certain_of.result.now ≡ certain-new c.before.before.before.before.before.before.before.before.before
+certain_is : (c : After-certain_of) → c.certain_of.result.now ≡ certain-new c.before.before.before.before.before.before.before.before.before
 certain_is c = c.certain_of.ensures.0
 
 -- what was printed is the text of the list
-printed : (o : tie.After-put_lines-n) → let l = possible-new o.before.before.before.before in length (lines_text letter_p o.possible_of.result.now) ≡ 18 * length l
+printed : (o : After-put_lines-n) → let l = possible-new o.before.before.before.before in length (lines_text letter_p o.possible_of.result.now) ≡ 18 * length l
 printed o =
     ap (λ (l : List Float). length (lines_text letter_p l)) (possible_is o.before) ∙ lines-length letter_p (possible-new o.before.before.before.before) (fit o.before.before.before.before).0
 
-printed-2 : (d : tie.After-put_lines-m) → let l = certain-new d.before.before.before.before.before.before.before.before.before.before in length (lines_text letter_c d.certain_of.result.now) ≡ 18 * length l
+printed-2 : (d : After-put_lines-m) → let l = certain-new d.before.before.before.before.before.before.before.before.before.before in length (lines_text letter_c d.certain_of.result.now) ≡ 18 * length l
 printed-2 d =
     ap (λ (l : List Float). length (lines_text letter_c l)) (certain_is d.before) ∙ lines-length letter_c (certain-new d.before.before.before.before.before.before.before.before.before.before) (fit d.before.before.before.before.before.before.before.before.before.before).1
 
@@ -73,47 +73,47 @@ pub put_refused-requires : goal.put_refused-requires
 put_refused-requires c = (
   omega (arith, c.requires.1),
   (due-ray c.args.lo c.args.hi c.args.possible.now c.args.certain.now
-      c.args.outer.now c.args.inner.now c.requires.0 c.answer-1.given.0.0 (due c.before)).0,
+      c.args.outer.now c.args.inner.now c.requires.0 c.in-Refused.k (due (goal.at.put_refused-requires c).In-Refused)).0,
 )
 
 pub put_lines-n-requires : goal.put_lines-n-requires
 put_lines-n-requires c =
     let i = ap length (possible_is c) in
-    (rw i (fit c.before.before.before).0, omega (arith, i, (fit c.before.before.before).2, (start c.before.before.before).requires.1))
+    (rw i (fit (goal.at.put_lines-n-requires c).In-Lists).0, omega (arith, i, (fit (goal.at.put_lines-n-requires c).In-Lists).2, (start (goal.at.put_lines-n-requires c).In-Lists).requires.1))
 
 pub put_lines-m-requires : goal.put_lines-m-requires
 put_lines-m-requires c =
     let i = ap length (certain_is c) in (
-      rw i (fit c.before.before.before.before.before.before.before.before.before).1,
-      omega (arith, i, (fit c.before.before.before.before.before.before.before.before.before).2, (start c.before.before.before.before).requires.1, c.put_lines-n.auto.out, c.put_lines-n.ensures.next, printed c.before.before.before.before.before),
+      rw i (fit (goal.at.put_lines-m-requires c).In-Lists).1,
+      omega (arith, i, (fit (goal.at.put_lines-m-requires c).In-Lists).2, (start (goal.at.put_lines-m-requires c).After-out-in-Lists-1).requires.1, c.put_lines-n.auto.out, c.put_lines-n.ensures.next, printed (goal.at.put_lines-m-requires c).After-put_lines-n),
     )
 
 pub put_end-requires : goal.put_end-requires
 put_end-requires c =
     omega (
       arith,
-      (fit c.before.before.before.before.before.before.before.before.before.before.before.before.before).2,
+      (fit (goal.at.put_end-requires c).In-Lists).2,
       (start (goal.at.put_end-requires c).After-certain_of).requires.1,
       c.put_lines-n.auto.out,
       c.put_lines-m.auto.out,
       c.put_lines-n.ensures.next,
-      printed c.before.before.before.before.before.before.before.before.before,
+      printed (goal.at.put_end-requires c).After-put_lines-n,
       c.put_lines-m.ensures.next,
-      printed-2 c.before.before.before,
+      printed-2 (goal.at.put_end-requires c).After-put_lines-m,
     )
 
 pub returns-in-Refused : goal.returns-in-Refused
 returns-in-Refused c =
     refuses c.args.lo c.args.hi c.args.possible.now c.args.certain.now c.args.outer.now c.args.inner.now c.requires.0
-    c.args.out.now c.put_refused.new.out c.put_refused.result c.answer-1.given.0.0 (due c.before.before.before.before)
+    c.args.out.now c.put_refused.new.out c.put_refused.result c.in-Refused.k (due (goal.at.returns-in-Refused c).In-Refused)
     c.put_refused.ensures
 
 pub returns-in-Lists : goal.returns-in-Lists
 returns-in-Lists c =
-    writes c.args.lo c.args.hi c.args.possible.now c.args.certain.now c.args.outer.now c.args.inner.now c.requires.0 (first c.before.before.before.before)
-    (second c.before.before.before.before) (buffer c.before.before.before.before) (size c.before.before.before.before.before.before.before.before.before.before.before.before.before.before.before.before) (lists c.before.before.before.before.before.before.before.before.before.before.before.before.before.before.before.before).1
+    writes c.args.lo c.args.hi c.args.possible.now c.args.certain.now c.args.outer.now c.args.inner.now c.requires.0 (first (goal.at.returns-in-Lists c).After-slice_known-in-Lists-2-1)
+    (second (goal.at.returns-in-Lists c).After-slice_known-in-Lists-2-1) (buffer (goal.at.returns-in-Lists c).After-slice_known-in-Lists-2-1) (size (goal.at.returns-in-Lists c).In-Lists) (lists (goal.at.returns-in-Lists c).In-Lists).1
     c.args.out.now c.put_lines-n.new.out c.put_lines-m.new.out c.put_end.new.out c.put_lines-n.result
-    c.put_lines-m.result c.put_end.result (lists c.before.before.before.before.before.before.before.before.before.before.before.before.before.before.before.before).0
+    c.put_lines-m.result c.put_end.result (lists (goal.at.returns-in-Lists c).In-Lists).0
     (subst (λ (l : List Float). Appended c.args.out.now 0 (lines_text letter_p l) c.put_lines-n.new.out
     c.put_lines-n.result) (possible_is (goal.at.returns-in-Lists c).After-possible_of) c.put_lines-n.ensures)
     (subst (λ (l : List Float). Appended c.put_lines-n.new.out c.put_lines-n.result (lines_text letter_c l)

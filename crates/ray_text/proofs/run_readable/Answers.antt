@@ -4,6 +4,7 @@ use Rattle.ray_text.proofs.Running.{reads, collects, collected, collected-size, 
 use borrow.Author.Rules.{rules}
 use native.Mathlib.Omega.{arith}
 use Rattle.ray_text.proofs.run_readable.Goals as goal
+use Rattle.ray_text.proofs.run_readable.Goals.{After-collect-nc, After-collect-no}
 
 pub collect-np-requires : goal.collect-np-requires
 collect-np-requires c = let r = reads c.args.s.now c.requires.0 in
@@ -22,11 +23,11 @@ pub slice_bounds-print_merged-end : goal.slice_bounds-print_merged-end
 slice_bounds-print_merged-end c = collected-size _ _ c.collect-np.last.1.1.1.0 c.collect-np.result c.collect-np.ensures
 
 pub slice_bounds-print_merged-end-2 : goal.slice_bounds-print_merged-end-2
-slice_bounds-print_merged-end-2 c = let k = c.before.before.before.before.before.before.before.before.before
+slice_bounds-print_merged-end-2 c = let k = (goal.at.slice_bounds-print_merged-end-2 c).After-collect-nc
     in collected-size _ _ k.collect2.last.1.1.1.0 k.collect2.result k.collect2.ensures
 
 pub slice_bounds-print_merged-end-3 : goal.slice_bounds-print_merged-end-3
-slice_bounds-print_merged-end-3 c = let k = c.before.before.before.before.before.before.before.before.before
+slice_bounds-print_merged-end-3 c = let k = (goal.at.slice_bounds-print_merged-end-3 c).After-collect-no
     in collected-size _ _ k.collect3.last.1.1.1.0 k.collect3.result k.collect3.ensures
 
 pub slice_bounds-print_merged-end-4 : goal.slice_bounds-print_merged-end-4

@@ -8,15 +8,16 @@ use Rattle.log_model.specs.Logs.{inner, outer, entries}
 use Rattle.ray_trace.specs.Reasons.{hit_pairs, not_held, cut_away, made_uncertain, never_certain, untouched}
 use Rattle.ray_trace.proofs.Answers.{found_some, found_none}
 use Rattle.ray_trace.proofs.reason_of.Goals as goal
+use Rattle.ray_trace.proofs.reason_of.Goals.{Else-k-ne0, Else-not-holds_at, Else-not-holds_at-2}
 
 -- possible before, in no inner pair, certain before
-possible-held : (c : goal.Else-not-holds_at) → holds c.args.possible.now c.args.place ≡ true
+possible-held : (c : Else-not-holds_at) → holds c.args.possible.now c.args.place ≡ true
 possible-held c = found _ _ c.holds_at.ensures c.if-not-holds_at.false-raw
 
-inner-free : (c : goal.Else-k-ne0) → holds (hit_pairs inner (entries c.args.log.now)) c.args.place ≡ false
+inner-free : (c : Else-k-ne0) → holds (hit_pairs inner (entries c.args.log.now)) c.args.place ≡ false
 inner-free c = found_none inner _ _ _ c.first_holding-k.ensures c.if-k-ne0.false
 
-certain-held : (c : goal.Else-not-holds_at-2) → holds c.args.certain.now c.args.place ≡ true
+certain-held : (c : Else-not-holds_at-2) → holds c.args.certain.now c.args.place ≡ true
 certain-held c = found _ _ c.holds_at-2.ensures c.if-not-holds_at-2.false-raw
 
 pub returns-then-not-holds_at : goal.returns-then-not-holds_at

@@ -3,10 +3,10 @@ use Rattle.logic.proofs.Bools.{not-true, not-false, clash}
 use Rattle.ray_trace.specs.Trace.{TracePre}
 use Rattle.ray_trace.proofs.Answers.{part-over, bad-ray, good, nan-place, no-cause-due, no-cause}
 use Rattle.ray_trace.proofs.trace.Goals as goal
-use Rattle.ray_trace.proofs.trace.Tie as tie
+use Rattle.ray_trace.proofs.trace.Goals.{Else-not-valid_ray}
 
 -- whole entries and a valid ray
-accepted : (c : tie.Else-not-valid_ray) → TracePre c.args.lo c.args.hi c.args.possible.now c.args.certain.now c.args.log.now
+accepted : (c : Else-not-valid_ray) → TracePre c.args.lo c.args.hi c.args.possible.now c.args.certain.now c.args.log.now
 accepted c =
     good c.args.lo c.args.hi c.args.possible.now c.args.certain.now c.args.log.now c.args.place _
     c.is_whole_log.ensures c.if-not-is_whole_log.false-raw
@@ -24,11 +24,11 @@ returns-then-not-valid_ray c =
 
 pub returns-then-place : goal.returns-then-place
 returns-then-place c =
-    nan-place c.args.lo c.args.hi c.args.possible.now c.args.certain.now c.args.log.now c.args.place (accepted c.before) c.if-place.true
+    nan-place c.args.lo c.args.hi c.args.possible.now c.args.certain.now c.args.log.now c.args.place (accepted (goal.at.returns-then-place c).Else-not-valid_ray) c.if-place.true
 
 pub returns : goal.returns
 returns c =
-    let pre = accepted c.before.before in
+    let pre = accepted (goal.at.returns c).Else-not-valid_ray in
     no-cause _ _ _ c.reason_of.result
     (no-cause-due c.args.lo c.args.hi c.args.possible.now c.args.certain.now c.args.log.now c.args.place pre c.if-place.false)
     (λ q t. record { ray = pre.ray; reason_true = t }) c.reason_of.ensures

@@ -9,24 +9,24 @@ use Rattle.span_combine.proofs.Answers.{checked-short, checked-bad, checked-none
 use Rattle.logic.proofs.Bools.{found, found-not, clash}
 use borrow.Author.Rules.{rules}
 use Rattle.span_combine.proofs.checked.Goals as goal
-use Rattle.span_combine.proofs.checked.Tie as tie
+use Rattle.span_combine.proofs.checked.Goals.{Start}
 
-abbrev Short : tie.Start → Type 0
+abbrev Short : Start → Type 0
 Short s = s.args.room / 2 < length s.args.a.now / 2 + length s.args.b.now / 2
 
-abbrev Bad : tie.Start → Type 0
+abbrev Bad : Start → Type 0
 Bad s = (sound s.args.a.now && sound s.args.b.now) ≡ false
 
 pub returns-then-room-a : goal.returns-then-room-a
 returns-then-room-a c =
-    checked-short (Short c.before.before.before) (Bad c.before.before.before) c.if-room-a.true
+    checked-short (Short (goal.at.returns-then-room-a c).Start) (Bad (goal.at.returns-then-room-a c).Start) c.if-room-a.true
 
 pub returns-then-not-both_sound : goal.returns-then-not-both_sound
 returns-then-not-both_sound c =
-    checked-bad (Short c.before.before.before.before.before) (Bad c.before.before.before.before.before) (λ h. omega (arith, c.if-room-a.false))
+    checked-bad (Short (goal.at.returns-then-not-both_sound c).Start) (Bad (goal.at.returns-then-not-both_sound c).Start) (λ h. omega (arith, c.if-room-a.false))
     (found-not _ _ c.both_sound.ensures c.if-not-both_sound.true-raw)
 
 pub returns : goal.returns
 returns c =
-    checked-none (Short c.before.before.before.before.before) (Bad c.before.before.before.before.before) (λ h. omega (arith, c.if-room-a.false))
+    checked-none (Short (goal.at.returns c).Start) (Bad (goal.at.returns c).Start) (λ h. omega (arith, c.if-room-a.false))
     (clash _ (found _ _ c.both_sound.ensures c.if-not-both_sound.false-raw))

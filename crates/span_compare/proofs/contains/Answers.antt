@@ -6,9 +6,9 @@ use Rattle.spans.proofs.Answers.{found-both}
 use Rattle.span_compare.proofs.Answers.{refuse-unsound, yes_if, say, contains_by}
 use borrow.Author.Rules.{rules}
 use Rattle.span_compare.proofs.contains.Goals as goal
-use Rattle.span_compare.proofs.contains.Tie as tie
+use Rattle.span_compare.proofs.contains.Goals.{After-covers}
 
-answers : (c : tie.After-covers) (found : Bool) → c.covers.result ≡ found → ComparePost (compare_causes c.args.outer.now c.args.inner.now) (Contains c.args.outer.now c.args.inner.now) (yes_if found)
+answers : (c : After-covers) (found : Bool) → c.covers.result ≡ found → ComparePost (compare_causes c.args.outer.now c.args.inner.now) (Contains c.args.outer.now c.args.inner.now) (yes_if found)
 answers c found e =
     say c.args.outer.now c.args.inner.now (Contains c.args.outer.now c.args.inner.now) _ c.both_sound.ensures
     c.if-not-both_sound.false-raw _ found e
@@ -25,7 +25,7 @@ covers-requires c =
     found-both c.args.outer.now c.args.inner.now _ c.both_sound.ensures c.if-not-both_sound.false-raw
 
 pub returns-then-covers : goal.returns-then-covers
-returns-then-covers c = answers c.before true c.if-covers.true
+returns-then-covers c = answers (goal.at.returns-then-covers c).After-covers true c.if-covers.true
 
 pub returns : goal.returns
-returns c = answers c.before false c.if-covers.false
+returns c = answers (goal.at.returns c).After-covers false c.if-covers.false

@@ -8,15 +8,15 @@ use Rattle.spans.proofs.Normal.{retained-even, retained-most}
 use Rattle.span_normalize.proofs.Join.{gathered-count, joined-more}
 use borrow.Author.Rules.{rules}
 use Rattle.span_normalize.proofs.join_more.Goals as goal
-use Rattle.span_normalize.proofs.join_more.Tie as tie
+use Rattle.span_normalize.proofs.join_more.Goals.{After-gather-m, Start}
 
-start : tie.After-gather-m → tie.Start
+start : After-gather-m → Start
 start g = g.before.before.before.before
 
-front_fits : (g : tie.After-gather-m) → (start g).args.n ≤ length (start g).args.out.now
+front_fits : (g : After-gather-m) → (start g).args.n ≤ length (start g).args.out.now
 front_fits g = omega (arith, (start g).requires.2)
 
-count : (g : tie.After-gather-m) → g.gather-m.result ≡ (start g).args.n + length (retained (start g).args.spans.now)
+count : (g : After-gather-m) → g.gather-m.result ≡ (start g).args.n + length (retained (start g).args.spans.now)
 unfolding start
 count g = gathered-count (start g).args.spans.now (start g).args.out.now g.gather-m.new.out
     (start g).args.n g.gather-m.result (front_fits g) g.gather-m.ensures
@@ -24,13 +24,13 @@ count g = gathered-count (start g).args.spans.now (start g).args.out.now g.gathe
 pub normalize_front-requires : goal.normalize_front-requires
 unfolding start
 normalize_front-requires c = (
-  omega (arith, retained-even (start c.before.before.before).args.spans.now, count c.before.before.before, (start c.before.before.before).requires.1),
-  omega (arith, retained-most (start c.before.before.before).args.spans.now, count c.before.before.before, c.gather-m.ensures.size, (start c.before.before.before).requires.2),
+  omega (arith, retained-even (start (goal.at.normalize_front-requires c).After-gather-m).args.spans.now, count (goal.at.normalize_front-requires c).After-gather-m, (start (goal.at.normalize_front-requires c).After-gather-m).requires.1),
+  omega (arith, retained-most (start (goal.at.normalize_front-requires c).After-gather-m).args.spans.now, count (goal.at.normalize_front-requires c).After-gather-m, c.gather-m.ensures.size, (start (goal.at.normalize_front-requires c).After-gather-m).requires.2),
 )
 
 pub returns : goal.returns
 unfolding start
 returns c =
-    joined-more (start c.before.before.before.before.before.before).args.spans.now (start c.before.before.before.before.before.before).args.out.now c.gather-m.new.out
-    c.normalize_front.new.b (start c.before.before.before.before.before.before).args.n c.gather-m.result c.normalize_front.result
-    (start c.before.before.before.before.before.before).requires.1 (front_fits c.before.before.before.before.before.before) c.gather-m.ensures c.normalize_front.ensures
+    joined-more (start (goal.at.returns c).After-gather-m).args.spans.now (start (goal.at.returns c).After-gather-m).args.out.now c.gather-m.new.out
+    c.normalize_front.new.b (start (goal.at.returns c).After-gather-m).args.n c.gather-m.result c.normalize_front.result
+    (start (goal.at.returns c).After-gather-m).requires.1 (front_fits (goal.at.returns c).After-gather-m) c.gather-m.ensures c.normalize_front.ensures

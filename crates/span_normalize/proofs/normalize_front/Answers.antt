@@ -9,16 +9,16 @@ use borrow.Rule.Slice.PartMut.{put_mid, same_len_mid}
 use Rattle.span_normalize.proofs.Join.{sorted_front, part-back}
 use borrow.Author.Rules.{rules}
 use Rattle.span_normalize.proofs.normalize_front.Goals as goal
-use Rattle.span_normalize.proofs.normalize_front.Tie as tie
+use Rattle.span_normalize.proofs.normalize_front.Goals.{After-sort_pairs}
 
 -- the buffer with the sorted part back in it
-abbrev back : tie.After-sort_pairs → List Float
+abbrev back : After-sort_pairs → List Float
 back s = let a = s.before.before.before.args in put_mid 0 a.m a.b.now s.sort-pairs.new.0
 
-back-size : (s : tie.After-sort_pairs) → length (back s) ≡ length s.args.b.now
+back-size : (s : After-sort_pairs) → length (back s) ≡ length s.args.b.now
 back-size s = same_len_mid 0 s.args.m s.args.b.now s.sort_pairs.new.s s.sort_pairs.ensures.size
 
-front-back : (s : tie.After-sort_pairs) → take s.args.m (back s) ≡ s.sort_pairs.new.s
+front-back : (s : After-sort_pairs) → take s.args.m (back s) ≡ s.sort_pairs.new.s
 front-back s =
     let size : length s.sort_pairs.new.s ≡ s.args.m = s.sort_pairs.ensures.size ∙ length-take-le s.args.m s.args.b.now s.requires.1 in
     part-back s.args.b.now s.sort_pairs.new.s 0 s.args.m s.args.m (omega arith) (omega arith)
@@ -29,9 +29,9 @@ slice_bounds-sort_pairs-end-2 c = sym (length-take-le c.args.m c.args.b.now c.re
 
 pub join_all-requires : goal.join_all-requires
 join_all-requires c =
-    (omega (arith, c.requires.0), omega (arith, c.requires.1, back-size c.before.before.before))
+    (omega (arith, c.requires.0), omega (arith, c.requires.1, back-size (goal.at.join_all-requires c).After-sort_pairs))
 
 pub returns : goal.returns
 returns c =
-    sorted_front c.args.b.now c.sort_pairs.new.s (back c.before.before.before.before.before.before) c.join_all.new.b c.args.m c.join_all.result
-    c.sort_pairs.ensures (front-back c.before.before.before.before.before.before) (back-size c.before.before.before.before.before.before) c.join_all.ensures
+    sorted_front c.args.b.now c.sort_pairs.new.s (back (goal.at.returns c).After-sort_pairs) c.join_all.new.b c.args.m c.join_all.result
+    c.sort_pairs.ensures (front-back (goal.at.returns c).After-sort_pairs) (back-size (goal.at.returns c).After-sort_pairs) c.join_all.ensures

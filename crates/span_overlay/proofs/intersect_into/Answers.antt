@@ -7,9 +7,9 @@ use lib.ListN.{length}
 use Rattle.spans.proofs.Sets.{sound-mod}
 use Rattle.span_overlay.proofs.Common.{Sharing, Turned, share-start, share-turn, share-done}
 use Rattle.span_overlay.proofs.intersect_into.Goals as goal
-use Rattle.span_overlay.proofs.intersect_into.Tie as tie
+use Rattle.span_overlay.proofs.intersect_into.Goals.{After-put_pair-n}
 
-turn : (c : tie.After-put_pair-n) → Turned c.args.a.now c.args.b.now c.args.out.now c.loop-i.i c.loop-i.j c.put_pair-n.result c.put_pair-n.new.b
+turn : (c : After-put_pair-n) → Turned c.args.a.now c.args.b.now c.args.out.now c.loop-i.i c.loop-i.j c.put_pair-n.result c.put_pair-n.new.b
 turn c =
     share-turn _ _ _ _ _ _ _ _ _ c.requires.0 c.requires.1 c.loop-i.invariant c.loop-i-test.true
     (omega (arith, c.if-b-j.false))
@@ -27,10 +27,10 @@ bounds-b-j-in-loop-i c =
     omega (arith, sound-mod c.args.b.now c.requires.1, c.loop-i.invariant.places.j_whole)
 
 pub loop-i-preserved-then-x-y : goal.loop-i-preserved-then-x-y
-loop-i-preserved-then-x-y c = (turn c.before.before.before).first c.if-x-y.true
+loop-i-preserved-then-x-y c = (turn (goal.at.loop-i-preserved-then-x-y c).After-put_pair-n).first c.if-x-y.true
 
 pub loop-i-preserved : goal.loop-i-preserved
-loop-i-preserved c = (turn c.before.before.before).second c.if-x-y.false
+loop-i-preserved c = (turn (goal.at.loop-i-preserved c).After-put_pair-n).second c.if-x-y.false
 
 pub returns-after-loop-i : goal.returns-after-loop-i
 returns-after-loop-i c =

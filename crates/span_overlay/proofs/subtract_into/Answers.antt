@@ -8,10 +8,10 @@ use lib.Seq.{take_all}
 use Rattle.spans.proofs.Sets.{sound-mod}
 use Rattle.span_overlay.proofs.Cutting.{Lessening, less-start, less-ready, less-step, less_done}
 use Rattle.span_overlay.proofs.subtract_into.Goals as goal
-use Rattle.span_overlay.proofs.subtract_into.Tie as tie
+use Rattle.span_overlay.proofs.subtract_into.Goals.{At-loop-i}
 
 -- the part of b that is lent is what is left of it
-part : (l : tie.At-loop-i) → let b = l.args.b.now in take (length b - l.loop-i.j) (drop l.loop-i.j b) ≡ drop l.loop-i.j b
+part : (l : At-loop-i) → let b = l.args.b.now in take (length b - l.loop-i.j) (drop l.loop-i.j b) ≡ drop l.loop-i.j b
 part l =
     let b = l.args.b.now in
     take_all (length b - l.loop-i.j) (drop l.loop-i.j b) (omega (arith, length-drop l.loop-i.j b))
@@ -25,14 +25,14 @@ bounds-a-i-in-loop-i c =
 
 pub cut_pair-place-requires : goal.cut_pair-place-requires
 cut_pair-place-requires c =
-    rw (part c.before.before.before.before.before) (less-ready _ _ _ _ _ _ _ c.requires.0 c.requires.1 c.requires.2 c.loop-i.invariant
+    rw (part (goal.at.cut_pair-place-requires c).At-loop-i) (less-ready _ _ _ _ _ _ _ c.requires.0 c.requires.1 c.requires.2 c.loop-i.invariant
     c.loop-i-test.true)
 
 pub loop-i-preserved : goal.loop-i-preserved
 loop-i-preserved c =
     less-step _ _ _ _ _ _ _ c.requires.0 c.requires.1 c.requires.2 c.loop-i.invariant
     c.loop-i-test.true _ _
-    (rw (part c.before.before.before.before.before.before.before.before.before) at c.cut_pair-place.ensures)
+    (rw (part (goal.at.loop-i-preserved c).At-loop-i) at c.cut_pair-place.ensures)
 
 pub returns : goal.returns
 returns c = less_done _ _ _ _ _ _ _ c.loop-i-test.false c.loop-i.invariant

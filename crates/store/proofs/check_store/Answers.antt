@@ -9,8 +9,8 @@ returns-then-u-total c = differs _ _ _ _ _ _ _ c.count_used-u.ensures c.if-u-tot
 pub returns-in-Ends : goal.returns-in-Ends
 returns-in-Ends c = ended _ _ _ _ _ _ _ _ c.count_used-u.ensures
     c.if-u-total.false
-    (sym c.walk_all.ensures ∙ c.c-1.given.1)
+    (sym c.walk_all.ensures ∙ c.in-Ends.is)
 
 pub returns-in-Broken : goal.returns-in-Broken
 returns-in-Broken c = broke _ _ _ _ _ _ _ c.if-u-total.false
-    (sym c.walk_all.ensures ∙ c.enum_told-1.given.1)
+    (sym c.walk_all.ensures ∙ c.in-Broken.is)

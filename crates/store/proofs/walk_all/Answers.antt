@@ -12,13 +12,13 @@ loop-j-init c = (omega arith, simp sub-zero)
 
 pub returns-in_default : goal.returns-in_default
 returns-in_default c = sym (c.loop-j.invariant.1
-    ∙ all-broken _ _ _ _ _ _ _ (omega arith) (sym c.walk_chain.ensures ∙ c.enum_told-1.given.1))
+    ∙ all-broken _ _ _ _ _ _ _ (omega arith) (sym c.walk_chain.ensures ∙ c.in_default.is))
 
 pub loop-j-preserved : goal.loop-j-preserved
 loop-j-preserved c = (
   omega arith,
   c.loop-j.invariant.1
-      ∙ all-next _ _ _ _ _ _ _ _ (omega arith) (sym c.walk_chain.ensures ∙ c.e-1.given.1),
+      ∙ all-next _ _ _ _ _ _ _ _ (omega arith) (sym c.walk_chain.ensures ∙ c.in-Ends.is),
 )
 
 pub returns : goal.returns

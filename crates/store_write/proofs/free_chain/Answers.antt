@@ -7,6 +7,7 @@ use Rattle.store.proofs.Chains.{ChainStep, chain-step}
 use Rattle.store.proofs.Freeing.{Turn, turn, freed-end}
 use Rattle.store_write.proofs.free_chain.Reads as reads
 use Rattle.store_write.proofs.free_chain.Goals as goal
+use Rattle.store_write.proofs.free_chain.Goals.{In-loop-k}
 
 -- the record that the loop comes to
 here : (c : lts.In-loop reads.Pre reads.Post invariant-loop decreases-loop)

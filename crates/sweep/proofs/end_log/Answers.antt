@@ -4,11 +4,11 @@ use Rattle.sweep.proofs.Answers.{end_is, logged-at}
 use Rattle.sweep.proofs.end_log.Goals as goal
 
 pub returns-in-Stopped : goal.returns-in-Stopped
-returns-in-Stopped c = end_is _ _ _ _ _ c.x-1.given.1 refl c.clear_from.ensures
+returns-in-Stopped c = end_is _ _ _ _ _ c.in-Stopped.is refl c.clear_from.ensures
 
 pub clear_from-requires-in-At : goal.clear_from-requires-in-At
-clear_from-requires-in-At c = logged-at _ _ _ c.x-in-At-1.given.1 c.requires
+clear_from-requires-in-At c = logged-at _ _ _ c.in-At.is c.requires
 
 pub returns-in-At : goal.returns-in-At
-returns-in-At c = end_is _ _ _ _ _ c.x-in-At-1.given.1 refl
+returns-in-At c = end_is _ _ _ _ _ c.in-At.is refl
     c.clear_from-in-At.ensures

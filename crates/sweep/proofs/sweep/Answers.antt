@@ -14,11 +14,11 @@ returns-in-Refused c =
     let k : Kernel = record { frame = frame_of c.args.axis; guard = c.args.guard } in
     let p = profile_of c.args.shape c.args.cutter in
     sweep-refused c.args.spec c.args.units.now k p s c.args.intervals c.args.chords.now
-    c.args.budget c.args.log.now _ (sym c.grid.ensures.is ∙ c.n-1.given.1)
+    c.args.budget c.args.log.now _ (sym c.grid.ensures.is ∙ c.in-Refused.is)
 
 pub sweep_grid-requires : goal.sweep_grid-requires
 sweep_grid-requires c =
-    grid-facts _ _ _ (sym c.grid.ensures.is ∙ c.g-1.given.1)
+    grid-facts _ _ _ (sym c.grid.ensures.is ∙ c.in-Accepted.is)
 
 pub returns-in-Accepted : goal.returns-in-Accepted
 returns-in-Accepted c =
@@ -27,7 +27,7 @@ returns-in-Accepted c =
     let p = c.profile_of-p.result in
     let k : Kernel = record { frame = f; guard = c.args.guard } in
     let h = sym c.grid.ensures.is
-    ∙ c.g-1.given.1 in
+    ∙ c.in-Accepted.is in
     same-tool c.args.spec c.args.units.now s c.args.intervals c.args.guard c.args.chords.now
     c.args.budget c.args.log.now _ c.sweep_grid.result f (frame_of c.args.axis) p
     (profile_of c.args.shape c.args.cutter) c.frame.ensures

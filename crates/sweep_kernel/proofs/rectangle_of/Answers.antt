@@ -5,7 +5,7 @@ use Rattle.sweep_kernel.proofs.rectangle_of.Goals as goal
 pub returns-in-Missed : goal.returns-in-Missed
 unfolding rectangle_of
 returns-in-Missed c = simp (
-  c.enum_told-1.given.1,
+  c.in-Missed.is,
   ← c.cells_across-vs.ensures,
   ← c.cells_across-us.ensures,
   ← c.cross-w.ensures,
@@ -14,8 +14,8 @@ returns-in-Missed c = simp (
 pub returns-in-Missed-vs : goal.returns-in-Missed-vs
 unfolding rectangle_of
 returns-in-Missed-vs c = simp (
-  c.enum_told-in-Missed-vs-1.given.1,
-  c.us-1.given.1,
+  c.in-Missed-vs.is,
+  c.in-Met.is,
   ← c.cells_across-vs.ensures,
   ← c.cells_across-us.ensures,
   ← c.cross-w.ensures,
@@ -24,8 +24,8 @@ returns-in-Missed-vs c = simp (
 pub returns-in-Met-vs : goal.returns-in-Met-vs
 unfolding rectangle_of
 returns-in-Met-vs c = simp (
-  c.vs-1.given.1,
-  c.us-1.given.1,
+  c.in-Met-vs.is,
+  c.in-Met.is,
   ← c.cells_across-vs.ensures,
   ← c.cells_across-us.ensures,
   ← c.cross-w.ensures,

@@ -9,17 +9,17 @@ returns-then-q c = simp (
   c.if-q.true,
   ← c.smaller.ensures,
   ← c.larger.ensures,
-  c.t-1.given.1,
-  c.s-1.given.1,
+  c.in-Hit-t.is,
+  c.in-Hit.is,
 )
 
 pub returns-in-Miss : goal.returns-in-Miss
 unfolding inner_from
-returns-in-Miss c = simp c.enum_told-1.given.1
+returns-in-Miss c = simp c.in-Miss.is
 
 pub returns-in-Miss-t : goal.returns-in-Miss-t
 unfolding inner_from
-returns-in-Miss-t c = simp (c.enum_told-in-Miss-t-1.given.1, c.s-1.given.1)
+returns-in-Miss-t c = simp (c.in-Miss-t.is, c.in-Hit.is)
 
 pub returns-else-q : goal.returns-else-q
 unfolding inner_from
@@ -27,6 +27,6 @@ returns-else-q c = simp (
   c.if-q.false,
   ← c.smaller.ensures,
   ← c.larger.ensures,
-  c.t-1.given.1,
-  c.s-1.given.1,
+  c.in-Hit-t.is,
+  c.in-Hit.is,
 )

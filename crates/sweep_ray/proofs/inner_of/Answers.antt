@@ -9,14 +9,14 @@ returns-then-rho c = simp (
   ← c.stadium_strip-then-rho.ensures,
   ← c.stadium_strip.ensures,
   c.if-rho.true,
-  c.least-1.given.1,
+  c.in-Is.is,
   ← c.cut_min-least.ensures,
 )
 
 pub returns-in-Outside : goal.returns-in-Outside
 unfolding inner_of
-returns-in-Outside c = simp (c.enum_told-1.given.1, ← c.cut_min-least.ensures)
+returns-in-Outside c = simp (c.in-Outside.is, ← c.cut_min-least.ensures)
 
 pub returns-else-rho : goal.returns-else-rho
 unfolding inner_of
-returns-else-rho c = simp (c.if-rho.false, c.least-1.given.1, ← c.cut_min-least.ensures)
+returns-else-rho c = simp (c.if-rho.false, c.in-Is.is, ← c.cut_min-least.ensures)

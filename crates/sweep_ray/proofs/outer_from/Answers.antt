@@ -4,8 +4,8 @@ use Rattle.sweep_ray.proofs.outer_from.Goals as goal
 
 pub returns-in-Miss : goal.returns-in-Miss
 unfolding outer_from
-returns-in-Miss c = simp c.enum_told-1.given.1
+returns-in-Miss c = simp c.in-Miss.is
 
 pub returns-in-Hit : goal.returns-in-Hit
 unfolding outer_from
-returns-in-Hit c = simp (← c.world-q.ensures, c.s-1.given.1)
+returns-in-Hit c = simp (← c.world-q.ensures, c.in-Hit.is)

@@ -21,17 +21,17 @@ returns-then-overlaps_at c = rw (
     ∙ not-false c.spans_meet.result
     c.if-not-spans_meet.false-raw)
     (sym c.outer_of-o.ensures
-    ∙ c.o-1.given.1) (sym c.overlaps_at.ensures ∙ c.if-overlaps_at.true))
+    ∙ c.in-Hit.is) (sym c.overlaps_at.ensures ∙ c.if-overlaps_at.true))
 
 pub returns-in-Miss : goal.returns-in-Miss
 returns-in-Miss c = rw (← c.section_of-s.ensures)
     (hit-miss _ _ _ _ (sym c.spans_meet.ensures
     ∙ not-false c.spans_meet.result
-    c.if-not-spans_meet.false-raw) (sym c.outer_of-o.ensures ∙ c.enum_told-1.given.1))
+    c.if-not-spans_meet.false-raw) (sym c.outer_of-o.ensures ∙ c.in-Miss.is))
 
 pub returns-else-overlaps_at : goal.returns-else-overlaps_at
 returns-else-overlaps_at c = rw (← c.section_of-s.ensures)
     (hit-clear _ _ _ _ _ _ (sym c.spans_meet.ensures ∙ not-false c.spans_meet.result
     c.if-not-spans_meet.false-raw)
-    (sym c.outer_of-o.ensures ∙ c.o-1.given.1)
+    (sym c.outer_of-o.ensures ∙ c.in-Hit.is)
     (sym c.overlaps_at.ensures ∙ c.if-overlaps_at.false))

@@ -15,14 +15,14 @@ sweep_row-x-requires c = (
 )
 
 pub shape_of-log-in-Stopped : goal.shape_of-log-in-Stopped
-shape_of-log-in-Stopped c = (halted-of _ _ c.x-1.given.1 c.sweep_row-x.ensures).same
+shape_of-log-in-Stopped c = (halted-of _ _ c.in-Stopped.is c.sweep_row-x.ensures).same
     ∙ c.loop-v.invariant.went.same
 
 pub returns-in-Stopped : goal.returns-in-Stopped
 unfolding rect_entries
 returns-in-Stopped c =
     sweeping-halt _ _ _ _ c.loop-v.invariant (omega (arith, c.loop-v-test.true))
-    (halted-of _ _ c.x-1.given.1 c.sweep_row-x.ensures)
+    (halted-of _ _ c.in-Stopped.is c.sweep_row-x.ensures)
 
 pub overflow_add-v : goal.overflow_add-v
 overflow_add-v c =
@@ -35,7 +35,7 @@ loop-v-smaller c = omega (arith, c.loop-v-test.true)
 pub loop-v-preserved : goal.loop-v-preserved
 loop-v-preserved c =
     sweeping-next _ _ _ _ c.loop-v.invariant (omega (arith, c.loop-v-test.true))
-    (went-of _ _ c.x-in-At-1.given.1 c.sweep_row-x.ensures)
+    (went-of _ _ c.in-At.is c.sweep_row-x.ensures)
 
 pub shape_of-log : goal.shape_of-log
 shape_of-log c = c.loop-v.invariant.went.same

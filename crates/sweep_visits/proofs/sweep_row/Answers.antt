@@ -16,14 +16,14 @@ visit_ray-x-requires c = (
 )
 
 pub shape_of-log-in-Stopped : goal.shape_of-log-in-Stopped
-shape_of-log-in-Stopped c = (halted-of _ _ c.x-1.given.1 c.visit_ray-x.ensures).same
+shape_of-log-in-Stopped c = (halted-of _ _ c.in-Stopped.is c.visit_ray-x.ensures).same
     ∙ c.loop-u.invariant.went.same
 
 pub returns-in-Stopped : goal.returns-in-Stopped
 unfolding row_entries
 returns-in-Stopped c =
     sweeping-halt _ _ _ _ c.loop-u.invariant (omega (arith, c.loop-u-test.true))
-    (halted-of _ _ c.x-1.given.1 c.visit_ray-x.ensures)
+    (halted-of _ _ c.in-Stopped.is c.visit_ray-x.ensures)
 
 pub overflow_add-u : goal.overflow_add-u
 overflow_add-u c =
@@ -36,7 +36,7 @@ loop-u-smaller c = omega (arith, c.loop-u-test.true)
 pub loop-u-preserved : goal.loop-u-preserved
 loop-u-preserved c =
     sweeping-next _ _ _ _ c.loop-u.invariant (omega (arith, c.loop-u-test.true))
-    (went-of _ _ c.x-in-At-1.given.1 c.visit_ray-x.ensures)
+    (went-of _ _ c.in-At.is c.visit_ray-x.ensures)
 
 pub shape_of-log : goal.shape_of-log
 shape_of-log c = c.loop-u.invariant.went.same

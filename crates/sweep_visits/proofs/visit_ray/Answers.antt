@@ -27,7 +27,7 @@ ray_hit-h-requires c = let ray =
 
 pub returns-in-Off : goal.returns-in-Off
 returns-in-Off c = went-off c.requires.1 (entry-off _ _ _ _ _ _ _ _ _
-    (sym (rw c.possible_head-head.ensures at c.ray_hit-h.ensures) ∙ c.enum_told-1.given.1))
+    (sym (rw c.possible_head-head.ensures at c.ray_hit-h.ensures) ∙ c.in-Off.is))
     c.if-budget-c.false
 
 pub returns-then-log-c-lt6 : goal.returns-then-log-c-lt6
@@ -35,7 +35,7 @@ returns-then-log-c-lt6 c = halt-full c.requires.1 _
     (entry-on _ _ _ _ _ _ _ _ _ _ (sym
     (rw c.possible_head-head.ensures at
     c.ray_hit-h.ensures)
-    ∙ c.h-1.given.1)) (entry_length _ _ _)
+    ∙ c.in-On.is)) (entry_length _ _ _)
     c.if-budget-c.false c.if-log-c-lt6.true
 
 pub overflow_add-end : goal.overflow_add-end
@@ -48,7 +48,7 @@ returns-in-On c =
     let pre = c.requires in
     let e = entry-on _ _ _ _ _ _ _ _ _ _
     (sym (rw c.possible_head-head.ensures at c.ray_hit-h.ensures)
-    ∙ c.h-1.given.1) in
+    ∙ c.in-On.is) in
     went_on pre.1 6 (ap length e ∙ entry_length _ _ _) _
     c.if-budget-c.false (omega (arith, pre.1, c.if-log-c-lt6.false))
     (rw e c.put.ensures)

@@ -4,10 +4,10 @@ use Rattle.sweep_walk.proofs.AxisRays.{few_rays, rect-ready, axis-none, axis-som
 use Rattle.sweep_walk.proofs.Chords.{logged-same}
 use Rattle.store.specs.Store.{cells}
 use Rattle.sweep_walk.proofs.sweep_axis.Goals as goal
-use Rattle.sweep_walk.proofs.sweep_axis.Tie as tie
+use Rattle.sweep_walk.proofs.sweep_axis.Goals.{Start}
 
 -- the setting of a call
-abbrev here : tie.Start → Setting
+abbrev here : Start → Setting
 here a = setting a.args.spec a.args.g a.args.k a.args.p
     (cells a.args.spans.now a.args.links.now a.args.heads.now)
 
@@ -20,10 +20,10 @@ rectangle_of-rect-requires c = c.requires.0.facts
 
 pub returns-in-NoRays : goal.returns-in-NoRays
 returns-in-NoRays c =
-    let s = here c.before.before.before.before.before.before.before.before.before in
+    let s = here (goal.at.returns-in-NoRays c).Start in
     axis-none s c.args.chord c.args.axis c.chord_on_axis-l.result
     c.rectangle_of-rect.result c.chord_on_axis-l.ensures
-    c.rectangle_of-rect.ensures c.enum_told-1.given.1 c.requires.1
+    c.rectangle_of-rect.ensures c.in-NoRays.is c.requires.1
 
 pub sweep_rect-requires : goal.sweep_rect-requires
 sweep_rect-requires c =
@@ -33,7 +33,7 @@ sweep_rect-requires c =
     c.axis_rays-t.result
     c.rectangle_of-rect.result _
     c.axis_rays-t.ensures
-    c.rectangle_of-rect.ensures c.rect-1.given.1 in
+    c.rectangle_of-rect.ensures c.in-Rays.is in
     (q.rays, q.row, q.rows, c.requires.1)
 
 pub shape_of-log-in-Rays : goal.shape_of-log-in-Rays
@@ -41,7 +41,7 @@ shape_of-log-in-Rays c = logged-same _ _ _ _ _ c.sweep_rect.result c.sweep_rect.
 
 pub returns-in-Rays : goal.returns-in-Rays
 returns-in-Rays c =
-    let s = here c.before.before.before.before.before.before.before.before.before.before.before.before.before.before in
+    let s = here (goal.at.returns-in-Rays c).Start in
     axis-some s c.args.chord c.args.axis _ _ _ _ c.sweep_rect.result
     c.chord_on_axis-l.result
     c.axis_rays-t.result
@@ -49,4 +49,4 @@ returns-in-Rays c =
     c.chord_on_axis-l.ensures
     c.axis_rays-t.ensures
     c.rectangle_of-rect.ensures
-    c.rect-1.given.1 c.sweep_rect.ensures
+    c.in-Rays.is c.sweep_rect.ensures

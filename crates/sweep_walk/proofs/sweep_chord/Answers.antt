@@ -5,10 +5,10 @@ use Rattle.sweep_visits.proofs.Walks.{halted-of, went-of}
 use Rattle.sweep_walk.proofs.Chords.{first-halts, both-walked, logged-same}
 use Rattle.store.specs.Store.{cells}
 use Rattle.sweep_walk.proofs.sweep_chord.Goals as goal
-use Rattle.sweep_walk.proofs.sweep_chord.Tie as tie
+use Rattle.sweep_walk.proofs.sweep_chord.Goals.{After-shared_slice_known-2-1, Start}
 
 -- the setting of a call
-abbrev here : tie.Start → Setting
+abbrev here : Start → Setting
 here a = setting a.args.spec a.args.g a.args.k a.args.p
     (cells a.args.spans.now a.args.links.now a.args.heads.now)
 
@@ -16,34 +16,34 @@ pub sweep_axis-x-requires : goal.sweep_axis-x-requires
 sweep_axis-x-requires c = c.requires
 
 pub shape_of-log-in-Stopped : goal.shape_of-log-in-Stopped
-shape_of-log-in-Stopped c = (halted-of _ _ c.x-1.given.1 c.sweep_axis-x.ensures).same
+shape_of-log-in-Stopped c = (halted-of _ _ c.in-Stopped.is c.sweep_axis-x.ensures).same
 
 pub returns-in-Stopped : goal.returns-in-Stopped
 returns-in-Stopped c =
-    let s = here c.before.before.before.before.before.before.before.before.before.before.before.before.before in
+    let s = here (goal.at.returns-in-Stopped c).After-shared_slice_known-2-1 in
     first-halts s c.args.chord
     c.first_axis-first.result
     c.first_axis-first.ensures
-    (halted-of _ _ c.x-1.given.1 c.sweep_axis-x.ensures)
+    (halted-of _ _ c.in-Stopped.is c.sweep_axis-x.ensures)
 
 pub sweep_axis-requires : goal.sweep_axis-requires
 sweep_axis-requires c = (
   c.requires.0,
-  (went-of _ _ c.x-in-At-1.given.1
+  (went-of _ _ c.in-At.is
       c.sweep_axis-x.ensures).room,
 )
 
 pub shape_of-log-in-At : goal.shape_of-log-in-At
 shape_of-log-in-At c = logged-same _ _ _ _ _ c.sweep_axis.result
     c.sweep_axis.ensures
-    ∙ (went-of _ _ c.x-in-At-1.given.1
+    ∙ (went-of _ _ c.in-At.is
     c.sweep_axis-x.ensures).same
 
 pub returns-in-At : goal.returns-in-At
 returns-in-At c =
-    let s = here c.before.before.before.before.before.before.before.before.before.before.before.before.before.before.before.before.before in
+    let s = here (goal.at.returns-in-At c).After-shared_slice_known-2-1 in
     both-walked s c.args.chord _ c.sweep_axis.result
     c.first_axis-first.result c.second_axis-second.result c.first_axis-first.ensures
-    c.second_axis-second.ensures (went-of _ _ c.x-in-At-1.given.1
+    c.second_axis-second.ensures (went-of _ _ c.in-At.is
     c.sweep_axis-x.ensures)
     c.sweep_axis.ensures

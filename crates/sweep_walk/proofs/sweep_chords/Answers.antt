@@ -8,10 +8,10 @@ use Rattle.sweep_visits.proofs.Walks.{Sweeping, sweeping-start, halted-of, went-
 use Rattle.sweep_walk.proofs.Chords.{entries_at, chord-next, chord-halts, chords-done}
 use Rattle.store.specs.Store.{cells}
 use Rattle.sweep_walk.proofs.sweep_chords.Goals as goal
-use Rattle.sweep_walk.proofs.sweep_chords.Tie as tie
+use Rattle.sweep_walk.proofs.sweep_chords.Goals.{After-sweep_chord-arg-1, Start}
 
 -- the setting of a call
-abbrev here : tie.Start → Setting
+abbrev here : Start → Setting
 here a = setting a.args.spec a.args.g a.args.k a.args.p
     (cells a.args.spans.now a.args.links.now a.args.heads.now)
 
@@ -28,13 +28,13 @@ sweep_chord-x-requires c = (
 )
 
 pub shape_of-log-in-Stopped : goal.shape_of-log-in-Stopped
-shape_of-log-in-Stopped c = (halted-of _ _ c.x-1.given.1 c.sweep_chord-x.ensures).same
+shape_of-log-in-Stopped c = (halted-of _ _ c.in-Stopped.is c.sweep_chord-x.ensures).same
     ∙ c.loop-i.invariant.went.same
 
 pub returns-in-Stopped : goal.returns-in-Stopped
 returns-in-Stopped c =
     chord-halts (here (goal.at.returns-in-Stopped c).After-sweep_chord-arg-1) c.args.chords.now c.loop-i.i c.loop-i.invariant c.chord_at-chord.result c.loop-i-test.true
-    c.chord_at-chord.ensures (halted-of _ _ c.x-1.given.1 c.sweep_chord-x.ensures)
+    c.chord_at-chord.ensures (halted-of _ _ c.in-Stopped.is c.sweep_chord-x.ensures)
 
 pub overflow_add-i : goal.overflow_add-i
 overflow_add-i c =
@@ -49,10 +49,10 @@ loop-i-smaller c = omega (arith, c.loop-i-test.true)
 pub loop-i-preserved : goal.loop-i-preserved
 loop-i-preserved c =
     chord-next (here (goal.at.loop-i-preserved c).After-sweep_chord-arg-1) c.args.chords.now c.loop-i.i c.loop-i.invariant c.chord_at-chord.result c.loop-i-test.true
-    c.chord_at-chord.ensures (went-of _ _ c.x-in-At-1.given.1 c.sweep_chord-x.ensures)
+    c.chord_at-chord.ensures (went-of _ _ c.in-At.is c.sweep_chord-x.ensures)
 
 pub shape_of-log : goal.shape_of-log
 shape_of-log c = c.loop-i.invariant.went.same
 
 pub returns : goal.returns
-returns c = chords-done (here c.before.before.before.before.before.before.before) c.args.chords.now c.loop-i.i c.loop-i.invariant (omega (arith, c.loop-i-test.false))
+returns c = chords-done (here (goal.at.returns c).Start) c.args.chords.now c.loop-i.i c.loop-i.invariant (omega (arith, c.loop-i-test.false))
