@@ -316,6 +316,12 @@ magnitudes f x r s h k l = clash (magnitude f r) (magnitude f s) (4 * (magnitude
 -- a positive value's pattern goes by its magnitude alone
 by-magnitude : (f : Format) (r s : Float) → T (positive r) → T (positive s) → magnitude f r ≡ magnitude f s → to_bits f r ≡ to_bits f s
 unfolding to_bits magnitude
+by-magnitude f nan s p q h = elim p [ ]
+by-magnitude f (inf _) s p q h = elim p [ ]
+by-magnitude f (fin false m e) nan p q h = elim q [ ]
+by-magnitude f (fin false m e) (inf _) p q h = elim q [ ]
+by-magnitude f (fin false m e) (fin true n d) p q h = elim q [ ]
+by-magnitude f (fin true m e) s p q h = elim p [ ]
 by-magnitude f (fin false m e) (fin false n d) p q h = ap (λ (z : ℕ). 0 + (size z - prec f) * hid f + z / 2 ^ (size z - prec f)) h
 
 pub nearest-unique : (f : Format) (x r s : Float) → NearestRoot f x r → NearestRoot f x s → r ≡ s
@@ -357,6 +363,9 @@ whole-units f m (negsuc k) d =
 
 in-units : (f : Format) (x : Float) → T (fits f x) → T (positive x) → HasValue x false (magnitude f x) (2 ^ low f)
 unfolding magnitude
+in-units f nan t p = elim p [ ]
+in-units f (inf _) t p = elim p [ ]
+in-units f (fin true m e) t p = elim p [ ]
 in-units f (fin false m e) t p = (refl, whole-units f m e (held f false m e t).fine)
 
 pub root-keeps-order : (f : Format) (x y : Float) → T (fits f x) → T (positive x) → T (fits f y) → T (positive y)

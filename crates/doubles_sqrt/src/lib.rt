@@ -40,10 +40,10 @@ pub fn sqrt(x: f64) -> f64
 
 // The pattern of the root of the positive finite double whose pattern is `bits`.
 fn root_bits(bits: u64) -> u64
-    requires bits_nonzero { 0 < bits }
+    requires bits_positive { 0 < bits }
     requires bits_bound { bits < 0x7ff0_0000_0000_0000 }
-    ensures result_value { of_bits binary64 result ≡ square_root binary64 (of_bits binary64 bits) }
-    ensures upper_bound { result < 0x7ff0_0000_0000_0000 }
+    ensures root { of_bits binary64 result ≡ square_root binary64 (of_bits binary64 bits) }
+    ensures bound { result < 0x7ff0_0000_0000_0000 }
 {
     let a = normalized(radicand_of(bits));
     let root = wide_root(a.m);
@@ -52,7 +52,7 @@ fn root_bits(bits: u64) -> u64
 
 // The radicand of the double with this pattern: an odd exponent's last digit goes to m.
 fn radicand_of(bits: u64) -> Radicand
-    requires bits_nonzero { 0 < bits }
+    requires bits_positive { 0 < bits }
     requires bits_bound { bits < 0x7ff0_0000_0000_0000 }
     ensures { RadicandOf bits result.m result.half }
 {
@@ -76,9 +76,9 @@ fn radicand_of(bits: u64) -> Radicand
 
 // The same radicand with 2^52 <= m. Only a subnormal double's needs a step.
 fn normalized(a: Radicand) -> Radicand
-    requires m_nonzero { 0 < a.m }
+    requires m_positive { 0 < a.m }
     requires m_bound { a.m < 2 ^ 54 }
-    requires le_half { 511 ≤ a.half }
+    requires half_least { 511 ≤ a.half }
     ensures { Normalized a.m a.half result.m result.half }
 {
     let mut m = a.m;
@@ -93,7 +93,7 @@ fn normalized(a: Radicand) -> Radicand
 // The whole root of m * 2^54, from the whole root s of m, its upper 27 digits: the lower ones are
 // (m - s * s) * 2^27 divided by 2 s, and the root is that or one less.
 fn wide_root(m: u64) -> u64
-    requires bound { 2 ^ 52 ≤ m }
+    requires m_least { 2 ^ 52 ≤ m }
     requires m_bound { m < 2 ^ 54 }
     ensures { result ≡ whole_root (m * 2 ^ 54) }
 {
@@ -111,7 +111,7 @@ fn wide_root(m: u64) -> u64
 // The whole root of m: a first guess within 1%, two steps of Heron's rule, whose results
 // are never below the root, and a step down in the rare case that the last is above it.
 fn whole_root(m: u64) -> u64
-    requires bound { 2 ^ 52 ≤ m }
+    requires m_least { 2 ^ 52 ≤ m }
     requires m_bound { m < 2 ^ 54 }
     ensures { RootOf m result }
 {
@@ -124,9 +124,9 @@ fn whole_root(m: u64) -> u64
 
 // The mean of a guess and of m divided by it: no less than the whole root of m.
 fn heron(m: u64, guess: u64) -> u64
-    requires bound { 2 ^ 52 ≤ m }
+    requires m_least { 2 ^ 52 ≤ m }
     requires m_bound { m < 2 ^ 54 }
-    requires bound_2 { 2 ^ 25 ≤ guess }
+    requires guess_least { 2 ^ 25 ≤ guess }
     requires guess_bound { guess < 2 ^ 30 }
     ensures { Guess m result }
 {
@@ -137,8 +137,8 @@ fn heron(m: u64, guess: u64) -> u64
 // would need a branch that a processor cannot foresee.
 fn first_guess(m: u64) -> u64
     requires { m < 2 ^ 54 }
-    ensures lower_bound { 2 ^ 25 ≤ result }
-    ensures upper_bound { result < 2 ^ 30 }
+    ensures low { 2 ^ 25 ≤ result }
+    ensures high { result < 2 ^ 30 }
 {
     let slope = 549_098 - m / 0x80_0000_0000 * 5;
     m / 0x400_0000 * slope / 0x10_0000 + 34_942_255

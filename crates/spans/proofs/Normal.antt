@@ -21,6 +21,7 @@ all_in [] = tt
 all_in (x ∷ l) = (Memᴰ.head refl, all_map (λ e. Memᴰ e l) (λ e. Memᴰ e (x ∷ l)) (λ e h. Memᴰ.tail h) l (all_in l))
 
 pub all_of : (P : Float → Type 0) (l : List Float) → All P l → (e : Float) → Memᴰ e l → P e
+all_of P [] h e x'' = elim x'' [ ]
 all_of P (x ∷ l) h e (Memᴰ.head q) = subst P (sym q) h.0
 all_of P (x ∷ l) h e (Memᴰ.tail m) = all_of P l h.1 e m
 

@@ -23,7 +23,7 @@ module _ (links : List ℕ) (n o : ℕ) where
   places-of zero ends h = refl
   places-of (suc f) ends h = refl
   places-of zero (more i<n own c) h = absurd (omega arith)
-  places-of (suc f) (more {i} i<n own c) h = ap (λ (l : List ℕ). i ∷ l) (places-of f c (omega arith))
+  places-of (suc f) (more {i} i<n own c) h = ap (λ (l : List ℕ). i ∷ l) (places-of {k = next_at links i} f c (omega arith))
 
   pub chain-one : {k : ℕ} {ps qs : List ℕ} → RecordChain links n o k ps → RecordChain links n o k qs → ps ≡ qs
   chain-one {k} {ps} {qs} c d = sym (places-of (length ps + length qs) c (omega arith)) ∙ places-of (length ps + length qs) d (omega arith)

@@ -161,7 +161,7 @@ freed-all {n} {m} {total} {c = c} s room (next {u = u} {us = us} lo hi whole a) 
     let here : ℕ = length (places_of n c.links c.heads j) in
     let less : here ≤ total = one.less in
     let s₁ : ChainsSound n m (total - here) d = one.is_sound (total - here) (omega arith) in
-    let rest : FreedAll n m (total - here) d us (freed_all n d us) = freed-all s₁ (kept-room kept₁ room) a in
+    let rest : FreedAll n m (total - here) d us (freed_all n d us) = freed-all {total = total - here} s₁ (kept-room kept₁ room) a in
     let same : pairs_freed n d us ≡ pairs_freed n c us =
     same-pairs n c d a (λ i i<m h. one.places_kept i i<m (λ (e : i ≡ j). omega arith)) in
     record {
@@ -214,7 +214,7 @@ laid-all {n} {m} {total} {c = c} s room (next {u = u} {us = us} lo hi whole a) e
     let still : Empty n d us = λ v mv. one.places_kept v.list (ascending-at a v mv).1
     (λ (e : v.list ≡ u.list). omega (arith, (ascending-at a v mv).0)) ∙ empty v (Memᴰ.tail mv) in
     let rest : LaidAll n m (total + count) d us (laid_all n d us) =
-    laid-all (laid-sound n m total c s room u hi gone (omega arith)) (kept-room kept₁ room) a still (omega arith) in
+    laid-all {total = total + count} (laid-sound n m total c s room u hi gone (omega arith)) (kept-room kept₁ room) a still (omega arith) in
     let sum : total + count + pairs_laid us ≡ total + (count + pairs_laid us) = omega arith in
     record {
       is_sound = subst (λ (t : ℕ). ChainsSound n m t (laid_all n d us)) sum rest.is_sound;

@@ -39,7 +39,7 @@ module _ (links : List ℕ) (n o : ℕ) where
   walk-to zero c (more i<n own d) h = absurd (omega arith)
   walk-to (suc f) c (more {i} {ps} i<n own d) h =
       let sum : suc c + length ps ≡ c + suc (length ps) = omega arith in
-      simp (lt-ltb i n i<n, eq-eqb (owner_at links i) o own) (walk-to f (suc c) d (omega arith) ∙ ap Ends sum)
+      simp (lt-ltb i n i<n, eq-eqb (owner_at links i) o own) (walk-to {k = next_at links i} f (suc c) d (omega arith) ∙ ap Ends sum)
 
   pub walk_of : (f c k e : ℕ) → walk_from links n o f c k ≡ Ends e → Walked links n o f c k e
   unfolding walk_from

@@ -24,7 +24,7 @@ large m r h l = below (square-lt (2 ^ 26) (suc r) (lt_of_le_of_lt h l))
     below g = omega arith
 
 pub overflow_add-result : goal.overflow_add-result
-overflow_add-result c = omega (arith, quotient-small c.args.m c.args.guess c.requires.1.0 c.requires.1.1.0)
+overflow_add-result c = omega (arith, quotient-small c.args.m c.args.guess c.requires.m_bound c.requires.guess_least)
 
 pub returns : goal.returns
 returns c =
@@ -34,6 +34,6 @@ returns c =
     let above = heron-above m g positive in
     record {
       above = above;
-      large = large m _ c.requires.0 above;
-      small = omega (arith, quotient-small m g c.requires.1.0 c.requires.1.1.0);
+      large = large m _ c.requires.m_least above;
+      small = omega (arith, quotient-small m g c.requires.m_bound c.requires.guess_least);
     }

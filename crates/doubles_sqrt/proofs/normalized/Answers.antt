@@ -12,11 +12,11 @@ half-left : (c : In-loop-m) → 0 < c.loop-m.half
 half-left c =
     let a = c.args.a in
     let pre = c.requires in
-    left_over c.loop-m.m c.loop-m.half a.m a.half c.loop-m.invariant.0 pre.0
-    (le_trans (lit≤ tt) pre.1.1) c.loop-m-test.true
+    left_over c.loop-m.m c.loop-m.half a.m a.half c.loop-m.invariant.0 pre.m_positive
+    (le_trans (lit≤ tt) pre.half_least) c.loop-m-test.true
 
 pub loop-m-init : goal.loop-m-init
-loop-m-init c = (refl, c.requires.0, c.requires.1.0, le_refl c.args.a.half)
+loop-m-init c = (refl, c.requires.m_positive, c.requires.m_bound, le_refl c.args.a.half)
 
 pub overflow_mul-m : goal.overflow_mul-m
 overflow_mul-m c = omega arith

@@ -28,7 +28,7 @@ returns-then-field-eq0 c =
       is =
           ap (λ (x : ℕ). x * 2 ^ low binary64) (magnitude-at binary64 (of_bits binary64 b) (b * 2 ^ 0) (subnormal b low_field) ∙ mul-one b)
           ∙ sym (mul_assoc b (2 ^ 52) (2 ^ 511 * 2 ^ 511));
-      positive = c.requires.0;
+      positive = c.requires.bits_positive;
       small = omega arith;
       least = lit≤ tt;
       most = lit≤ tt;
@@ -41,7 +41,7 @@ returns-then-field-eq0-2 c =
     let M = 2 ^ 52 + b % 2 ^ 52 in
     let high : 2 ^ 52 ≤ b = omega (arith, c.if-field-eq0.false) in
     record {
-      is = radicand b high c.requires.1
+      is = radicand b high c.requires.bits_bound
           ∙ ap (λ (r : ℕ). M * 2 ^ r * 2 ^ 52 * (2 ^ (k / 2 + 511) * 2 ^ (k / 2 + 511))) c.if-field-eq0-2.true
           ∙ ap (λ (x : ℕ). x * 2 ^ 52 * (2 ^ (k / 2 + 511) * 2 ^ (k / 2 + 511))) (mul-one M);
       positive = omega arith;
@@ -58,7 +58,7 @@ returns c =
     let high : 2 ^ 52 ≤ b = omega (arith, c.if-field-eq0.false) in
     let odd : k % 2 ≡ 1 = omega (arith, c.if-field-eq0-2.false) in
     record {
-      is = radicand b high c.requires.1 ∙ ap (λ (r : ℕ). M * 2 ^ r * 2 ^ 52 * (2 ^ (k / 2 + 511) * 2 ^ (k / 2 + 511))) odd;
+      is = radicand b high c.requires.bits_bound ∙ ap (λ (r : ℕ). M * 2 ^ r * 2 ^ 52 * (2 ^ (k / 2 + 511) * 2 ^ (k / 2 + 511))) odd;
       positive = omega arith;
       small = omega arith;
       least = omega arith;

@@ -25,7 +25,7 @@ returns c =
     ∙ mul_right_comm m (2 ^ half * 2 ^ half) (2 ^ 52) in (
       ap (λ (s : ℕ). of_bits binary64 (half * 2 ^ 52 + (s + 1) / 2)) c.wide_root-root.ensures
           ∙ sym (pattern (magnitude binary64 (of_bits binary64 b)) m half same c.normalized-a.ensures.large c.normalized-a.ensures.small top)
-          ∙ sym (root-by-units b c.requires.0 c.requires.1),
+          ∙ sym (root-by-units b c.requires.bits_positive c.requires.bits_bound),
       bound half c.wide_root-root.result (whole_root (m * 2 ^ 54)) top c.wide_root-root.ensures (root-under m c.normalized-a.ensures.small),
     )
   where

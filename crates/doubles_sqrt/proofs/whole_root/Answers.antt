@@ -58,7 +58,7 @@ pub returns : goal.returns
 returns c =
     let m = c.args.m in
     let root = c.loop-root.root in
-    let d = digits m root c.requires.0 c.requires.1 c.loop-root-test.false c.loop-root.invariant.0 in
+    let d = digits m root c.requires.m_least c.requires.m_bound c.loop-root-test.false c.loop-root.invariant.0 in
     record {
       is = root-unique m root (whole_root m) (c.loop-root-test.false, c.loop-root.invariant.0) (whole-root m);
       lower = c.loop-root-test.false;

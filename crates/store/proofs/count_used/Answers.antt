@@ -9,26 +9,28 @@ use borrow.Author.Rules.{rules}
 use Rattle.store.specs.Store.{used_at}
 use Rattle.logic.specs.Logic.{count_to}
 use Rattle.store.proofs.count_used.Goals as goal
+use Rattle.store.proofs.count_used.Goals.{then-used, else-used}
 
 pub loop-i-init : goal.loop-i-init
 unfolding count_to
 loop-i-init c = (omega arith, omega arith, refl)
 
 pub loop-i-preserved : goal.loop-i-preserved
-loop-i-preserved c = ⊎_elim
-    (λ w. (
+loop-i-preserved c = elim c.if-used.branch [
+    then-used w ↦ (
+
       omega arith,
-      omega (arith, w.1),
+      omega (arith, w.c-is),
       count_next _ _ _ _ true c.loop-i.invariant.2
-          (sym c.used.ensures ∙ w.0.taken) w.1,
-    ))
-    (λ w. (
+          (sym c.used.ensures ∙ w.if-used.true) w.c-is,
+    )
+    | else-used w ↦ (
       omega arith,
-      omega (arith, w.1),
+      omega (arith, w.c-is),
       count_next _ _ _ _ false c.loop-i.invariant.2
-          (sym c.used.ensures ∙ w.0.left) (w.1 ∙ sym (add-zero _)),
-    ))
-    c.if-used.branch
+          (sym c.used.ensures ∙ w.if-used.false) (w.c-is ∙ sym (add-zero _)),
+    )
+    ]
 
 pub returns : goal.returns
 returns c = let e : c.loop-i.i ≡ c.args.n = omega arith in
