@@ -22,4 +22,4 @@ pub overflow_add-result : goal.overflow_add-result
 overflow_add-result c = omega (arith, rise c.args.m c.requires)
 
 pub returns : goal.returns
-returns c = omega (arith, rise c.args.m c.requires)
+returns c = record { low = omega (arith, rise c.args.m c.requires); high = omega (arith, rise c.args.m c.requires) }

@@ -22,12 +22,12 @@ returns c =
     c.radicand_of.ensures.is
     ∙ mul_right_comm c.radicand_of.result.m (2 ^ 52) (2 ^ c.radicand_of.result.half * 2 ^ c.radicand_of.result.half)
     ∙ ap (λ (x : ℕ). x * 2 ^ 52) (sym c.normalized-a.ensures.is)
-    ∙ mul_right_comm m (2 ^ half * 2 ^ half) (2 ^ 52) in (
-      ap (λ (s : ℕ). of_bits binary64 (half * 2 ^ 52 + (s + 1) / 2)) c.wide_root-root.ensures
+    ∙ mul_right_comm m (2 ^ half * 2 ^ half) (2 ^ 52) in record {
+      root = ap (λ (s : ℕ). of_bits binary64 (half * 2 ^ 52 + (s + 1) / 2)) c.wide_root-root.ensures
           ∙ sym (pattern (magnitude binary64 (of_bits binary64 b)) m half same c.normalized-a.ensures.large c.normalized-a.ensures.small top)
-          ∙ sym (root-by-units b c.requires.bits_positive c.requires.bits_bound),
-      bound half c.wide_root-root.result (whole_root (m * 2 ^ 54)) top c.wide_root-root.ensures (root-under m c.normalized-a.ensures.small),
-    )
+          ∙ sym (root-by-units b c.requires.bits_positive c.requires.bits_bound);
+      bound = bound half c.wide_root-root.result (whole_root (m * 2 ^ 54)) top c.wide_root-root.ensures (root-under m c.normalized-a.ensures.small);
+    }
   where
     bound : (h r s : ℕ) → h ≤ 1534 → r ≡ s → s < 2 ^ 54 → h * 2 ^ 52 + (r + 1) / 2 < 0x7ff0_0000_0000_0000
-    bound h r s c.radicand_of e l = omega arith
+    bound h r s a e l = omega arith

@@ -50,17 +50,17 @@ returns-then-bits-gt9223372036854775808 c =
     (to_bits-lt binary64 c.args.x (held (goal.at.returns-then-bits-gt9223372036854775808 c).Start))) ∙ ap (λ (v : Float). square_root binary64 v) (read (goal.at.returns-then-bits-gt9223372036854775808 c).Start)
 
 pub root_bits-requires : goal.root_bits-requires
-root_bits-requires c = (
-  omega (arith, c.if-bits-eq0.false),
-  positive-under (to_bits binary64 c.args.x)
+root_bits-requires c = record {
+  bits_positive = omega (arith, c.if-bits-eq0.false);
+  bits_bound = positive-under (to_bits binary64 c.args.x)
       (subst (λ (v : Float). T (not (is_nan v))) (sym (read (goal.at.root_bits-requires c).Start))
       (no_nan c.args.x c.if-x.false)) c.if-bits-gt9223372036854775808.false c.if-bits.false
-      c.if-bits-eq9218868437227405312.false,
-)
+      c.if-bits-eq9218868437227405312.false;
+}
 
 pub float_from_bits-result : goal.float_from_bits-result
-float_from_bits-result c = finite-is-no-nan c.root_bits.result c.root_bits.ensures.1
+float_from_bits-result c = finite-is-no-nan c.root_bits.result c.root_bits.ensures.bound
 
 pub returns : goal.returns
-returns c = c.root_bits.ensures.0
+returns c = c.root_bits.ensures.root
     ∙ ap (λ (v : Float). square_root binary64 v) (read (goal.at.returns c).Start)
