@@ -1,8 +1,5 @@
 -- `pair_sort::heapsort` meets its contract.
-use borrow.Author.Rules.{rules}
 use native.Mathlib.Omega.{arith}
-use Prim.Native.Nat.{◌≤◌}
-use Rattle.pair_moves.specs.Pairs.{SamePairs}
 use Rattle.pair_moves.proofs.Laws.{unchanged, after}
 use Rattle.pair_sort.proofs.heapsort.Goals as goal
 

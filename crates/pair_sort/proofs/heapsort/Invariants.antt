@@ -1,9 +1,6 @@
 -- `pair_sort::heapsort` meets its contract.
-use borrow.Author.Rules.{rules}
-use native.Mathlib.Omega.{arith}
 use Prim.Native.Nat.{◌≤◌}
 use Rattle.pair_moves.specs.Pairs.{SamePairs}
-use Rattle.pair_moves.proofs.Laws.{unchanged, after}
 use Rattle.pair_sort.proofs.heapsort.Given as goal
 
 abbrev pub invariant-loop-e : goal.invariant-loop-e

@@ -1,6 +1,4 @@
 -- `pair_sort::make_heap` meets its contract.
-use borrow.Author.Rules.{rules}
-use Rattle.pair_moves.specs.Pairs.{SamePairs}
 use Rattle.pair_moves.proofs.Laws.{unchanged, after}
 use Rattle.pair_sort.proofs.make_heap.Goals as goal
 

@@ -1,5 +1,4 @@
 -- `pair_sort::never_below` meets its contract.
-use borrow.Author.Rules.{rules}
 use Prim.Native.Nat.{◌<◌, ◌-◌}
 use Rattle.pair_sort.proofs.never_below.Given as goal
 

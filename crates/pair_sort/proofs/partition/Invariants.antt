@@ -1,10 +1,6 @@
 -- `pair_sort::partition` meets its contract.
-use borrow.Author.Rules.{rules}
-use native.Mathlib.Omega.{arith}
 use Prim.Native.Nat.{◌-◌, ◌≤◌}
-use mathlib.Core.Logic.{⊎_elim}
 use Rattle.pair_moves.specs.Pairs.{SamePairs}
-use Rattle.pair_moves.proofs.Laws.{unchanged, after}
 use Rattle.pair_sort.proofs.partition.Given as goal
 
 abbrev pub invariant-loop-k : goal.invariant-loop-k

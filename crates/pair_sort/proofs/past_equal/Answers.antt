@@ -1,7 +1,6 @@
 -- `pair_sort::past_equal` meets its contract.
 use native.Mathlib.Omega.{arith}
 use Rattle.pair_moves.proofs.Laws.{unchanged}
-use borrow.Author.Rules.{rules}
 use Rattle.pair_sort.proofs.past_equal.Goals as goal
 
 pub returns : goal.returns

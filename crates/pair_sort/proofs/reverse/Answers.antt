@@ -1,7 +1,4 @@
 -- `pair_sort::reverse` meets its contract.
-use borrow.Author.Rules.{rules}
-use Prim.Native.Nat.{◌-◌}
-use Rattle.pair_moves.specs.Pairs.{SamePairs}
 use Rattle.pair_moves.proofs.Laws.{unchanged, after}
 use Rattle.pair_sort.proofs.reverse.Goals as goal
 

@@ -1,8 +1,6 @@
 -- `pair_sort::sift` meets its contract.
-use borrow.Author.Rules.{rules}
 use Prim.Native.Nat.{◌-◌}
 use Rattle.pair_moves.specs.Pairs.{SamePairs}
-use Rattle.pair_moves.proofs.Laws.{unchanged, after}
 use Rattle.pair_sort.proofs.sift.Given as goal
 
 abbrev pub invariant-loop-i : goal.invariant-loop-i

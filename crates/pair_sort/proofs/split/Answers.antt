@@ -1,7 +1,6 @@
 -- `pair_sort::split` meets its contract.
 use native.Mathlib.Omega.{arith}
 use Rattle.pair_moves.proofs.Laws.{after}
-use borrow.Author.Rules.{rules}
 use Rattle.pair_sort.proofs.split.Goals as goal
 
 pub returns : goal.returns

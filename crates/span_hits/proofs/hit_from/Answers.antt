@@ -1,11 +1,9 @@
 -- `span_hits::hit_from` meets its contract. The loop's invariant: what is asked of the place now is what was asked of
 -- the first place. The measure is what is left. Assumes nothing.
 use Prim.Native.Nat.{◌<◌, ◌-◌}
-use mathlib.Core.Path.{◌≡◌, refl, sym, ◌∙◌}
+use mathlib.Core.Path.{refl, sym, ◌∙◌}
 use native.Mathlib.Omega.{arith}
-use lib.ListN.{length, drop}
-use borrow.Author.Rules.{rules}
-use Rattle.span_hits.specs.Hits.{next_hit}
+use lib.ListN.{length}
 use Rattle.span_hits.proofs.Step.{hit-step, hit-end}
 use Rattle.span_hits.proofs.hit_from.Goals as goal
 
