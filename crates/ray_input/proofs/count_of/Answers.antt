@@ -7,6 +7,7 @@ use Rattle.ray_input.proofs.Reading.{count_none, count-hit, count-miss, count_mo
 use borrow.Author.Rules.{rules}
 use native.Mathlib.Omega.{arith}
 use Rattle.ray_input.proofs.count_of.Goals as goal
+use Rattle.ray_input.proofs.count_of.Goals.{then-s-k, else-s-k}
 
 pub loop-k-init : goal.loop-k-init
 loop-k-init c = (omega arith, sym (count_none c.args.c c.args.s.now))
@@ -17,10 +18,10 @@ overflow_add-m c =
 
 pub loop-k-preserved : goal.loop-k-preserved
 loop-k-preserved c =
-    ⊎_elim
-    (λ w. (omega arith, w.1 ∙ omega (arith, count-hit c.args.c c.args.s.now c.loop-k.k w.0.taken)))
-    (λ w. (omega arith, w.1 ∙ omega (arith, count-miss c.args.c c.args.s.now c.loop-k.k w.0.left)))
-    c.if-s-k.branch
+    elim c.if-s-k.branch [
+    then-s-k w ↦ (omega arith, w.m-is ∙ omega (arith, count-hit c.args.c c.args.s.now c.loop-k.k w.if-s-k.true))
+    | else-s-k w ↦ (omega arith, w.m-is ∙ omega (arith, count-miss c.args.c c.args.s.now c.loop-k.k w.if-s-k.false))
+    ]
 
 pub returns : goal.returns
 returns c =

@@ -7,6 +7,7 @@ use lib.ListN.{length}
 use Rattle.spans.proofs.Sets.{sound-mod}
 use Rattle.span_overlay.proofs.Cutting.{Cutting, cut-start, cut-last, cut-end, cut_step}
 use Rattle.span_overlay.proofs.cut_pair.Goals as goal
+use Rattle.span_overlay.proofs.cut_pair.Goals.{else-loop-j-test, then-loop-j-test+then-hi-x}
 
 pub loop-j-init : goal.loop-j-init
 loop-j-init c = cut-start _ _ _ _ _ c.requires
@@ -32,4 +33,7 @@ loop-j-preserved c =
 pub returns : goal.returns
 returns c =
     cut-last _ _ _ _ _ _ _ _ _ _ _ c.requires c.loop-j.invariant c.put_pair-end-2.ensures
-    (⊎_elim (λ w g. absurd (omega (arith, w.left))) (λ w g. w.2.taken) c.loop-j-test.branch)
+    (elim c.loop-j-test.branch [
+      else-loop-j-test w ↦ λ g. absurd (omega (arith, w.loop-j-test.false))
+      | then-loop-j-test+then-hi-x w ↦ λ g. w.if-hi-x.true
+    ])
