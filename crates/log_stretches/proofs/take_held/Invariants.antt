@@ -6,8 +6,6 @@ use native.Mathlib.Omega.{arith}
 use lib.ListN.{take}
 use Rattle.logic.proofs.Bools.{not-true, not-false}
 use Rattle.log_stretches.proofs.Taking.{TakesFront, TakesSome, none-reaches, some-reaches, no-pair, pair-more, no_more}
-use Rattle.log_stretches.proofs.take_held.Reads as reads
-use Rattle.log_left.proofs.take.Reads as take-reads
 use Rattle.log_stretches.proofs.take_held.Given as goal
 
 abbrev pub invariant-loop-i : goal.invariant-loop-i

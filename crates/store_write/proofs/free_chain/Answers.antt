@@ -5,19 +5,15 @@ use lib.ListN.{length, length-set}
 use Rattle.store.specs.Store.{RecordChain, places, freed_spans, freed_links}
 use Rattle.store.proofs.Chains.{ChainStep, chain-step}
 use Rattle.store.proofs.Freeing.{Turn, turn, freed-end}
-use Rattle.store_write.proofs.free_chain.Reads as reads
 use Rattle.store_write.proofs.free_chain.Goals as goal
 use Rattle.store_write.proofs.free_chain.Goals.{In-loop-k}
 
 -- the record that the loop comes to
-here : (c : lts.In-loop reads.Pre reads.Post invariant-loop decreases-loop)
-    → ChainStep c.before.loop.links c.before.before.args.n c.before.before.args.owner c.before.loop.k
-here c = chain-step _ _ _ _ c.before.loop.invariant.2 c.loop-test.true
+here : (c : In-loop-k) → ChainStep c.loop-k.links c.args.n c.args.owner c.loop-k.k
+here c = chain-step _ _ _ _ c.loop-k.invariant.2 c.loop-k-test.true
 
-freeing : (c : lts.In-loop reads.Pre reads.Post invariant-loop decreases-loop)
-    → Turn c.before.loop.spans c.before.loop.links c.before.before.args.n
-    c.before.before.args.owner c.before.loop.k
-freeing c = turn _ _ _ _ _ c.before.loop.invariant.2 c.loop-test.true
+freeing : (c : In-loop-k) → Turn c.loop-k.spans c.loop-k.links c.args.n c.args.owner c.loop-k.k
+freeing c = turn _ _ _ _ _ c.loop-k.invariant.2 c.loop-k-test.true
 
 pub loop-k-init : goal.loop-k-init
 loop-k-init c = (refl, refl, c.requires.2, refl, refl)

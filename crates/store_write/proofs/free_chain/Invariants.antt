@@ -5,7 +5,6 @@ use lib.ListN.{length, length-set}
 use Rattle.store.specs.Store.{RecordChain, places, freed_spans, freed_links}
 use Rattle.store.proofs.Chains.{ChainStep, chain-step}
 use Rattle.store.proofs.Freeing.{Turn, turn, freed-end}
-use Rattle.store_write.proofs.free_chain.Reads as reads
 use Rattle.store_write.proofs.free_chain.Given as goal
 
 abbrev pub invariant-loop-k : goal.invariant-loop-k
