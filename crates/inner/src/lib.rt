@@ -31,85 +31,73 @@ use strips::{PlanePoint, Strip};
 
 // Doubles.
 
-#[unsafe(no_mangle)]
-pub extern "C" fn tridexel_inner_larger(a: f64, b: f64) -> f64
+pub fn tridexel_inner_larger(a: f64, b: f64) -> f64
     ensures { result ≡ larger_of a b }
 {
     doubles_minmax::larger(a, b)
 }
 
-#[unsafe(no_mangle)]
-pub extern "C" fn tridexel_inner_smaller(a: f64, b: f64) -> f64
+pub fn tridexel_inner_smaller(a: f64, b: f64) -> f64
     ensures { result ≡ smaller_of a b }
 {
     doubles_minmax::smaller(a, b)
 }
 
-#[unsafe(no_mangle)]
-pub extern "C" fn tridexel_inner_clamp(x: f64, lo: f64, hi: f64) -> f64
+pub fn tridexel_inner_clamp(x: f64, lo: f64, hi: f64) -> f64
     ensures { result ≡ clamp_of x lo hi }
 {
     doubles_minmax::clamp(x, lo, hi)
 }
 
-#[unsafe(no_mangle)]
-pub extern "C" fn tridexel_inner_floor(x: f64) -> f64
+pub fn tridexel_inner_floor(x: f64) -> f64
     ensures { result ≡ floor_of x }
 {
     doubles::floor(x)
 }
 
-#[unsafe(no_mangle)]
-pub extern "C" fn tridexel_inner_ceil(x: f64) -> f64
+pub fn tridexel_inner_ceil(x: f64) -> f64
     ensures { result ≡ ceil_of x }
 {
     doubles::ceil(x)
 }
 
-#[unsafe(no_mangle)]
-pub extern "C" fn tridexel_inner_abs(x: f64) -> f64
+pub fn tridexel_inner_abs(x: f64) -> f64
     ensures { result ≡ abs_of x }
 {
     doubles::abs(x)
 }
 
-#[unsafe(no_mangle)]
-pub extern "C" fn tridexel_inner_sqrt(x: f64) -> f64
+pub fn tridexel_inner_sqrt(x: f64) -> f64
     ensures { result ≡ square_root binary64 x }
 {
     doubles_sqrt::sqrt(x)
 }
 
-#[unsafe(no_mangle)]
-pub extern "C" fn tridexel_inner_of_bits(bits: u64) -> f64
+pub fn tridexel_inner_of_bits(bits: u64) -> f64
     ensures { result ≡ of_bits binary64 bits }
 {
     doubles_bits::of_bits(bits)
 }
 
-#[unsafe(no_mangle)]
-pub extern "C" fn tridexel_inner_bits_of(x: f64) -> u64
+pub fn tridexel_inner_bits_of(x: f64) -> u64
     ensures { result ≡ to_bits binary64 x }
 {
     doubles_bits::bits_of(x)
 }
 
-#[unsafe(no_mangle)]
-pub extern "C" fn tridexel_inner_to_u64(x: f64) -> u64
+pub fn tridexel_inner_to_u64(x: f64) -> u64
     ensures { result ≡ to_unsigned 64 x }
 {
     doubles::to_u64(x)
 }
 
-#[unsafe(no_mangle)]
-pub extern "C" fn tridexel_inner_order_key(x: f64) -> u64
+pub fn tridexel_inner_order_key(x: f64) -> u64
     ensures { result ≡ key_of x }
 {
     doubles_bits::order_key(x)
 }
 
-#[unsafe(no_mangle)]
-pub extern "C" fn tridexel_inner_total_cmp(a: f64, b: f64) -> u32
+pub fn tridexel_inner_total_cmp(a: f64, b: f64) -> u32
     ensures { result ≡ ordering_code (total_of a b) }
 {
     let o = doubles_bits::total_cmp(a, b);
@@ -147,20 +135,13 @@ fn strip_numbers(s: Strip) -> StripNumbers
     }
 }
 
-#[unsafe(no_mangle)]
-pub extern "C" fn tridexel_inner_disk_strip(
-    c: PlanePoint,
-    rho: f64,
-    y0: f64,
-    y1: f64,
-) -> StripNumbers
+pub fn tridexel_inner_disk_strip(c: PlanePoint, rho: f64, y0: f64, y1: f64) -> StripNumbers
     ensures { result ≡ strip_as (disk_strip c rho y0 y1) }
 {
     strip_numbers(strips::disk_strip(c, rho, y0, y1))
 }
 
-#[unsafe(no_mangle)]
-pub extern "C" fn tridexel_inner_polygon_strip(
+pub fn tridexel_inner_polygon_strip(
     p: PlanePoint,
     q: PlanePoint,
     r: PlanePoint,
@@ -173,8 +154,7 @@ pub extern "C" fn tridexel_inner_polygon_strip(
     strip_numbers(strips::polygon_strip(p, q, r, s, y0, y1))
 }
 
-#[unsafe(no_mangle)]
-pub extern "C" fn tridexel_inner_stadium_strip(
+pub fn tridexel_inner_stadium_strip(
     a: PlanePoint,
     b: PlanePoint,
     length: f64,
@@ -222,8 +202,7 @@ fn radius_numbers(s: Radius) -> RadiusNumbers
 }
 
 // 0 no section, 1 a cutting one, 2 one that does not cut.
-#[unsafe(no_mangle)]
-pub extern "C" fn tridexel_inner_radius_at(
+pub fn tridexel_inner_radius_at(
     kind: u64,
     m: f64,
     n: f64,
@@ -235,29 +214,20 @@ pub extern "C" fn tridexel_inner_radius_at(
     slice_numbers(cutter::radius_at(enum_codes::named_shape(kind, m, n), c, z))
 }
 
-#[unsafe(no_mangle)]
-pub extern "C" fn tridexel_inner_widest_height(c: PreparedCutter) -> f64
+pub fn tridexel_inner_widest_height(c: PreparedCutter) -> f64
     ensures { result ≡ c.tip_height }
 {
     cutter::widest_height(c)
 }
 
-#[unsafe(no_mangle)]
-pub extern "C" fn tridexel_inner_cut_radius(
-    kind: u64,
-    m: f64,
-    n: f64,
-    c: PreparedCutter,
-    h: f64,
-) -> f64
+pub fn tridexel_inner_cut_radius(kind: u64, m: f64, n: f64, c: PreparedCutter, h: f64) -> f64
     ensures { result ≡ cut_radius (named_shape kind m n) c h }
 {
     cutter::cut_radius(enum_codes::named_shape(kind, m, n), c, h)
 }
 
 // 0 none, 1 a radius.
-#[unsafe(no_mangle)]
-pub extern "C" fn tridexel_inner_cut_max(
+pub fn tridexel_inner_cut_max(
     kind: u64,
     m: f64,
     n: f64,
@@ -271,8 +241,7 @@ pub extern "C" fn tridexel_inner_cut_max(
 }
 
 // 0 none, 1 a radius.
-#[unsafe(no_mangle)]
-pub extern "C" fn tridexel_inner_cut_min(
+pub fn tridexel_inner_cut_min(
     kind: u64,
     m: f64,
     n: f64,
@@ -286,8 +255,7 @@ pub extern "C" fn tridexel_inner_cut_min(
 }
 
 // Document 01's refusal number, or 0.
-#[unsafe(no_mangle)]
-pub extern "C" fn tridexel_inner_check_tool(kind: u64, m: f64, n: f64, c: PreparedCutter) -> u32
+pub fn tridexel_inner_check_tool(kind: u64, m: f64, n: f64, c: PreparedCutter) -> u32
     ensures { CheckedAs (ToolCheckPost (named_shape kind m n) c) result }
 {
     let t = cutter_check::check_tool(enum_codes::named_shape(kind, m, n), c);
@@ -299,32 +267,28 @@ pub extern "C" fn tridexel_inner_check_tool(kind: u64, m: f64, n: f64, c: Prepar
 
 // The blank's rays and cells.
 
-#[unsafe(no_mangle)]
-pub extern "C" fn tridexel_inner_rays(g: DexelGrid, axis: u8) -> u64
+pub fn tridexel_inner_rays(g: DexelGrid, axis: u8) -> u64
     requires { ray_count g < 2 ^ 64 }
     ensures { result ≡ rays_along g (world_axis axis) }
 {
     grid_rays::rays(g, WorldAxis(axis))
 }
 
-#[unsafe(no_mangle)]
-pub extern "C" fn tridexel_inner_total_rays(g: DexelGrid) -> u64
+pub fn tridexel_inner_total_rays(g: DexelGrid) -> u64
     requires { ray_count g < 2 ^ 64 }
     ensures { result ≡ ray_count g }
 {
     grid_rays::total_rays(g)
 }
 
-#[unsafe(no_mangle)]
-pub extern "C" fn tridexel_inner_ray_number(g: DexelGrid, axis: u8, index: u64) -> u64
+pub fn tridexel_inner_ray_number(g: DexelGrid, axis: u8, index: u64) -> u64
     requires { (ray_count g < 2 ^ 64) × (index < rays_along g (world_axis axis)) }
     ensures { result ≡ ray_number g (world_axis axis) index }
 {
     grid_rays::ray_number(g, WorldAxis(axis), index)
 }
 
-#[unsafe(no_mangle)]
-pub extern "C" fn tridexel_inner_ray_center(
+pub fn tridexel_inner_ray_center(
     spec: DexelStockSpec,
     g: DexelGrid,
     axis: u8,
@@ -336,25 +300,13 @@ pub extern "C" fn tridexel_inner_ray_center(
     grid_cells::ray_center(spec, g, WorldAxis(axis), index)
 }
 
-#[unsafe(no_mangle)]
-pub extern "C" fn tridexel_inner_cell_bound(
-    spec: DexelStockSpec,
-    g: DexelGrid,
-    axis: u8,
-    i: u64,
-) -> f64
+pub fn tridexel_inner_cell_bound(spec: DexelStockSpec, g: DexelGrid, axis: u8, i: u64) -> f64
     ensures { result ≡ cell_bound_of spec g (world_axis axis) i }
 {
     grid_cells::cell_bound(spec, g, WorldAxis(axis), i)
 }
 
-#[unsafe(no_mangle)]
-pub extern "C" fn tridexel_inner_cell_at(
-    spec: DexelStockSpec,
-    g: DexelGrid,
-    axis: u8,
-    x: f64,
-) -> u64
+pub fn tridexel_inner_cell_at(spec: DexelStockSpec, g: DexelGrid, axis: u8, x: f64) -> u64
     requires { 0 < cells_along g (world_axis axis) }
     ensures { result ≡ cell_at spec g (world_axis axis) x }
 {
@@ -363,8 +315,7 @@ pub extern "C" fn tridexel_inner_cell_at(
 
 // The stock.
 
-#[unsafe(no_mangle)]
-pub extern "C" fn tridexel_inner_check_stock(
+pub fn tridexel_inner_check_stock(
     spec: DexelStockSpec,
     g: DexelGrid,
     spans: &[f64],
@@ -380,8 +331,7 @@ pub extern "C" fn tridexel_inner_check_stock(
 
 // The text of a ray: `ray_text::run`.
 
-#[unsafe(no_mangle)]
-pub extern "C" fn tridexel_inner_merge_ray(s: &[u8], out: &mut [u8; 65536]) -> usize
+pub fn tridexel_inner_merge_ray(s: &[u8], out: &mut [u8; 65536]) -> usize
     ensures { ProgramRan s.now out.old out.new result }
 {
     ray_text::run(s, out)

@@ -8,8 +8,7 @@ ghost use Rattle.stock.specs.Stock.{stock};
 use grid::DexelStockSpec;
 
 // `commit_changes::commit_changes`; `changed` becomes the number of changed rays.
-#[unsafe(no_mangle)]
-pub extern "C" fn tridexel_commit_changes(
+pub fn tridexel_commit_changes(
     spec: DexelStockSpec,
     units: &[u8],
     spans: &mut [f64],
@@ -47,8 +46,7 @@ pub extern "C" fn tridexel_commit_changes(
 }
 
 // `commit_log::commit_log`; `changed` becomes the number of changed rays.
-#[unsafe(no_mangle)]
-pub extern "C" fn tridexel_commit_log(
+pub fn tridexel_commit_log(
     spec: DexelStockSpec,
     units: &[u8],
     spans: &mut [f64],

@@ -3,9 +3,9 @@
 // but for 8 and 16, where the log of a sweep ends zero.
 #![tactic(auto)]
 
-mod commits;
-mod stocks;
-mod sweeps;
+pub mod commits;
+pub mod stocks;
+pub mod sweeps;
 
 ghost use Rattle.spans.specs.Spans.{NormalOf};
 ghost use Rattle.std.specs.Prelude.{length};
@@ -23,8 +23,7 @@ ghost use Rattle.c_results.specs.Numbers.{AnsweredBy, list_numbers, bool_numbers
 ghost use Rattle.c_results.specs.Numbers.{trace_numbers, trace_cells};
 
 // `span_normalize::normalize`; `pairs` becomes the number of pairs.
-#[unsafe(no_mangle)]
-pub extern "C" fn tridexel_normalize(spans: &[f64], out: &mut [f64], pairs: &mut usize) -> u32
+pub fn tridexel_normalize(spans: &[f64], out: &mut [f64], pairs: &mut usize) -> u32
     ensures { AnsweredBy list_numbers ListAnswer.Refused
         (ListPost (NormalOf spans.now) (normalize_causes spans.now (length out.old))
         out.old out.new)
@@ -35,8 +34,7 @@ pub extern "C" fn tridexel_normalize(spans: &[f64], out: &mut [f64], pairs: &mut
 }
 
 // `span_combine::subtract`; `pairs` becomes the number of pairs.
-#[unsafe(no_mangle)]
-pub extern "C" fn tridexel_subtract(a: &[f64], b: &[f64], out: &mut [f64], pairs: &mut usize) -> u32
+pub fn tridexel_subtract(a: &[f64], b: &[f64], out: &mut [f64], pairs: &mut usize) -> u32
     ensures { AnsweredBy list_numbers ListAnswer.Refused (ListPost (LessOf a.now b.now)
         (combine_causes a.now b.now (length out.old)) out.old out.new)
         result pairs.old pairs.new }
@@ -46,13 +44,7 @@ pub extern "C" fn tridexel_subtract(a: &[f64], b: &[f64], out: &mut [f64], pairs
 }
 
 // `span_combine::intersect`; `pairs` becomes the number of pairs.
-#[unsafe(no_mangle)]
-pub extern "C" fn tridexel_intersect(
-    a: &[f64],
-    b: &[f64],
-    out: &mut [f64],
-    pairs: &mut usize,
-) -> u32
+pub fn tridexel_intersect(a: &[f64], b: &[f64], out: &mut [f64], pairs: &mut usize) -> u32
     ensures { AnsweredBy list_numbers ListAnswer.Refused (ListPost (CommonOf a.now b.now)
         (combine_causes a.now b.now (length out.old)) out.old out.new)
         result pairs.old pairs.new }
@@ -62,8 +54,7 @@ pub extern "C" fn tridexel_intersect(
 }
 
 // `span_compare::contains`; `yes` becomes 1 or 0.
-#[unsafe(no_mangle)]
-pub extern "C" fn tridexel_contains(outer: &[f64], inner: &[f64], yes: &mut u32) -> u32
+pub fn tridexel_contains(outer: &[f64], inner: &[f64], yes: &mut u32) -> u32
     ensures { AnsweredBy bool_numbers BoolAnswer.Refused (ComparePost (compare_causes outer.now inner.now)
         (Contains outer.now inner.now))
         result yes.old yes.new }
@@ -73,8 +64,7 @@ pub extern "C" fn tridexel_contains(outer: &[f64], inner: &[f64], yes: &mut u32)
 }
 
 // `span_compare::overlaps`; `yes` becomes 1 or 0.
-#[unsafe(no_mangle)]
-pub extern "C" fn tridexel_overlaps(a: &[f64], b: &[f64], yes: &mut u32) -> u32
+pub fn tridexel_overlaps(a: &[f64], b: &[f64], yes: &mut u32) -> u32
     ensures { AnsweredBy bool_numbers BoolAnswer.Refused (ComparePost (compare_causes a.now b.now)
         (Overlaps a.now b.now))
         result yes.old yes.new }
@@ -85,8 +75,7 @@ pub extern "C" fn tridexel_overlaps(a: &[f64], b: &[f64], yes: &mut u32) -> u32
 
 // `ray_merge::merge`; for possible and certain, in this order, `moved` becomes 1 where the list is a new one in the
 // work buffer and 0 where it is the caller's own, and `pairs` the number of its pairs.
-#[unsafe(no_mangle)]
-pub extern "C" fn tridexel_merge(
+pub fn tridexel_merge(
     possible: &[f64],
     certain: &[f64],
     lo: f64,
@@ -107,8 +96,7 @@ pub extern "C" fn tridexel_merge(
 
 // `ray_trace::trace`; `reason` becomes 1 not possible before, 2 removed, 3 made uncertain, 4 not certain before, 5 still certain, and
 // `by_entry` the number of the entry that removed the place or made it uncertain, counted from 1, else 0.
-#[unsafe(no_mangle)]
-pub extern "C" fn tridexel_trace(
+pub fn tridexel_trace(
     possible: &[f64],
     certain: &[f64],
     lo: f64,

@@ -11,8 +11,7 @@ ghost use Rattle.store.specs.Store.{cells};
 use grid::DexelStockSpec;
 
 // `grid_from_spec::grid`; `counts` and `steps` become the cells along x, y and z and their widths.
-#[unsafe(no_mangle)]
-pub extern "C" fn tridexel_grid(
+pub fn tridexel_grid(
     spec: DexelStockSpec,
     units: &[u8],
     counts: &mut [u64; 3],
@@ -26,8 +25,7 @@ pub extern "C" fn tridexel_grid(
 }
 
 // `stock_fill::fill`; `generation` and `intervals` become the small record of the stock.
-#[unsafe(no_mangle)]
-pub extern "C" fn tridexel_fill(
+pub fn tridexel_fill(
     spec: DexelStockSpec,
     units: &[u8],
     spans: &mut [f64],
@@ -47,8 +45,7 @@ pub extern "C" fn tridexel_fill(
 }
 
 // `stock_volume::volume`; `volume` becomes the ten numbers of the Rust's `DexelVolume`, in its order.
-#[unsafe(no_mangle)]
-pub extern "C" fn tridexel_volume(
+pub fn tridexel_volume(
     spec: DexelStockSpec,
     units: &[u8],
     spans: &[f64],

@@ -10,8 +10,7 @@ use cutter::PreparedCutter;
 use grid::DexelStockSpec;
 
 // `sweep::sweep`; `entries` and `visits` become the totals.
-#[unsafe(no_mangle)]
-pub extern "C" fn tridexel_sweep(
+pub fn tridexel_sweep(
     spec: DexelStockSpec,
     units: &[u8],
     spans: &[f64],

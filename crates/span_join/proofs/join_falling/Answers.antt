@@ -19,6 +19,4 @@ insert-n-requires c = let asked = c.requires in
     part_room c.loop-k.invariant (omega (arith, c.loop-k.invariant.passed_most, c.loop-k.invariant.passed_even, asked.0, asked.1))
 
 pub loop-k-preserved : goal.loop-k-preserved
-loop-k-preserved c = (λ c.
-    let l = c.before.before.before.before.before.before.before.before.before.before in
-    back_step _ _ _ _ _ _ _ l.before.before.before.requires.0 (omega arith) l.loop.invariant c.before.before.insert.ensures) c
+loop-k-preserved c = back_step _ _ _ _ _ _ _ c.requires.0 (omega arith) c.loop-k.invariant c.insert-n.ensures

@@ -18,7 +18,5 @@ insert-n-requires c = let asked = c.requires in
     part_room c.loop-k.invariant (omega (arith, c.loop-k.invariant.passed_most, c.loop-k.invariant.passed_even, asked.0, asked.1))
 
 pub loop-k-preserved : goal.loop-k-preserved
-loop-k-preserved c = (λ c.
-    let l = c.before.before.before.before.before.before.before.before.before.before in
-    begun-step _ _ _ _ _ _ _ (omega (arith, l.loop.invariant.passed_even, l.before.before.before.requires.0)) l.loop.invariant
-    c.before.before.insert.ensures) c
+loop-k-preserved c = begun-step _ _ _ _ _ _ _ (omega (arith, c.loop-k.invariant.passed_even, c.requires.0)) c.loop-k.invariant
+    c.insert-n.ensures

@@ -1,0 +1,120 @@
+// The C interface: every entry under a C name. A slice is a pointer and a length, a number or an array handed back is a pointer.
+// The result is document 01's refusal number, 0 where the call is accepted. A refused call leaves every number and cell as it was,
+// but for 8 and 16, where the log of a sweep ends zero.
+#![tactic(auto)]
+
+mod commits;
+mod stocks;
+mod sweeps;
+
+ghost use Rattle.spans.specs.Spans.{NormalOf};
+ghost use Rattle.std.specs.Prelude.{length};
+ghost use Rattle.spans.specs.Results.{ListPost};
+ghost use Rattle.span_normalize.specs.Causes.{normalize_causes};
+ghost use Rattle.span_combine.specs.Combine.{combine_causes, LessOf, CommonOf};
+ghost use Rattle.span_compare.specs.Verdicts.{ComparePost, compare_causes, Contains, Overlaps};
+ghost use Rattle.span_compare.specs.declared.BoolAnswer.{BoolAnswer};
+ghost use Rattle.ray_merge.specs.Merge.{MergePost};
+ghost use Rattle.ray_merge.specs.declared.MergeAnswer.{MergeAnswer};
+ghost use Rattle.ray_trace.specs.Trace.{TracePost};
+ghost use Rattle.ray_trace.specs.declared.TraceAnswer.{TraceAnswer};
+ghost use Rattle.spans.specs.declared.ListAnswer.{ListAnswer};
+ghost use Rattle.c_results.specs.Numbers.{AnsweredBy, list_numbers, bool_numbers, merge_numbers, part_cells};
+ghost use Rattle.c_results.specs.Numbers.{trace_numbers, trace_cells};
+
+// `span_normalize::normalize`; `pairs` becomes the number of pairs.
+#[unsafe(no_mangle)]
+pub extern "C" fn tridexel_normalize(spans: &[f64], out: &mut [f64], pairs: &mut usize) -> u32
+    ensures { AnsweredBy list_numbers ListAnswer.Refused
+        (ListPost (NormalOf spans.now) (normalize_causes spans.now (length out.old))
+        out.old out.new)
+        result pairs.old pairs.new }
+{
+    tridexel::tridexel_normalize(spans, out, pairs)
+}
+
+// `span_combine::subtract`; `pairs` becomes the number of pairs.
+#[unsafe(no_mangle)]
+pub extern "C" fn tridexel_subtract(a: &[f64], b: &[f64], out: &mut [f64], pairs: &mut usize) -> u32
+    ensures { AnsweredBy list_numbers ListAnswer.Refused (ListPost (LessOf a.now b.now)
+        (combine_causes a.now b.now (length out.old)) out.old out.new)
+        result pairs.old pairs.new }
+{
+    tridexel::tridexel_subtract(a, b, out, pairs)
+}
+
+// `span_combine::intersect`; `pairs` becomes the number of pairs.
+#[unsafe(no_mangle)]
+pub extern "C" fn tridexel_intersect(
+    a: &[f64],
+    b: &[f64],
+    out: &mut [f64],
+    pairs: &mut usize,
+) -> u32
+    ensures { AnsweredBy list_numbers ListAnswer.Refused (ListPost (CommonOf a.now b.now)
+        (combine_causes a.now b.now (length out.old)) out.old out.new)
+        result pairs.old pairs.new }
+{
+    tridexel::tridexel_intersect(a, b, out, pairs)
+}
+
+// `span_compare::contains`; `yes` becomes 1 or 0.
+#[unsafe(no_mangle)]
+pub extern "C" fn tridexel_contains(outer: &[f64], inner: &[f64], yes: &mut u32) -> u32
+    ensures { AnsweredBy bool_numbers BoolAnswer.Refused (ComparePost (compare_causes outer.now inner.now)
+        (Contains outer.now inner.now))
+        result yes.old yes.new }
+{
+    tridexel::tridexel_contains(outer, inner, yes)
+}
+
+// `span_compare::overlaps`; `yes` becomes 1 or 0.
+#[unsafe(no_mangle)]
+pub extern "C" fn tridexel_overlaps(a: &[f64], b: &[f64], yes: &mut u32) -> u32
+    ensures { AnsweredBy bool_numbers BoolAnswer.Refused (ComparePost (compare_causes a.now b.now)
+        (Overlaps a.now b.now))
+        result yes.old yes.new }
+{
+    tridexel::tridexel_overlaps(a, b, yes)
+}
+
+// `ray_merge::merge`; for possible and certain, in this order, `moved` becomes 1 where the list is a new one in the
+// work buffer and 0 where it is the caller's own, and `pairs` the number of its pairs.
+#[unsafe(no_mangle)]
+pub extern "C" fn tridexel_merge(
+    possible: &[f64],
+    certain: &[f64],
+    lo: f64,
+    hi: f64,
+    outer: &[f64],
+    inner: &[f64],
+    work: &mut [f64],
+    moved: &mut [u32; 2],
+    pairs: &mut [usize; 2],
+) -> u32
+    ensures { AnsweredBy merge_numbers MergeAnswer.Refused (MergePost lo hi possible.now certain.now
+        outer.now inner.now work.old work.new) result
+        (part_cells moved.old pairs.old) (part_cells moved.new pairs.new) }
+{
+    tridexel::tridexel_merge(possible, certain, lo, hi, outer, inner, work, moved, pairs)
+}
+
+// `ray_trace::trace`; `reason` becomes 1 not possible before, 2 removed, 3 made uncertain, 4 not certain before, 5 still certain, and
+// `by_entry` the number of the entry that removed the place or made it uncertain, counted from 1, else 0.
+#[unsafe(no_mangle)]
+pub extern "C" fn tridexel_trace(
+    possible: &[f64],
+    certain: &[f64],
+    lo: f64,
+    hi: f64,
+    log: &[f64],
+    place: f64,
+    reason: &mut u32,
+    by_entry: &mut usize,
+) -> u32
+    ensures { AnsweredBy trace_numbers TraceAnswer.Refused (TracePost lo hi possible.now certain.now
+        log.now place) result
+        (trace_cells reason.old by_entry.old) (trace_cells reason.new by_entry.new) }
+{
+    tridexel::tridexel_trace(possible, certain, lo, hi, log, place, reason, by_entry)
+}
