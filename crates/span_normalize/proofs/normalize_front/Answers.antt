@@ -13,7 +13,7 @@ use Rattle.span_normalize.proofs.normalize_front.Goals.{After-sort_pairs}
 
 -- the buffer with the sorted part back in it
 abbrev back : After-sort_pairs → List Float
-back s = let a = s.before.before.before.args in put_mid 0 a.m a.b.now s.sort-pairs.new.0
+back s = put_mid 0 s.args.m s.args.b.now s.sort_pairs.new.s
 
 back-size : (s : After-sort_pairs) → length (back s) ≡ length s.args.b.now
 back-size s = same_len_mid 0 s.args.m s.args.b.now s.sort_pairs.new.s s.sort_pairs.ensures.size
