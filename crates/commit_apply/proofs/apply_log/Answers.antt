@@ -6,25 +6,17 @@ use mir.Syntax.{w64}
 use lib.ListN.{length}
 use Rattle.commit_apply.proofs.Apply.{group-room, mergeable, sizes-fit, freeable, layable, done, cleared-size}
 use Rattle.commit_apply.proofs.apply_log.Goals as goal
-use Rattle.commit_apply.proofs.apply_log.Goals.{After-entry_count, After-free_all, After-group, After-merge_all-changed, After-total_rays-rays, Start}
+use Rattle.commit_apply.proofs.apply_log.Goals.{After-entry_count}
 
 -- ---- the calls before, from where the entries are counted
-abbrev merged : After-entry_count → After-merge_all-changed
-merged c = c.before.before.before.before
-
-abbrev grouped : After-entry_count → After-group
-grouped c = (merged c).before.before.before.before.before.before.before
-
-abbrev start : After-entry_count → Start
-start c = (grouped c).before.before.before.before.before.before.before
 
 -- the sizes lie in the work buffer
-room : (c : After-entry_count) → let rays = c.total_rays-rays.result in rays + c.entry_count.result + 2 * rays ≤ length (start c).args.work.now
-room c = sizes-fit _ _ _ _ _ (start c).requires _ _ _ (grouped c).group.ensures (merged c).merge_all-changed.ensures _
+room : (c : After-entry_count) → let rays = c.total_rays-rays.result in rays + c.entry_count.result + 2 * rays ≤ length c.args.work.now
+room c = sizes-fit _ _ _ _ _ c.requires _ _ _ c.group.ensures c.merge_all-changed.ensures _
     c.total_rays-rays.ensures _ c.entry_count.ensures
 
-bound : (c : After-entry_count) → length (start c).args.work.now < 2 ^ 64
-bound c = omega (arith, (start c).well_formed.1.1.1.1.1.1.0)
+bound : (c : After-entry_count) → length c.args.work.now < 2 ^ 64
+bound c = omega (arith, c.well_formed.1.1.1.1.1.1.0)
 
 sum_fits : (r e w : ℕ) → r + e + 2 * r ≤ w → w < 2 ^ 64 → Fits w64 (r + e)
 sum_fits r e w h b = omega arith
@@ -36,17 +28,15 @@ past_fits : (r e w : ℕ) → r + e + 2 * r ≤ w → w < 2 ^ 64 → Fits w64 (r
 past_fits r e w h b = omega arith
 
 -- where the lists were freed, from where their cells are lent again
-abbrev freed : tie.After-lay-all-arg4 → After-free_all
-freed c = c.before.before.before.before.before.before.before.before.before.before
 
 -- the cells and the work buffer at the end
 finished : tie.Need-returns
 finished c =
     let cleared = c.before.before in
     let laid = cleared.before.before.before.before.before.before.before.before in
-    let emptied = freed laid.before in
+    let emptied = laid.before.before.before.before.before.before.before.before.before.before.before in
     let counted = emptied.before.before.before.before.before in
-    done _ _ _ _ _ (start counted).pre _ _ _ (grouped counted).group.ensures (merged counted).merge-all.ensures _
+    done _ _ _ _ _ counted.before.before.before.before.before.before.before.before.before.before.before.before.before.before.before.before.before.before.pre _ _ _ counted.before.before.before.before.before.before.before.before.before.before.before.group.ensures counted.before.before.before.before.merge-all.ensures _
     counted.before.total-rays.ensures _ counted.entry-count.ensures _ emptied.free_all.ensures _ _ laid.lay-all.ensures
     cleared.clear-from.ensures
 
@@ -60,33 +50,29 @@ merge_all-changed-requires c =
     mergeable _ _ _ _ _ c.requires _ c.group.ensures
 
 pub overflow_add-sizes : goal.overflow_add-sizes
-overflow_add-sizes c = sum_fits c.total_rays-rays.result c.entry_count.result (length (start c).args.work.now) (room c) (bound c)
+overflow_add-sizes c = sum_fits c.total_rays-rays.result c.entry_count.result (length c.args.work.now) (room c) (bound c)
 
 pub free_all-requires : goal.free_all-requires
 free_all-requires c =
-    freeable _ _ _ _ _ (start (goal.at.free_all-requires c).After-total_rays-rays).requires _ _ _ (grouped (goal.at.free_all-requires c).After-total_rays-rays).group.ensures (merged (goal.at.free_all-requires c).After-total_rays-rays).merge_all-changed.ensures _
+    freeable _ _ _ _ _ c.requires _ _ _ c.group.ensures c.merge_all-changed.ensures _
     c.total_rays-rays.ensures _ c.entry_count.ensures
 
 pub overflow_mul-rays : goal.overflow_mul-rays
 overflow_mul-rays c =
-    let counted = (freed c).before.before.before.before.before in
-    twice-fits counted.before.total-rays.result counted.entry-count.result (length (start counted).args.work.now) (room counted)
-    (bound counted)
+    twice-fits c.total_rays-rays.result c.entry_count.result (length c.args.work.now) (room (goal.at.overflow_mul-rays c).After-entry_count)
+    (bound (goal.at.overflow_mul-rays c).After-entry_count)
 
 pub overflow_add-sizes-2 : goal.overflow_add-sizes-2
 overflow_add-sizes-2 c =
-    let counted = (freed c).before.before.before.before.before in
-    past_fits counted.before.total-rays.result counted.entry-count.result (length (start counted).args.work.now) (room counted)
-    (bound counted)
+    past_fits c.total_rays-rays.result c.entry_count.result (length c.args.work.now) (room (goal.at.overflow_add-sizes-2 c).After-entry_count)
+    (bound (goal.at.overflow_add-sizes-2 c).After-entry_count)
 
 pub lay_all-requires : goal.lay_all-requires
 lay_all-requires c =
-    let counted = (freed c).before.before.before.before.before in
-    let first = grouped counted in
-    layable _ _ _ _ _ (start counted).requires _ _ _ first.group.ensures (merged counted).merge_all-changed.ensures _
-    counted.before.total-rays.ensures _ counted.entry-count.ensures _ (freed c).free_all.ensures
-    first.before.before.before.before.before.before.slice-known.given
-    first.before.before.before.shared-slice-known.given
+    layable _ _ _ _ _ c.requires _ _ _ c.group.ensures c.merge_all-changed.ensures _
+    c.total_rays-rays.ensures _ c.entry_count.ensures _ c.free_all.ensures
+    c.slice_known-1.given
+    c.shared_slice_known-1.given
 
 pub shape_of-work : goal.shape_of-work
 shape_of-work c = cleared-size _ _ _ _ _ _ _ _ (finished c)

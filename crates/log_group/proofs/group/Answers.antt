@@ -14,7 +14,7 @@ use Rattle.log_entries.specs.Named.{EachNamed}
 use Rattle.log_entries.proofs.Places.{each_below}
 use Rattle.log_group.proofs.Chains.{Grouping, grouping-start, grouping-step, grouping-done, cleared-size, cleared-none, cleared-past}
 use Rattle.log_group.proofs.group.Goals as goal
-use Rattle.log_group.proofs.group.Goals.{After-clear_from, After-ray_at-ray, After-total_rays-rays, After-work-1}
+use Rattle.log_group.proofs.group.Goals.{After-clear_from, After-total_rays-rays}
 
 named : (g : DexelGrid) (log : List Float) (i : ℕ) → EachNamed g log → i < entry_count log → names_some_ray g (entry_at log i) ≡ true
 unfolding EachNamed
@@ -28,7 +28,7 @@ fits t = omega (arith, t.total_rays-rays.ensures, t.requires.1)
 
 -- the buffer where the loop begins
 abbrev begun : After-clear_from → List Float
-begun y = let t = y.before.before in y.clear-from.new.0 ++ drop t.total-rays.result t.before.before.before.args.work.now
+begun y = y.clear_from.new.b ++ drop y.total_rays-rays.result y.args.work.now
 
 begun-size : (y : After-clear_from) → length (begun y) ≡ length y.args.work.now
 begun-size y = cleared-size y.total_rays-rays.result y.args.work.now y.clear_from.new.b
@@ -74,10 +74,10 @@ loop-i-smaller c = omega (arith, c.loop-i-test.true)
 pub loop-i-preserved : goal.loop-i-preserved
 loop-i-preserved c =
     let below : c.loop-i.i - 1 < entry_count c.args.log.now = omega (arith, c.loop-i-test.true, c.loop-i.invariant.most) in
-    grouping-step c.args.g c.args.log.now (begun (goal.at.loop-i-preserved c).After-ray_at-ray) c.loop-i.work (omega (arith, c.requires.1, begun-size (goal.at.loop-i-preserved c).After-clear_from))
+    grouping-step c.args.g c.args.log.now (begun (goal.at.loop-i-preserved c).After-clear_from) c.loop-i.work (omega (arith, c.requires.1, begun-size (goal.at.loop-i-preserved c).After-clear_from))
     (c.loop-i.i - 1) below c.ray_at-ray.result c.ray_at-ray.ensures
     (omega (arith, c.ray_at-ray.ensures, each_below c.args.g c.args.log.now c.requires.0 (c.loop-i.i - 1) below))
-    (subst (λ (n : ℕ). Grouping c.args.g c.args.log.now (begun (goal.at.loop-i-preserved c).After-ray_at-ray) c.loop-i.work n)
+    (subst (λ (n : ℕ). Grouping c.args.g c.args.log.now (begun (goal.at.loop-i-preserved c).After-clear_from) c.loop-i.work n)
     (again c.loop-i.i c.loop-i-test.true) c.loop-i.invariant)
     c.total_rays-rays.result c.total_rays-rays.ensures (omega arith) c.link.new.work c.link.ensures
 
@@ -86,7 +86,7 @@ shape_of-work c = c.loop-i.invariant.size ∙ begun-size (goal.at.shape_of-work 
 
 pub returns : goal.returns
 returns c =
-    grouping-done c.args.g c.args.log.now (begun (goal.at.returns c).After-work-1) c.loop-i.work (omega (arith, c.requires.1, begun-size (goal.at.returns c).After-clear_from))
+    grouping-done c.args.g c.args.log.now (begun (goal.at.returns c).After-clear_from) c.loop-i.work (omega (arith, c.requires.1, begun-size (goal.at.returns c).After-clear_from))
     c.requires.0 c.loop-i.i (omega (arith, c.loop-i-test.false)) c.args.work.now (begun-size (goal.at.returns c).After-clear_from)
     (λ q h. cleared-past c.total_rays-rays.result c.args.work.now c.clear_from.new.b (fits (goal.at.returns c).After-total_rays-rays)
     c.clear_from.ensures q (omega (arith, c.total_rays-rays.ensures))) c.loop-i.invariant

@@ -7,22 +7,19 @@ use lib.ListN.{length}
 use Rattle.log_merge.proofs.AllRays.{Merging, Fits, starts, fits, ray-ready, steps, done}
 use Rattle.store.specs.Store.{cells}
 use Rattle.log_merge.proofs.merge_all.Goals as goal
-use Rattle.log_merge.proofs.merge_all.Goals.{After-merge_ray-m, After-slice_known-in-loop-ray-2-1, At-loop-ray, Start}
+use Rattle.log_merge.proofs.merge_all.Goals.{After-merge_ray-m, At-loop-ray}
 
 count_most : (b : Bool) → cond b 1 0 ≤ 1
 count_most true = omega arith
 count_most false = omega arith
 
-abbrev start : At-loop-ray → Start
-start l = l.before.before.before.before.before.before.before.before
-
 -- the work buffer's length is one of the machine's numbers
-long : (l : At-loop-ray) → length (start l).args.work.now < 2 ^ 64
-long l = omega (arith, (start l).well_formed.1.1.1.1.1.1.0.1)
+long : (l : At-loop-ray) → length l.args.work.now < 2 ^ 64
+long l = omega (arith, l.well_formed.1.1.1.1.1.1.0.1)
 
 -- there is room for one more ray
-fits-at : (l : At-loop-ray) → Fits (start l).requires l.total_rays-rays.ensures l.loop-ray.invariant
-fits-at l = fits (start l).requires l.total_rays-rays.ensures l.loop-ray.invariant
+fits-at : (l : At-loop-ray) → Fits l.requires l.total_rays-rays.ensures l.loop-ray.invariant
+fits-at l = fits l.requires l.total_rays-rays.ensures l.loop-ray.invariant
 
 -- the ray's new lists end below the end of the buffer
 ends_at : (m : After-merge_ray-m) → m.loop-ray.q + (2 * m.merge_ray-m.result.possible + 2 * m.merge_ray-m.result.certain) < 2 ^ 64
@@ -36,7 +33,7 @@ loop-ray-init c =
 pub merge_ray-m-requires : goal.merge_ray-m-requires
 merge_ray-m-requires c =
     rw c.entry_count-e.ensures
-    (ray-ready (start (goal.at.merge_ray-m-requires c).At-loop-ray).requires c.total_rays-rays.ensures c.loop-ray.invariant c.loop-ray-test.true)
+    (ray-ready c.requires c.total_rays-rays.ensures c.loop-ray.invariant c.loop-ray-test.true)
 
 pub overflow_add-sizes-in-loop-ray : goal.overflow_add-sizes-in-loop-ray
 overflow_add-sizes-in-loop-ray c =
@@ -87,7 +84,7 @@ loop-ray-smaller c = omega (arith, c.loop-ray-test.true)
 
 pub loop-ray-preserved : goal.loop-ray-preserved
 loop-ray-preserved c =
-    steps (start (goal.at.loop-ray-preserved c).After-slice_known-in-loop-ray-2-1).requires c.total_rays-rays.ensures c.loop-ray.invariant
+    steps c.requires c.total_rays-rays.ensures c.loop-ray.invariant
     c.shared_slice_known-1.given c.shared_slice_known-4-1.given
     c.loop-ray-test.true (long (goal.at.loop-ray-preserved c).At-loop-ray) c.merge_ray-m.ensures
     (rw c.entry_count-e.ensures at c.put_sizes.ensures) c.one_if_changed-changed.ensures
@@ -97,4 +94,4 @@ shape_of-work c = c.loop-ray.invariant.size
 
 pub returns : goal.returns
 returns c =
-    done (start (goal.at.returns c).At-loop-ray).requires c.total_rays-rays.ensures c.loop-ray.invariant c.loop-ray-test.false
+    done c.requires c.total_rays-rays.ensures c.loop-ray.invariant c.loop-ray-test.false

@@ -16,32 +16,30 @@ use Rattle.ray_text.proofs.Running.{due-ray, even-lists, writes, refuses}
 use borrow.Author.Rules.{rules}
 use native.Mathlib.Omega.{arith}
 use Rattle.ray_text.proofs.print_merged.Goals as goal
-use Rattle.ray_text.proofs.print_merged.Goals.{After-certain_of, After-out-in-Lists-1, After-possible_of, After-put_lines-m, After-put_lines-n, After-slice_known-in-Lists-2-1, In-Lists, In-Refused, Start}
+use Rattle.ray_text.proofs.print_merged.Goals.{After-certain_of, After-possible_of, After-put_lines-m, After-put_lines-n, In-Lists, In-Refused}
 
 -- the answer where the merge refused
 due : (c : In-Refused) → Due (merge_causes c.args.lo c.args.hi c.args.possible.now c.args.certain.now c.args.outer.now c.args.inner.now 3072) c.in-Refused.k
 due c = (rw c.in-Refused.is at c.merge-answer.ensures).0
 
 -- the two lists, and the buffer, where it did not
-abbrev start : In-Lists → Start
-start c = c.before.before.before.before.before.before.before.before.before.before.before
 
 abbrev first : In-Lists → MergedList
-first c = c.before.answer2.given.0.0
+first c = c.in-Lists.p
 
 abbrev second : In-Lists → MergedList
-second c = c.before.answer2.given.0.1.0
+second c = c.in-Lists.c
 
 abbrev buffer : In-Lists → List Float
-buffer c = c.before.before.before.before.merge.new.1.1.1.1.1.1.0
+buffer c = c.merge-answer.new.work
 
 abbrev possible-new : In-Lists → List Float
-possible-new c = handed_back (first c) (start c).args.possible.now (buffer c) 0
+possible-new c = handed_back (first c) c.args.possible.now (buffer c) 0
 
 abbrev certain-new : In-Lists → List Float
-certain-new c = handed_back (second c) (start c).args.certain.now (buffer c) (new_cells (first c))
+certain-new c = handed_back (second c) c.args.certain.now (buffer c) (new_cells (first c))
 
-lists : (c : In-Lists) → let a = (start c).args in NoneDue (merge_causes a.lo a.hi a.possible.now a.certain.now a.outer.now a.inner.now 3072) × MergeEffect a.lo a.hi a.possible.now a.certain.now a.outer.now a.inner.now (first c) (second c) (buffer c)
+lists : (c : In-Lists) → NoneDue (merge_causes c.args.lo c.args.hi c.args.possible.now c.args.certain.now c.args.outer.now c.args.inner.now 3072) × MergeEffect c.args.lo c.args.hi c.args.possible.now c.args.certain.now c.args.outer.now c.args.inner.now (first c) (second c) (buffer c)
 lists c = rw c.in-Lists.is at c.merge-answer.ensures
 
 size : (c : In-Lists) → length (buffer c) ≡ 3072
@@ -50,8 +48,7 @@ size c = c.merge-answer.auto.work
 -- the new lists are of pairs, and their lines fit the text
 fit : (c : In-Lists) → (length (possible-new c) % 2 ≡ 0) × (length (certain-new c) % 2 ≡ 0) × (18 * length (possible-new c) + 18 * length (certain-new c) + 8 ≤ 65536)
 fit c =
-    let a = (start c).args in
-    even-lists a.lo a.hi a.possible.now a.certain.now a.outer.now a.inner.now (start c).requires.0
+    even-lists c.args.lo c.args.hi c.args.possible.now c.args.certain.now c.args.outer.now c.args.inner.now c.requires.0
     (first c) (second c) (buffer c) (size c) (lists c).1
 
 possible_is : (c : After-possible_of) → c.possible_of.result.now ≡ possible-new c.before.before.before
@@ -79,13 +76,13 @@ put_refused-requires c = (
 pub put_lines-n-requires : goal.put_lines-n-requires
 put_lines-n-requires c =
     let i = ap length (possible_is c) in
-    (rw i (fit (goal.at.put_lines-n-requires c).In-Lists).0, omega (arith, i, (fit (goal.at.put_lines-n-requires c).In-Lists).2, (start (goal.at.put_lines-n-requires c).In-Lists).requires.1))
+    (rw i (fit (goal.at.put_lines-n-requires c).In-Lists).0, omega (arith, i, (fit (goal.at.put_lines-n-requires c).In-Lists).2, c.requires.1))
 
 pub put_lines-m-requires : goal.put_lines-m-requires
 put_lines-m-requires c =
     let i = ap length (certain_is c) in (
       rw i (fit (goal.at.put_lines-m-requires c).In-Lists).1,
-      omega (arith, i, (fit (goal.at.put_lines-m-requires c).In-Lists).2, (start (goal.at.put_lines-m-requires c).After-out-in-Lists-1).requires.1, c.put_lines-n.auto.out, c.put_lines-n.ensures.next, printed (goal.at.put_lines-m-requires c).After-put_lines-n),
+      omega (arith, i, (fit (goal.at.put_lines-m-requires c).In-Lists).2, c.requires.1, c.put_lines-n.auto.out, c.put_lines-n.ensures.next, printed (goal.at.put_lines-m-requires c).After-put_lines-n),
     )
 
 pub put_end-requires : goal.put_end-requires
@@ -93,7 +90,7 @@ put_end-requires c =
     omega (
       arith,
       (fit (goal.at.put_end-requires c).In-Lists).2,
-      (start (goal.at.put_end-requires c).After-certain_of).requires.1,
+      c.requires.1,
       c.put_lines-n.auto.out,
       c.put_lines-m.auto.out,
       c.put_lines-n.ensures.next,
@@ -110,8 +107,8 @@ returns-in-Refused c =
 
 pub returns-in-Lists : goal.returns-in-Lists
 returns-in-Lists c =
-    writes c.args.lo c.args.hi c.args.possible.now c.args.certain.now c.args.outer.now c.args.inner.now c.requires.0 (first (goal.at.returns-in-Lists c).After-slice_known-in-Lists-2-1)
-    (second (goal.at.returns-in-Lists c).After-slice_known-in-Lists-2-1) (buffer (goal.at.returns-in-Lists c).After-slice_known-in-Lists-2-1) (size (goal.at.returns-in-Lists c).In-Lists) (lists (goal.at.returns-in-Lists c).In-Lists).1
+    writes c.args.lo c.args.hi c.args.possible.now c.args.certain.now c.args.outer.now c.args.inner.now c.requires.0 (first (goal.at.returns-in-Lists c).In-Lists)
+    (second (goal.at.returns-in-Lists c).In-Lists) (buffer (goal.at.returns-in-Lists c).In-Lists) (size (goal.at.returns-in-Lists c).In-Lists) (lists (goal.at.returns-in-Lists c).In-Lists).1
     c.args.out.now c.put_lines-n.new.out c.put_lines-m.new.out c.put_end.new.out c.put_lines-n.result
     c.put_lines-m.result c.put_end.result (lists (goal.at.returns-in-Lists c).In-Lists).0
     (subst (λ (l : List Float). Appended c.args.out.now 0 (lines_text letter_p l) c.put_lines-n.new.out

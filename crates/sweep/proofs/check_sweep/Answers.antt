@@ -8,7 +8,7 @@ use Rattle.sweep_model.specs.SweepEntries.{Setting, setting}
 use Rattle.sweep.specs.Steps.{SweepCheckPost}
 use Rattle.sweep.proofs.Answers.{StockPassed, admit_if, check-short, check-odd, check-bad, check-tool-bad, check-chords}
 use Rattle.sweep.proofs.check_sweep.Goals as goal
-use Rattle.sweep.proofs.check_sweep.Goals.{After-check_chords, After-shared_slice_known-2-1, After-shared_slice_known-4-1, Else-not-check_stock, Start}
+use Rattle.sweep.proofs.check_sweep.Goals.{After-check_chords, Else-not-check_stock, Start}
 
 -- the setting of a call
 abbrev here : Start → Setting
@@ -21,9 +21,9 @@ passed c = record {
   input = (c.if-chords-ne0.false, c.check_stock.ensures.0 (not-false _ c.if-not-check_stock.false-raw));
 }
 
-by-chords : (c : After-check_chords) (good : Bool) → c.check_chords.result ≡ good → SweepCheckPost (here c.before.before.before.before.before.before.before.before.before.before.before.before.before) c.args.intervals c.args.chords.now (admit_if good)
+by-chords : (c : After-check_chords) (good : Bool) → c.check_chords.result ≡ good → SweepCheckPost (here c.before.before.before.before.before.before.before.before.before.before.before.before.before.before.before) c.args.intervals c.args.chords.now (admit_if good)
 by-chords c good e =
-    check-chords (here c.before.before.before.before.before.before.before.before.before.before) c.args.intervals c.args.chords.now (passed c.before.before.before.before.before.before) c.requires
+    check-chords (here c.before.before.before.before.before.before.before.before.before.before.before.before.before.before.before) c.args.intervals c.args.chords.now (passed c.before.before.before.before.before.before) c.requires
     c.check_tool-tool.result c.check_tool-tool.ensures c.in-Accepted.is
     c.check_chords.result good c.check_chords.ensures e
 
@@ -39,12 +39,12 @@ check_stock-requires c = room_of c.args.spec c.args.g (here (goal.at.check_stock
 
 pub returns-then-not-check_stock : goal.returns-then-not-check_stock
 returns-then-not-check_stock c =
-    check-bad (here (goal.at.returns-then-not-check_stock c).After-shared_slice_known-2-1) c.args.intervals c.args.chords.now (sym c.is_short.ensures ∙ c.if-is_short.false)
+    check-bad (here (goal.at.returns-then-not-check_stock c).Start) c.args.intervals c.args.chords.now (sym c.is_short.ensures ∙ c.if-is_short.false)
     (λ is_sound. clash _ (c.check_stock.ensures.1 is_sound) (not-true _ c.if-not-check_stock.true-raw))
 
 pub returns-in-Refused : goal.returns-in-Refused
 returns-in-Refused c =
-    check-tool-bad (here (goal.at.returns-in-Refused c).After-shared_slice_known-4-1) c.args.intervals c.args.chords.now (passed (goal.at.returns-in-Refused c).Else-not-check_stock) c.check_tool-tool.result _
+    check-tool-bad (here (goal.at.returns-in-Refused c).Start) c.args.intervals c.args.chords.now (passed (goal.at.returns-in-Refused c).Else-not-check_stock) c.check_tool-tool.result _
     c.check_tool-tool.ensures c.in-Refused.is
 
 pub returns-then-check_chords : goal.returns-then-check_chords

@@ -5,7 +5,7 @@ use Rattle.sweep_visits.proofs.Walks.{halted-of, went-of}
 use Rattle.sweep_walk.proofs.Chords.{first-halts, both-walked, logged-same}
 use Rattle.store.specs.Store.{cells}
 use Rattle.sweep_walk.proofs.sweep_chord.Goals as goal
-use Rattle.sweep_walk.proofs.sweep_chord.Goals.{After-shared_slice_known-2-1, Start}
+use Rattle.sweep_walk.proofs.sweep_chord.Goals.{Start}
 
 -- the setting of a call
 abbrev here : Start → Setting
@@ -20,7 +20,7 @@ shape_of-log-in-Stopped c = (halted-of _ _ c.in-Stopped.is c.sweep_axis-x.ensure
 
 pub returns-in-Stopped : goal.returns-in-Stopped
 returns-in-Stopped c =
-    let s = here (goal.at.returns-in-Stopped c).After-shared_slice_known-2-1 in
+    let s = here (goal.at.returns-in-Stopped c).Start in
     first-halts s c.args.chord
     c.first_axis-first.result
     c.first_axis-first.ensures
@@ -41,7 +41,7 @@ shape_of-log-in-At c = logged-same _ _ _ _ _ c.sweep_axis.result
 
 pub returns-in-At : goal.returns-in-At
 returns-in-At c =
-    let s = here (goal.at.returns-in-At c).After-shared_slice_known-2-1 in
+    let s = here (goal.at.returns-in-At c).Start in
     both-walked s c.args.chord _ c.sweep_axis.result
     c.first_axis-first.result c.second_axis-second.result c.first_axis-first.ensures
     c.second_axis-second.ensures (went-of _ _ c.in-At.is

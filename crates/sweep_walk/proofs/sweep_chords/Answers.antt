@@ -8,7 +8,7 @@ use Rattle.sweep_visits.proofs.Walks.{Sweeping, sweeping-start, halted-of, went-
 use Rattle.sweep_walk.proofs.Chords.{entries_at, chord-next, chord-halts, chords-done}
 use Rattle.store.specs.Store.{cells}
 use Rattle.sweep_walk.proofs.sweep_chords.Goals as goal
-use Rattle.sweep_walk.proofs.sweep_chords.Goals.{After-sweep_chord-arg-1, Start}
+use Rattle.sweep_walk.proofs.sweep_chords.Goals.{Start}
 
 -- the setting of a call
 abbrev here : Start → Setting
@@ -33,7 +33,7 @@ shape_of-log-in-Stopped c = (halted-of _ _ c.in-Stopped.is c.sweep_chord-x.ensur
 
 pub returns-in-Stopped : goal.returns-in-Stopped
 returns-in-Stopped c =
-    chord-halts (here (goal.at.returns-in-Stopped c).After-sweep_chord-arg-1) c.args.chords.now c.loop-i.i c.loop-i.invariant c.chord_at-chord.result c.loop-i-test.true
+    chord-halts (here (goal.at.returns-in-Stopped c).Start) c.args.chords.now c.loop-i.i c.loop-i.invariant c.chord_at-chord.result c.loop-i-test.true
     c.chord_at-chord.ensures (halted-of _ _ c.in-Stopped.is c.sweep_chord-x.ensures)
 
 pub overflow_add-i : goal.overflow_add-i
@@ -48,7 +48,7 @@ loop-i-smaller c = omega (arith, c.loop-i-test.true)
 
 pub loop-i-preserved : goal.loop-i-preserved
 loop-i-preserved c =
-    chord-next (here (goal.at.loop-i-preserved c).After-sweep_chord-arg-1) c.args.chords.now c.loop-i.i c.loop-i.invariant c.chord_at-chord.result c.loop-i-test.true
+    chord-next (here (goal.at.loop-i-preserved c).Start) c.args.chords.now c.loop-i.i c.loop-i.invariant c.chord_at-chord.result c.loop-i-test.true
     c.chord_at-chord.ensures (went-of _ _ c.in-At.is c.sweep_chord-x.ensures)
 
 pub shape_of-log : goal.shape_of-log
