@@ -57,7 +57,7 @@ merge_lists-parts-requires c  =
     }
 
 pub overflow_add-cells : goal.overflow_add-cells
-overflow_add-cells c  =
+overflow_add-cells c =
     record {
       fits = omega (
         arith,
@@ -69,8 +69,8 @@ overflow_add-cells c  =
     }
 
 pub returns : goal.returns
-returns c  =
+returns c =
     accept c.args.lo c.args.hi c.args.possible.now c.args.certain.now c.args.outer.now c.args.inner.now c.args.work.now
     c.merge_lists-parts.new.work c.clear_from.new.b c.merge_lists-parts.result
     (c.cells.result + c.cells-2.result) (not_short (goal.at.returns c).Else-work-possible) (good (goal.at.returns c).Else-not-valid_ray) c.merge_lists-parts.ensures
-    (ap₂ (λ (x (goal.at.returns c).After-c-1 : ℕ). x + (goal.at.returns c).After-c-1) c.cells.ensures c.cells-2.ensures) c.clear_from.ensures
+    (ap₂ (λ (x y : ℕ). x + y) c.cells.ensures c.cells-2.ensures) c.clear_from.ensures

@@ -8,6 +8,7 @@ use lib.ListN.{length}
 use Rattle.ray_subtract.proofs.Sweeping.{CuttingAt, cutting-start, cutting-room, cutting-size, pair-in, cutting-last}
 use Rattle.ray_subtract.proofs.Sweeping.{cutting-end, cutting-step}
 use Rattle.ray_subtract.proofs.cut_at.Goals as goal
+use Rattle.ray_subtract.proofs.cut_at.Goals.{else-loop-j-test, then-loop-j-test+then-hi-x}
 use Rattle.ray_subtract.proofs.cut_at.Goals.{At-loop-j, In-loop-j}
 
 size : (l : At-loop-j) → length l.loop-j.w ≡ length l.args.w.now
@@ -59,4 +60,7 @@ loop-j-preserved c =
 pub returns : goal.returns
 returns c =
     cutting-last c.requires.0 c.requires.1 c.requires.2 c.loop-j.invariant _ _ c.put_pair-end-2.ensures
-    (⊎_elim (λ w g. absurd (omega (arith, w.left))) (λ w g. w.2.taken) c.loop-j-test.branch)
+    (elim c.loop-j-test.branch [
+      else-loop-j-test w ↦ λ g. absurd (omega (arith, w.loop-j-test.false))
+      | then-loop-j-test+then-hi-x w ↦ λ g. w.if-hi-x.true
+    ])
