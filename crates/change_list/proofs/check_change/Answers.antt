@@ -17,7 +17,7 @@ use Rattle.change_list.proofs.check_change.Goals as goal
 pub returns-then-not-fits : goal.returns-then-not-fits
 returns-then-not-fits c = let s = cells c.args.spans.now c.args.links.now c.args.heads.now in let st = c.requires.1 in
     change-long c.args.spec c.args.g s c.args.pairs.now c.args.h c.args.cur
-    c.fits2.result st.whole st.even st.within c.fits2.ensures c.if-not-fits.true-raw
+    c.fits.result st.whole st.even st.within c.fits.ensures c.if-not-fits.true-raw
 
 pub names_ray_from-requires : goal.names_ray_from-requires
 names_ray_from-requires c = omega (arith, c.requires.0.room.in_heads)
@@ -41,8 +41,8 @@ check_removal_at-good-requires c =
           (number_lt c.args.g (world_axis c.args.h.axis) c.args.h.index
           (tells-good _ c.names_ray_from.result c.names_ray_from.ensures c.if-not-names_ray_from.false-raw).below),
       change-fits c.args.spec c.args.g s c.args.pairs.now c.args.h c.args.cur
-          c.fits2.result st.whole st.even st.within
-          c.fits2.ensures c.if-not-fits.false-raw,
+          c.fits.result st.whole st.even st.within
+          c.fits.ensures c.if-not-fits.false-raw,
     )
 
 pub returns-then-not-good : goal.returns-then-not-good
@@ -57,8 +57,8 @@ past-requires c =
     let st = c.requires.1 in (
       cell-fits _ (length c.args.pairs.now)
           (change-fits c.args.spec c.args.g s c.args.pairs.now c.args.h c.args.cur
-          c.fits2.result st.whole st.even st.within
-          c.fits2.ensures
+          c.fits.result st.whole st.even st.within
+          c.fits.ensures
           c.if-not-fits.false-raw) (omega arith),
       st.sums,
       ray-fits c.ray_named-ray.result (ray_count c.args.g) (length c.args.heads.now)
@@ -77,8 +77,8 @@ returns c =
     c.ray_named-ray.result c.check_removal_at-good.result c.past.result
     c.ray_named-ray.ensures
     (change-fits c.args.spec c.args.g s c.args.pairs.now c.args.h c.args.cur
-    c.fits2.result st.whole st.even st.within
-    c.fits2.ensures
+    c.fits.result st.whole st.even st.within
+    c.fits.ensures
     c.if-not-fits.false-raw)
     (tells-good _ c.names_ray_from.result
     c.names_ray_from.ensures c.if-not-names_ray_from.false-raw)

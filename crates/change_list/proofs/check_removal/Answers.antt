@@ -20,10 +20,10 @@ pub ray_bounds-bounds-requires : goal.ray_bounds-bounds-requires
 ray_bounds-bounds-requires c = omega (arith, c.requires.0.room.in_heads)
 
 pub is_removal-requires : goal.is_removal-requires
-is_removal-requires c = let a = (goal.at.is_removal-requires c).Start
-    in let s = cells a.args.spans.now a.args.links.now a.args.heads.now in
-    old-sound a.args.spec a.args.g s a.args.ray a.args.p.now a.args.q.now a.pre.0
-    a.pre.1 c.matches_before.result c.matches_before.ensures c.if-not-matches_before.false-raw
+is_removal-requires c =
+    let s = cells c.args.spans.now c.args.links.now c.args.heads.now in
+    old-sound c.args.spec c.args.g s c.args.ray c.args.p.now c.args.q.now c.requires.0
+    c.requires.1 c.matches_before.result c.matches_before.ensures c.if-not-matches_before.false-raw
 
 pub returns : goal.returns
 returns c =
