@@ -26,7 +26,7 @@ CertainStays (Refused k) = Unit {0}
 
 -- a list that moved is handed back as the part of the work buffer that begins at cell `at`, 8 bytes a cell past its start
 abbrev pub ListMoved : MergedList → Bor (List Float) → ℕ → Bor (List Float) → Type 0
-ListMoved part work at r = part.moved ≡ true → at + 2 * part.pairs ≤ length work.now → r.ptr ≡ (work.ref_ptr.0, work.ref_ptr.1 + 8 * at)
+ListMoved part work at r = part.moved ≡ true → at + 2 * part.pairs ≤ length work.now → r.ref_ptr ≡ (work.ref_ptr.0, work.ref_ptr.1 + 8 * at)
 
 abbrev pub PossibleMoved : MergeAnswer → Bor (List Float) → Bor (List Float) → Type 0
 PossibleMoved (Lists p c) work r = ListMoved p work 0 r

@@ -30,15 +30,11 @@ past_fits r e w h b = omega arith
 -- where the lists were freed, from where their cells are lent again
 
 -- the cells and the work buffer at the end
-finished : tie.Need-returns
+finished : goal.returns
 finished c =
-    let cleared = c.before.before in
-    let laid = cleared.before.before.before.before.before.before.before.before in
-    let emptied = laid.before.before.before.before.before.before.before.before.before.before.before in
-    let counted = emptied.before.before.before.before.before in
-    done _ _ _ _ _ counted.before.before.before.before.before.before.before.before.before.before.before.before.before.before.before.before.before.before.pre _ _ _ counted.before.before.before.before.before.before.before.before.before.before.before.group.ensures counted.before.before.before.before.merge-all.ensures _
-    counted.before.total-rays.ensures _ counted.entry-count.ensures _ emptied.free_all.ensures _ _ laid.lay-all.ensures
-    cleared.clear-from.ensures
+    done _ _ _ _ _ c.requires _ _ _ c.group.ensures c.merge_all-changed.ensures _
+    c.total_rays-rays.ensures _ c.entry_count.ensures _ c.free_all.ensures _ _ c.lay_all.ensures
+    c.clear_from.ensures
 
 pub group-requires : goal.group-requires
 group-requires c =

@@ -39,5 +39,5 @@ returns c =
       rw n (handed-new c.args.p c.args.before.now c.args.work.now c.args.at (not-false c.args.p.moved c.if-not-p.false)
           (omega (arith, c.if-work-at-2.false, c.if-work-at.false))),
       λ e. absurd (clash c.args.p.moved (not-false c.args.p.moved c.if-not-p.false) e),
-      λ _ _. ap (λ (n : ℕ). (c.args.work.ptr.0, n)) (place c.args.at c.args.work.ptr.1),
+      λ _ _. ap (λ (n : ℕ). (c.args.work.ref_ptr.0, n)) (place c.args.at c.args.work.ref_ptr.1),
     )
