@@ -1,7 +1,7 @@
 -- `ray_text::print_merged` meets its contract.
 use mathlib.Core.Path.{◌≡◌, ap, subst, ◌∙◌}
 use mathlib.Core.List.{List}
-use Prim.Native.Nat.{◌+◌, ◌*◌, ◌%◌, ◌≤◌}
+use Prim.Native.Nat.{ℕ, ◌+◌, ◌*◌, ◌%◌, ◌≤◌}
 use lib.ListN.{length}
 use lib.Ieee.{Float}
 use Rattle.refusal.specs.Refusal.{Due, NoneDue}
@@ -51,20 +51,17 @@ fit c =
     even-lists c.args.lo c.args.hi c.args.possible.now c.args.certain.now c.args.outer.now c.args.inner.now c.requires.0
     (first c) (second c) (buffer c) (size c) (lists c).1
 
-possible_is : (c : After-possible_of) → c.possible_of.result.now ≡ possible-new c.before.before.before
+possible_is : (c : After-possible_of)
+    → c.possible_of.result.now ≡ handed_back c.in-Lists.p c.args.possible.now c.merge-answer.new.work 0
 possible_is c = c.possible_of.ensures.0
 
-certain_is : (c : After-certain_of) → c.certain_of.result.now ≡ certain-new c.before.before.before.before.before.before.before.before.before
+certain_is : (c : After-certain_of)
+    → c.certain_of.result.now ≡ handed_back c.in-Lists.c c.args.certain.now c.merge-answer.new.work (new_cells c.in-Lists.p)
 certain_is c = c.certain_of.ensures.0
 
 -- what was printed is the text of the list
-printed : (o : After-put_lines-n) → let l = possible-new o.before.before.before.before in length (lines_text letter_p o.possible_of.result.now) ≡ 18 * length l
-printed o =
-    ap (λ (l : List Float). length (lines_text letter_p l)) (possible_is o.before) ∙ lines-length letter_p (possible-new o.before.before.before.before) (fit o.before.before.before.before).0
-
-printed-2 : (d : After-put_lines-m) → let l = certain-new d.before.before.before.before.before.before.before.before.before.before in length (lines_text letter_c d.certain_of.result.now) ≡ 18 * length l
-printed-2 d =
-    ap (λ (l : List Float). length (lines_text letter_c l)) (certain_is d.before) ∙ lines-length letter_c (certain-new d.before.before.before.before.before.before.before.before.before.before) (fit d.before.before.before.before.before.before.before.before.before.before).1
+printed : (letter : ℕ) (l m : List Float) → l ≡ m → length m % 2 ≡ 0 → length (lines_text letter l) ≡ 18 * length m
+printed letter l m e h = ap (λ (x : List Float). length (lines_text letter x)) e ∙ lines-length letter m h
 
 pub put_refused-requires : goal.put_refused-requires
 put_refused-requires c = (
@@ -75,14 +72,14 @@ put_refused-requires c = (
 
 pub put_lines-n-requires : goal.put_lines-n-requires
 put_lines-n-requires c =
-    let i = ap length (possible_is c) in
+    let i = ap length (possible_is (goal.at.put_lines-n-requires c).After-possible_of) in
     (rw i (fit (goal.at.put_lines-n-requires c).In-Lists).0, omega (arith, i, (fit (goal.at.put_lines-n-requires c).In-Lists).2, c.requires.1))
 
 pub put_lines-m-requires : goal.put_lines-m-requires
 put_lines-m-requires c =
-    let i = ap length (certain_is c) in (
+    let i = ap length (certain_is (goal.at.put_lines-m-requires c).After-certain_of) in (
       rw i (fit (goal.at.put_lines-m-requires c).In-Lists).1,
-      omega (arith, i, (fit (goal.at.put_lines-m-requires c).In-Lists).2, c.requires.1, c.put_lines-n.auto.out, c.put_lines-n.ensures.next, printed (goal.at.put_lines-m-requires c).After-put_lines-n),
+      omega (arith, i, (fit (goal.at.put_lines-m-requires c).In-Lists).2, c.requires.1, c.put_lines-n.auto.out, c.put_lines-n.ensures.next, printed letter_p _ _ (possible_is (goal.at.put_lines-m-requires c).After-possible_of) (fit (goal.at.put_lines-m-requires c).In-Lists).0),
     )
 
 pub put_end-requires : goal.put_end-requires
@@ -94,9 +91,9 @@ put_end-requires c =
       c.put_lines-n.auto.out,
       c.put_lines-m.auto.out,
       c.put_lines-n.ensures.next,
-      printed (goal.at.put_end-requires c).After-put_lines-n,
+      printed letter_p _ _ (possible_is (goal.at.put_end-requires c).After-possible_of) (fit (goal.at.put_end-requires c).In-Lists).0,
       c.put_lines-m.ensures.next,
-      printed-2 (goal.at.put_end-requires c).After-put_lines-m,
+      printed letter_c _ _ (certain_is (goal.at.put_end-requires c).After-certain_of) (fit (goal.at.put_end-requires c).In-Lists).1,
     )
 
 pub returns-in-Refused : goal.returns-in-Refused

@@ -20,22 +20,20 @@ pub collect-ni-requires : goal.collect-ni-requires
 collect-ni-requires c = let r = reads c.args.s.now c.requires.0 in collects c.args.s.now r letter_i r.inner_few
 
 pub slice_bounds-print_merged-end : goal.slice_bounds-print_merged-end
-slice_bounds-print_merged-end c = collected-size _ _ c.collect-np.last.1.1.1.0 c.collect-np.result c.collect-np.ensures
+slice_bounds-print_merged-end c = collected-size _ _ c.collect-np.new.out c.collect-np.result c.collect-np.ensures
 
 pub slice_bounds-print_merged-end-2 : goal.slice_bounds-print_merged-end-2
-slice_bounds-print_merged-end-2 c = let k = (goal.at.slice_bounds-print_merged-end-2 c).After-collect-nc
-    in collected-size _ _ k.collect2.last.1.1.1.0 k.collect2.result k.collect2.ensures
+slice_bounds-print_merged-end-2 c = collected-size _ _ c.collect-nc.new.out c.collect-nc.result c.collect-nc.ensures
 
 pub slice_bounds-print_merged-end-3 : goal.slice_bounds-print_merged-end-3
-slice_bounds-print_merged-end-3 c = let k = (goal.at.slice_bounds-print_merged-end-3 c).After-collect-no
-    in collected-size _ _ k.collect3.last.1.1.1.0 k.collect3.result k.collect3.ensures
+slice_bounds-print_merged-end-3 c = collected-size _ _ c.collect-no.new.out c.collect-no.result c.collect-no.ensures
 
 pub slice_bounds-print_merged-end-4 : goal.slice_bounds-print_merged-end-4
 slice_bounds-print_merged-end-4 c = collected-size _ _ c.collect-ni.new.out c.collect-ni.result c.collect-ni.ensures
 
 pub print_merged-requires : goal.print_merged-requires
 print_merged-requires c =
-    let e1 = collected _ _ c.collect-np.last.1.1.1.0 c.collect-np.result c.collect-np.ensures in
+    let e1 = collected _ _ c.collect-np.new.out c.collect-np.result c.collect-np.ensures in
     let e2 = collected _ _ c.collect-nc.new.out c.collect-nc.result c.collect-nc.ensures in
     let e3 = collected _ _ c.collect-no.new.out c.collect-no.result c.collect-no.ensures in
     let e4 = collected _ _ c.collect-ni.new.out c.collect-ni.result c.collect-ni.ensures in
@@ -44,7 +42,7 @@ print_merged-requires c =
 
 pub returns : goal.returns
 returns c =
-    let e1 = collected _ _ c.collect-np.last.1.1.1.0 c.collect-np.result c.collect-np.ensures in
+    let e1 = collected _ _ c.collect-np.new.out c.collect-np.result c.collect-np.ensures in
     let e2 = collected _ _ c.collect-nc.new.out c.collect-nc.result c.collect-nc.ensures in
     let e3 = collected _ _ c.collect-no.new.out c.collect-no.result c.collect-no.ensures in
     let e4 = collected _ _ c.collect-ni.new.out c.collect-ni.result c.collect-ni.ensures in
