@@ -4,6 +4,7 @@ use native.Mathlib.Nat.{mul-le-mul, div-le_self}
 use native.Mathlib.Omega.{arith}
 use borrow.Author.Rules.{rules}
 use Rattle.log_budget.proofs.guess.Goals as goal
+use Rattle.log_budget.proofs.guess.Goals.{then-room-count, else-room-count}
 
 -- so many rays times a buffer's room stay far below what the machine's numbers hold
 small : (w room : ℕ) → w ≤ 0x100_0000_0000 → room ≤ 2 ^ 16 → w * room ≤ 2 ^ 56
@@ -15,5 +16,7 @@ overflow_mul-next-then-room-count c = omega (arith, small c.smaller-w.result _ c
 pub overflow_add-result : goal.overflow_add-result
 overflow_add-result c =
     let most = small c.smaller-w.result c.args.room c.smaller-w.ensures.1 c.requires.1 in
-    ⊎_elim (λ r. omega (arith, r.1, most, div-le_self (c.smaller-w.result * c.args.room) c.args.count))
-    (λ r. omega (arith, r.1, c.smaller-w.ensures.1)) c.if-room-count.branch
+    elim c.if-room-count.branch [
+      then-room-count r ↦ omega (arith, r.next-is, most, div-le_self (c.smaller-w.result * c.args.room) c.args.count)
+      | else-room-count r ↦ omega (arith, r.next-is, c.smaller-w.ensures.1)
+    ]

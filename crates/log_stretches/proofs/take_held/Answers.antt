@@ -7,16 +7,15 @@ use lib.ListN.{take}
 use Rattle.logic.proofs.Bools.{not-true, not-false}
 use Rattle.log_stretches.proofs.Taking.{TakesFront, TakesSome, none-reaches, some-reaches, no-pair, pair-more, no_more}
 use Rattle.log_stretches.proofs.take_held.Goals as goal
-use Rattle.log_stretches.proofs.take_held.Goals.{Joined-b-front}
+use Rattle.log_stretches.proofs.take_held.Goals.{Joined-b-front, then-b-front, else-b-front}
 
 -- what reaches into the stretch, where the branches meet
-front-taken : (c : lts.Joined1 (take-reads.Asked, take-reads.Learnt) reads.Pre reads.Post invariant-loop decreases-loop)
-    → let given = c.before.before.before.before.args in
-    TakesFront given.n given.spans.now given.links.now given.b given.end given.front
-    (take given.m given.cells.now) given.r c.if1.t
-front-taken c = elim c.if1.branch [
-  | inl w ↦ rw w.2 (some-reaches _ _ _ _ _ _ w.0.taken w.1.ensures)
-  | inr w ↦ rw w.1 (none-reaches _ _ _ _ _ w.0.left c.before.before.before.before.requires.0)
+front-taken : (c : Joined-b-front)
+    → TakesFront c.args.n c.args.spans.now c.args.links.now c.args.b c.args.end c.args.front
+    (take c.args.m c.args.cells.now) c.args.r c.if-b-front.t
+front-taken c = elim c.if-b-front.branch [
+  then-b-front w ↦ rw w.t-is (some-reaches _ _ _ _ _ _ w.if-b-front.true w.take-t.ensures)
+  | else-b-front w ↦ rw w.t-is (none-reaches _ _ _ _ _ w.if-b-front.false c.requires.0)
 ]
 
 pub loop-i-init : goal.loop-i-init

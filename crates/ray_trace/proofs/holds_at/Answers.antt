@@ -8,6 +8,7 @@ use Rattle.logic.proofs.Bools.{both}
 use Rattle.spans.specs.Spans.{holds}
 use Rattle.ray_trace.proofs.Searches.{pair-holds, pair-passed, pairs-passed}
 use Rattle.ray_trace.proofs.holds_at.Goals as goal
+use Rattle.ray_trace.proofs.holds_at.Goals.{then-s-k+else-p-s, else-s-k}
 
 pub loop-k-init : goal.loop-k-init
 loop-k-init c = (omega arith, refl)
@@ -21,7 +22,7 @@ pub loop-k-preserved : goal.loop-k-preserved
 loop-k-preserved c = (
   omega arith,
   pair-passed c.args.s.now c.args.p c.loop-k.k c.loop-k.invariant.1 (omega arith)
-      (⊎_elim (λ w. inr w.2.left) (λ w. inl w.left) c.if-s-k.branch),
+      (elim c.if-s-k.branch [ then-s-k+else-p-s w ↦ inr w.if-p-s.false | else-s-k w ↦ inl w.if-s-k.false ]),
 )
 
 pub returns : goal.returns
