@@ -156,7 +156,7 @@ module _ (g : DexelGrid) (s : Sets g) (lists : Ray g → Kind → List Float)
             | inl u ↦ clash (is_hit_by (lists r Possible) (hits_on_list g es r Possible)) u (stays-points r Possible (f Possible))
             | inr u ↦ clash (is_hit_by (lists r Certain) (hits_on_list g es r Certain)) u (stays-points r Certain (f Certain))
           ]),
-      (λ h n. n (λ k p _. elim k [
+      (λ h n. n (λ k p _. elim k as (λ (k : Kind). sets_after g s es r k p ≡ s r k p) [
         | Possible ↦ (stays r Possible).1
             (not_left (is_hit_by (lists r Possible) (hits_on_list g es r Possible))
             (is_hit_by (lists r Certain) (hits_on_list g es r Certain)) h) p

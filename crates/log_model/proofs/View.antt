@@ -10,6 +10,8 @@ use lib.Ieee.{Float}
 use Rattle.grid.specs.Rays.{ray_count}
 use Rattle.grid.specs.declared.DexelStockSpec.{DexelStockSpec}
 use Rattle.grid.specs.declared.DexelGrid.{DexelGrid}
+use mathlib.Core.Bool.{true}
+use Rattle.spans.specs.Spans.{sound}
 use Rattle.stock.specs.Stock.{Stock, Kind, Possible, Certain, ray_list, list_number}
 use Rattle.store.specs.Store.{places_of, chained, ends_at}
 use Rattle.log_model.specs.Model.{sum_to, pair_total}
@@ -104,7 +106,7 @@ module _ (spec : DexelStockSpec) (g : DexelGrid) (s : Stock) where
 
 pub lent-laws : (spec : DexelStockSpec) (g : DexelGrid) → SoundView g (lent_store spec g)
 lent-laws spec g = record {
-  sound_list = λ s S r k. elim k [ Possible ↦ (S.valid r.0 r.1).possible_sound | Certain ↦ (S.valid r.0 r.1).certain_sound ];
+  sound_list = λ s S r k. elim k as (λ (k : Kind). sound ((lent_store spec g).lists s r k) ≡ true) [ Possible ↦ (S.valid r.0 r.1).possible_sound | Certain ↦ (S.valid r.0 r.1).certain_sound ];
   within = λ s S r. (S.valid r.0 r.1).inside;
   all_pairs = λ s S. S.store.counts ∙ unfold total pair_total in counted spec g s (ray_count g) (le_refl (ray_count g));
 }
