@@ -15,10 +15,6 @@ pub rays_before-requires : goal.rays_before-requires
 rays_before-requires c =
     omega (arith, both-le c.args.g, c.rays-first.ensures, c.rays-second.ensures, c.requires.0)
 
-pub overflow_add-result : goal.overflow_add-result
-overflow_add-result c =
-    omega (arith, named-below c.args.g (entry_at c.args.log.now c.args.i) c.requires.2, c.requires.0, returns c)
-
 pub returns : goal.returns
 returns c =
     let e = c.entry_at-e.result in
@@ -27,3 +23,7 @@ returns c =
     c.rays_before.ensures ∙ ap₂ (before_axis e.axis) c.rays-first.ensures c.rays-second.ensures in
     ap₂ ◌+◌ rays c.whole_number-index.ensures ∙ ray-of c.args.g e (rw c.entry_at-e.ensures c.requires.2)
     ∙ ap (entry_ray c.args.g) c.entry_at-e.ensures
+
+pub overflow_add-result : goal.overflow_add-result
+overflow_add-result c =
+    omega (arith, named-below c.args.g (entry_at c.args.log.now c.args.i) c.requires.2, c.requires.0, returns c)

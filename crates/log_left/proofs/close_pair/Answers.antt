@@ -11,4 +11,4 @@ begin-requires c = let asked = c.requires in
     rw c.record_at-present.ensures (step asked.0 asked.1).next
 
 pub returns : goal.returns
-returns c = rw (c.record_at-present.ensures, c.wrapping_add_u64-left.ensures) at c.begin.ensures
+returns c = rw (c.record_at-present.ensures, c.wrapping_add_u64-left.ensures.value) at c.begin.ensures

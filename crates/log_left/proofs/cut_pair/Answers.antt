@@ -12,7 +12,7 @@ pub returns-then-hi-present : goal.returns-then-hi-present
 returns-then-hi-present c =
     record {
       moved_is = refl;
-      left_is = elim c.if-r-lo.branch [ then-r-lo w ↦ rw w.if-r-lo.true (w.left-is ∙ w.wrapping_add_u64-left.ensures) | else-r-lo w ↦ rw w.if-r-lo.false w.left-is ];
+      left_is = elim c.if-r-lo.branch [ then-r-lo w ↦ rw w.if-r-lo.true (w.left-is ∙ w.wrapping_add_u64-left.ensures.value) | else-r-lo w ↦ rw w.if-r-lo.false w.left-is ];
       inside = λ h. (refl, refl);
       behind = λ h. absurd (clash _ (rw c.record_at-present.ensures at c.if-hi-present.true) h);
     }
@@ -26,7 +26,7 @@ returns c =
     let b = rw c.record_at-present.ensures at c.begin.ensures in
     record {
       moved_is = b.moved_is;
-      left_is = b.left_is ∙ elim c.if-r-lo.branch [ then-r-lo w ↦ rw w.if-r-lo.true (w.left-is ∙ w.wrapping_add_u64-left.ensures) | else-r-lo w ↦ rw w.if-r-lo.false w.left-is ];
+      left_is = b.left_is ∙ elim c.if-r-lo.branch [ then-r-lo w ↦ rw w.if-r-lo.true (w.left-is ∙ w.wrapping_add_u64-left.ensures.value) | else-r-lo w ↦ rw w.if-r-lo.false w.left-is ];
       inside = λ h. absurd (clash _ h (rw c.record_at-present.ensures at c.if-hi-present.false));
       behind = λ h. record { at_is = b.at_is; from_is = b.from_is; moved_is = refl; left_is = refl };
     }
