@@ -176,6 +176,7 @@ module _ (g : DexelGrid) (log : List Float) (ray : ℕ) where
 
   loses-named : {lo hi : Float} (certain : Bool) (w : HitKind) → LosesKind certain w → HasPair lo hi (hits_on_ray g (entries log) ray w)
       → HasPair lo hi (loses_of g log ray certain)
+  loses-named {lo = lo} {hi = hi} false outer x4 p = elim x4 [ ]
   loses-named true inner inner_hit p = pair-right (hits_on_ray g (entries log) ray outer) (named-even g ray outer (entries log)) p
   loses-named true outer outer_hit p = pair_left (hits_on_ray g (entries log) ray inner) p
   loses-named false inner inner_hit p = p

@@ -40,11 +40,13 @@ reason-sets {p = p} v (untouched c n m) = rw (v.inside p c, c, n, m)
 module _ (w : HitKind) (p : Float) where
   before-first : {es : List Entry} (k : ℕ) → FirstHolding w p es (suc k) → holds (hit_pairs w (take k es)) p ≡ false
   unfolding holds hit_pairs
+  before-first zero (later_entry {e = e} {es = es} a f) = elim f [ ]
   before-first zero (first_entry a) = refl
   before-first (suc k) (later_entry a f) = rw a (before-first k f)
 
   with_first : {es : List Entry} (k : ℕ) → FirstHolding w p es (suc k) → holds (hit_pairs w (take (suc k) es)) p ≡ true
   unfolding holds hit_pairs
+  with_first zero (later_entry {e = e} {es = es} a f) = elim f [ ]
   with_first zero (first_entry a) = rw a
   with_first (suc k) (later_entry a f) = rw a (with_first k f)
 
@@ -64,6 +66,8 @@ module _ (w : HitKind) (p : Float) where
 -- THE LAW: the entry that a reason names is the one that took the place
 pub reason-entry : {possible certain : List Float} {es : List Entry} {p : Float} {r : Reason}
     → TrueReason possible certain es p r → TakenBy r possible certain es p
+reason-entry {possible = possible} {certain = certain} {es = es} {p = p} (cut_away {k = zero} a f) = elim f [ ]
+reason-entry {possible = possible} {certain = certain} {es = es} {p = p} (made_uncertain {k = zero} c n f) = elim f [ ]
 reason-entry (not_held a) = tt
 reason-entry {p = p} (cut_away {k = suc k} a f) = (rw (a, before-first inner p k f), rw (a, with_first inner p k f))
 reason-entry {es = es} {p = p} (made_uncertain {k = suc k} c n f) =

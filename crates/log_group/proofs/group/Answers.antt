@@ -32,7 +32,7 @@ begun y = y.clear_from.new.b ++ drop y.total_rays-rays.result y.args.work.now
 
 begun-size : (y : After-clear_from) → length (begun y) ≡ length y.args.work.now
 begun-size y = cleared-size y.total_rays-rays.result y.args.work.now y.clear_from.new.b
-    (fits y.before.before) y.clear_from.ensures
+    (omega (arith, y.total_rays-rays.ensures, y.requires.1)) y.clear_from.ensures
 
 pub slice_bounds-clear_from-end-2 : goal.slice_bounds-clear_from-end-2
 slice_bounds-clear_from-end-2 c =

@@ -10,9 +10,9 @@ use Rattle.log_left.proofs.Walking.{walked-later, closes}
 use Rattle.log_left.proofs.pass.Given as goal
 
 abbrev pub invariant-loop-t : goal.invariant-loop-t
-invariant-loop-t l = Readable l.n l.spans l.links l.t.at
-    × ((l : List Float) (s : Float → Bool) (last : Float) → le last l.lo ≡ true → ListWalked l.n l.spans l.links l s last l.initial.t
-    → ListWalked l.n l.spans l.links l s l.lo l.t)
+invariant-loop-t v = Readable v.n v.spans v.links v.t.at
+    × ((l : List Float) (s : Float → Bool) (last : Float) → le last v.lo ≡ true → ListWalked v.n v.spans v.links l s last v.initial.t
+    → ListWalked v.n v.spans v.links l s v.lo v.t)
 
 abbrev pub decreases-loop-t : goal.decreases-loop-t
-decreases-loop-t l = length (places l.links l.n l.t.at)
+decreases-loop-t v = length (places v.links v.n v.t.at)

@@ -9,8 +9,8 @@ use Rattle.log_left.proofs.Walking.{Taking, to_take, cut-readable, cut-less, tak
 use Rattle.log_left.proofs.take.Given as goal
 
 abbrev pub invariant-loop-t : goal.invariant-loop-t
-invariant-loop-t l = Readable l.n l.spans l.links l.t.at
-    × ((l : List Float) (s : Float → Bool) → lt l.lo l.hi ≡ true → ListWalked l.n l.spans l.links l s l.lo l.initial.t → Taking l.n l.spans l.links l s l.lo l.hi l.t)
+invariant-loop-t v = Readable v.n v.spans v.links v.t.at
+    × ((l : List Float) (s : Float → Bool) → lt v.lo v.hi ≡ true → ListWalked v.n v.spans v.links l s v.lo v.initial.t → Taking v.n v.spans v.links l s v.lo v.hi v.t)
 
 abbrev pub decreases-loop-t : goal.decreases-loop-t
-decreases-loop-t l = to_take l.n l.links l.hi l.t
+decreases-loop-t v = to_take v.n v.links v.hi v.t
