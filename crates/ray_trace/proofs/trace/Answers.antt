@@ -1,6 +1,6 @@
 use borrow.Author.Rules.{rules}
 use Rattle.logic.proofs.Bools.{not-true, not-false, clash}
-use Rattle.ray_trace.specs.Trace.{TracePre}
+use Rattle.ray_trace.specs.Trace.{TracePre, Traced, trace_causes}
 use Rattle.ray_trace.proofs.Answers.{part-over, bad-ray, good, nan-place, no-cause-due, no-cause}
 use Rattle.ray_trace.proofs.trace.Goals as goal
 use Rattle.ray_trace.proofs.trace.Goals.{Else-not-valid_ray}
@@ -29,6 +29,7 @@ returns-then-place c =
 pub returns : goal.returns
 returns c =
     let pre = accepted (goal.at.returns c).Else-not-valid_ray in
-    no-cause _ _ _ c.reason_of.result
+    no-cause (trace_causes c.args.lo c.args.hi c.args.possible.now c.args.certain.now c.args.log.now c.args.place) _
+    (Traced c.args.lo c.args.hi c.args.possible.now c.args.certain.now c.args.log.now c.args.place) c.reason_of.result
     (no-cause-due c.args.lo c.args.hi c.args.possible.now c.args.certain.now c.args.log.now c.args.place pre c.if-place.false)
     (λ q t. record { ray = pre.ray; reason_true = t }) c.reason_of.ensures
