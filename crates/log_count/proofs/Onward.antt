@@ -17,6 +17,7 @@ use Rattle.log_left.specs.Steps.{StartPost}
 use Rattle.log_left.specs.declared.Rest.{Rest}
 use Rattle.log_stretches.specs.Stretches.{Taken}
 use Rattle.log_count.specs.Steps.{EndListPost, ListCounted, walk_in, WalksReadable, TakePartPost}
+use Rattle.log_count.proofs.Parts.{each_bool}
 use Rattle.log_count.specs.declared.ListCount.{ListCount}
 use Rattle.log_count.specs.declared.RayWalks.{RayWalks}
 use Rattle.log_count.proofs.AllTaken.{taken_none, taken-all}
@@ -42,12 +43,9 @@ module _ {g : DexelGrid} {n : ℕ} {spans : List Float} {links : List ℕ} {log 
   onward-start s t x y = record {
     keys_size = refl;
     size = refl;
-    readable = λ d. elim d [ true ↦ y.readable | false ↦ x.readable ];
+    readable = each_bool _ y.readable x.readable;
     low = bottom-top;
-    taken = λ d. elim d [
-      | true ↦ taken_none (holds (loses_of g log ray true)) t y
-      | false ↦ taken_none (holds (loses_of g log ray false)) s x
-    ];
+    taken = each_bool _ (taken_none (holds (loses_of g log ray true)) t y) (taken_none (holds (loses_of g log ray false)) s x);
   }
 
   -- ---- one stretch more

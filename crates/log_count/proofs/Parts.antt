@@ -19,6 +19,11 @@ use Rattle.log_count.specs.declared.RayWalks.{RayWalks}
 use Rattle.log_count.proofs.Fronts.{front_of}
 use Rattle.log_count.proofs.Stretched.{part_hits, stretched, stretch-ends, stretch-onward}
 
+-- what holds of both holds of each
+pub each_bool : (P : Bool → Type 0) → P true → P false → (b : Bool) → P b
+each_bool P a b true = a
+each_bool P a b false = b
+
 module _ {g : DexelGrid} {log : List Float} {ray : ℕ} (from : RayWalks) {keys : List ℕ} {w : LongPart}
     (named : EachNamed g log) (r : GathersTo g log ray from.end (entry_count log) keys w) where
   stretch-taken : {n : ℕ} {spans : List Float} {links : List ℕ} (certain : Bool) {before after : List Float} {p t : Rest}
@@ -35,8 +40,8 @@ module _ {g : DexelGrid} {log : List Float} {ray : ℕ} (from : RayWalks) {keys 
   part-taken size possible certain = record {
     keys_size = size;
     size = certain.size ∙ possible.size;
-    readable = λ k. elim k [ true ↦ certain.readable | false ↦ possible.readable ];
+    readable = each_bool _ certain.readable possible.readable;
     onward = stretch-onward named r;
     ends = stretch-ends named r;
-    taken = λ k. elim k [ true ↦ stretch-taken true certain | false ↦ stretch-taken false possible ];
+    taken = each_bool _ (stretch-taken true certain) (stretch-taken false possible);
   }

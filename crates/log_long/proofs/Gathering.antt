@@ -2,7 +2,7 @@
 use Rattle.std.proofs.Common.{◌≡◌, ℕ, ◌+◌, List, refl, inl, arith}
 use lib.Ieee.{Float, neg}
 use Rattle.grid.specs.declared.DexelGrid.{DexelGrid}
-use Rattle.log_model.specs.Logs.{entry_at, entry_ray, outer, inner}
+use Rattle.log_model.specs.Logs.{entry_at, entry_ray, HitKind, outer, inner}
 use Rattle.log_keys.specs.Keys.{top}
 use Rattle.log_keys.proofs.Wanting.{keys_none}
 use Rattle.log_long.specs.declared.HeldKeys.{HeldKeys}
@@ -10,6 +10,11 @@ use Rattle.log_long.specs.declared.LongPart.{LongPart}
 use Rattle.log_long.specs.Long.{kind_front, AddKeyPost, AddFrontsPost, GathersTo}
 use Rattle.log_long.proofs.Stretching.{long_keys-passed}
 use Rattle.log_long.proofs.Reaching.{reaches-start, reaches-passed, reaches-added}
+
+-- what holds of both kinds holds of each
+pub each_kind : (P : HitKind → Type 0) → P outer → P inner → (k : HitKind) → P k
+each_kind P a b outer = a
+each_kind P a b inner = b
 
 module _ (g : DexelGrid) (log : List Float) (ray : ℕ) (b : Float) where
   abbrev ray-at : ℕ → ℕ
@@ -20,7 +25,7 @@ module _ (g : DexelGrid) (log : List Float) (ray : ℕ) (b : Float) where
   gathers-start keys = record {
     in_log = record { room = omega arith; places = λ t h. absurd (omega arith) };
     long_keys = record { held = keys_none keys; ends = inl refl };
-    fronts = λ k. elim k [ outer ↦ reaches-start ray-at log ray b outer | inner ↦ reaches-start ray-at log ray b inner ];
+    fronts = each_kind _ (reaches-start ray-at log ray b outer) (reaches-start ray-at log ray b inner);
   }
 
   module _ (i : ℕ) (keys : List ℕ) (w : LongPart) (s : GathersTo g log ray b i keys w) where

@@ -7,7 +7,7 @@ pub loop-i-init : goal.loop-i-init
 loop-i-init c = (omega arith, λ k a b. absurd (omega arith))
 
 pub returns-then-keys-i : goal.returns-then-keys-i
-returns-then-keys-i c = (λ c h. absurd (false≢true h)) c
+returns-then-keys-i c h = absurd (false≢true h)
 
 pub loop-i-preserved : goal.loop-i-preserved
 loop-i-preserved c = (omega arith, below_more _ _ c.loop-i.invariant.1 (λ h. c.if-keys-i.false))

@@ -24,7 +24,9 @@ fits-at l = fits l.requires l.total_rays-rays.ensures l.loop-ray.invariant
 -- the ray's new lists end below the end of the buffer
 ends_at : (m : After-merge_ray-m) → m.loop-ray.q + (2 * m.merge_ray-m.result.possible + 2 * m.merge_ray-m.result.certain) < 2 ^ 64
 ends_at m =
-    omega (arith, (fits-at m.before.before.before).high, (fits-at m.before.before.before).all, m.merge_ray-m.ensures.cut.most, long m.before.before.before)
+    let f = fits m.requires m.total_rays-rays.ensures m.loop-ray.invariant in
+    let below : length m.args.work.now < 2 ^ 64 = omega (arith, m.well_formed.1.1.1.1.1.1.0.1) in
+    omega (arith, f.high, f.all, m.merge_ray-m.ensures.cut.most, below)
 
 pub loop-ray-init : goal.loop-ray-init
 loop-ray-init c =
