@@ -17,6 +17,6 @@ pub overflow_add-result : goal.overflow_add-result
 overflow_add-result c =
     let most = small c.smaller-w.result c.args.room c.smaller-w.ensures.1 c.requires.1 in
     elim c.if-room-count.branch [
-      then-room-count r ↦ omega (arith, r.next-is, most, div-le_self (c.smaller-w.result * c.args.room) c.args.count)
+      | then-room-count r ↦ omega (arith, r.next-is, most, div-le_self (c.smaller-w.result * c.args.room) c.args.count)
       | else-room-count r ↦ omega (arith, r.next-is, c.smaller-w.ensures.1)
     ]

@@ -15,7 +15,7 @@ unfolding before_axis
 returns-else-axis-2 c =
     let one = cond (le (of_bits binary64 0x3ff0_0000_0000_0000) c.args.axis) c.args.first 0 in
     elim c.if-axis.branch [
-      then-axis w ↦ w.n-is ∙ sym (ap (λ (b : Bool). cond b c.args.first 0) w.if-axis.true)
+      | then-axis w ↦ w.n-is ∙ sym (ap (λ (b : Bool). cond b c.args.first 0) w.if-axis.true)
       | else-axis w ↦ w.n-is ∙ sym (ap (λ (b : Bool). cond b c.args.first 0) w.if-axis.false)
     ]
     ∙ sym (ap (λ (b : Bool). cond b (c.args.first + c.args.second) one) c.if-axis-2.false)

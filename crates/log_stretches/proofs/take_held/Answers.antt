@@ -14,7 +14,7 @@ front-taken : (c : Joined-b-front)
     → TakesFront c.args.n c.args.spans.now c.args.links.now c.args.b c.args.end c.args.front
     (take c.args.m c.args.cells.now) c.args.r c.if-b-front.t
 front-taken c = elim c.if-b-front.branch [
-  then-b-front w ↦ rw w.t-is (some-reaches _ _ _ _ _ _ w.if-b-front.true w.take-t.ensures)
+  | then-b-front w ↦ rw w.t-is (some-reaches _ _ _ _ _ _ w.if-b-front.true w.take-t.ensures)
   | else-b-front w ↦ rw w.t-is (none-reaches _ _ _ _ _ w.if-b-front.false c.requires.0)
 ]
 

@@ -19,8 +19,8 @@ overflow_add-m c =
 pub loop-k-preserved : goal.loop-k-preserved
 loop-k-preserved c =
     elim c.if-s-k.branch [
-    then-s-k w ↦ (omega arith, w.m-is ∙ omega (arith, count-hit c.args.c c.args.s.now c.loop-k.k w.if-s-k.true))
-    | else-s-k w ↦ (omega arith, w.m-is ∙ omega (arith, count-miss c.args.c c.args.s.now c.loop-k.k w.if-s-k.false))
+      | then-s-k w ↦ (omega arith, w.m-is ∙ omega (arith, count-hit c.args.c c.args.s.now c.loop-k.k w.if-s-k.true))
+      | else-s-k w ↦ (omega arith, w.m-is ∙ omega (arith, count-miss c.args.c c.args.s.now c.loop-k.k w.if-s-k.false))
     ]
 
 pub returns : goal.returns

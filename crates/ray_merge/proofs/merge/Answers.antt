@@ -19,27 +19,27 @@ good c =
     record { outer_whole = c.if-outer-ne0.false; inner_whole = c.if-inner-ne0.false; ray = c.valid_ray.ensures.0 (not-false c.valid_ray.result c.if-not-valid_ray.false-raw) }
 
 pub returns-then-work-possible : goal.returns-then-work-possible
-returns-then-work-possible c  =
+returns-then-work-possible c =
     refuse-short c.args.lo c.args.hi c.args.possible.now c.args.certain.now c.args.outer.now c.args.inner.now c.args.work.now c.if-work-possible.true
 
 pub returns-then-outer-ne0 : goal.returns-then-outer-ne0
-returns-then-outer-ne0 c  =
+returns-then-outer-ne0 c =
     refuse-bad c.args.lo c.args.hi c.args.possible.now c.args.certain.now c.args.outer.now c.args.inner.now c.args.work.now
     (not_short (goal.at.returns-then-outer-ne0 c).Else-work-possible) (λ m. c.if-outer-ne0.true m.outer_whole)
 
 pub returns-then-inner-ne0 : goal.returns-then-inner-ne0
-returns-then-inner-ne0 c  =
+returns-then-inner-ne0 c =
     refuse-bad c.args.lo c.args.hi c.args.possible.now c.args.certain.now c.args.outer.now c.args.inner.now c.args.work.now
     (not_short (goal.at.returns-then-inner-ne0 c).Else-work-possible) (λ m. c.if-inner-ne0.true m.inner_whole)
 
 pub returns-then-not-valid_ray : goal.returns-then-not-valid_ray
-returns-then-not-valid_ray c  =
+returns-then-not-valid_ray c =
     refuse-bad c.args.lo c.args.hi c.args.possible.now c.args.certain.now c.args.outer.now c.args.inner.now c.args.work.now
     (not_short (goal.at.returns-then-not-valid_ray c).Else-work-possible)
     (λ m. clash c.valid_ray.result (c.valid_ray.ensures.1 m.ray) (not-true c.valid_ray.result c.if-not-valid_ray.true-raw))
 
 pub merge_lists-parts-requires : goal.merge_lists-parts-requires
-merge_lists-parts-requires c  =
+merge_lists-parts-requires c =
     let m = good (goal.at.merge_lists-parts-requires c).Else-not-valid_ray in
     record {
       possible_sound = m.ray.possible_sound;

@@ -61,6 +61,6 @@ pub returns : goal.returns
 returns c =
     cutting-last c.requires.0 c.requires.1 c.requires.2 c.loop-j.invariant _ _ c.put_pair-end-2.ensures
     (elim c.loop-j-test.branch [
-      else-loop-j-test w ↦ λ g. absurd (omega (arith, w.loop-j-test.false))
+      | else-loop-j-test w ↦ λ g. absurd (omega (arith, w.loop-j-test.false))
       | then-loop-j-test+then-hi-x w ↦ λ g. w.if-hi-x.true
     ])

@@ -34,6 +34,6 @@ pub returns : goal.returns
 returns c =
     cut-last _ _ _ _ _ _ _ _ _ _ _ c.requires c.loop-j.invariant c.put_pair-end-2.ensures
     (elim c.loop-j-test.branch [
-      else-loop-j-test w ↦ λ g. absurd (omega (arith, w.loop-j-test.false))
+      | else-loop-j-test w ↦ λ g. absurd (omega (arith, w.loop-j-test.false))
       | then-loop-j-test+then-hi-x w ↦ λ g. w.if-hi-x.true
     ])

@@ -25,8 +25,8 @@ loop-k-preserved c =
     let r = rising (take k s) in
     let t = lt (get_or s (k - 1) nan) (get_or s k nan) in
     elim c.if-not-s-k.branch [
-    then-not-s-k w ↦ (omega arith, w.ok-is ∙ and-failed r t w.if-not-s-k.true-raw ∙ sym more)
-    | else-not-s-k w ↦ (omega arith, w.ok-is ∙ c.loop-k.invariant.1 ∙ and-passed r t w.if-not-s-k.false-raw ∙ sym more)
+      | then-not-s-k w ↦ (omega arith, w.ok-is ∙ and-failed r t w.if-not-s-k.true-raw ∙ sym more)
+      | else-not-s-k w ↦ (omega arith, w.ok-is ∙ c.loop-k.invariant.1 ∙ and-passed r t w.if-not-s-k.false-raw ∙ sym more)
     ]
 
 pub returns : goal.returns

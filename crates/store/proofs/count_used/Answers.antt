@@ -17,20 +17,19 @@ loop-i-init c = (omega arith, omega arith, refl)
 
 pub loop-i-preserved : goal.loop-i-preserved
 loop-i-preserved c = elim c.if-used.branch [
-    then-used w ↦ (
-
-      omega arith,
-      omega (arith, w.c-is),
-      count_next _ _ _ _ true c.loop-i.invariant.2
-          (sym c.used.ensures ∙ w.if-used.true) w.c-is,
-    )
-    | else-used w ↦ (
-      omega arith,
-      omega (arith, w.c-is),
-      count_next _ _ _ _ false c.loop-i.invariant.2
-          (sym c.used.ensures ∙ w.if-used.false) (w.c-is ∙ sym (add-zero _)),
-    )
-    ]
+  | then-used w ↦ (
+    omega arith,
+    omega (arith, w.c-is),
+    count_next _ _ _ _ true c.loop-i.invariant.2
+        (sym c.used.ensures ∙ w.if-used.true) w.c-is,
+  )
+  | else-used w ↦ (
+    omega arith,
+    omega (arith, w.c-is),
+    count_next _ _ _ _ false c.loop-i.invariant.2
+        (sym c.used.ensures ∙ w.if-used.false) (w.c-is ∙ sym (add-zero _)),
+  )
+]
 
 pub returns : goal.returns
 returns c = let e : c.loop-i.i ≡ c.args.n = omega arith in

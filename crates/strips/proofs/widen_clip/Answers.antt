@@ -23,7 +23,7 @@ loop-i-preserved c =
     let h : i < c.args.ps.n = omega arith in
     let q : c.if-j-n.q ≡ head_or (get_or c.args.ps.at 0 (record { x = nan; y = nan })) (drop (i + 1) (take c.args.ps.n c.args.ps.at)) =
     elim c.if-j-n.branch [
-      then-j-n w ↦ w.q-is ∙ sym (next-in _ _ _ _ _ w.if-j-n.true k)
+      | then-j-n w ↦ w.q-is ∙ sym (next-in _ _ _ _ _ w.if-j-n.true k)
       | else-j-n w ↦ w.q-is ∙ sym (next-out _ _ _ _ w.if-j-n.false k)
     ] in
     (omega arith, rw c.widen_edge-e.ensures (step _ _ _ _ _ _ _ i _ h k q ∙ c.loop-i.invariant.1))
