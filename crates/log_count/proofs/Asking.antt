@@ -28,12 +28,12 @@ module _ {spec : DexelStockSpec} {g : DexelGrid} {c : Cells} {log : List Float} 
     (a : CountPre spec g c log ray t buffer) where
   pub list-readable : (certain : Bool)
       → Readable spec.max_intervals c.spans c.links (get_or c.heads (list_number ray (list_kind certain)) 0)
-  list-readable certain =
+  list-readable true =
       let ok = a.counting.countable in
-      readable ok.is_sound.store ok.room.in_spans ok.room.in_links (list_number ray (list_kind certain)) (elim certain [
-        | true ↦ omega (arith, a.inside)
-        | false ↦ omega (arith, a.inside)
-      ])
+      readable ok.is_sound.store ok.room.in_spans ok.room.in_links (list_number ray Certain) (omega (arith, a.inside))
+  list-readable false =
+      let ok = a.counting.countable in
+      readable ok.is_sound.store ok.room.in_spans ok.room.in_links (list_number ray Possible) (omega (arith, a.inside))
 
   pub list-sound : (certain : Bool) → sound (ray_list spec c ray (list_kind certain)) ≡ true
   list-sound true = (a.counting.countable.is_sound.valid ray a.inside).certain_sound

@@ -83,6 +83,7 @@ module _ (w : LongPart) (x : Float) where
   pub below-front : Number w.outer → Number w.inner → (certain : Bool) (k : HitKind) → LosesKind certain k
       → lt x (kind_front k w) ≡ true
       → lt x (front_of certain w) ≡ true
+  below-front n m false outer x5 h = elim x5 [ ]
   below-front n m false inner inner_hit h = h
   below-front n m true inner inner_hit h = lt-le-trans x w.inner _ h (higher-second w.outer w.inner n m)
   below-front n m true outer outer_hit h = lt-le-trans x w.outer _ h (higher-first w.outer w.inner n)

@@ -18,7 +18,7 @@ use Rattle.log_model.proofs.Hits.{within-proper}
 use Rattle.log_entries.specs.Named.{EachNamed}
 use Rattle.log_keys.specs.Keys.{entry_of_key, hits_to, loses_of, top, pairs_past, Stretch}
 use Rattle.log_keys.proofs.Past.{past-above}
-use Rattle.log_keys.proofs.Hits.{inner_hit, outer_hit, hits-struck, struck-hits, Lost, lost-holds, lost-past, holds-lost}
+use Rattle.log_keys.proofs.Hits.{LosesKind, inner_hit, outer_hit, hits-struck, struck-hits, Lost, lost-holds, lost-past, holds-lost}
 use Rattle.log_long.specs.Long.{least_past, GathersTo}
 use Rattle.log_long.specs.declared.LongPart.{LongPart}
 use Rattle.log_count.proofs.Fronts.{Begun, least-before, least-is, front_of, below-front, front_is}
@@ -26,6 +26,11 @@ use Rattle.log_count.proofs.Fronts.{Begun, least-before, least-is, front_of, bel
 -- the hits of the entries of a stretch that the list loses
 abbrev pub part_hits : List Float → List ℕ → LongPart → (certain : Bool) → List Float
 part_hits log keys w certain = hits_to log (take w.keys.count keys) certain (length (take w.keys.count keys))
+
+-- the certain list loses hits of either kind
+certain-loses : (k : HitKind) → LosesKind true k
+certain-loses outer = outer_hit
+certain-loses inner = inner_hit
 
 module _ {g : DexelGrid} {log : List Float} {ray : ℕ} {b : Float} {keys : List ℕ} {w : LongPart} (named : EachNamed g log)
     (r : GathersTo g log ray b (entry_count log) keys w) where
@@ -86,7 +91,7 @@ module _ {g : DexelGrid} {log : List Float} {ray : ℕ} {b : Float} {keys : List
     on_ray = d;
     struck = record {
       kind = k;
-      loses = elim k [ outer ↦ outer_hit | inner ↦ inner_hit ];
+      loses = certain-loses k;
       holds_it = both (le lo lo) (lt lo hi) (le_refl lo (lt-number lo hi s.proper).0) s.proper;
     };
   }) s.past)

@@ -90,9 +90,9 @@ returns c =
     let e = c.ray_heads-head.ensures in
     let inv = c.loop-w.invariant in
     let counted = onward-counted inv c.take_part-w.ensures (not-true _ c.if-not-w-top.true-raw) in (
-      same_length c,
+      shape_of-keys c,
       record {
-        size = same-length-2 c;
+        size = shape_of-buffer c;
         prefixed = ray-added asked (omega (arith, asked.counting.countable.room.in_spans, c.well_formed, c.ranges))
             (counted false _ (list-sound asked false) (rw e at c.end_list.ensures))
             (counted true _ (list-sound asked true) (rw e at c.end_list-2.ensures)) _ c.add_ray.ensures;
