@@ -41,7 +41,7 @@ count_next-s-requires c =
       record {
         some = c.fit_width-width.ensures.0;
         inside = omega (arith, rays, c.loop-first-test.true, c.fit_width-width.ensures.1);
-        fits = rw c.entry_count-n.ensures (goal.at.count_next-s-requires c).After-fit_width-width c.fit_width-width.ensures.2;
+        fits = rw c.entry_count-n.ensures at c.fit_width-width.ensures.2;
         keys_some = omega (arith, inv.2, pre.2);
         keys_few = omega (arith, inv.2, pre.3);
       },

@@ -57,16 +57,16 @@ count_ray-t-requires c =
     let pre = c.requires in
     let s = c.loop-i.invariant.1 in
     let fit = c.loop-i-test.true in
-    let run = rw e (goal.at.count_ray-t-requires c).At-loop-i c.end_of_ray-j.ensures in
+    let run = rw e at c.end_of_ray-j.ensures in
     rw e (ray-asked pre.0 pre.1 s fit _ c.loop-i.invariant.0, keys-of-ray pre.0 pre.1 s fit run)
 
 pub loop-i-preserved : goal.loop-i-preserved
 loop-i-preserved c =
     let e = c.entry_count-n.ensures in
     let pre = c.requires in
-    let counted = rw e (goal.at.loop-i-preserved c).After-count_ray-arg-in-loop-i-1 c.count_ray-t.ensures in
+    let counted = rw e at c.count_ray-t.ensures in
     let fit = c.loop-i-test.true in
-    let run = rw e (goal.at.loop-i-preserved c).After-count_ray-arg-in-loop-i-1 c.end_of_ray-j.ensures in
+    let run = rw e at c.end_of_ray-j.ensures in
     (counted.size ∙ c.loop-i.invariant.0, reached-turn pre.0 pre.1 c.loop-i.invariant.1 fit run counted.prefixed)
 
 pub returns : goal.returns

@@ -5,13 +5,8 @@ use native.Mathlib.Omega.{arith}
 use native.Mathlib.Decide.{dec_lt}
 use borrow.Author.Rules.{rules}
 use lib.ListN.{get_or}
+use Rattle.log_budget.proofs.end_of_ray.Invariants.{OneRay}
 use Rattle.log_budget.proofs.end_of_ray.Goals as goal
-
--- the keys from i to just before j are of one ray
-record OneRay (keys : List ℕ) (m i n j : ℕ) : Type 0 where
-  past : i < j
-  most : j ≤ m
-  same : (t : ℕ) → i ≤ t → t < j → get_or keys t 0 / n ≡ get_or keys i 0 / n
 
 pub loop-j-init : goal.loop-j-init
 loop-j-init c =
