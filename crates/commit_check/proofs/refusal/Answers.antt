@@ -13,48 +13,33 @@ use Rattle.commit_check.proofs.Tests.{intervals-due, all-passed}
 use Rattle.store.specs.Steps.{Room}
 use Rattle.store.specs.Store.{cells}
 use Rattle.commit_check.proofs.refusal.Goals as goal
-use Rattle.commit_check.proofs.refusal.Goals.{Else-is_short, Else-is_work_short, Else-not-check_stock, Else-not-is_whole_log, Else-not-names_all, Start}
+use Rattle.commit_check.proofs.refusal.Goals.{Else-is_short, Else-is_work_short, Else-not-check_stock, Else-not-is_whole_log, Else-not-names_all}
 
--- ---- where the tests before were passed
+-- ---- what the tests have found
+room : (c : Else-is_short) → Room c.args.spec.max_intervals (2 * ray_count c.args.g) (stock c.args.spans.now c.args.links.now c.args.heads.now c.args.generation c.args.intervals).cells
+room c = room-of-test c.args.spec c.args.g (stock c.args.spans.now c.args.links.now c.args.heads.now c.args.generation c.args.intervals) c.args.log.now c.args.allowance c.args.work.now _ c.is_short.ensures c.if-is_short.false
 
-abbrev lent : Start → Stock
-lent s = stock s.args.spans.now s.args.links.now s.args.heads.now s.args.generation s.args.intervals
-
--- ---- what they have found
-room : (c : Else-is_short) → Room c.args.spec.max_intervals (2 * ray_count c.args.g) (lent c.before.before.before.before.before.before.before).cells
-room c = room-of-test c.args.spec c.args.g (lent c.before.before.before.before.before.before.before) c.args.log.now c.args.allowance c.args.work.now _ c.is_short.ensures
-    c.if-is_short.false
-
-doubles : (c : Else-is_short) → Doubles c.args.g (ray_lists c.args.spec c.args.g (lent c.before.before.before.before.before.before.before).cells) (entries c.args.log.now)
-doubles c = all-doubles c.args.spec c.args.g (lent c.before.before.before.before.before.before.before) c.args.log.now
+doubles : (c : Else-is_short) → Doubles c.args.g (ray_lists c.args.spec c.args.g (stock c.args.spans.now c.args.links.now c.args.heads.now c.args.generation c.args.intervals).cells) (entries c.args.log.now)
+doubles c = all-doubles c.args.spec c.args.g (stock c.args.spans.now c.args.links.now c.args.heads.now c.args.generation c.args.intervals) c.args.log.now
     c.shared_slice_known-1.given c.shared_slice_known-4-1.given
 
-enough : (c : Else-is_work_short) → let a = (start c.before.before).args in WorkRoom a.spec.max_intervals a.log.now a.work.now
-enough c = let s = start c.before.before in let a = s.args in
-    work-of-test a.spec a.g (lent s) a.log.now a.allowance a.work.now _ c.is_work_short.ensures c.if-is_work_short.false
+enough : (c : Else-is_work_short) → WorkRoom c.args.spec.max_intervals c.args.log.now c.args.work.now
+enough c = work-of-test c.args.spec c.args.g (stock c.args.spans.now c.args.links.now c.args.heads.now c.args.generation c.args.intervals) c.args.log.now c.args.allowance c.args.work.now _ c.is_work_short.ensures c.if-is_work_short.false
 
-whole : (c : Else-not-is_whole_log) → WholeLog (start (after1 c.before.before)).args.log.now
-whole c = let s = start (after1 c.before.before) in let a = s.args in
-    whole-of-test a.spec a.g (lent s) a.log.now a.allowance a.work.now _ c.is_whole_log.ensures c.if-not-is_whole_log.false-raw
+whole : (c : Else-not-is_whole_log) → WholeLog c.args.log.now
+whole c = whole-of-test c.args.spec c.args.g (stock c.args.spans.now c.args.links.now c.args.heads.now c.args.generation c.args.intervals) c.args.log.now c.args.allowance c.args.work.now _ c.is_whole_log.ensures c.if-not-is_whole_log.false-raw
 
-sound : (c : Else-not-check_stock) → let s = start (after1 (after2 c.before.before)) in SoundStock s.args.spec s.args.g (lent s)
-sound c =
-    let e2 = after2 c.before.before in
-    let s = start e2.before.before in
-    let a = s.args in
-    sound-of-test a.spec a.g (lent s) a.log.now a.allowance a.work.now (room e2.before.before) (enough e2) _
-    c.check_stock.ensures c.if-not-check_stock.false-raw
+sound : (c : Else-not-check_stock) → Room c.args.spec.max_intervals (2 * ray_count c.args.g) (stock c.args.spans.now c.args.links.now c.args.heads.now c.args.generation c.args.intervals).cells
+    → WorkRoom c.args.spec.max_intervals c.args.log.now c.args.work.now → SoundStock c.args.spec c.args.g (stock c.args.spans.now c.args.links.now c.args.heads.now c.args.generation c.args.intervals)
+sound c r e = sound-of-test c.args.spec c.args.g (stock c.args.spans.now c.args.links.now c.args.heads.now c.args.generation c.args.intervals) c.args.log.now c.args.allowance c.args.work.now r e _ c.check_stock.ensures c.if-not-check_stock.false-raw
 
-named : (c : Else-not-names_all) → let a = (start (after1 (after2 (after3 c.before.before.before)))).args in EachNamed a.g a.log.now
-named c =
-    let e3 = after3 c.before.before.before in
-    let e2 = e3.before.before in
-    let s = start e2.before.before in
-    let a = s.args in
-    named-of-test a.spec a.g (lent s) a.log.now a.allowance a.work.now (room e2.before.before) (enough e2) (whole e3)
-    (sound c.before.before.before) c.if-generation-eq18446744073709551615.false _ c.names_all.ensures c.if-not-names_all.false-raw
+named : (c : Else-not-names_all) → Room c.args.spec.max_intervals (2 * ray_count c.args.g) (stock c.args.spans.now c.args.links.now c.args.heads.now c.args.generation c.args.intervals).cells
+    → WorkRoom c.args.spec.max_intervals c.args.log.now c.args.work.now → WholeLog c.args.log.now
+    → SoundStock c.args.spec c.args.g (stock c.args.spans.now c.args.links.now c.args.heads.now c.args.generation c.args.intervals) → EachNamed c.args.g c.args.log.now
+named c r e h s = named-of-test c.args.spec c.args.g (stock c.args.spans.now c.args.links.now c.args.heads.now c.args.generation c.args.intervals) c.args.log.now c.args.allowance c.args.work.now r e h s c.if-generation-eq18446744073709551615.false _
+    c.names_all.ensures c.if-not-names_all.false-raw
 
--- ---- the needs
+-- ---- the goals
 pub returns-then-is_short : goal.returns-then-is_short
 returns-then-is_short c = short-due _ _ _ _ _ _ _ c.is_short.ensures c.if-is_short.true
 
@@ -66,51 +51,72 @@ returns-then-is_work_short c = work-due _ _ _ _ _ _ _ c.is_work_short.ensures c.
 
 pub returns-then-not-is_whole_log : goal.returns-then-not-is_whole_log
 returns-then-not-is_whole_log c =
-    part-due _ _ _ _ _ _ (room (goal.at.returns-then-not-is_whole_log c).Else-is_short) (enough (goal.at.returns-then-not-is_whole_log c).Else-is_work_short) _ c.is_whole_log.ensures c.if-not-is_whole_log.true-raw
+    let r = room (goal.at.returns-then-not-is_whole_log c).Else-is_short in
+    let e = enough (goal.at.returns-then-not-is_whole_log c).Else-is_work_short in
+    part-due _ _ _ _ _ _ r e _ c.is_whole_log.ensures c.if-not-is_whole_log.true-raw
 
 pub check_stock-requires : goal.check_stock-requires
-check_stock-requires c = room (after1 (goal.at.check_stock-requires c).Else-is_work_short)
+check_stock-requires c =
+    let r = room (goal.at.check_stock-requires c).Else-is_short in
+    r
 
 pub returns-then-not-check_stock : goal.returns-then-not-check_stock
 returns-then-not-check_stock c =
-    unsound-due _ _ _ _ _ _ (room (goal.at.returns-then-not-check_stock c).Else-is_short) (enough (goal.at.returns-then-not-check_stock c).Else-is_work_short) _ c.check_stock.ensures c.if-not-check_stock.true-raw
+    let r = room (goal.at.returns-then-not-check_stock c).Else-is_short in
+    let e = enough (goal.at.returns-then-not-check_stock c).Else-is_work_short in
+    unsound-due _ _ _ _ _ _ r e _ c.check_stock.ensures c.if-not-check_stock.true-raw
 
 pub returns-then-generation-eq18446744073709551615 : goal.returns-then-generation-eq18446744073709551615
 returns-then-generation-eq18446744073709551615 c =
-    last-due _ _ _ _ _ _ (room (goal.at.returns-then-generation-eq18446744073709551615 c).Else-is_short) (enough (goal.at.returns-then-generation-eq18446744073709551615 c).Else-is_work_short) (whole (goal.at.returns-then-generation-eq18446744073709551615 c).Else-not-is_whole_log) (sound (goal.at.returns-then-generation-eq18446744073709551615 c).Else-not-check_stock) c.if-generation-eq18446744073709551615.true
+    let r = room (goal.at.returns-then-generation-eq18446744073709551615 c).Else-is_short in
+    let e = enough (goal.at.returns-then-generation-eq18446744073709551615 c).Else-is_work_short in
+    let h = whole (goal.at.returns-then-generation-eq18446744073709551615 c).Else-not-is_whole_log in
+    let s = sound (goal.at.returns-then-generation-eq18446744073709551615 c).Else-not-check_stock r e in
+    last-due _ _ _ _ _ _ r e h s c.if-generation-eq18446744073709551615.true
 
 pub names_all-requires : goal.names_all-requires
 names_all-requires c =
-    let asked = (start (after1 (after2 (goal.at.names_all-requires c).Else-not-is_whole_log))).requires in
-    omega (arith, asked.rays, asked.ceiling)
+    omega (arith, c.requires.rays, c.requires.ceiling)
 
 pub returns-then-not-names_all : goal.returns-then-not-names_all
 returns-then-not-names_all c =
-    unnamed-due _ _ _ _ _ _ (room (goal.at.returns-then-not-names_all c).Else-is_short) (enough (goal.at.returns-then-not-names_all c).Else-is_work_short) (whole (goal.at.returns-then-not-names_all c).Else-not-is_whole_log) (sound (goal.at.returns-then-not-names_all c).Else-not-check_stock) c.if-generation-eq18446744073709551615.false _
-    c.names_all.ensures c.if-not-names_all.true-raw
+    let r = room (goal.at.returns-then-not-names_all c).Else-is_short in
+    let e = enough (goal.at.returns-then-not-names_all c).Else-is_work_short in
+    let h = whole (goal.at.returns-then-not-names_all c).Else-not-is_whole_log in
+    let s = sound (goal.at.returns-then-not-names_all c).Else-not-check_stock r e in
+    unnamed-due _ _ _ _ _ _ r e h s c.if-generation-eq18446744073709551615.false _ c.names_all.ensures c.if-not-names_all.true-raw
 
 pub budget-requires : goal.budget-requires
 budget-requires c =
-    let e1 = after1 (after2 (after3 (goal.at.budget-requires c).Else-not-check_stock)) in
-    record { facts = e1.before.before.before.before.before.before.before.pre; room = room e1; is_sound = sound (goal.at.budget-requires c).Else-not-check_stock; named = named c }
+    let r = room (goal.at.budget-requires c).Else-is_short in
+    let e = enough (goal.at.budget-requires c).Else-is_work_short in
+    let h = whole (goal.at.budget-requires c).Else-not-is_whole_log in
+    let s = sound (goal.at.budget-requires c).Else-not-check_stock r e in
+    record { facts = c.requires; room = r; is_sound = s; named = named c r e h s }
 
 pub returns-in-Rays : goal.returns-in-Rays
 returns-in-Rays c =
-    let e3 = after3 (goal.at.returns-in-Rays c).Else-not-check_stock in
-    let e2 = e3.before.before in
-    rays-due _ _ _ _ _ _ (room e2.before.before) (enough e2) (whole e3) (sound (goal.at.returns-in-Rays c).Else-not-check_stock) c.if-generation-eq18446744073709551615.false (named (goal.at.returns-in-Rays c).Else-not-names_all) _
-    c.budget.ensures (doubles e2.before.before) c.in-Rays.is
+    let r = room (goal.at.returns-in-Rays c).Else-is_short in
+    let e = enough (goal.at.returns-in-Rays c).Else-is_work_short in
+    let h = whole (goal.at.returns-in-Rays c).Else-not-is_whole_log in
+    let s = sound (goal.at.returns-in-Rays c).Else-not-check_stock r e in
+    let n = named (goal.at.returns-in-Rays c).Else-not-names_all r e h s in
+    rays-due _ _ _ _ _ _ r e h s c.if-generation-eq18446744073709551615.false n _ c.budget.ensures (doubles (goal.at.returns-in-Rays c).Else-is_short) c.in-Rays.is
 
 pub returns-in-Intervals : goal.returns-in-Intervals
 returns-in-Intervals c =
-    let e3 = after3 (goal.at.returns-in-Intervals c).Else-not-check_stock in
-    let e2 = e3.before.before in
-    intervals-due _ _ _ _ _ _ (room e2.before.before) (enough e2) (whole e3) (sound (goal.at.returns-in-Intervals c).Else-not-check_stock) c.if-generation-eq18446744073709551615.false (named (goal.at.returns-in-Intervals c).Else-not-names_all) _
-    c.budget.ensures (doubles e2.before.before) c.in-Intervals.is
+    let r = room (goal.at.returns-in-Intervals c).Else-is_short in
+    let e = enough (goal.at.returns-in-Intervals c).Else-is_work_short in
+    let h = whole (goal.at.returns-in-Intervals c).Else-not-is_whole_log in
+    let s = sound (goal.at.returns-in-Intervals c).Else-not-check_stock r e in
+    let n = named (goal.at.returns-in-Intervals c).Else-not-names_all r e h s in
+    intervals-due _ _ _ _ _ _ r e h s c.if-generation-eq18446744073709551615.false n _ c.budget.ensures (doubles (goal.at.returns-in-Intervals c).Else-is_short) c.in-Intervals.is
 
 pub returns-in-Kept : goal.returns-in-Kept
 returns-in-Kept c =
-    let e3 = after3 (goal.at.returns-in-Kept c).Else-not-check_stock in
-    let e2 = e3.before.before in
-    all-passed _ _ _ _ _ _ (room e2.before.before) (enough e2) (whole e3) (sound (goal.at.returns-in-Kept c).Else-not-check_stock) c.if-generation-eq18446744073709551615.false (named (goal.at.returns-in-Kept c).Else-not-names_all) _
-    c.budget.ensures (omega (arith, (start e2.before.before).ranges.generation)) c.in-Kept.is
+    let r = room (goal.at.returns-in-Kept c).Else-is_short in
+    let e = enough (goal.at.returns-in-Kept c).Else-is_work_short in
+    let h = whole (goal.at.returns-in-Kept c).Else-not-is_whole_log in
+    let s = sound (goal.at.returns-in-Kept c).Else-not-check_stock r e in
+    let n = named (goal.at.returns-in-Kept c).Else-not-names_all r e h s in
+    all-passed _ _ _ _ _ _ r e h s c.if-generation-eq18446744073709551615.false n _ c.budget.ensures (omega (arith, c.ranges.generation)) c.in-Kept.is
