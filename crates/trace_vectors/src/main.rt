@@ -78,7 +78,7 @@ fn main(rt: HostRuntime) -> io::Result<()> {
     }
     vector_rows::print(
         &mut rt.stdout(),
-        b"refused not_possible removed uncertain not_certain still_certain",
+        b"refused not-possible removed uncertain not-certain still-certain",
         r.counts,
     )
 }
