@@ -10,6 +10,7 @@
 // row that differs.
 #![tactic(auto)]
 
+use std::io;
 use stock::{CommitAnswer, Outcome, Tally};
 
 // The store of a run and its small record.
@@ -221,15 +222,20 @@ fn no_store() -> Store {
     }
 }
 
-fn main() {
+fn main(rt: HostRuntime) -> io::Result<()> {
+    let mut input = rt.stdin();
     let mut store = no_store();
     let mut w = [0; 170];
-    let mut r = vector_rows::first_row(16, &mut w);
+    let mut r = vector_rows::first_row(&mut input, 16, &mut w)?;
     while r.left > 0 {
         let s = shown_by(&w, store);
-        r = vector_rows::next_row(r, w[0], 3, s.agrees, 16, &mut w);
+        r = vector_rows::next_row(&mut input, r, w[0], 3, s.agrees, 16, &mut w)?;
         let left = s.store;
         store = left;
     }
-    vector_rows::print(b"commit_changes commit_log runs", r.counts);
+    vector_rows::print(
+        &mut rt.stdout(),
+        b"commit_changes commit_log runs",
+        r.counts,
+    )
 }

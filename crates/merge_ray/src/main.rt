@@ -1,13 +1,16 @@
 // Merges the ray that standard input describes, and writes its lists, or why it is refused, to standard output.
 #![tactic(auto)]
 
+use std::io;
+use std::io::Write;
+
 // One byte more than the longest readable input, 257 lines of 36 bytes: what is longer is seen to be.
 const MOST: usize = 9253;
 
-fn main() {
+fn main(rt: HostRuntime) -> io::Result<()> {
     let mut input = [0u8; MOST];
-    let n = io::read_full(libc::STDIN_FILENO, &mut input);
-    let mut out = io::large_buffer();
+    let n = input_bytes::read_full(&mut rt.stdin(), &mut input)?;
+    let mut out = [0u8; 65536];
     let m = ray_text::run(&input[..n], &mut out);
-    io::write_all(libc::STDOUT_FILENO, &out[..m]);
+    rt.stdout().write_all(&out[..m])
 }

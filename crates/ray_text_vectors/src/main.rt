@@ -5,68 +5,72 @@
 // how many can't be read, and the number of the first that differs.
 #![tactic(auto)]
 
+use std::io;
+use std::io::Read;
 use vector_rows::{RowCounts, RowOutcome};
 
 // The most bytes of an input or an output.
 const MOST: usize = 16384;
 
 // Reads n bytes to the front of a buffer, and answers whether they were there.
-fn read_text(buf: &mut [u8], n: usize) -> bool {
-    io::read_full(libc::STDIN_FILENO, vector_rows::first_bytes_mut(buf, n)) == n
+fn read_text<R: Read>(input: &mut R, buf: &mut [u8], n: usize) -> io::Result<bool> {
+    let got = input_bytes::read_full(input, vector_rows::first_bytes_mut(buf, n))?;
+    Ok(got == n)
 }
 
 // Whether the first n bytes of the buffer are these.
 fn wrote(out: &[u8; 65536], n: usize, wanted: &[u8]) -> bool {
-    check::same(vector_rows::first_bytes(out, n), wanted)
+    vector_rows::first_bytes(out, n) == wanted
 }
 
 // Whether an input gives this output.
 fn gives(s: &[u8], wanted: &[u8]) -> bool {
-    let mut out = io::large_buffer();
+    let mut out = [0u8; 65536];
     let n = ray_text::run(s, &mut out);
     wrote(&out, n, wanted)
 }
 
 // Runs an input of n bytes, and compares with the m bytes that follow.
-fn ran(n: usize, m: usize) -> RowOutcome {
-    let mut input = [0u8; MOST];
-    if !read_text(&mut input, n) {
-        return RowOutcome::Unread;
+fn ran<R: Read>(input: &mut R, n: usize, m: usize) -> io::Result<RowOutcome> {
+    let mut given = [0u8; MOST];
+    if !read_text(input, &mut given, n)? {
+        return Ok(RowOutcome::Unread);
     }
     let mut wanted = [0u8; MOST];
-    if !read_text(&mut wanted, m) {
-        return RowOutcome::Unread;
+    if !read_text(input, &mut wanted, m)? {
+        return Ok(RowOutcome::Unread);
     }
-    let s = vector_rows::first_bytes(&input, n);
-    vector_rows::row_outcome(0, 1, gives(s, vector_rows::first_bytes(&wanted, m)))
+    let s = vector_rows::first_bytes(&given, n);
+    Ok(vector_rows::row_outcome(0, 1, gives(s, vector_rows::first_bytes(&wanted, m))))
 }
 
 // Where the head can't be read, a length is more than the most.
-fn compared(head: &[u8]) -> RowOutcome {
+fn compared<R: Read>(input: &mut R, head: &[u8]) -> io::Result<RowOutcome> {
     let n = vector_rows::value_or(hex_text::hex_at(head, 0, 4), 65536);
     let m = vector_rows::value_or(hex_text::hex_at(head, 5, 4), 65536);
-    ran(n as usize, m as usize)
+    ran(input, n as usize, m as usize)
 }
 
 // What follows a case that can't be read is not looked at.
 // The turns are counted down, since a proved loop has to end and nothing says that the input does.
-fn counted() -> RowCounts {
+fn counted<R: Read>(input: &mut R) -> io::Result<RowCounts> {
     let mut t = vector_rows::start();
     let mut turns = u64::MAX;
     while turns > 0 {
         let mut head = [0u8; 10];
-        if io::read_full(libc::STDIN_FILENO, &mut head) == 0 {
+        if input_bytes::read_full(input, &mut head)? == 0 {
             break;
         }
-        t = vector_rows::count(t, compared(&head));
+        t = vector_rows::count(t, compared(input, &head)?);
         if t.unread > 0 {
             break;
         }
         turns -= 1;
     }
-    t
+    Ok(t)
 }
 
-fn main() {
-    vector_rows::print(b"cases", counted());
+fn main(rt: HostRuntime) -> io::Result<()> {
+    let t = counted(&mut rt.stdin())?;
+    vector_rows::print(&mut rt.stdout(), b"cases", t)
 }

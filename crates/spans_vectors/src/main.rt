@@ -9,6 +9,7 @@
 
 use span_compare::BoolAnswer;
 use spans::ListAnswer;
+use std::io;
 
 // A refusal's number or 0, and the number of pairs, or 1 for yes.
 #[derive(Clone, Copy)]
@@ -101,11 +102,16 @@ fn agrees(w: &[u64; 35]) -> bool {
     vector_rows::cells_agree(&out, w, 20, ends_of(w[0], r), 15)
 }
 
-fn main() {
+fn main(rt: HostRuntime) -> io::Result<()> {
+    let mut input = rt.stdin();
     let mut w = [0; 35];
-    let mut r = vector_rows::first_row(16, &mut w);
+    let mut r = vector_rows::first_row(&mut input, 16, &mut w)?;
     while r.left > 0 {
-        r = vector_rows::next_row(r, w[0], 5, agrees(&w), 16, &mut w);
+        r = vector_rows::next_row(&mut input, r, w[0], 5, agrees(&w), 16, &mut w)?;
     }
-    vector_rows::print(b"normalize subtract intersect contains overlaps", r.counts);
+    vector_rows::print(
+        &mut rt.stdout(),
+        b"normalize subtract intersect contains overlaps",
+        r.counts,
+    )
 }

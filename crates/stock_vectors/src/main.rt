@@ -9,6 +9,7 @@
 
 use ray_merge::MergeAnswer;
 use ray_subtract::MergedList;
+use std::io;
 use stock_fill::FillAnswer;
 use stock_volume::{DexelVolume, VolumeAnswer};
 
@@ -192,11 +193,12 @@ fn agrees(w: &[u64; 87]) -> bool {
     volume_agrees(w)
 }
 
-fn main() {
+fn main(rt: HostRuntime) -> io::Result<()> {
+    let mut input = rt.stdin();
     let mut w = [0; 87];
-    let mut r = vector_rows::first_row(16, &mut w);
+    let mut r = vector_rows::first_row(&mut input, 16, &mut w)?;
     while r.left > 0 {
-        r = vector_rows::next_row(r, w[0], 3, agrees(&w), 16, &mut w);
+        r = vector_rows::next_row(&mut input, r, w[0], 3, agrees(&w), 16, &mut w)?;
     }
-    vector_rows::print(b"merge fill volume", r.counts);
+    vector_rows::print(&mut rt.stdout(), b"merge fill volume", r.counts)
 }

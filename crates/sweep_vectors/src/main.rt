@@ -7,6 +7,7 @@
 // the first row that differs.
 #![tactic(auto)]
 
+use std::io;
 use sweep::SweepAnswer;
 
 // A sweep's answer as numbers, 0 for no refusal, and whether the store and the chords are as they were.
@@ -170,11 +171,12 @@ fn kind_of(refusal: u64) -> u64 {
     1
 }
 
-fn main() {
+fn main(rt: HostRuntime) -> io::Result<()> {
+    let mut input = rt.stdin();
     let mut w = [0; 243];
-    let mut r = vector_rows::first_row(16, &mut w);
+    let mut r = vector_rows::first_row(&mut input, 16, &mut w)?;
     while r.left > 0 {
-        r = vector_rows::next_row(r, kind_of(w[35]), 2, agrees(&w), 16, &mut w);
+        r = vector_rows::next_row(&mut input, r, kind_of(w[35]), 2, agrees(&w), 16, &mut w)?;
     }
-    vector_rows::print(b"accepted refused", r.counts);
+    vector_rows::print(&mut rt.stdout(), b"accepted refused", r.counts)
 }

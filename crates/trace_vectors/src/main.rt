@@ -6,6 +6,7 @@
 #![tactic(auto)]
 
 use ray_trace::TraceAnswer;
+use std::io;
 
 // The reason, 1 to 5, or 0; the refusal or 0; the number of the entry or 0.
 #[derive(Clone, Copy)]
@@ -68,14 +69,16 @@ fn agrees(w: &[u64; 45]) -> bool {
     r.entry == w[2]
 }
 
-fn main() {
+fn main(rt: HostRuntime) -> io::Result<()> {
+    let mut input = rt.stdin();
     let mut w = [0; 45];
-    let mut r = vector_rows::first_row(16, &mut w);
+    let mut r = vector_rows::first_row(&mut input, 16, &mut w)?;
     while r.left > 0 {
-        r = vector_rows::next_row(r, w[0], 6, agrees(&w), 16, &mut w);
+        r = vector_rows::next_row(&mut input, r, w[0], 6, agrees(&w), 16, &mut w)?;
     }
     vector_rows::print(
-        b"refused not_possible removed uncertain not_certain still_certain",
+        &mut rt.stdout(),
+        b"refused not-possible removed uncertain not-certain still-certain",
         r.counts,
-    );
+    )
 }

@@ -2,7 +2,7 @@
 // the recorded ones, the counts of the rows, and how they are printed. Past a row every word is 0.
 #![tactic(auto)]
 
-ghost use Rattle.std.specs.Prelude.{◌≡◌, length, take, ◌+◌, ◌*◌, ◌^◌, ◌<◌, ◌≤◌};
+ghost use Rattle.std.specs.Prelude.{◌≡◌, length, take, ◌+◌, ◌*◌, ◌^◌, ◌<◌, ◌≤◌, IfOk};
 ghost use Rattle.std.specs.Float.{nan};
 ghost use Rattle.enum_codes.specs.Codes.{named_shape};
 ghost use Rattle.vector_rows.specs.Words.{word_of, double_of, CellsFilled, spec_of, units_of, cutter_of};
@@ -14,6 +14,8 @@ ghost use Rattle.vector_rows.specs.Replays.{RowPre, NextRowPost};
 use cutter::{CutterShape, PreparedCutter};
 use grid::{DexelStockSpec, Vec3};
 use hex_text::Word;
+use std::io;
+use std::io::{Read, Write};
 
 // The bits of 7, which a cell holds that nothing wrote.
 const SEVEN: u64 = 0x401c_0000_0000_0000;
@@ -386,32 +388,32 @@ enum RowFound {
 }
 
 // Reads the bytes from `start` to `end` from the input, and answers how many there were.
-fn read_text(text: &mut [u8], start: usize, end: usize) -> usize
+fn read_text<R: Read>(input: &mut R, text: &mut [u8], start: usize, end: usize) -> io::Result<usize>
     requires { (start ≤ end) × (end ≤ length text.old) }
-    ensures { result ≤ end }
+    ensures { IfOk result (λ got. got ≤ end) }
 {
-    io::read_full(libc::STDIN_FILENO, &mut text[start..end])
+    input_bytes::read_full(input, &mut text[start..end])
 }
 
 // Reads the next row, a word for each cell of `out`. The first word has `head` digits, and is read behind zeros, so that each has 16.
 // The byte behind the last word may be missing.
-fn read_row(head: usize, out: &mut [u64]) -> RowFound
+fn read_row<R: Read>(input: &mut R, head: usize, out: &mut [u64]) -> io::Result<RowFound>
     requires { RowPre head (length out.old) }
 {
     let mut text = [b'0'; 4131];
     let start = 16 - head;
     let end = 17 * out.len();
-    let got = read_text(&mut text, start, end);
+    let got = read_text(input, &mut text, start, end)?;
     if got == 0 {
-        return RowFound::End;
+        return Ok(RowFound::End);
     }
     if start + got + 1 < end {
-        return RowFound::Unread;
+        return Ok(RowFound::Unread);
     }
     if read_words(&text, 0, out) {
-        return RowFound::Words;
+        return Ok(RowFound::Words);
     }
-    RowFound::Unread
+    Ok(RowFound::Unread)
 }
 
 // A replay: the counts so far, and how many more rows it may read, 0 where no row is at hand. A proved loop has to end, and nothing
@@ -423,21 +425,21 @@ pub struct Replay {
 }
 
 // Reads on to the next row that can be read, and counts those that can't be.
-fn read_on(r: Replay, head: usize, out: &mut [u64]) -> Replay
+fn read_on<R: Read>(input: &mut R, r: Replay, head: usize, out: &mut [u64]) -> io::Result<Replay>
     requires { RowPre head (length out.old) × (0 < r.left) }
-    ensures { NextRowPost r.counts r.left result }
+    ensures { IfOk result (NextRowPost r.counts r.left) }
 {
     let mut t = r.counts;
     let mut left = r.left;
     while left > 0 {
-        let found = read_row(head, out);
+        let found = read_row(input, head, out)?;
         left -= 1;
         match found {
             RowFound::Words => {
-                return Replay {
+                return Ok(Replay {
                     counts: t,
                     left: left,
-                };
+                });
             }
             RowFound::End => {
                 break;
@@ -447,64 +449,65 @@ fn read_on(r: Replay, head: usize, out: &mut [u64]) -> Replay
             }
         }
     }
-    Replay { counts: t, left: 0 }
+    Ok(Replay { counts: t, left: 0 })
 }
 
 // A replay at its first row: word 0 of each row has `head` digits, the others have 16.
-pub fn first_row(head: usize, out: &mut [u64]) -> Replay
+pub fn first_row<R: Read>(input: &mut R, head: usize, out: &mut [u64]) -> io::Result<Replay>
     requires { RowPre head (length out.old) }
-    ensures { NextRowPost none 18446744073709551615 result }
+    ensures { IfOk result (NextRowPost none 18446744073709551615) }
 {
     let r = Replay {
         counts: start(),
         left: u64::MAX,
     };
-    read_on(r, head, out)
+    read_on(input, r, head, out)
 }
 
 // Counts whether the row at hand, of function k of so many, agrees, and goes on to the next.
-pub fn next_row(
+pub fn next_row<R: Read>(
+    input: &mut R,
     r: Replay,
     k: u64,
     functions: u64,
     agrees: bool,
     head: usize,
     out: &mut [u64],
-) -> Replay
+) -> io::Result<Replay>
     requires { RowPre head (length out.old) × (0 < r.left) }
-    ensures { NextRowPost (counted r.counts (outcome_of k functions agrees)) r.left result }
+    ensures { IfOk result (NextRowPost (counted r.counts (outcome_of k functions agrees)) r.left) }
 {
     let next = Replay {
         counts: count(r.counts, row_outcome(k, functions, agrees)),
         left: r.left,
     };
-    read_on(next, head, out)
+    read_on(input, next, head, out)
 }
 
-fn print_number(name: &[u8], n: u64) {
-    io::write_all(libc::STDOUT_FILENO, name);
-    io::write_all(libc::STDOUT_FILENO, b" ");
-    io::print_decimal(libc::STDOUT_FILENO, n);
+fn print_number<W: Write>(output: &mut W, name: &[u8], n: u64) -> io::Result<()> {
+    output.write_all(name)?;
+    write!(output, " {n}")
 }
 
 // Prints how many rows of function k agree and differ.
-fn print_counts(name: &[u8], t: RowCounts, k: usize) {
+fn print_counts<W: Write>(output: &mut W, name: &[u8], t: RowCounts, k: usize) -> io::Result<()> {
     if k < 16 {
-        print_number(name, t.agree[k]);
-        print_number(b"", t.differ[k]);
-        io::write_all(libc::STDOUT_FILENO, b"\n");
+        print_number(output, name, t.agree[k])?;
+        print_number(output, b"", t.differ[k])?;
+        output.write_all(b"\n")?;
     }
+    Ok(())
 }
 
 // Prints how many rows can't be read, and the first that differs, 0 for none.
-fn print_end(t: RowCounts) {
-    print_number(b"unread", t.unread);
-    print_number(b"\nfirst that differs", t.first);
-    io::write_all(libc::STDOUT_FILENO, b"\n");
+fn print_end<W: Write>(output: &mut W, t: RowCounts) -> io::Result<()> {
+    print_number(output, b"unread", t.unread)?;
+    print_number(output, b"\nfirst that differs", t.first)?;
+    output.write_all(b"\n")
 }
 
 // Prints the counts of each function, and what is left of the tally. The functions' names stand in order, with a space between two.
-pub fn print(names: &[u8], t: RowCounts) {
+pub fn print<W: Write>(output: &mut W, names: &[u8], t: RowCounts) -> io::Result<()> {
     let mut start = 0;
     let mut k = 0;
     let mut i = 0;
@@ -514,10 +517,10 @@ pub fn print(names: &[u8], t: RowCounts) {
         if names[end] != b' ' {
             continue;
         }
-        print_counts(&names[start..end], t, k);
+        print_counts(output, &names[start..end], t, k)?;
         start = i;
         k += 1;
     }
-    print_counts(&names[start..], t, k);
-    print_end(t);
+    print_counts(output, &names[start..], t, k)?;
+    print_end(output, t)
 }

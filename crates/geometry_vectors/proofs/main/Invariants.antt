@@ -1,11 +1,9 @@
--- `geometry_vectors::main` ends: each row leaves fewer. The lengths of the words and of the names stay.
-use mathlib.Core.Path.{◌≡◌}
-use lib.ListN.{length}
-use borrow.Author.Rules.{rules}
+-- `geometry_vectors::main` ends: each row leaves fewer.
+use Rattle.std.proofs.Common.{◌≡◌, length}
 use Rattle.geometry_vectors.proofs.main.Given as goal
 
 abbrev pub invariant-loop-r : goal.invariant-loop-r
-invariant-loop-r l = (length l.r ≡ 18) × (length l.w ≡ 86)
+invariant-loop-r l = length l.w ≡ 18
 
 abbrev pub decreases-loop-r : goal.decreases-loop-r
-decreases-loop-r l = r.left
+decreases-loop-r l = l.r.left

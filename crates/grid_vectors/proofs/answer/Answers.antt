@@ -1,7 +1,6 @@
 -- `grid_vectors::answer` asks only about an accepted grid. Assumes nothing.
 use mathlib.Core.Path.{subst}
 use Rattle.grid_vectors.specs.Facts.{FactsOf}
-use borrow.Author.Rules.{rules}
 use Rattle.grid_vectors.proofs.answer.Goals as goal
 
 pub asked-requires : goal.asked-requires

@@ -1,7 +1,6 @@
 -- `grid_vectors::asked` meets what the functions over a grid ask, by the facts of an accepted grid. Assumes nothing.
 use Rattle.grid.specs.Axes.{cross_of}
 use Rattle.grid.proofs.Facts.{cells-positive}
-use borrow.Author.Rules.{rules}
 use Rattle.grid_vectors.proofs.asked.Goals as goal
 
 pub ray_center-c-requires : goal.ray_center-c-requires

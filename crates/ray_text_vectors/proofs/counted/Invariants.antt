@@ -1,9 +1,5 @@
--- `ray_text_vectors::counted` meets its contract.
-use borrow.Author.Rules.{rules}
+-- `ray_text_vectors::counted` ends: each turn leaves fewer.
 use Rattle.ray_text_vectors.proofs.counted.Given as goal
 
-abbrev pub invariant-loop-turns : goal.invariant-loop-turns
-invariant-loop-turns l = Unit {0}
-
 abbrev pub decreases-loop-turns : goal.decreases-loop-turns
-decreases-loop-turns l = l.turns
+decreases-loop-turns g l = l.turns

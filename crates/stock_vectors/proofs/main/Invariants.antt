@@ -1,11 +1,9 @@
--- `stock_vectors::main` ends: each row leaves fewer. The lengths of the words and of the names stay.
-use mathlib.Core.Path.{◌≡◌}
-use lib.ListN.{length}
-use borrow.Author.Rules.{rules}
+-- `stock_vectors::main` ends: each row leaves fewer.
+use Rattle.std.proofs.Common.{◌≡◌, length}
 use Rattle.stock_vectors.proofs.main.Given as goal
 
 abbrev pub invariant-loop-r : goal.invariant-loop-r
-invariant-loop-r l = (length l.r ≡ 87) × (length l.w ≡ 17)
+invariant-loop-r l = length l.w ≡ 87
 
 abbrev pub decreases-loop-r : goal.decreases-loop-r
-decreases-loop-r l = r.left
+decreases-loop-r l = l.r.left

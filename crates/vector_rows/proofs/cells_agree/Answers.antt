@@ -1,10 +1,7 @@
 -- `vector_rows::cells_agree` meets its contract.
-use Prim.Native.Nat.{◌-◌}
-use lib.ListN.{length}
-use Rattle.vector_rows.specs.Agreement.{cell_right, one_wrong}
-use Rattle.vector_rows.proofs.Cells.{RightTo, none_right, one_right, all_right}
+use Rattle.vector_rows.specs.Agreement.{one_wrong}
+use Rattle.vector_rows.proofs.Cells.{none_right, one_right, all_right}
 use borrow.Author.Tests.{not-true, not-false}
-use borrow.Author.Rules.{rules}
 use Rattle.vector_rows.proofs.cells_agree.Goals as goal
 
 pub loop-k-init : goal.loop-k-init

@@ -1,10 +1,5 @@
 -- `vector_rows::doubles_at` meets its contract.
-use Prim.Native.Nat.{◌-◌}
-use lib.ListN.{length}
-use lib.Ieee.{nan}
-use Rattle.vector_rows.specs.Words.{double_of}
-use Rattle.vector_rows.proofs.Cells.{FilledTo, none_filled, one-filled, all-filled}
-use borrow.Author.Rules.{rules}
+use Rattle.vector_rows.proofs.Cells.{none_filled, one-filled, all-filled}
 use Rattle.vector_rows.proofs.doubles_at.Goals as goal
 
 pub loop-k-init : goal.loop-k-init

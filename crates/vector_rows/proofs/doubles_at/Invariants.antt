@@ -3,8 +3,7 @@ use Prim.Native.Nat.{◌-◌}
 use lib.ListN.{length}
 use lib.Ieee.{nan}
 use Rattle.vector_rows.specs.Words.{double_of}
-use Rattle.vector_rows.proofs.Cells.{FilledTo, none_filled, one-filled, all-filled}
-use borrow.Author.Rules.{rules}
+use Rattle.vector_rows.proofs.Cells.{FilledTo}
 use Rattle.vector_rows.proofs.doubles_at.Given as goal
 
 abbrev pub invariant-loop-k : goal.invariant-loop-k

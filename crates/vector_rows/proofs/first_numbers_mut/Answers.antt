@@ -2,7 +2,6 @@
 use native.Mathlib.Omega.{arith}
 use mathlib.Core.Path.{sym}
 use lib.Seq.{length-take-le, take_all}
-use borrow.Author.Rules.{rules}
 use Rattle.vector_rows.proofs.first_numbers_mut.Goals as goal
 
 pub returns-then-numbers-n : goal.returns-then-numbers-n

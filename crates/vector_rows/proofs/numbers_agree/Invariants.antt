@@ -1,10 +1,8 @@
 -- `vector_rows::numbers_agree` meets its contract.
 use Prim.Native.Nat.{◌-◌}
 use lib.ListN.{length}
-use Rattle.vector_rows.specs.Agreement.{number_right, one_wrong}
-use Rattle.vector_rows.proofs.Cells.{RightTo, none_right, one_right, all_right}
-use borrow.Author.Tests.{not-true, not-false}
-use borrow.Author.Rules.{rules}
+use Rattle.vector_rows.specs.Agreement.{number_right}
+use Rattle.vector_rows.proofs.Cells.{RightTo}
 use Rattle.vector_rows.proofs.numbers_agree.Given as goal
 
 abbrev pub invariant-loop-k : goal.invariant-loop-k

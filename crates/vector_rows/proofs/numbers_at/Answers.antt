@@ -1,9 +1,5 @@
 -- `vector_rows::numbers_at` meets its contract.
-use Prim.Native.Nat.{◌-◌}
-use lib.ListN.{length}
-use Rattle.vector_rows.specs.Words.{word_of}
-use Rattle.vector_rows.proofs.Cells.{FilledTo, none_filled, one-filled, all-filled}
-use borrow.Author.Rules.{rules}
+use Rattle.vector_rows.proofs.Cells.{none_filled, one-filled, all-filled}
 use Rattle.vector_rows.proofs.numbers_at.Goals as goal
 
 pub loop-k-init : goal.loop-k-init

@@ -2,8 +2,7 @@
 use Prim.Native.Nat.{◌-◌}
 use lib.ListN.{length}
 use Rattle.vector_rows.specs.Words.{word_of}
-use Rattle.vector_rows.proofs.Cells.{FilledTo, none_filled, one-filled, all-filled}
-use borrow.Author.Rules.{rules}
+use Rattle.vector_rows.proofs.Cells.{FilledTo}
 use Rattle.vector_rows.proofs.numbers_at.Given as goal
 
 abbrev pub invariant-loop-k : goal.invariant-loop-k

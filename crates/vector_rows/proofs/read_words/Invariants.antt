@@ -1,9 +1,7 @@
 -- `vector_rows::read_words` meets its contract.
-use mathlib.Core.Path.{sym, ◌∙◌}
 use Prim.Native.Nat.{◌-◌}
 use lib.ListN.{length}
-use borrow.Author.Rules.{rules}
-use Rattle.vector_rows.proofs.Reading.{ReadTo, none_read, one-read, read-stops, read-ends}
+use Rattle.vector_rows.proofs.Reading.{ReadTo}
 use Rattle.vector_rows.proofs.read_words.Given as goal
 
 abbrev pub invariant-loop-i : goal.invariant-loop-i

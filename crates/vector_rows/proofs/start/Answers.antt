@@ -4,4 +4,5 @@ use mathlib.Core.Path.{refl}
 use Rattle.vector_rows.proofs.start.Goals as goal
 
 pub returns : goal.returns
+unfolding none
 returns c = refl

@@ -1,6 +1,5 @@
 -- `vector_rows::word_of` meets its contract.
 use Rattle.vector_rows.proofs.Cells.{in_row, past-start, past_end}
-use borrow.Author.Rules.{rules}
 use Rattle.vector_rows.proofs.word_of.Goals as goal
 
 pub returns-then-w-from : goal.returns-then-w-from
