@@ -383,13 +383,23 @@ rectangle-has f (Rays r) u v (a, b, c, d) =
 abbrev pub NoneOrSix : List Float → Type 0
 NoneOrSix e = (e ≡ []) ⊎ (length e ≡ 6)
 
+-- of each ray
+abbrev pub Sixes : List (List Float) → Type 0
+Sixes es = OfEach NoneOrSix es
+
+pub sixes-append : (r s : List (List Float)) → Sixes r → Sixes s → Sixes (r ++ s)
+sixes-append r s a b = of-append NoneOrSix r s a b
+
+pub sixes-each : (n : ℕ) (f : ℕ → List (List Float)) → ((i : ℕ) → Sixes (f i)) → (from : ℕ) → Sixes (each f from n)
+sixes-each n f h from = of-each NoneOrSix n f from (λ (i : ℕ) (a : from ≤ i) (b : i < from + n). h i)
+
 entry-sixes : (axis : WorldAxis) (index : ℕ) (x : RayHit) → NoneOrSix (entry_for axis index x)
 unfolding entry_for entry_of
 entry-sixes axis index Off = inl refl
 entry-sixes axis index (On h) = inr refl
 
 pub rectangle-sixes : (n : ℕ) (t : AxisRays) (p : Profile) (l : ChordOnAxis) (spans : List Float)
-    (links heads : List ℕ) (r : RayRect) → OfEach NoneOrSix (rectangle_entries (ray_entry n t p l spans links heads) r)
+    (links heads : List ℕ) (r : RayRect) → Sixes (rectangle_entries (ray_entry n t p l spans links heads) r)
 unfolding ray_entry
 rectangle-sixes n t p l spans links heads r =
     of-rectangle NoneOrSix (ray_entry n t p l spans links heads) r
@@ -400,7 +410,7 @@ abbrev filled : List Float → Bool
 filled [] = false
 filled (x ∷ l) = true
 
-pub sixes-count : (es : List (List Float)) → OfEach NoneOrSix es → length (joined es) ≡ 6 * logged_entries es
+pub sixes-count : (es : List (List Float)) → Sixes es → length (joined es) ≡ 6 * logged_entries es
 unfolding OfEach joined logged_entries
 sixes-count [] h = refl
 sixes-count ([] ∷ es) h = sixes-count es h.1
