@@ -6,10 +6,6 @@ use Rattle.commit_run.proofs.Turns.{RunTo, run-start, run-next, run_end}
 use Rattle.stock.specs.Stock.{stock}
 use Rattle.commit_run.proofs.run_logs.Goals as goal
 
-abbrev decreases-loop : tie.decreases-loop
-decreases-loop spec units spans₀ links₀ heads₀ logs ends allowances work₀ answers₀ count left₀ at₀ i₀ spans links heads work
-    answers left at i = count - i
-
 pub loop-i-init : goal.loop-i-init
 loop-i-init c = run-start _ _ _ _ _ _ _ _ c.slice_known-1.given
 
