@@ -1,9 +1,10 @@
 -- `tridexel::tridexel_merge` meets its contract.
 use Rattle.c_results.proofs.Results.{answered, list-given}
+use Rattle.ray_merge.specs.declared.MergeAnswer.TheVariants.{Refused}
 use borrow.Author.Rules.{rules}
 use Rattle.tridexel.proofs.tridexel_merge.Goals as goal
 
 pub returns : goal.returns
 returns c =
-    answered _ _ _ c.merge-m.result _ _ _ (λ k p. list-given _ _ k p.0)
+    answered _ Refused _ c.merge-m.result _ _ _ (λ k p. list-given _ _ k p.0)
     c.merge-m.ensures c.hand_merge.ensures

@@ -1,9 +1,10 @@
 -- `tridexel::tridexel_subtract` meets its contract.
 use Rattle.c_results.proofs.Results.{answered, list-given}
+use Rattle.spans.specs.declared.ListAnswer.TheVariants.{Refused}
 use borrow.Author.Rules.{rules}
 use Rattle.tridexel.proofs.tridexel_subtract.Goals as goal
 
 pub returns : goal.returns
 returns c =
-    answered _ _ _ c.subtract-l.result _ _ _ (λ k p. list-given _ _ k p.0)
+    answered _ Refused _ c.subtract-l.result _ _ _ (λ k p. list-given _ _ k p.0)
     c.subtract-l.ensures c.hand_list.ensures
