@@ -10,6 +10,7 @@
 // row that differs.
 #![tactic(auto)]
 
+use input_bytes::InputBytes;
 use std::io;
 use stock::{CommitAnswer, Outcome, Tally};
 
@@ -223,16 +224,17 @@ fn no_store() -> Store {
 }
 
 fn main(rt: HostRuntime) -> io::Result<()> {
-    let mut input = rt.stdin();
+    let mut input = InputBytes::new(rt.stdin());
     let mut store = no_store();
     let mut w = [0; 170];
-    let mut r = vector_rows::first_row(&mut input, 16, &mut w)?;
+    let mut r = vector_rows::first_row(&mut input, 16, &mut w);
     while r.left > 0 {
         let s = shown_by(&w, store);
-        r = vector_rows::next_row(&mut input, r, w[0], 3, s.agrees, 16, &mut w)?;
+        r = vector_rows::next_row(&mut input, r, w[0], 3, s.agrees, 16, &mut w);
         let left = s.store;
         store = left;
     }
+    input.finish()?;
     vector_rows::print(
         &mut rt.stdout(),
         b"commit_changes commit_log runs",

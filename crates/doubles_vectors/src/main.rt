@@ -7,6 +7,7 @@
 // of the first row that differs.
 #![tactic(auto)]
 
+use input_bytes::InputBytes;
 use std::io;
 
 fn order_number(o: doubles::Ordering) -> u64 {
@@ -98,12 +99,13 @@ fn answer_agrees(w: &[u64; 5]) -> bool {
 }
 
 fn main(rt: HostRuntime) -> io::Result<()> {
-    let mut input = rt.stdin();
+    let mut input = InputBytes::new(rt.stdin());
     let mut w = [0; 5];
-    let mut r = vector_rows::first_row(&mut input, 2, &mut w)?;
+    let mut r = vector_rows::first_row(&mut input, 2, &mut w);
     while r.left > 0 {
-        r = vector_rows::next_row(&mut input, r, w[0], 16, answer_agrees(&w), 2, &mut w)?;
+        r = vector_rows::next_row(&mut input, r, w[0], 16, answer_agrees(&w), 2, &mut w);
     }
+    input.finish()?;
     vector_rows::print(
         &mut rt.stdout(),
         b"larger smaller clamp floor ceil abs sqrt order_key total_cmp to_u64 bits_of of_bits lt le mul div",

@@ -8,6 +8,7 @@
 
 use cutter::{ProfileSlice, Radius};
 use cutter_check::ToolCheck;
+use input_bytes::InputBytes;
 use std::io;
 use strips::{PlanePoint, Strip};
 
@@ -144,12 +145,13 @@ fn agrees(w: &[u64; 18]) -> bool {
 }
 
 fn main(rt: HostRuntime) -> io::Result<()> {
-    let mut input = rt.stdin();
+    let mut input = InputBytes::new(rt.stdin());
     let mut w = [0; 18];
-    let mut r = vector_rows::first_row(&mut input, 2, &mut w)?;
+    let mut r = vector_rows::first_row(&mut input, 2, &mut w);
     while r.left > 0 {
-        r = vector_rows::next_row(&mut input, r, w[0], 8, agrees(&w), 2, &mut w)?;
+        r = vector_rows::next_row(&mut input, r, w[0], 8, agrees(&w), 2, &mut w);
     }
+    input.finish()?;
     vector_rows::print(
         &mut rt.stdout(),
         b"disk_strip polygon_strip stadium_strip radius_at cut_radius cut_max cut_min check_tool",

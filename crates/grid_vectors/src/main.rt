@@ -10,6 +10,7 @@ ghost use Rattle.grid_vectors.specs.Facts.{FactsOf};
 ghost use Rattle.grid.specs.Facts.{GridFacts};
 
 use grid::{DexelGrid, DexelStockSpec, GridAnswer, WorldAxis};
+use input_bytes::InputBytes;
 use std::io;
 
 // The answer of `grid` for the units of this number.
@@ -103,11 +104,12 @@ fn agrees(w: &[u64; 29]) -> bool {
 
 // Rows are counted by the number of the refusal that they ask for, or 0.
 fn main(rt: HostRuntime) -> io::Result<()> {
-    let mut input = rt.stdin();
+    let mut input = InputBytes::new(rt.stdin());
     let mut w = [0; 29];
-    let mut r = vector_rows::first_row(&mut input, 16, &mut w)?;
+    let mut r = vector_rows::first_row(&mut input, 16, &mut w);
     while r.left > 0 {
-        r = vector_rows::next_row(&mut input, r, w[15], 4, agrees(&w), 16, &mut w)?;
+        r = vector_rows::next_row(&mut input, r, w[15], 4, agrees(&w), 16, &mut w);
     }
+    input.finish()?;
     vector_rows::print(&mut rt.stdout(), b"accepted 1 2 3", r.counts)
 }

@@ -1,28 +1,70 @@
-// Reads a buffer full, for programs that take their input in pieces of a known size.
+// An input that is read a buffer at a time, for programs that take it in pieces of a known size.
 #![tactic(auto)]
 
-ghost use Rattle.std.specs.Prelude.{length, take, ◌<◌, IfOk};
-ghost use Rattle.std.specs.Io.{ReadsAtMost};
+ghost use Rattle.std.specs.Prelude.{◌≡◌, length, take, ◌<◌, ◌≤◌, ◌⊎◌, None, IsSome, MatchOption, Ok, Err};
 ghost use Rattle.std.specs.Io.KnownBytes.{Consumes, IsAtEnd};
 
 use std::io;
 use std::io::Read;
 
-// Reads until `buf` is full or the input ends, and answers how many bytes it put at the front.
-pub fn read_full<R: Read>(input: &mut R, buf: &mut [u8]) -> io::Result<usize>
-    ensures within { ReadsAtMost result buf.new }
-    ensures bytes { IfOk result (λ n. Consumes (R.remaining input.old) (R.remaining input.new) (take n buf.new)) }
-    ensures end { IfOk result (λ n. n < length buf.new → IsAtEnd (R.remaining input.new)) }
-{
-    let mut done = 0;
-    while done < buf.len() {
-        let n = input.read(&mut buf[done..])?;
-        if n == 0 {
-            return Ok(done);
+// A reader, and the error of its first failed read: from there on the input counts as ended.
+#[derive(Drop)]
+pub struct InputBytes<R> {
+    pub reader: R,
+    pub failed: Option<io::Error>,
+}
+
+impl<R: Read> InputBytes<R> {
+    pub fn new(reader: R) -> InputBytes<R>
+        ensures reader { result.reader ≡ reader }
+        ensures failed { result.failed ≡ None }
+    {
+        InputBytes {
+            reader,
+            failed: None,
         }
-        done += n;
     }
-    Ok(done)
+
+    // Reads until `buf` is full, the input ends or a read fails, and answers how many bytes it put at the front.
+    pub fn read_full(&mut self, buf: &mut [u8]) -> usize
+        ensures within { result ≤ length buf.new }
+        ensures prefix { result ≡ length (take result buf.new) }
+        ensures bytes { Consumes (R.remaining self.old.reader) (R.remaining self.new.reader) (take result buf.new) }
+        ensures end { result < length buf.new → IsSome self.new.failed ⊎ IsAtEnd (R.remaining self.new.reader) }
+    {
+        if self.failed.is_some() {
+            return 0;
+        }
+        let mut done = 0;
+        while done < buf.len() {
+            match self.reader.read(&mut buf[done..]) {
+                Ok(n) => {
+                    if n == 0 {
+                        return done;
+                    }
+                    done += n;
+                }
+                Err(e) => {
+                    self.failed = Some(e);
+                    return done;
+                }
+            }
+        }
+        done
+    }
+}
+
+impl<R: Read + Drop> InputBytes<R> {
+    // Ends the reading, and tells the failed read, if there was one.
+    pub fn finish(self) -> io::Result<()>
+        ensures { MatchOption self.failed (result ≡ Ok tt) (λ e. result ≡ Err e) }
+    {
+        let InputBytes { reader: _, failed } = self;
+        match failed {
+            None => Ok(()),
+            Some(e) => Err(e),
+        }
+    }
 }
 
 #[cfg(test)]
@@ -30,7 +72,7 @@ mod tests {
     use super::*;
     use std::io::{Error, ErrorKind};
 
-    // Gives a byte a read, three in all, and then fails.
+    // Gives a byte a read, three in all, then fails once, and then gives more.
     #[derive(Drop)]
     struct Broken {
         given: u8,
@@ -38,36 +80,40 @@ mod tests {
 
     impl Read for Broken {
         fn read(&mut self, buf: &mut [u8]) -> io::Result<usize> {
-            if self.given >= 3 {
-                return Err(Error::from(ErrorKind::BrokenPipe));
-            }
             if buf.is_empty() {
                 return Ok(0);
             }
+            self.given = self.given.saturating_add(1);
+            if self.given == 4 {
+                return Err(Error::from(ErrorKind::BrokenPipe));
+            }
             buf[0] = 7;
-            self.given += 1;
             Ok(1)
         }
     }
 
     #[test]
-    fn a_failed_read_is_told(rt: HostRuntime) {
+    fn a_failed_read_ends_the_input_and_is_told(rt: HostRuntime) {
         let mut buf = [0u8; 5];
-        let mut input = Broken { given: 0 };
-        assert!(rt; read_full(&mut input, &mut buf[..3]).is_ok());
-        assert!(rt; read_full(&mut input, &mut buf[3..]).is_err());
+        let mut input = InputBytes::new(Broken { given: 0 });
+        assert_eq!(rt; input.read_full(&mut buf), 3);
         assert_eq!(rt; buf, [7, 7, 7, 0, 0]);
+        assert_eq!(rt; input.read_full(&mut buf[3..]), 0);
+        assert_eq!(rt; buf, [7, 7, 7, 0, 0]);
+        assert!(rt; input.finish().is_err());
     }
 
     #[test]
     fn an_input_that_ends_is_short(rt: HostRuntime) {
         let bytes = [1u8, 2, 3];
-        let mut input: &[u8] = &bytes;
+        let reader: &[u8] = &bytes;
+        let mut input = InputBytes::new(reader);
         let mut buf = [0u8; 2];
-        assert_eq!(rt; read_full(&mut input, &mut buf).ok(), Some(2));
+        assert_eq!(rt; input.read_full(&mut buf), 2);
         assert_eq!(rt; buf, [1, 2]);
-        assert_eq!(rt; read_full(&mut input, &mut buf).ok(), Some(1));
+        assert_eq!(rt; input.read_full(&mut buf), 1);
         assert_eq!(rt; buf, [3, 2]);
-        assert_eq!(rt; read_full(&mut input, &mut buf).ok(), Some(0));
+        assert_eq!(rt; input.read_full(&mut buf), 0);
+        assert!(rt; input.finish().is_ok());
     }
 }

@@ -1,6 +1,7 @@
 // Merges the ray that standard input describes, and writes its lists, or why it is refused, to standard output.
 #![tactic(auto)]
 
+use input_bytes::InputBytes;
 use std::io;
 use std::io::Write;
 
@@ -9,7 +10,9 @@ const MOST: usize = 9253;
 
 fn main(rt: HostRuntime) -> io::Result<()> {
     let mut input = [0u8; MOST];
-    let n = input_bytes::read_full(&mut rt.stdin(), &mut input)?;
+    let mut stdin = InputBytes::new(rt.stdin());
+    let n = stdin.read_full(&mut input);
+    stdin.finish()?;
     let mut out = [0u8; 65536];
     let m = ray_text::run(&input[..n], &mut out);
     rt.stdout().write_all(&out[..m])

@@ -5,6 +5,7 @@
 // how many can't be read, and the number of the first that differs.
 #![tactic(auto)]
 
+use input_bytes::InputBytes;
 use std::io;
 use std::io::Read;
 use vector_rows::{RowCounts, RowOutcome};
@@ -13,9 +14,8 @@ use vector_rows::{RowCounts, RowOutcome};
 const MOST: usize = 16384;
 
 // Reads n bytes to the front of a buffer, and answers whether they were there.
-fn read_text<R: Read>(input: &mut R, buf: &mut [u8], n: usize) -> io::Result<bool> {
-    let got = input_bytes::read_full(input, vector_rows::first_bytes_mut(buf, n))?;
-    Ok(got == n)
+fn read_text<R: Read>(input: &mut InputBytes<R>, buf: &mut [u8], n: usize) -> bool {
+    input.read_full(vector_rows::first_bytes_mut(buf, n)) == n
 }
 
 // Whether the first n bytes of the buffer are these.
@@ -31,21 +31,21 @@ fn gives(s: &[u8], wanted: &[u8]) -> bool {
 }
 
 // Runs an input of n bytes, and compares with the m bytes that follow.
-fn ran<R: Read>(input: &mut R, n: usize, m: usize) -> io::Result<RowOutcome> {
+fn ran<R: Read>(input: &mut InputBytes<R>, n: usize, m: usize) -> RowOutcome {
     let mut given = [0u8; MOST];
-    if !read_text(input, &mut given, n)? {
-        return Ok(RowOutcome::Unread);
+    if !read_text(input, &mut given, n) {
+        return RowOutcome::Unread;
     }
     let mut wanted = [0u8; MOST];
-    if !read_text(input, &mut wanted, m)? {
-        return Ok(RowOutcome::Unread);
+    if !read_text(input, &mut wanted, m) {
+        return RowOutcome::Unread;
     }
     let s = vector_rows::first_bytes(&given, n);
-    Ok(vector_rows::row_outcome(0, 1, gives(s, vector_rows::first_bytes(&wanted, m))))
+    vector_rows::row_outcome(0, 1, gives(s, vector_rows::first_bytes(&wanted, m)))
 }
 
 // Where the head can't be read, a length is more than the most.
-fn compared<R: Read>(input: &mut R, head: &[u8]) -> io::Result<RowOutcome> {
+fn compared<R: Read>(input: &mut InputBytes<R>, head: &[u8]) -> RowOutcome {
     let n = vector_rows::value_or(hex_text::hex_at(head, 0, 4), 65536);
     let m = vector_rows::value_or(hex_text::hex_at(head, 5, 4), 65536);
     ran(input, n as usize, m as usize)
@@ -53,24 +53,26 @@ fn compared<R: Read>(input: &mut R, head: &[u8]) -> io::Result<RowOutcome> {
 
 // What follows a case that can't be read is not looked at.
 // The turns are counted down, since a proved loop has to end and nothing says that the input does.
-fn counted<R: Read>(input: &mut R) -> io::Result<RowCounts> {
+fn counted<R: Read>(input: &mut InputBytes<R>) -> RowCounts {
     let mut t = vector_rows::start();
     let mut turns = u64::MAX;
     while turns > 0 {
         let mut head = [0u8; 10];
-        if input_bytes::read_full(input, &mut head)? == 0 {
+        if input.read_full(&mut head) == 0 {
             break;
         }
-        t = vector_rows::count(t, compared(input, &head)?);
+        t = vector_rows::count(t, compared(input, &head));
         if t.unread > 0 {
             break;
         }
         turns -= 1;
     }
-    Ok(t)
+    t
 }
 
 fn main(rt: HostRuntime) -> io::Result<()> {
-    let t = counted(&mut rt.stdin())?;
+    let mut input = InputBytes::new(rt.stdin());
+    let t = counted(&mut input);
+    input.finish()?;
     vector_rows::print(&mut rt.stdout(), b"cases", t)
 }

@@ -7,6 +7,7 @@
 // number of the first row that differs.
 #![tactic(auto)]
 
+use input_bytes::InputBytes;
 use span_compare::BoolAnswer;
 use spans::ListAnswer;
 use std::io;
@@ -103,12 +104,13 @@ fn agrees(w: &[u64; 35]) -> bool {
 }
 
 fn main(rt: HostRuntime) -> io::Result<()> {
-    let mut input = rt.stdin();
+    let mut input = InputBytes::new(rt.stdin());
     let mut w = [0; 35];
-    let mut r = vector_rows::first_row(&mut input, 16, &mut w)?;
+    let mut r = vector_rows::first_row(&mut input, 16, &mut w);
     while r.left > 0 {
-        r = vector_rows::next_row(&mut input, r, w[0], 5, agrees(&w), 16, &mut w)?;
+        r = vector_rows::next_row(&mut input, r, w[0], 5, agrees(&w), 16, &mut w);
     }
+    input.finish()?;
     vector_rows::print(
         &mut rt.stdout(),
         b"normalize subtract intersect contains overlaps",

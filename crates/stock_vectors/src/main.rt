@@ -7,6 +7,7 @@
 // first row that differs.
 #![tactic(auto)]
 
+use input_bytes::InputBytes;
 use ray_merge::MergeAnswer;
 use ray_subtract::MergedList;
 use std::io;
@@ -194,11 +195,12 @@ fn agrees(w: &[u64; 87]) -> bool {
 }
 
 fn main(rt: HostRuntime) -> io::Result<()> {
-    let mut input = rt.stdin();
+    let mut input = InputBytes::new(rt.stdin());
     let mut w = [0; 87];
-    let mut r = vector_rows::first_row(&mut input, 16, &mut w)?;
+    let mut r = vector_rows::first_row(&mut input, 16, &mut w);
     while r.left > 0 {
-        r = vector_rows::next_row(&mut input, r, w[0], 3, agrees(&w), 16, &mut w)?;
+        r = vector_rows::next_row(&mut input, r, w[0], 3, agrees(&w), 16, &mut w);
     }
+    input.finish()?;
     vector_rows::print(&mut rt.stdout(), b"merge fill volume", r.counts)
 }

@@ -7,6 +7,7 @@
 // the first row that differs.
 #![tactic(auto)]
 
+use input_bytes::InputBytes;
 use std::io;
 use sweep::SweepAnswer;
 
@@ -172,11 +173,12 @@ fn kind_of(refusal: u64) -> u64 {
 }
 
 fn main(rt: HostRuntime) -> io::Result<()> {
-    let mut input = rt.stdin();
+    let mut input = InputBytes::new(rt.stdin());
     let mut w = [0; 243];
-    let mut r = vector_rows::first_row(&mut input, 16, &mut w)?;
+    let mut r = vector_rows::first_row(&mut input, 16, &mut w);
     while r.left > 0 {
-        r = vector_rows::next_row(&mut input, r, kind_of(w[35]), 2, agrees(&w), 16, &mut w)?;
+        r = vector_rows::next_row(&mut input, r, kind_of(w[35]), 2, agrees(&w), 16, &mut w);
     }
+    input.finish()?;
     vector_rows::print(&mut rt.stdout(), b"accepted refused", r.counts)
 }

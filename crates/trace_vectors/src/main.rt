@@ -5,6 +5,7 @@
 // rows agree and how many differ, then how many can't be read, and the number of the first row that differs.
 #![tactic(auto)]
 
+use input_bytes::InputBytes;
 use ray_trace::TraceAnswer;
 use std::io;
 
@@ -70,12 +71,13 @@ fn agrees(w: &[u64; 45]) -> bool {
 }
 
 fn main(rt: HostRuntime) -> io::Result<()> {
-    let mut input = rt.stdin();
+    let mut input = InputBytes::new(rt.stdin());
     let mut w = [0; 45];
-    let mut r = vector_rows::first_row(&mut input, 16, &mut w)?;
+    let mut r = vector_rows::first_row(&mut input, 16, &mut w);
     while r.left > 0 {
-        r = vector_rows::next_row(&mut input, r, w[0], 6, agrees(&w), 16, &mut w)?;
+        r = vector_rows::next_row(&mut input, r, w[0], 6, agrees(&w), 16, &mut w);
     }
+    input.finish()?;
     vector_rows::print(
         &mut rt.stdout(),
         b"refused not-possible removed uncertain not-certain still-certain",

@@ -2,7 +2,7 @@
 // the recorded ones, the counts of the rows, and how they are printed. Past a row every word is 0.
 #![tactic(auto)]
 
-ghost use Rattle.std.specs.Prelude.{◌≡◌, length, take, ◌+◌, ◌*◌, ◌^◌, ◌<◌, ◌≤◌, IfOk};
+ghost use Rattle.std.specs.Prelude.{◌≡◌, length, take, ◌+◌, ◌*◌, ◌^◌, ◌<◌, ◌≤◌};
 ghost use Rattle.std.specs.Float.{nan};
 ghost use Rattle.enum_codes.specs.Codes.{named_shape};
 ghost use Rattle.vector_rows.specs.Words.{word_of, double_of, CellsFilled, spec_of, units_of, cutter_of};
@@ -14,6 +14,7 @@ ghost use Rattle.vector_rows.specs.Replays.{RowPre, NextRowPost};
 use cutter::{CutterShape, PreparedCutter};
 use grid::{DexelStockSpec, Vec3};
 use hex_text::Word;
+use input_bytes::InputBytes;
 use std::io;
 use std::io::{Read, Write};
 
@@ -388,32 +389,32 @@ enum RowFound {
 }
 
 // Reads the bytes from `start` to `end` from the input, and answers how many there were.
-fn read_text<R: Read>(input: &mut R, text: &mut [u8], start: usize, end: usize) -> io::Result<usize>
+fn read_text<R: Read>(input: &mut InputBytes<R>, text: &mut [u8], start: usize, end: usize) -> usize
     requires { (start ≤ end) × (end ≤ length text.old) }
-    ensures { IfOk result (λ got. got ≤ end) }
+    ensures { result ≤ end }
 {
-    input_bytes::read_full(input, &mut text[start..end])
+    input.read_full(&mut text[start..end])
 }
 
 // Reads the next row, a word for each cell of `out`. The first word has `head` digits, and is read behind zeros, so that each has 16.
 // The byte behind the last word may be missing.
-fn read_row<R: Read>(input: &mut R, head: usize, out: &mut [u64]) -> io::Result<RowFound>
+fn read_row<R: Read>(input: &mut InputBytes<R>, head: usize, out: &mut [u64]) -> RowFound
     requires { RowPre head (length out.old) }
 {
     let mut text = [b'0'; 4131];
     let start = 16 - head;
     let end = 17 * out.len();
-    let got = read_text(input, &mut text, start, end)?;
+    let got = read_text(input, &mut text, start, end);
     if got == 0 {
-        return Ok(RowFound::End);
+        return RowFound::End;
     }
     if start + got + 1 < end {
-        return Ok(RowFound::Unread);
+        return RowFound::Unread;
     }
     if read_words(&text, 0, out) {
-        return Ok(RowFound::Words);
+        return RowFound::Words;
     }
-    Ok(RowFound::Unread)
+    RowFound::Unread
 }
 
 // A replay: the counts so far, and how many more rows it may read, 0 where no row is at hand. A proved loop has to end, and nothing
@@ -425,21 +426,21 @@ pub struct Replay {
 }
 
 // Reads on to the next row that can be read, and counts those that can't be.
-fn read_on<R: Read>(input: &mut R, r: Replay, head: usize, out: &mut [u64]) -> io::Result<Replay>
+fn read_on<R: Read>(input: &mut InputBytes<R>, r: Replay, head: usize, out: &mut [u64]) -> Replay
     requires { RowPre head (length out.old) × (0 < r.left) }
-    ensures { IfOk result (NextRowPost r.counts r.left) }
+    ensures { NextRowPost r.counts r.left result }
 {
     let mut t = r.counts;
     let mut left = r.left;
     while left > 0 {
-        let found = read_row(input, head, out)?;
+        let found = read_row(input, head, out);
         left -= 1;
         match found {
             RowFound::Words => {
-                return Ok(Replay {
+                return Replay {
                     counts: t,
                     left: left,
-                });
+                };
             }
             RowFound::End => {
                 break;
@@ -449,13 +450,13 @@ fn read_on<R: Read>(input: &mut R, r: Replay, head: usize, out: &mut [u64]) -> i
             }
         }
     }
-    Ok(Replay { counts: t, left: 0 })
+    Replay { counts: t, left: 0 }
 }
 
 // A replay at its first row: word 0 of each row has `head` digits, the others have 16.
-pub fn first_row<R: Read>(input: &mut R, head: usize, out: &mut [u64]) -> io::Result<Replay>
+pub fn first_row<R: Read>(input: &mut InputBytes<R>, head: usize, out: &mut [u64]) -> Replay
     requires { RowPre head (length out.old) }
-    ensures { IfOk result (NextRowPost none 18446744073709551615) }
+    ensures { NextRowPost none 18446744073709551615 result }
 {
     let r = Replay {
         counts: start(),
@@ -466,16 +467,16 @@ pub fn first_row<R: Read>(input: &mut R, head: usize, out: &mut [u64]) -> io::Re
 
 // Counts whether the row at hand, of function k of so many, agrees, and goes on to the next.
 pub fn next_row<R: Read>(
-    input: &mut R,
+    input: &mut InputBytes<R>,
     r: Replay,
     k: u64,
     functions: u64,
     agrees: bool,
     head: usize,
     out: &mut [u64],
-) -> io::Result<Replay>
+) -> Replay
     requires { RowPre head (length out.old) × (0 < r.left) }
-    ensures { IfOk result (NextRowPost (counted r.counts (outcome_of k functions agrees)) r.left) }
+    ensures { NextRowPost (counted r.counts (outcome_of k functions agrees)) r.left result }
 {
     let next = Replay {
         counts: count(r.counts, row_outcome(k, functions, agrees)),
