@@ -1,4 +1,4 @@
-//! Links the archive that `rt staticlib tridexel` writes; TRIDEXEL_LIB names another folder.
+//! Links the archive that `tools/archive tridexel` writes; TRIDEXEL_LIB names another folder.
 use std::{env, path::PathBuf};
 
 fn main() {

@@ -1,4 +1,4 @@
-//! Links the archives of inner functions that `rt staticlib` writes to target/staticlib; package `tridexel` links the entries.
+//! Links the archives of inner functions that `tools/archive` writes to target/staticlib; package `tridexel` links the entries.
 fn main() {
     let dir = std::path::Path::new(&std::env::var("CARGO_MANIFEST_DIR").unwrap()).join("../../target/staticlib");
     let dir = dir.canonicalize().expect("target/staticlib: run oracle/build first");
