@@ -1,7 +1,6 @@
 -- `c_results::hand_list` meets its contract: each arm hands back the numbers of the case that it matched.
 use mathlib.Core.Path.{refl}
 use mathlib.Core.Logic.{inl, inr}
-use borrow.Author.Rules.{rules}
 use Rattle.c_results.proofs.hand_list.Goals as goal
 
 pub returns-in-Pairs : goal.returns-in-Pairs

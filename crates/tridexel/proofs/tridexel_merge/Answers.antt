@@ -1,5 +1,6 @@
 -- `tridexel::tridexel_merge` meets its contract.
-use Rattle.c_results.proofs.Results.{answered, list-given}
+use Rattle.c_results.proofs.Results.{answered}
+use Rattle.c_results.proofs.Given.{list-given}
 use Rattle.ray_merge.specs.declared.MergeAnswer.TheVariants.{Refused}
 use borrow.Author.Rules.{rules}
 use Rattle.tridexel.proofs.tridexel_merge.Goals as goal

@@ -1,5 +1,6 @@
 -- `tridexel::tridexel_overlaps` meets its contract.
-use Rattle.c_results.proofs.Results.{answered, compare-given}
+use Rattle.c_results.proofs.Results.{answered}
+use Rattle.c_results.proofs.Given.{compare-given}
 use Rattle.span_compare.specs.declared.BoolAnswer.TheVariants.{Refused}
 use borrow.Author.Rules.{rules}
 use Rattle.tridexel.proofs.tridexel_overlaps.Goals as goal

@@ -1,5 +1,6 @@
 -- `tridexel::tridexel_trace` meets its contract.
-use Rattle.c_results.proofs.Results.{answered, trace-given}
+use Rattle.c_results.proofs.Results.{answered}
+use Rattle.c_results.proofs.Given.{trace-given}
 use Rattle.ray_trace.specs.declared.TraceAnswer.TheVariants.{Refused}
 use borrow.Author.Rules.{rules}
 use Rattle.tridexel.proofs.tridexel_trace.Goals as goal

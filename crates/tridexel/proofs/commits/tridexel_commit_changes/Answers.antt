@@ -1,5 +1,6 @@
 -- `tridexel::commits::tridexel_commit_changes` meets its contract.
-use Rattle.c_results.proofs.Results.{answered, changes-given}
+use Rattle.c_results.proofs.Results.{answered}
+use Rattle.c_results.proofs.Given.{changes-given}
 use Rattle.stock.specs.declared.CommitAnswer.TheVariants.{Refused}
 use borrow.Author.Rules.{rules}
 use Rattle.stock.specs.Stock.{stock}

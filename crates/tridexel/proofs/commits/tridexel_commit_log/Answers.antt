@@ -1,5 +1,6 @@
 -- `tridexel::commits::tridexel_commit_log` meets its contract.
-use Rattle.c_results.proofs.Results.{answered, commit-given}
+use Rattle.c_results.proofs.Results.{answered}
+use Rattle.c_results.proofs.Given.{commit-given}
 use Rattle.stock.specs.declared.CommitAnswer.TheVariants.{Refused}
 use borrow.Author.Rules.{rules}
 use Rattle.tridexel.proofs.commits.tridexel_commit_log.Goals as goal

@@ -1,5 +1,6 @@
 -- `tridexel::stocks::tridexel_fill` meets its contract.
-use Rattle.c_results.proofs.Results.{answered, fill-given}
+use Rattle.c_results.proofs.Results.{answered}
+use Rattle.c_results.proofs.Given.{fill-given}
 use Rattle.stock_fill.specs.declared.FillAnswer.TheVariants.{Refused}
 use borrow.Author.Rules.{rules}
 use Rattle.tridexel.proofs.stocks.tridexel_fill.Goals as goal

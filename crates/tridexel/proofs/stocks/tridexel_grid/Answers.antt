@@ -1,5 +1,6 @@
 -- `tridexel::stocks::tridexel_grid` meets its contract.
-use Rattle.c_results.proofs.Results.{answered, grid-given}
+use Rattle.c_results.proofs.Results.{answered}
+use Rattle.c_results.proofs.Given.{grid-given}
 use Rattle.grid.specs.declared.GridAnswer.TheVariants.{Refused}
 use borrow.Author.Rules.{rules}
 use Rattle.tridexel.proofs.stocks.tridexel_grid.Goals as goal

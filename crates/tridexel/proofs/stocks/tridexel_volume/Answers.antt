@@ -1,5 +1,6 @@
 -- `tridexel::stocks::tridexel_volume` meets its contract.
-use Rattle.c_results.proofs.Results.{answered, volume-given}
+use Rattle.c_results.proofs.Results.{answered}
+use Rattle.c_results.proofs.Given.{volume-given}
 use Rattle.stock_volume.specs.declared.VolumeAnswer.TheVariants.{Refused}
 use borrow.Author.Rules.{rules}
 use Rattle.tridexel.proofs.stocks.tridexel_volume.Goals as goal
