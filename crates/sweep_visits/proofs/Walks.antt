@@ -380,43 +380,49 @@ rectangle-has f (Rays r) u v (a, b, c, d) =
     below g h = omega arith
 
 -- ---- how many entries there are: each ray has six cells in the log or none
-abbrev pub NoneOrSix : List Float → Type 0
-NoneOrSix e = (e ≡ []) ⊎ (length e ≡ 6)
-
--- of each ray
-abbrev pub Sixes : List (List Float) → Type 0
-Sixes es = OfEach NoneOrSix es
+unfoldable pub Sixes : List (List Float) → Type 0
+Sixes [] = Unit {0}
+Sixes (e ∷ es) = ((e ≡ []) ⊎ (length e ≡ 6)) × Sixes es
 
 pub sixes-append : (r s : List (List Float)) → Sixes r → Sixes s → Sixes (r ++ s)
-sixes-append r s a b = of-append NoneOrSix r s a b
+unfolding Sixes
+sixes-append [] s a b = b
+sixes-append (e ∷ r) s a b = (a.0, sixes-append r s a.1 b)
 
 pub sixes-each : (n : ℕ) (f : ℕ → List (List Float)) → ((i : ℕ) → Sixes (f i)) → (from : ℕ) → Sixes (each f from n)
-sixes-each n f h from = of-each NoneOrSix n f from (λ (i : ℕ) (a : from ≤ i) (b : i < from + n). h i)
+unfolding each Sixes
+sixes-each zero f h from = tt
+sixes-each (suc n) f h from = sixes-append (f from) (each f (suc from) n) (h from) (sixes-each n f h (suc from))
 
-entry-sixes : (axis : WorldAxis) (index : ℕ) (x : RayHit) → NoneOrSix (entry_for axis index x)
+entry-sixes : (axis : WorldAxis) (index : ℕ) (x : RayHit) → (entry_for axis index x ≡ []) ⊎ (length (entry_for axis index x) ≡ 6)
 unfolding entry_for entry_of
 entry-sixes axis index Off = inl refl
 entry-sixes axis index (On h) = inr refl
 
 pub rectangle-sixes : (n : ℕ) (t : AxisRays) (p : Profile) (l : ChordOnAxis) (spans : List Float)
     (links heads : List ℕ) (r : RayRect) → Sixes (rectangle_entries (ray_entry n t p l spans links heads) r)
-unfolding ray_entry
-rectangle-sixes n t p l spans links heads r =
-    of-rectangle NoneOrSix (ray_entry n t p l spans links heads) r
-    (λ (u v : ℕ) (i : RayIn r u v).
-    entry-sixes t.axis (index_of t u v) (ray_hit_of p l (section_of l u v) (possible_at n t spans links heads u v)))
+unfolding rect_entries row_entries ray_entry Sixes
+rectangle-sixes n t p l spans links heads NoRays = tt
+rectangle-sixes n t p l spans links heads (Rays r) =
+    sixes-each (r.v1 + 1 - r.v0) _
+    (λ (v : ℕ). sixes-each (r.u1 + 1 - r.u0) _
+    (λ (u : ℕ). (
+      entry-sixes t.axis (index_of t u v)
+          (ray_hit_of p l (section_of l u v) (possible_at n t spans links heads u v)),
+      tt,
+    )) r.u0) r.v0
 
 abbrev filled : List Float → Bool
 filled [] = false
 filled (x ∷ l) = true
 
 pub sixes-count : (es : List (List Float)) → Sixes es → length (joined es) ≡ 6 * logged_entries es
-unfolding OfEach joined logged_entries
+unfolding Sixes joined logged_entries
 sixes-count [] h = refl
 sixes-count ([] ∷ es) h = sixes-count es h.1
 sixes-count ((x ∷ e) ∷ es) h = length-append (x ∷ e) (joined es) ∙ more h.0 (sixes-count es h.1)
   where
-    more : NoneOrSix (x ∷ e) → length (joined es) ≡ 6 * logged_entries es
+    more : ((x ∷ e ≡ []) ⊎ (length (x ∷ e) ≡ 6)) → length (joined es) ≡ 6 * logged_entries es
         → length (x ∷ e) + length (joined es) ≡ 6 * suc (logged_entries es)
     more (inl q) k = absurd (clash true refl (ap filled q))
     more (inr q) k = omega (arith, q, k)

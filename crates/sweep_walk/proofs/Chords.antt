@@ -12,8 +12,8 @@ use Rattle.sweep_visits.specs.declared.VisitCursor.{VisitCursor}
 use Rattle.sweep_visits.specs.declared.Progress.{Progress}
 use Rattle.sweep_visits.specs.declared.Progress.TheVariants.{At, Stopped}
 use Rattle.sweep_visits.proofs.Walks.{went_then, went-halt, halt-before, Sweeping, sweeping-next, sweeping-halt, sweeping-all}
-use Rattle.sweep_visits.proofs.Walks.{each-length, sum_same, rectangle-length, OfEach, of-append, of-each, NoneOrSix}
-use Rattle.sweep_visits.proofs.Walks.{rectangle-sixes, sixes-count}
+use Rattle.sweep_visits.proofs.Walks.{each-length, sum_same, rectangle-length, Sixes, sixes-append, sixes-each, rectangle-sixes}
+use Rattle.sweep_visits.proofs.Walks.{sixes-count}
 use Rattle.sweep_model.specs.SweepEntries.{Setting, axis_rays_of, chord_on_axis_in, rectangle_in, axis_entries, first_axis, second_axis}
 use Rattle.sweep_model.specs.SweepEntries.{chord_entries, chord_in, sweep_entries, log_of, chord_visits, visit_total}
 use Rattle.sweep_visits.specs.Steps.{WalkPost, Went, Halted}
@@ -102,18 +102,15 @@ module _ (s : Setting) where
 
 -- ---- the number of entries
 module _ (s : Setting) where
-  axis-sixes : (c : Chord) (a : WorldAxis) → OfEach NoneOrSix (axis_entries s c a)
+  axis-sixes : (c : Chord) (a : WorldAxis) → Sixes (axis_entries s c a)
   unfolding axis_entries
   axis-sixes c a = rectangle-sixes s.spec.max_intervals (axis_rays_of s.grid a) s.profile (chord_on_axis_in s c a)
       s.cells.spans s.cells.links s.cells.heads (rectangle_in s c a)
 
-  chord-sixes : (c : Chord) → OfEach NoneOrSix (chord_entries s c)
+  chord-sixes : (c : Chord) → Sixes (chord_entries s c)
   unfolding chord_entries
-  chord-sixes c = of-append NoneOrSix _ _ (axis-sixes c (first_axis s.kernel.frame)) (axis-sixes c (second_axis s.kernel.frame))
+  chord-sixes c = sixes-append _ _ (axis-sixes c (first_axis s.kernel.frame)) (axis-sixes c (second_axis s.kernel.frame))
 
   pub log-length : (chords : List Float) → length (log_of s chords) ≡ 6 * logged_entries (sweep_entries s chords)
   unfolding log_of sweep_entries
-  log-length chords =
-      sixes-count _
-      (of-each NoneOrSix (length chords / 8) (entries_at s chords) 0 (λ (i : ℕ) (a : 0 ≤ i) (b : i < 0 + length chords / 8).
-      chord-sixes (chord_in s chords i)))
+  log-length chords = sixes-count _ (sixes-each (length chords / 8) (entries_at s chords) (λ (i : ℕ). chord-sixes (chord_in s chords i)) 0)
