@@ -18,6 +18,9 @@ fn is_work_short(n: usize, log: &[f64], work: &[f64]) -> bool
     work.len() / 2 < 6 * n + 18 * log_entries::entry_count(log)
 }
 
+// The highest generation: a commit could not step it.
+const LAST_GENERATION: u64 = 0xffff_ffff_ffff_ffff;
+
 // Document 01's number of the first cause that is present, and 0 where there is none. It writes nothing, so that a
 // refused commit leaves every cell.
 pub fn refusal(
@@ -49,7 +52,7 @@ pub fn refusal(
     if !stock::check_stock(spec, g, spans, links, heads, intervals) {
         return 11;
     }
-    if generation == 0xffff_ffff_ffff_ffff {
+    if generation == LAST_GENERATION {
         return 15;
     }
     if !log_entries::names_all(g, log) {

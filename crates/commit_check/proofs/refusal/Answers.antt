@@ -36,7 +36,7 @@ sound c r e = sound-of-test c.args.spec c.args.g (stock c.args.spans.now c.args.
 named : (c : Else-not-names_all) → Room c.args.spec.max_intervals (2 * ray_count c.args.g) (stock c.args.spans.now c.args.links.now c.args.heads.now c.args.generation c.args.intervals).cells
     → WorkRoom c.args.spec.max_intervals c.args.log.now c.args.work.now → WholeLog c.args.log.now
     → SoundStock c.args.spec c.args.g (stock c.args.spans.now c.args.links.now c.args.heads.now c.args.generation c.args.intervals) → EachNamed c.args.g c.args.log.now
-named c r e h s = named-of-test c.args.spec c.args.g (stock c.args.spans.now c.args.links.now c.args.heads.now c.args.generation c.args.intervals) c.args.log.now c.args.allowance c.args.work.now r e h s c.if-generation-eq18446744073709551615.false _
+named c r e h s = named-of-test c.args.spec c.args.g (stock c.args.spans.now c.args.links.now c.args.heads.now c.args.generation c.args.intervals) c.args.log.now c.args.allowance c.args.work.now r e h s c.if-generation-eq-LAST_GENERATION.false _
     c.names_all.ensures c.if-not-names_all.false-raw
 
 -- ---- the goals
@@ -66,13 +66,13 @@ returns-then-not-check_stock c =
     let e = enough (goal.at.returns-then-not-check_stock c).Else-is_work_short in
     unsound-due _ _ _ _ _ _ r e _ c.check_stock.ensures c.if-not-check_stock.true-raw
 
-pub returns-then-generation-eq18446744073709551615 : goal.returns-then-generation-eq18446744073709551615
-returns-then-generation-eq18446744073709551615 c =
-    let r = room (goal.at.returns-then-generation-eq18446744073709551615 c).Else-is_short in
-    let e = enough (goal.at.returns-then-generation-eq18446744073709551615 c).Else-is_work_short in
-    let h = whole (goal.at.returns-then-generation-eq18446744073709551615 c).Else-not-is_whole_log in
-    let s = sound (goal.at.returns-then-generation-eq18446744073709551615 c).Else-not-check_stock r e in
-    last-due _ _ _ _ _ _ r e h s c.if-generation-eq18446744073709551615.true
+pub returns-then-generation-eq-LAST_GENERATION : goal.returns-then-generation-eq-LAST_GENERATION
+returns-then-generation-eq-LAST_GENERATION c =
+    let r = room (goal.at.returns-then-generation-eq-LAST_GENERATION c).Else-is_short in
+    let e = enough (goal.at.returns-then-generation-eq-LAST_GENERATION c).Else-is_work_short in
+    let h = whole (goal.at.returns-then-generation-eq-LAST_GENERATION c).Else-not-is_whole_log in
+    let s = sound (goal.at.returns-then-generation-eq-LAST_GENERATION c).Else-not-check_stock r e in
+    last-due _ _ _ _ _ _ r e h s c.if-generation-eq-LAST_GENERATION.true
 
 pub names_all-requires : goal.names_all-requires
 names_all-requires c =
@@ -84,7 +84,7 @@ returns-then-not-names_all c =
     let e = enough (goal.at.returns-then-not-names_all c).Else-is_work_short in
     let h = whole (goal.at.returns-then-not-names_all c).Else-not-is_whole_log in
     let s = sound (goal.at.returns-then-not-names_all c).Else-not-check_stock r e in
-    unnamed-due _ _ _ _ _ _ r e h s c.if-generation-eq18446744073709551615.false _ c.names_all.ensures c.if-not-names_all.true-raw
+    unnamed-due _ _ _ _ _ _ r e h s c.if-generation-eq-LAST_GENERATION.false _ c.names_all.ensures c.if-not-names_all.true-raw
 
 pub budget-requires : goal.budget-requires
 budget-requires c =
@@ -101,7 +101,7 @@ returns-in-Rays c =
     let h = whole (goal.at.returns-in-Rays c).Else-not-is_whole_log in
     let s = sound (goal.at.returns-in-Rays c).Else-not-check_stock r e in
     let n = named (goal.at.returns-in-Rays c).Else-not-names_all r e h s in
-    rays-due _ _ _ _ _ _ r e h s c.if-generation-eq18446744073709551615.false n _ c.budget.ensures (doubles (goal.at.returns-in-Rays c).Else-is_short) c.in-Rays.is
+    rays-due _ _ _ _ _ _ r e h s c.if-generation-eq-LAST_GENERATION.false n _ c.budget.ensures (doubles (goal.at.returns-in-Rays c).Else-is_short) c.in-Rays.is
 
 pub returns-in-Intervals : goal.returns-in-Intervals
 returns-in-Intervals c =
@@ -110,7 +110,7 @@ returns-in-Intervals c =
     let h = whole (goal.at.returns-in-Intervals c).Else-not-is_whole_log in
     let s = sound (goal.at.returns-in-Intervals c).Else-not-check_stock r e in
     let n = named (goal.at.returns-in-Intervals c).Else-not-names_all r e h s in
-    intervals-due _ _ _ _ _ _ r e h s c.if-generation-eq18446744073709551615.false n _ c.budget.ensures (doubles (goal.at.returns-in-Intervals c).Else-is_short) c.in-Intervals.is
+    intervals-due _ _ _ _ _ _ r e h s c.if-generation-eq-LAST_GENERATION.false n _ c.budget.ensures (doubles (goal.at.returns-in-Intervals c).Else-is_short) c.in-Intervals.is
 
 pub returns-in-Kept : goal.returns-in-Kept
 returns-in-Kept c =
@@ -119,4 +119,4 @@ returns-in-Kept c =
     let h = whole (goal.at.returns-in-Kept c).Else-not-is_whole_log in
     let s = sound (goal.at.returns-in-Kept c).Else-not-check_stock r e in
     let n = named (goal.at.returns-in-Kept c).Else-not-names_all r e h s in
-    all-passed _ _ _ _ _ _ r e h s c.if-generation-eq18446744073709551615.false n _ c.budget.ensures (omega (arith, c.ranges.generation)) c.in-Kept.is
+    all-passed _ _ _ _ _ _ r e h s c.if-generation-eq-LAST_GENERATION.false n _ c.budget.ensures (omega (arith, c.ranges.generation)) c.in-Kept.is
