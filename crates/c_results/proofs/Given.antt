@@ -6,16 +6,16 @@ use Prim.Native.Nat.{ℕ}
 use lib.Ieee.{Float}
 use Rattle.span_compare.specs.Verdicts.{compare_causes}
 use Rattle.grid.specs.Causes.{grid_causes, ByCauses}
-use Rattle.grid.specs.declared.GridAnswer.{GridAnswer}
-use Rattle.grid.specs.declared.GridAnswer.TheVariants.{Accepted, Refused}
+use Rattle.std.specs.Prelude.{Result, Ok, Err}
+use Rattle.grid.specs.declared.DexelGrid.{DexelGrid}
+use Rattle.refusal.specs.declared.Refusal.{Refusal}
 use Rattle.grid.specs.declared.DexelStockSpec.{DexelStockSpec}
-use Rattle.refusal.specs.Refusal.{Due}
+use Rattle.refusal.specs.Refusal.{Due, number_of}
 use Rattle.ray_trace.specs.Trace.{trace_causes}
 use Rattle.spans.specs.Results.{list_causes}
 use Rattle.stock_fill.specs.Uncut.{fill_causes}
 use Rattle.stock_volume.specs.Volume.{volume_causes}
 use Rattle.stock.specs.Stock.{Stock, SoundStock}
-use Rattle.stock.specs.declared.CommitAnswer.{CommitAnswer}
 use Rattle.commit_changes.specs.ChangeCommit.{change_commit_causes}
 use Rattle.commit_log.specs.LogCommit.{LogCommitPost}
 use Rattle.log_model.specs.Logs.{Commit, commit_of}
@@ -61,19 +61,20 @@ number : LogAnswer → ℕ
 number (changed n) = n
 number (refused k) = k
 
-log-given : (spec : DexelStockSpec) (units : List ℕ) (s t : Stock) (c : Commit) (k : ℕ) (r : GridAnswer)
+log-given : (spec : DexelStockSpec) (units : List ℕ) (s t : Stock) (c : Commit) (k : ℕ) (r : Result DexelGrid Refusal)
     → ByCauses spec units r → CommitOnAnyGrid r spec s c (refused k) t → is_given k ≡ true
 unfolding CommitOnAnyGrid AnswerDue log_commit_causes number
-log-given spec units s t c k (Accepted g) b p =
+log-given spec units s t c k (Ok g) b p =
     due-given (log_commit_causes spec g ((lent_store spec g).lent s) (¬ SoundStock spec g s)
     (point_sets g (lent_store spec g) s) s.generation c) k refl p.answers
-log-given spec units s t c k (Refused j) b p = subst (λ (x : ℕ). is_given x ≡ true) (same k j p.0) (grid-given spec units j b)
+log-given spec units s t c k (Err e) b p =
+    subst (λ (x : ℕ). is_given x ≡ true) (same k (number_of e) p.0) (grid-given spec units (number_of e) b)
   where
     same : (k j : ℕ) → refused k ≡ refused j → j ≡ k
     same k j e = ap number (sym e)
 
 pub commit-given : (spec : DexelStockSpec) (units : List ℕ) (s t : Stock) (log : List Float) (allowance : ℕ)
-    (work work' : List Float) (k : ℕ) → LogCommitPost spec units s log allowance work (CommitAnswer.Refused k) t work'
-    → is_given k ≡ true
-commit-given spec units s t log allowance work work' k p =
-    log-given spec units s t (commit_of log allowance work) k p.described p.by p.promise
+    (work work' : List Float) (e : Refusal) → LogCommitPost spec units s log allowance work (Err e) t work'
+    → is_given (number_of e) ≡ true
+commit-given spec units s t log allowance work work' e p =
+    log-given spec units s t (commit_of log allowance work) (number_of e) p.described p.by p.promise

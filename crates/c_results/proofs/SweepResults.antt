@@ -14,7 +14,8 @@ use Rattle.refusal.specs.Refusal.{Due}
 use Rattle.sweep.specs.Answer.{setting_of, sweep_causes, SweepPost}
 use Rattle.sweep_model.specs.SweepEntries.{Setting}
 use Rattle.sweep.specs.declared.Totals.{Totals}
-use Rattle.sweep.specs.declared.SweepAnswer.{SweepAnswer}
+use Rattle.std.specs.Prelude.{Result}
+use Rattle.refusal.specs.declared.Refusal.{Refusal}
 use Rattle.c_results.specs.Numbers.{AnsweredBy, HandedAs, sweep_numbers}
 use Rattle.c_results.proofs.Results.{is_given, answered, due-given}
 use Rattle.store.specs.Store.{Cells}
@@ -27,15 +28,12 @@ sweep-given units s intervals chords budget len k =
 
 module _ (spec : DexelStockSpec) (units : List ℕ) (c : Cells) (intervals : ℕ) (cutter : PreparedCutter)
     (guard : Float) (chords : List Float) (budget : ℕ) (log after : List Float) where
-  abbrev Promise : Axis → CutterShape → SweepAnswer → Type 0
+  abbrev Promise : Axis → CutterShape → Result Totals Refusal → Type 0
   Promise a h = SweepPost (sweep_causes units (setting_of spec a h cutter guard c) intervals chords budget (length log))
       (setting_of spec a h cutter guard c) intervals chords log after
 
-  pub sweep-answered : (a b : Axis) (h k : CutterShape) (s : SweepAnswer) (r : ℕ) (x y : Totals) → a ≡ b → h ≡ k
-      → Promise a h s → HandedAs sweep_numbers SweepAnswer.Refused s r x y
-      → AnsweredBy sweep_numbers SweepAnswer.Refused (Promise b k) r x y
+  pub sweep-answered : (a b : Axis) (h k : CutterShape) (s : Result Totals Refusal) (r : ℕ) (x y : Totals) → a ≡ b → h ≡ k
+      → Promise a h s → HandedAs sweep_numbers s r x y → AnsweredBy sweep_numbers (Promise b k) r x y
   sweep-answered a b h k s r x y e f p n =
-      answered sweep_numbers SweepAnswer.Refused (Promise b k) s r x y
-      (λ j q. sweep-given units (setting_of spec b k cutter guard c) intervals chords budget (length log) j q.0)
-      (subst (λ (z : Axis). Promise z k s) e (subst (λ (z : CutterShape). Promise a z s) f p))
-      n
+      answered sweep_numbers (Promise b k) s r x y
+      (subst (λ (z : Axis). Promise z k s) e (subst (λ (z : CutterShape). Promise a z s) f p)) n

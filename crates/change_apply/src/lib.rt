@@ -25,8 +25,7 @@ fn free_changes(
         (cells spans.new links.new heads.new) }
 {
     let count = changes.len() / 6;
-    let mut k: usize = 0;
-    while k < count {
+    for k in 0..count {
         let h = change_list::head(changes, k);
         let ray = change_list::ray_named(g, h);
         store_write::free_ray(
@@ -36,7 +35,6 @@ fn free_changes(
             spec.max_intervals as usize,
             ray as usize,
         );
-        k += 1;
     }
 }
 
@@ -66,8 +64,7 @@ fn lay_changes(
     let count = changes.len() / 6;
     let mut at: usize = 0;
     let mut from: usize = 0;
-    let mut k: usize = 0;
-    while k < count {
+    for k in 0..count {
         let h = change_list::head(changes, k);
         let ray = change_list::ray_named(g, h);
         let after = past_lists(at, h.before_possible, h.before_certain);
@@ -84,7 +81,6 @@ fn lay_changes(
             h.after_certain,
         );
         at = past_lists(after, h.after_possible, h.after_certain);
-        k += 1;
     }
 }
 

@@ -20,7 +20,7 @@ use Rattle.change_list.specs.Changes.{Good, AllGood, updates_of}
 use Rattle.change_list.specs.Steps.{onward, cursor_of, Stands, CheckChangePost, CheckChangesPost}
 use Rattle.change_list.specs.declared.ChangeHead.{ChangeHead}
 use Rattle.change_list.specs.declared.ChangeCursor.{ChangeCursor}
-use Rattle.change_list.specs.declared.ChangeCheck.TheVariants.{Next, Bad}
+use Rattle.std.specs.Prelude.{None, Some}
 use Rattle.spans.proofs.Sets.{equal-length}
 use Rattle.change_list.proofs.ListTests.{bad-due, due-bad}
 use Rattle.stock.specs.Stock.{ray_list, Possible, Certain}
@@ -104,15 +104,15 @@ module _ (spec : DexelStockSpec) (g : DexelGrid) (c : Cells) (changes : List ℕ
       i (end4 (head_at changes k) at)) (sym (add-one k))
 
   pub bad-change : (k : ℕ) (cur : ChangeCursor) (h : ChangeHead) → Passed k cur → k < length changes / 6
-      → h ≡ head_at changes k → CheckChangePost spec g c pairs h cur Bad
-      → CheckChangesPost spec g c pairs (changes_of changes pairs) Bad
+      → h ≡ head_at changes k → CheckChangePost spec g c pairs h cur None
+      → CheckChangesPost spec g c pairs (changes_of changes pairs) None
   unfolding AllGood
   bad-change k cur h p l e n = bad-due _ λ all.
       due-bad _ n (subst (λ (x : ChangeHead). Good spec g c pairs cur.from (change_by x pairs cur.at)) (sym e)
       (subst (AllGood spec g c pairs cur.from) (rest-is k cur.at l) (p.back all)).0)
 
   pub next-change : (k : ℕ) (cur next : ChangeCursor) (h : ChangeHead) → Passed k cur → k < length changes / 6
-      → h ≡ head_at changes k → CheckChangePost spec g c pairs h cur (Next next) → Passed (k + 1) next
+      → h ≡ head_at changes k → CheckChangePost spec g c pairs h cur (Some next) → Passed (k + 1) next
   unfolding AllGood
   next-change k cur next h p l e n =
       subst (Passed (k + 1)) (sym (n.1 ∙ ap (λ (x : ChangeHead). onward g x cur) e))
@@ -144,7 +144,7 @@ module _ (spec : DexelStockSpec) (g : DexelGrid) (c : Cells) (changes : List ℕ
           }
 
   pub all-passed : (k : ℕ) (cur : ChangeCursor) → Passed k cur → length changes / 6 ≤ k
-      → CheckChangesPost spec g c pairs (changes_of changes pairs) (Next cur)
+      → CheckChangesPost spec g c pairs (changes_of changes pairs) (Some cur)
   unfolding AllGood changes_from pairs_freed pairs_laid updates_of
   all-passed k cur p l =
       let none : length changes / 6 - k ≡ 0 = omega arith in

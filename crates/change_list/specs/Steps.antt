@@ -1,5 +1,5 @@
 -- What the functions that check a change list ask and answer.
-use Rattle.std.specs.Prelude.{◌≡◌, List, ℕ, ◌+◌, ◌*◌, ◌%◌, ◌≤◌, length, Float}
+use Rattle.std.specs.Prelude.{◌≡◌, Option, None, Some, List, ℕ, ◌+◌, ◌*◌, ◌%◌, ◌≤◌, length, Float}
 use Rattle.refusal.specs.Refusal.{Due}
 use Rattle.grid.specs.declared.DexelStockSpec.{DexelStockSpec}
 use Rattle.grid.specs.declared.DexelGrid.{DexelGrid}
@@ -7,8 +7,6 @@ use Rattle.store.specs.Updates.{pairs_freed, pairs_laid}
 use Rattle.change_list.specs.Changes.{Change, change_ray, end4, change_by, Good, AllGood, updates_of, bad_causes}
 use Rattle.change_list.specs.declared.ChangeHead.{ChangeHead}
 use Rattle.change_list.specs.declared.ChangeCursor.{ChangeCursor}
-use Rattle.change_list.specs.declared.ChangeCheck.{ChangeCheck}
-use Rattle.change_list.specs.declared.ChangeCheck.TheVariants.{Next, Bad}
 use Rattle.stock.specs.Stock.{SoundCells}
 use Rattle.stock.specs.Steps.{StockRoom}
 use Rattle.store.specs.Store.{Cells}
@@ -35,19 +33,19 @@ pub record Stands (pairs : List Float) (cur : ChangeCursor) : Type 0 where
 
 -- document 01's number of each answer, 0 where the check goes on: 13 for a change that camlib's `validate` turns away, or whose lists
 -- reach past the lent pairs
-abbrev pub check_number : ChangeCheck → ℕ
-check_number (Next n) = 0
-check_number Bad = 13
+abbrev pub check_number : Option ChangeCursor → ℕ
+check_number (Some n) = 0
+check_number None = 13
 
 -- the answer on one change
-abbrev pub CheckChangePost : DexelStockSpec → DexelGrid → Cells → List Float → ChangeHead → ChangeCursor → ChangeCheck → Type 0
-CheckChangePost spec g c pairs h cur Bad = Due (bad_causes (Good spec g c pairs cur.from (change_by h pairs cur.at))) (check_number Bad)
-CheckChangePost spec g c pairs h cur (Next n) = Good spec g c pairs cur.from (change_by h pairs cur.at) × (n ≡ onward g h cur)
+abbrev pub CheckChangePost : DexelStockSpec → DexelGrid → Cells → List Float → ChangeHead → ChangeCursor → Option ChangeCursor → Type 0
+CheckChangePost spec g c pairs h cur None = Due (bad_causes (Good spec g c pairs cur.from (change_by h pairs cur.at))) (check_number None)
+CheckChangePost spec g c pairs h cur (Some n) = Good spec g c pairs cur.from (change_by h pairs cur.at) × (n ≡ onward g h cur)
 
 -- the answer on all changes: where they are good, the sums are those of the pairs that the updates free and lay, which the lent pairs hold
-abbrev pub CheckChangesPost : DexelStockSpec → DexelGrid → Cells → List Float → List Change → ChangeCheck → Type 0
-CheckChangesPost spec g c pairs ds Bad = Due (bad_causes (AllGood spec g c pairs 0 ds)) (check_number Bad)
-CheckChangesPost spec g c pairs ds (Next n) =
+abbrev pub CheckChangesPost : DexelStockSpec → DexelGrid → Cells → List Float → List Change → Option ChangeCursor → Type 0
+CheckChangesPost spec g c pairs ds None = Due (bad_causes (AllGood spec g c pairs 0 ds)) (check_number None)
+CheckChangesPost spec g c pairs ds (Some n) =
     AllGood spec g c pairs 0 ds × (n.before ≡ pairs_freed spec.max_intervals c (updates_of g ds))
     × (n.after ≡ pairs_laid (updates_of g ds)) × (2 * n.after ≤ length pairs)
 

@@ -17,7 +17,7 @@ ghost use Rattle.store.specs.Store.{cells};
 use grid::{DexelGrid, DexelStockSpec, WorldAxis};
 
 // The six numbers of a change: its ray, and how many pairs its four lists have.
-#[derive(Clone, Copy)]
+#[derive(Clone, Copy, Debug, PartialEq, Eq)]
 pub struct ChangeHead {
     pub axis: u64,
     pub index: u64,
@@ -28,18 +28,12 @@ pub struct ChangeHead {
 }
 
 // How far a check of changes has come: the cell of the pairs, one more than the last ray, and the sums of pairs before and after.
-#[derive(Clone, Copy)]
+#[derive(Clone, Copy, Debug, PartialEq, Eq)]
 pub struct ChangeCursor {
     pub at: usize,
     pub from: u64,
     pub before: usize,
     pub after: usize,
-}
-
-#[derive(Clone, Copy)]
-pub enum ChangeCheck {
-    Next(ChangeCursor),
-    Bad,
 }
 
 // Reads the six numbers of change k.
@@ -68,18 +62,10 @@ pub fn head(changes: &[u64], k: usize) -> ChangeHead
 fn fits(h: ChangeHead, left: usize) -> bool
     ensures { Decides (pairs_in h ≤ left) result }
 {
-    if left < h.before_possible {
-        return false;
-    }
-    let rest = left - h.before_possible;
-    if rest < h.before_certain {
-        return false;
-    }
-    let more = rest - h.before_certain;
-    if more < h.after_possible {
-        return false;
-    }
-    h.after_certain <= more - h.after_possible
+    h.before_possible <= left
+        && h.before_certain <= left - h.before_possible
+        && h.after_possible <= left - h.before_possible - h.before_certain
+        && h.after_certain <= left - h.before_possible - h.before_certain - h.after_possible
 }
 
 // The number of the ray that a change names.
@@ -96,14 +82,7 @@ fn names_ray_from(g: DexelGrid, h: ChangeHead, from: u64) -> bool
     requires { ray_count g < 2 ^ 64 }
     ensures { Decides (Names g h.axis h.index from) result }
 {
-    if 2 < h.axis {
-        return false;
-    }
-    let axis = h.axis as u8;
-    if grid_rays::rays(g, WorldAxis(axis)) <= h.index {
-        return false;
-    }
-    from <= ray_named(g, h)
+    h.axis <= 2 && h.index < grid_rays::rays(g, WorldAxis(h.axis as u8)) && from <= ray_named(g, h)
 }
 
 // The cursor past a change.
@@ -138,16 +117,16 @@ fn check_change(
     pairs: &[f64],
     h: ChangeHead,
     cur: ChangeCursor,
-) -> ChangeCheck
+) -> Option<ChangeCursor>
     requires { SoundWithRoom spec g (cells spans.now links.now heads.now) × Stands pairs.now cur }
     ensures { CheckChangePost spec g (cells spans.now links.now heads.now)
         pairs.now h cur result }
 {
     if !fits(h, (pairs.len() - cur.at) / 2) {
-        return ChangeCheck::Bad;
+        return None;
     }
     if !names_ray_from(g, h, cur.from) {
-        return ChangeCheck::Bad;
+        return None;
     }
     let ray = ray_named(g, h);
     let good = check_removal_at(
@@ -165,9 +144,9 @@ fn check_change(
         h.after_certain,
     );
     if !good {
-        return ChangeCheck::Bad;
+        return None;
     }
-    ChangeCheck::Next(past(
+    Some(past(
         cur.at,
         cur.before,
         cur.after,
@@ -188,7 +167,7 @@ pub fn check_changes(
     heads: &[u64],
     changes: &[u64],
     pairs: &[f64],
-) -> ChangeCheck
+) -> Option<ChangeCursor>
     requires { SoundWithRoom spec g (cells spans.now links.now heads.now) × (length pairs.now % 2 ≡ 0) }
     ensures { CheckChangesPost spec g (cells spans.now links.now heads.now)
         pairs.now (changes_of changes.now pairs.now) result }
@@ -200,34 +179,18 @@ pub fn check_changes(
         before: 0,
         after: 0,
     };
-    let mut k: usize = 0;
-    while k < count {
+    for k in 0..count {
         let h = head(changes, k);
-        let ChangeCheck::Next(next) = check_change(spec, g, spans, links, heads, pairs, h, cur)
-        else {
-            return ChangeCheck::Bad;
-        };
-        cur = next;
-        k += 1;
+        cur = check_change(spec, g, spans, links, heads, pairs, h, cur)?;
     }
-    ChangeCheck::Next(cur)
+    Some(cur)
 }
 
 // Whether two lists have the same ends, as numbers.
 fn same_ends(a: &[f64], b: &[f64]) -> bool
     ensures { result ≡ equal a.now b.now }
 {
-    if a.len() != b.len() {
-        return false;
-    }
-    let mut k = 0;
-    while k < a.len() {
-        if !(a[k] == b[k]) {
-            return false;
-        }
-        k += 1;
-    }
-    true
+    a == b
 }
 
 // Whether the lists before are those that the store has for the ray, as numbers.
@@ -248,10 +211,8 @@ fn matches_before(
 {
     let n = spec.max_intervals as usize;
     let head = store::ray_heads(heads, ray as usize);
-    if !store_read::list_is(spans, links, n, head.possible, p) {
-        return false;
-    }
-    store_read::list_is(spans, links, n, head.certain, q)
+    store_read::list_is(spans, links, n, head.possible, p)
+        && store_read::list_is(spans, links, n, head.certain, q)
 }
 
 // Whether the new lists of a ray are valid, gain no point of the old ones and differ from them.
@@ -259,19 +220,10 @@ fn is_removal(p: &[f64], q: &[f64], np: &[f64], nq: &[f64], lo: f64, hi: f64) ->
     requires { (sound p.now ≡ true) × (sound q.now ≡ true) }
     ensures { Decides (IsRemoval lo hi p.now q.now np.now nq.now) result }
 {
-    if !ray_check::valid_ray(np, nq, lo, hi) {
-        return false;
-    }
-    if !span_cover::covers(p, np) {
-        return false;
-    }
-    if !span_cover::covers(q, nq) {
-        return false;
-    }
-    if !same_ends(np, p) {
-        return true;
-    }
-    !same_ends(nq, q)
+    ray_check::valid_ray(np, nq, lo, hi)
+        && span_cover::covers(p, np)
+        && span_cover::covers(q, nq)
+        && !(same_ends(np, p) && same_ends(nq, q))
 }
 
 // Whether a change of this ray is allowed: its old lists are those of the store, and the new ones a removal from them.
@@ -292,11 +244,9 @@ fn check_removal(
         (cells spans.now links.now heads.now) ray p.now q.now
         np.now nq.now) result }
 {
-    if !matches_before(spec, g, spans, links, heads, ray, p, q) {
-        return false;
-    }
     let bounds = grid_rays::ray_bounds(spec, g, ray);
-    is_removal(p, q, np, nq, bounds.lo, bounds.hi)
+    matches_before(spec, g, spans, links, heads, ray, p, q)
+        && is_removal(p, q, np, nq, bounds.lo, bounds.hi)
 }
 
 // Whether a change of this ray is allowed whose four lists, of so many pairs each, stand end to end from cell `at` on.

@@ -1,4 +1,4 @@
--- A test of the first n: one more that passes, and one that fails. With it the tests of a chord and of all chords.
+-- A test of the first n: one more that passes, and one that fails. With it the test of all chords.
 use mathlib.Core.Path.{◌≡◌, refl, sym, ap, subst, ◌∙◌}
 use mathlib.Core.Bool.{Bool, true, false, not, ◌&&◌, true≢false}
 use mathlib.Core.List.{List}
@@ -9,12 +9,10 @@ use lib.Dec.{ltb}
 use lib.Ieee.{Float}
 use lib.ListN.{length}
 use borrow.Author.Tests.{ltb-true, ltb-false}
-use Rattle.logic.proofs.Bools.{both, and-false, not-true, not-false}
+use Rattle.logic.proofs.Bools.{both, and-false}
 use Rattle.frame.specs.declared.Frame.{Frame}
-use Rattle.sweep_model.specs.declared.Chord.{Chord}
-use Rattle.sweep_model.specs.Chords.{chord_of}
 use Rattle.sweep_model.specs.ChordLimits.{BadChords}
-use Rattle.sweep_model.specs.Steps.{guard_fits, ends_fit, numbers_fit, chord_fits, every, chords_fit}
+use Rattle.sweep_model.specs.Steps.{guard_fits, chord_fits, every, chords_fit}
 use Rattle.sweep_model.proofs.ChordLimits.{unfit-chords, fit-chords}
 use Rattle.logic.specs.Logic.{Decides}
 
@@ -23,11 +21,11 @@ module _ (test : ℕ → Bool) where
   unfolding every
   every-none = refl
 
-  pub every_more : (n : ℕ) (r : Bool) → every test n ≡ true → r ≡ test n → not r ≡ false → every test (n + 1) ≡ true
+  pub every_more : (n : ℕ) (r : Bool) → every test n ≡ true → r ≡ test n → r ≡ true → every test (n + 1) ≡ true
   unfolding every
-  every_more n r h e t = ap (every test) (add-one n) ∙ both (every test n) (test n) h (sym e ∙ not-false r t)
+  every_more n r h e t = ap (every test) (add-one n) ∙ both (every test n) (test n) h (sym e ∙ t)
 
-  pub not-every : (i n : ℕ) (r : Bool) → i < n → r ≡ test i → not r ≡ true → every test n ≡ false
+  pub not-every : (i n : ℕ) (r : Bool) → i < n → r ≡ test i → r ≡ false → every test n ≡ false
   unfolding every
   not-every i zero r l e t = absurd (none l)
     where
@@ -40,18 +38,7 @@ module _ (test : ℕ → Bool) where
       go false p q h =
           let g = q refl in
           let f : i ≡ n = omega arith in
-          and-false (every test n) (test n) (subst (λ (k : ℕ). test k ≡ false) f (sym e ∙ not-true r t))
-
--- ---- one chord
-module _ (f : Frame) (chords : List Float) (i : ℕ) where
-  pub ends-out : (r : Bool) → r ≡ ends_fit chords i → r ≡ false → false ≡ chord_fits f chords i
-  unfolding chord_fits
-  ends-out r e t = sym (ap (λ (b : Bool). b && numbers_fit (chord_of f chords i)) (sym e ∙ t))
-
-  pub ends-in : (r s : Bool) (c : Chord) → r ≡ ends_fit chords i → r ≡ true → c ≡ chord_of f chords i → s ≡ numbers_fit c
-      → s ≡ chord_fits f chords i
-  unfolding chord_fits
-  ends-in r s c e t k n = n ∙ ap numbers_fit k ∙ sym (ap (λ (b : Bool). b && numbers_fit (chord_of f chords i)) (sym e ∙ t))
+          and-false (every test n) (test n) (subst (λ (k : ℕ). test k ≡ false) f (sym e ∙ t))
 
 -- ---- all chords
 module _ (f : Frame) (guard : Float) (chords : List Float) where
@@ -60,19 +47,19 @@ module _ (f : Frame) (guard : Float) (chords : List Float) where
   answered true e = ((λ h. absurd (true≢false (sym h))), (λ b. absurd (fit-chords f guard chords (sym e) b)))
   answered false e = ((λ h. unfit-chords f guard chords (sym e)), (λ b. refl))
 
-  pub guard-unfit : (r : Bool) → r ≡ guard_fits guard → not r ≡ true → Decides (BadChords f guard chords) true
+  pub guard-unfit : (r : Bool) → r ≡ guard_fits guard → r ≡ false → Decides (BadChords f guard chords) true
   unfolding chords_fit
   guard-unfit r e t = answered false
-      (sym (ap (λ (b : Bool). b && every (chord_fits f chords) (length chords / 8)) (sym e ∙ not-true r t)))
+      (sym (ap (λ (b : Bool). b && every (chord_fits f chords) (length chords / 8)) (sym e ∙ t)))
 
-  pub chord-unfit : (i : ℕ) (r : Bool) → i < length chords / 8 → r ≡ chord_fits f chords i → not r ≡ true
+  pub chord-unfit : (i : ℕ) (r : Bool) → i < length chords / 8 → r ≡ chord_fits f chords i → r ≡ false
       → Decides (BadChords f guard chords) true
   unfolding chords_fit
   chord-unfit i r l e t = answered false (sym (and-false (guard_fits guard) (every (chord_fits f chords) (length chords / 8))
       (not-every (chord_fits f chords) i (length chords / 8) r l e t)))
 
-  pub all_fit : (i : ℕ) (r : Bool) → i ≡ length chords / 8 → r ≡ guard_fits guard → not r ≡ false
+  pub all_fit : (i : ℕ) (r : Bool) → i ≡ length chords / 8 → r ≡ guard_fits guard → r ≡ true
       → every (chord_fits f chords) i ≡ true → Decides (BadChords f guard chords) false
   unfolding chords_fit
   all_fit i r n e t h = answered true (sym (both (guard_fits guard) (every (chord_fits f chords) (length chords / 8))
-      (sym e ∙ not-false r t) (ap (every (chord_fits f chords)) (sym n) ∙ h)))
+      (sym e ∙ t) (ap (every (chord_fits f chords)) (sym n) ∙ h)))

@@ -23,6 +23,7 @@ fn point_at(chords: &[f64], i: usize) -> Vec3
 }
 
 // Chord i, in the tool's frame.
+#[tactic(auto, unfolding(sweep_model::specs::Chords::chord_of))]
 pub fn chord_at(f: Frame, chords: &[f64], i: usize) -> Chord
     requires { 8 * i + 8 ≤ length chords.now }
     ensures { result ≡ chord_of f chords.now i }
@@ -36,27 +37,25 @@ pub fn chord_at(f: Frame, chords: &[f64], i: usize) -> Chord
     }
 }
 
+#[tactic(auto, unfolding(sweep_model::specs::Steps::guard_fits))]
 fn guard_fits(guard: f64) -> bool
     ensures { result ≡ guard_fits guard }
 {
-    if guard > 0.0 {
-        return guard <= 1.0;
-    }
-    false
+    guard > 0.0 && guard <= 1.0
 }
 
+#[tactic(auto, unfolding(sweep_model::specs::Steps::ends_fit))]
 fn ends_fit(chords: &[f64], i: usize) -> bool
     requires { 8 * i + 8 ≤ length chords.now }
     ensures { result ≡ ends_fit chords.now i }
 {
     let k = 8 * i;
-    if grid::all_between(point_at(chords, k), -2e6, 2e6) {
-        return grid::all_between(point_at(chords, k + 3), -2e6, 2e6);
-    }
-    false
+    grid::all_between(point_at(chords, k), -2e6, 2e6)
+        && grid::all_between(point_at(chords, k + 3), -2e6, 2e6)
 }
 
 // The larger of the sizes of the two plan differences.
+#[tactic(auto, unfolding(sweep_model::specs::ChordLimits::plan_size))]
 fn plan_size(c: Chord) -> f64
     ensures { result ≡ plan_size c }
 {
@@ -65,6 +64,7 @@ fn plan_size(c: Chord) -> f64
     doubles_minmax::larger(doubles::abs(b.x - a.x), doubles::abs(b.y - a.y))
 }
 
+#[tactic(auto, unfolding(sweep_model::specs::Steps::length_fits))]
 fn length_fits(c: Chord) -> bool
     ensures { result ≡ length_fits c }
 {
@@ -72,23 +72,19 @@ fn length_fits(c: Chord) -> bool
     grid::is_between(c.length, s, 2.0 * s)
 }
 
+#[tactic(auto, unfolding(sweep_model::specs::Steps::numbers_fit))]
 fn numbers_fit(c: Chord) -> bool
     ensures { result ≡ numbers_fit c }
 {
-    if grid::is_between(c.e, 0.0, 1e3) {
-        return length_fits(c);
-    }
-    false
+    grid::is_between(c.e, 0.0, 1e3) && length_fits(c)
 }
 
+#[tactic(auto, unfolding(sweep_model::specs::Steps::chord_fits))]
 fn chord_fits(f: Frame, chords: &[f64], i: usize) -> bool
     requires { 8 * i + 8 ≤ length chords.now }
     ensures { result ≡ chord_fits f chords.now i }
 {
-    if ends_fit(chords, i) {
-        return numbers_fit(chord_at(f, chords, i));
-    }
-    false
+    ends_fit(chords, i) && numbers_fit(chord_at(f, chords, i))
 }
 
 // Whether the guard and all whole chords are within their limits: false exactly where a clause of refusal 7 holds.
@@ -98,13 +94,10 @@ pub fn check_chords(f: Frame, guard: f64, chords: &[f64]) -> bool
     if !guard_fits(guard) {
         return false;
     }
-    let n = chords.len() / 8;
-    let mut i: usize = 0;
-    while i < n {
+    for i in 0..chords.len() / 8 {
         if !chord_fits(f, chords, i) {
             return false;
         }
-        i += 1;
     }
     true
 }

@@ -5,37 +5,25 @@ use Prim.Native.Nat.{ℕ, ◌+◌, ◌-◌, ◌*◌, ◌/◌, ◌^◌, ◌<◌}
 use native.Mathlib.Omega.{arith}
 use lib.Ieee.{Float}
 use lib.ListN.{length}
-use Rattle.refusal.specs.Refusal.{NoneDue}
-use Rattle.grid.specs.FromSpec.{grid_of}
-use Rattle.grid.specs.Causes.{grid_causes, grid_in}
+use Rattle.std.specs.Prelude.{Result, Ok, Err}
+use Rattle.refusal.specs.Refusal.{NoneDue, number_of}
+use Rattle.refusal.specs.declared.Refusal.{Refusal}
+use Rattle.grid.specs.Causes.{grid_causes, grid_in, ByCauses}
 use Rattle.grid.specs.declared.DexelStockSpec.{DexelStockSpec}
 use Rattle.grid.specs.declared.DexelGrid.{DexelGrid}
-use Rattle.grid.specs.declared.GridAnswer.TheVariants.{Accepted as Griddable, Refused as NoGrid}
 use Rattle.store.specs.Updates.{applied}
 use Rattle.stock.specs.Stock.{Stock, ray_list, Possible, Certain}
-use Rattle.stock.specs.declared.CommitAnswer.{CommitAnswer}
-use Rattle.stock.specs.declared.CommitAnswer.TheVariants.{Changed, Refused}
 use Rattle.stock.proofs.Causes.{due-first, due-second, none-in-both}
-use Rattle.stock.proofs.Answers.{accepted, refused}
 use Rattle.change_list.specs.Changes.{changes_of, change_ray, updates_in}
 use Rattle.change_list.proofs.Applying.{changed-has, other-keeps, changes-update, changes-sound}
 use Rattle.change_apply.specs.Passes.{ChangesFit}
 use Rattle.commit_changes.specs.ChangeCommit.{changed_stock, change_causes, change_commit_causes, ChangesEffect, ChangesPostBy}
 use Rattle.commit_changes.specs.Verdicts.{VerdictBy}
-use Rattle.commit_changes.specs.declared.ChangeVerdict.{ChangeVerdict}
-use Rattle.commit_changes.specs.declared.ChangeVerdict.TheVariants.{Fits, Refused as No}
 use Rattle.store.specs.Store.{Cells}
 
 -- ---- over a grid that is accepted
-module _ (spec : DexelStockSpec) (g : DexelGrid) (s : Stock) (changes : List ℕ) (pairs : List Float) (base : ℕ)
-    (r : ChangeVerdict) (ens : VerdictBy (change_causes spec g base s changes pairs) spec g s changes pairs r) where
-  pub verdict-refused : (k : ℕ) → r ≡ No k → ChangesPostBy (change_causes spec g base s changes pairs) spec g changes pairs s s (Refused k)
-  verdict-refused k e = (subst (VerdictBy (change_causes spec g base s changes pairs) spec g s changes pairs) e ens, refl)
-
-  module _ (t : ℕ) (e : r ≡ Fits t) where
-    verdict : VerdictBy (change_causes spec g base s changes pairs) spec g s changes pairs (Fits t)
-    verdict = subst (VerdictBy (change_causes spec g base s changes pairs) spec g s changes pairs) e ens
-
+module _ (spec : DexelStockSpec) (g : DexelGrid) (s : Stock) (changes : List ℕ) (pairs : List Float) (base : ℕ) where
+  module _ (t : ℕ) (verdict : VerdictBy (change_causes spec g base s changes pairs) spec g s changes pairs (Ok t)) where
     pub verdict-fitting : ChangesFit spec g s.cells s.intervals changes pairs
     verdict-fitting = verdict.2
 
@@ -72,7 +60,7 @@ module _ (spec : DexelStockSpec) (g : DexelGrid) (s : Stock) (changes : List ℕ
 
     pub verdict-fits : (d : Cells) → d ≡ applied spec.max_intervals s.cells (updates_in g changes pairs)
         → ChangesPostBy (change_causes spec g base s changes pairs) spec g changes pairs s
-        (record { cells = d; generation = s.generation + 1; intervals = t }) (Changed (length changes / 6))
+        (record { cells = d; generation = s.generation + 1; intervals = t }) (Ok (length changes / 6))
     verdict-fits d h =
         let is : record { cells = d; generation = s.generation + 1; intervals = t } ≡ changed_stock spec g s changes pairs
         = ap (λ (x : Cells). record { cells = x; generation = s.generation + 1; intervals = t }) h
@@ -85,29 +73,30 @@ module _ (spec : DexelStockSpec) (g : DexelGrid) (s : Stock) (changes : List ℕ
 
 -- ---- over any description
 module _ (spec : DexelStockSpec) (units : List ℕ) (s : Stock) (changes : List ℕ) (pairs : List Float) (base : ℕ) where
-  pub grid-accepted : (g : DexelGrid) (after : Stock) (r : CommitAnswer) → grid_of spec units ≡ Griddable g
+  pub grid-accepted : (g : DexelGrid) (after : Stock) (r : Result ℕ Refusal) → ByCauses spec units (Ok g)
       → ChangesPostBy (change_causes spec g base s changes pairs) spec g changes pairs s after r
       → ChangesPostBy (change_commit_causes spec units base s changes pairs) spec (grid_in spec) changes pairs s after r
-  grid-accepted g after r h f =
-      let a = accepted spec units g h in
+  grid-accepted g after r a f =
       at r a.0 (subst (λ (x : DexelGrid). ChangesPostBy (change_causes spec x base s changes pairs)
       spec x changes pairs s after r) a.1 f)
     where
-      at : (r : CommitAnswer) → NoneDue (grid_causes spec units)
+      at : (r : Result ℕ Refusal) → NoneDue (grid_causes spec units)
           → ChangesPostBy (change_causes spec (grid_in spec) base s changes pairs) spec (grid_in spec) changes pairs s after r
           → ChangesPostBy (change_commit_causes spec units base s changes pairs) spec (grid_in spec) changes pairs s after r
-      at (Refused k) n f = (due-second (grid_causes spec units) (change_causes spec (grid_in spec) base s changes pairs) k n f.0, f.1)
-      at (Changed m) n f = (
+      at (Err e) n f = (
+        due-second (grid_causes spec units) (change_causes spec (grid_in spec) base s changes pairs) (number_of e) n f.0,
+        f.1,
+      )
+      at (Ok m) n f = (
         none-in-both (grid_causes spec units)
             (change_causes spec (grid_in spec) base s changes pairs) n f.0,
         f.1,
         f.2,
       )
 
-  pub grid-refused : (k : ℕ) → grid_of spec units ≡ NoGrid k
-      → ChangesPostBy (change_commit_causes spec units base s changes pairs) spec (grid_in spec) changes pairs s s (Refused k)
-  grid-refused k h = (
-    due-first (grid_causes spec units) (change_causes spec (grid_in spec) base s changes pairs) k
-        (refused spec units k h),
+  pub grid-refused : (e : Refusal) → ByCauses spec units (Err e)
+      → ChangesPostBy (change_commit_causes spec units base s changes pairs) spec (grid_in spec) changes pairs s s (Err e)
+  grid-refused e d = (
+    due-first (grid_causes spec units) (change_causes spec (grid_in spec) base s changes pairs) (number_of e) d,
     refl,
   )

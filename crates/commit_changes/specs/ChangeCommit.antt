@@ -1,15 +1,14 @@
 -- The commit of a change list: its causes in document 01's order, and what it leaves.
-use Rattle.std.specs.Prelude.{◌≡◌, true, ◌⊎◌, ℕ, ◌+◌, ◌-◌, ◌*◌, ◌/◌, ◌%◌, ◌^◌, ◌<◌, Float, length}
+use Rattle.std.specs.Prelude.{◌≡◌, true, ◌⊎◌, ℕ, ◌+◌, ◌-◌, ◌*◌, ◌/◌, ◌%◌, ◌^◌, ◌<◌, Float, length, Result, Ok, Err}
 use mathlib.Core.List.{List, [], ◌∷◌, ◌++◌, Memᴰ}
-use Rattle.refusal.specs.Refusal.{Cause, cause, Due, NoneDue}
+use Rattle.refusal.specs.Refusal.{Cause, cause, Due, NoneDue, number_of}
+use Rattle.refusal.specs.declared.Refusal.{Refusal}
 use Rattle.grid.specs.Causes.{grid_causes, grid_in}
 use Rattle.grid.specs.Rays.{ray_count}
 use Rattle.grid.specs.declared.DexelStockSpec.{DexelStockSpec}
 use Rattle.grid.specs.declared.DexelGrid.{DexelGrid}
 use Rattle.store.specs.Updates.{pairs_freed, pairs_laid, applied, CellsPastKept}
 use Rattle.stock.specs.Stock.{Stock, SoundStock, is_short, ray_list, Possible, Certain}
-use Rattle.stock.specs.declared.CommitAnswer.{CommitAnswer}
-use Rattle.stock.specs.declared.CommitAnswer.TheVariants.{Changed, Refused}
 use Rattle.change_list.specs.Changes.{Change, changes_of, change_ray, AllGood, updates_in, bad_causes}
 
 -- the intervals after the changes
@@ -66,14 +65,15 @@ pub record ChangesEffect (spec : DexelStockSpec) (g : DexelGrid) (changes : List
   pub kept : CellsPastKept spec.max_intervals (2 * ray_count g) before.cells after.cells
 
 -- a refused call gives the number that is due and leaves the stock as it was; an accepted one, with no cause, answers how many rays changed
-abbrev pub ChangesPostBy : List Cause → DexelStockSpec → DexelGrid → List ℕ → List Float → (before after : Stock) → CommitAnswer → Type 0
-ChangesPostBy causes spec g changes pairs before after (Refused k) = Due causes k × (after ≡ before)
-ChangesPostBy causes spec g changes pairs before after (Changed n) = NoneDue causes × (n ≡ length changes / 6)
+abbrev pub ChangesPostBy : List Cause → DexelStockSpec → DexelGrid → List ℕ → List Float → (before after : Stock)
+    → Result ℕ Refusal → Type 0
+ChangesPostBy causes spec g changes pairs before after (Err e) = Due causes (number_of e) × (after ≡ before)
+ChangesPostBy causes spec g changes pairs before after (Ok n) = NoneDue causes × (n ≡ length changes / 6)
     × ChangesEffect spec g changes pairs before after
 
 -- the change commit of document 01
 abbrev pub ChangesPost : DexelStockSpec → (units : List ℕ) → (base : ℕ) → List ℕ → List Float → (before after : Stock)
-    → CommitAnswer → Type 0
+    → Result ℕ Refusal → Type 0
 ChangesPost spec units base changes pairs before after answer =
     ChangesPostBy (change_commit_causes spec units base before changes pairs) spec (grid_in spec)
     changes pairs before after answer

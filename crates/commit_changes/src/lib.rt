@@ -1,27 +1,20 @@
 // The commit of a change list.
 #![tactic(auto)]
 
-ghost use Rattle.std.specs.Prelude.{◌≡◌, ◌*◌, ◌%◌, length};
+ghost use Rattle.std.specs.Prelude.{◌≡◌, ◌*◌, ◌%◌, length, MatchResult, Ok, Err};
 ghost use Rattle.grid.specs.Rays.{ray_count};
 ghost use Rattle.stock.specs.Stock.{SoundCells, stock};
 ghost use Rattle.commit_changes.specs.ChangeCommit.{ChangesPost};
-ghost use Rattle.commit_changes.specs.Verdicts.{ListVerdict, GridVerdict, ChangesPostOnGrid};
+ghost use Rattle.commit_changes.specs.Verdicts.{ListVerdict, GridVerdict};
 ghost use Rattle.grid.specs.Facts.{GridFacts};
 ghost use Rattle.store.specs.Steps.{Room};
 ghost use Rattle.store.specs.Store.{cells};
 
-use change_list::ChangeCheck;
-use grid::{DexelGrid, DexelStockSpec, GridAnswer};
-use stock::{CommitAnswer, Outcome, Tally};
+use grid::{DexelGrid, DexelStockSpec};
+use refusal::Refusal;
+use stock::{Outcome, Tally};
 
-// The interval total that a change list leaves, or why it is refused.
-#[derive(Clone, Copy)]
-pub enum ChangeVerdict {
-    Fits(u64),
-    Refused(u32),
-}
-
-// Finds whether changes of a sound store are refused: 13, 10, 15.
+// The interval total that changes of a sound store leave, or why they are refused: 13, 10, 15.
 fn list_verdict(
     generation: u64,
     intervals: u64,
@@ -32,29 +25,26 @@ fn list_verdict(
     heads: &[u64],
     changes: &[u64],
     pairs: &[f64],
-) -> ChangeVerdict
+) -> Result<u64, Refusal>
     requires { Room spec.max_intervals (2 * ray_count g) (cells spans.now links.now heads.now)
         × SoundCells spec g (cells spans.now links.now heads.now) intervals × (length pairs.now % 2 ≡ 0) }
     ensures { ListVerdict spec g
         (stock spans.now links.now heads.now generation intervals)
         changes.now pairs.now result }
 {
-    let ChangeCheck::Next(cur) = change_list::check_changes(
-        spec, g, spans, links, heads, changes, pairs,
-    ) else {
-        return ChangeVerdict::Refused(13);
-    };
+    let checked = change_list::check_changes(spec, g, spans, links, heads, changes, pairs);
+    let cur = checked.ok_or(Refusal::Change)?;
     let total = intervals - (cur.before as u64) + (cur.after as u64);
     if spec.max_intervals < total {
-        return ChangeVerdict::Refused(10);
+        return Err(Refusal::IntervalBudget);
     }
-    if generation == 0xffff_ffff_ffff_ffff {
-        return ChangeVerdict::Refused(15);
+    if generation == u64::MAX {
+        return Err(Refusal::LastGeneration);
     }
-    ChangeVerdict::Fits(total)
+    Ok(total)
 }
 
-// Finds whether a change list is refused, once the grid is accepted: 12, 11, 14, 13, 10, 15.
+// The interval total that a change list leaves, or why it is refused, once the grid is accepted: 12, 11, 14, 13, 10, 15.
 fn grid_verdict(
     generation: u64,
     intervals: u64,
@@ -66,67 +56,63 @@ fn grid_verdict(
     base: u64,
     changes: &[u64],
     pairs: &[f64],
-) -> ChangeVerdict
+) -> Result<u64, Refusal>
     requires { GridFacts spec g }
     ensures { GridVerdict spec g base
         (stock spans.now links.now heads.now generation intervals)
         changes.now pairs.now result }
 {
     if stock::is_short(spec, g, spans, links, heads) {
-        return ChangeVerdict::Refused(12);
+        return Err(Refusal::ShortBuffer);
     }
     if !stock::check_stock(spec, g, spans, links, heads, intervals) {
-        return ChangeVerdict::Refused(11);
+        return Err(Refusal::Unsound);
     }
     if changes.len() % 6 != 0 {
-        return ChangeVerdict::Refused(11);
+        return Err(Refusal::Unsound);
     }
     if pairs.len() % 2 != 0 {
-        return ChangeVerdict::Refused(11);
+        return Err(Refusal::Unsound);
     }
     if base != generation {
-        return ChangeVerdict::Refused(14);
+        return Err(Refusal::BaseGeneration);
     }
     list_verdict(
         generation, intervals, spec, g, spans, links, heads, changes, pairs,
     )
 }
 
-// The commit over a grid that is accepted.
+// The commit: how many rays changed and what the small record then holds, or why it is refused.
 fn commit_grid(
     generation: u64,
     intervals: u64,
     spec: DexelStockSpec,
-    g: DexelGrid,
+    units: &[u8],
     spans: &mut [f64],
     links: &mut [u64],
     heads: &mut [u64],
     base: u64,
     changes: &[u64],
     pairs: &[f64],
-) -> Outcome
-    requires { GridFacts spec g }
-    ensures { ChangesPostOnGrid spec g base changes.now pairs.now
+) -> Result<(u64, Tally), Refusal>
+    ensures { MatchResult result
+        (λ done. ChangesPost spec units.now base changes.now pairs.now
         (stock spans.old links.old heads.old generation intervals)
-        (stock spans.new links.new heads.new result.generation result.intervals) result.answer }
+        (stock spans.new links.new heads.new done.1.generation done.1.intervals) (Ok done.0))
+        (λ e. ChangesPost spec units.now base changes.now pairs.now
+        (stock spans.old links.old heads.old generation intervals)
+        (stock spans.new links.new heads.new generation intervals) (Err e)) }
 {
-    match grid_verdict(
+    let g = grid_from_spec::grid(spec, units)?;
+    let total = grid_verdict(
         generation, intervals, spec, g, spans, links, heads, base, changes, pairs,
-    ) {
-        ChangeVerdict::Fits(total) => {
-            change_apply::apply_changes(spec, g, spans, links, heads, changes, pairs);
-            Outcome {
-                answer: CommitAnswer::Changed((changes.len() / 6) as u64),
-                generation: generation + 1,
-                intervals: total,
-            }
-        }
-        ChangeVerdict::Refused(k) => Outcome {
-            answer: CommitAnswer::Refused(k),
-            generation,
-            intervals,
-        },
-    }
+    )?;
+    change_apply::apply_changes(spec, g, spans, links, heads, changes, pairs);
+    let left = Tally {
+        generation: generation + 1,
+        intervals: total,
+    };
+    Ok(((changes.len() / 6) as u64, left))
 }
 
 // The commit of a change list on plain numbers and slices. Refusals: 1, 2, 3, 12, 11, 14, 13, 10, 15.
@@ -146,12 +132,16 @@ pub fn commit_changes_on(
         (stock spans.old links.old heads.old generation intervals)
         (stock spans.new links.new heads.new result.generation result.intervals) result.answer }
 {
-    match grid_from_spec::grid(spec, units) {
-        GridAnswer::Accepted(g) => commit_grid(
-            generation, intervals, spec, g, spans, links, heads, base, changes, pairs,
-        ),
-        GridAnswer::Refused(k) => Outcome {
-            answer: CommitAnswer::Refused(k),
+    match commit_grid(
+        generation, intervals, spec, units, spans, links, heads, base, changes, pairs,
+    ) {
+        Ok((changed, left)) => Outcome {
+            answer: Ok(changed),
+            generation: left.generation,
+            intervals: left.intervals,
+        },
+        Err(e) => Outcome {
+            answer: Err(e),
             generation,
             intervals,
         },
@@ -169,7 +159,7 @@ pub fn commit_changes(
     base: u64,
     changes: &[u64],
     pairs: &[f64],
-) -> CommitAnswer
+) -> Result<u64, Refusal>
     ensures { ChangesPost spec units.now base changes.now pairs.now
         (stock spans.old links.old heads.old tally.old.generation
         tally.old.intervals)

@@ -1,80 +1,83 @@
 -- Which number is due after each test of a log commit: the causes before it are absent, since their tests were
 -- passed, and its own is present. 9 and 10 are causes of the point sets; the counts over the lists decide them, since
 -- the lists are of doubles.
-use mathlib.Core.Path.{◌≡◌, refl, sym, ap, ap₂, ◌∙◌}
-use mathlib.Core.Bool.{Bool, true, false, not, cond, ◌||◌}
+use mathlib.Core.Path.{◌≡◌, refl, ap₂, ◌∙◌}
+use mathlib.Core.Bool.{Bool, true, false, cond, ◌||◌}
 use mathlib.Core.List.{List}
 use mathlib.Core.Logic.{inl, inr}
-use Prim.Native.Nat.{ℕ, suc, ◌-◌, ◌*◌, ◌/◌, ◌^◌, ◌≤◌, ◌<◌, min}
+use Prim.Native.Nat.{ℕ, ◌-◌, ◌*◌, ◌/◌, ◌^◌, ◌≤◌, ◌<◌, min}
 use native.Mathlib.Omega.{arith}
-use borrow.Author.Tests.{ltb-true, ltb-false, le-ltb, eqb-true, eqb-false}
+use borrow.Author.Tests.{ltb-true, ltb-false, le-ltb}
 use lib.Dec.{ltb}
 use lib.ListN.{length}
 use lib.Ieee.{Float}
-use Rattle.logic.proofs.Bools.{or_cases, not-true, not-false, clash}
-use Rattle.refusal.specs.Refusal.{Due, NoneDue}
+use Rattle.logic.proofs.Bools.{or_cases}
+use Rattle.refusal.specs.Refusal.{Due, NoneDue, number_of}
 use Rattle.spans.specs.Spans.{ListOf}
 use Rattle.grid.specs.Rays.{ray_count, Ray}
 use Rattle.grid.specs.declared.DexelStockSpec.{DexelStockSpec}
 use Rattle.grid.specs.declared.DexelGrid.{DexelGrid}
 use Rattle.stock.specs.Stock.{Stock, SoundStock, is_short, Kind, ray_lists}
-use Rattle.stock.proofs.Causes.{room_of}
 use Rattle.log_model.specs.Logs.{entries, WholeLog, work_needed, commit_of}
-use Rattle.log_model.specs.Model.{LogBuffersShort, LogInputBad, TooManyRays, TooManyIntervals, log_commit_causes}
+use Rattle.log_model.specs.Model.{LogBuffersShort, LogInputBad, NamesNoRay, TooManyRays, TooManyIntervals, log_commit_causes}
 use Rattle.log_model.specs.Counts.{changed_ray_count, pairs_after}
 use Rattle.log_model.specs.Runs.{point_sets}
 use Rattle.log_model.specs.View.{lent_store}
 use Rattle.log_model.proofs.Decided.{DecidedBy, rays-by, intervals-by}
 use Rattle.log_model.proofs.Doubles.{Doubles}
 use Rattle.log_model.proofs.View.{lent-laws}
-use Rattle.log_entries.specs.Named.{EachNamed, NamesAll}
+use Rattle.log_entries.specs.Named.{EachNamed}
 use Rattle.log_entries.proofs.Places.{each-no}
 use Rattle.log_budget.specs.Answer.{budget_number, budget_of}
-use Rattle.log_budget.specs.declared.BudgetAnswer.{BudgetAnswer}
-use Rattle.log_budget.specs.declared.BudgetAnswer.TheVariants.{Kept, Rays, Intervals}
+use Rattle.std.specs.Prelude.{Result, Ok, Err, ⊤}
+use Rattle.refusal.specs.declared.Refusal.{Refusal}
+use Rattle.refusal.specs.declared.Refusal.TheVariants.{Description, RayLimit, IntervalLimit, Beam, Tool, Chord, VisitBudget, RayBudget}
+use Rattle.refusal.specs.declared.Refusal.TheVariants.{IntervalBudget, Unsound, ShortBuffer, Change, BaseGeneration, LastGeneration}
+use Rattle.refusal.specs.declared.Refusal.TheVariants.{LogFull, NoRay, Text, Place}
 use Rattle.commit_check.specs.Tests.{LogChecked, stock_log_causes, LogCheckPost}
-use Rattle.logic.specs.Logic.{Decides}
 use Rattle.store.specs.Steps.{Room}
-use Rattle.log_model.specs.Steps.{WorkRoom, is_whole_log}
+use Rattle.log_model.specs.Steps.{WorkRoom}
 
 -- ---- what `budget` says
 module _ (a n c l : ℕ) where
-  by-rays : (t : Bool) → ltb a c ≡ t → (u : Bool) → ltb n l ≡ u → budget_of a n c l ≡ cond t 9 (cond u 10 0)
+  -- the budgets that are kept, and the number that is answered
+  pub data Kept (k : ℕ) : Type 0 where
+    few_rays_no : ltb a c ≡ true → k ≡ 9 → Kept k
+    few_pairs_no : ltb a c ≡ false → ltb n l ≡ true → k ≡ 10 → Kept k
+    both : ltb a c ≡ false → ltb n l ≡ false → k ≡ 0 → Kept k
+
+  pub which : (k : ℕ) → k ≡ budget_of a n c l → Kept k
   unfolding budget_of
-  by-rays t e u f = ap₂ (λ (t u : Bool). cond t 9 (cond u 10 0)) e f
-
-  nine-ten : ◌≡◌ {A = ℕ} 9 10 → ⊥
-  nine-ten e = omega arith
-
-  nine-none : ◌≡◌ {A = ℕ} 9 0 → ⊥
-  nine-none e = omega arith
-
-  ten-none : ◌≡◌ {A = ℕ} 10 0 → ⊥
-  ten-none e = omega arith
-
-  pub rays-passed : 9 ≡ budget_of a n c l → ltb a c ≡ true
-  rays-passed e = go (ltb a c) refl (ltb n l) refl
+  which k e = go (ltb a c) refl (ltb n l) refl
     where
-      go : (t : Bool) → ltb a c ≡ t → (u : Bool) → ltb n l ≡ u → ltb a c ≡ true
-      go true p u q = p
-      go false p true q = absurd (nine-ten (e ∙ by-rays false p true q))
-      go false p false q = absurd (nine-none (e ∙ by-rays false p false q))
+      by : (t : Bool) → ltb a c ≡ t → (u : Bool) → ltb n l ≡ u → k ≡ cond t 9 (cond u 10 0)
+      by t p u q = e ∙ ap₂ (λ (t u : Bool). cond t 9 (cond u 10 0)) p q
 
-  pub intervals-passed : 10 ≡ budget_of a n c l → (ltb a c ≡ false) × (ltb n l ≡ true)
-  intervals-passed e = go (ltb a c) refl (ltb n l) refl
-    where
-      go : (t : Bool) → ltb a c ≡ t → (u : Bool) → ltb n l ≡ u → (ltb a c ≡ false) × (ltb n l ≡ true)
-      go true p u q = absurd (nine-ten (sym (e ∙ by-rays true p u q)))
-      go false p true q = (p, q)
-      go false p false q = absurd (ten-none (e ∙ by-rays false p false q))
+      go : (t : Bool) → ltb a c ≡ t → (u : Bool) → ltb n l ≡ u → Kept k
+      go true p u q = few_rays_no p (by true p u q)
+      go false p true q = few_pairs_no p q (by false p true q)
+      go false p false q = both p q (by false p false q)
 
-  pub both-kept : 0 ≡ budget_of a n c l → (ltb a c ≡ false) × (ltb n l ≡ false)
-  both-kept e = go (ltb a c) refl (ltb n l) refl
-    where
-      go : (t : Bool) → ltb a c ≡ t → (u : Bool) → ltb n l ≡ u → (ltb a c ≡ false) × (ltb n l ≡ false)
-      go true p u q = absurd (nine-none (sym (e ∙ by-rays true p u q)))
-      go false p true q = absurd (ten-none (sym (e ∙ by-rays false p true q)))
-      go false p false q = (p, q)
+-- no refusal has the number 0
+not-none : (e : Refusal) → number_of e ≡ 0 → ⊥
+not-none Description h = omega arith
+not-none RayLimit h = omega arith
+not-none IntervalLimit h = omega arith
+not-none Beam h = omega arith
+not-none Tool h = omega arith
+not-none Chord h = omega arith
+not-none VisitBudget h = omega arith
+not-none RayBudget h = omega arith
+not-none IntervalBudget h = omega arith
+not-none Unsound h = omega arith
+not-none ShortBuffer h = omega arith
+not-none Change h = omega arith
+not-none BaseGeneration h = omega arith
+not-none LastGeneration h = omega arith
+not-none LogFull h = omega arith
+not-none NoRay h = omega arith
+not-none Text h = omega arith
+not-none Place h = omega arith
 
 -- ---- the causes one after the other
 module _ (spec : DexelStockSpec) (g : DexelGrid) (s : Stock) (log : List Float) (allowance : ℕ) (work : List Float) where
@@ -128,116 +131,96 @@ module _ (spec : DexelStockSpec) (g : DexelGrid) (s : Stock) (log : List Float) 
 
   module _ (sound : SoundStock spec g s) (d : Doubles g (ray_lists spec g s.cells) (entries log)) where
     over-allowance : DecidedBy (TooManyRays g (point_sets g (lent_store spec g) s) (commit_of log allowance work)) (ltb allowance rays)
-    over-allowance = rays-by spec g ((lent_store spec g).lent s) (point_sets g (lent_store spec g) s) (ray_lists spec g s.cells) (lists sound)
-        s.generation (commit_of log allowance work) d
+    over-allowance = rays-by spec g ((lent_store spec g).lent s) (point_sets g (lent_store spec g) s)
+        (ray_lists spec g s.cells) (lists sound) s.generation (commit_of log allowance work) d
 
     over-budget : DecidedBy (TooManyIntervals spec g (point_sets g (lent_store spec g) s) (commit_of log allowance work))
         (ltb spec.max_intervals left)
     over-budget = intervals-by spec g ((lent_store spec g).lent s) (point_sets g (lent_store spec g) s) (ray_lists spec g s.cells)
         (lists sound) s.generation (commit_of log allowance work) d
 
-  refused-by : (k : ℕ) → Due (stock_log_causes spec g s (commit_of log allowance work)) (suc k)
-      → LogCheckPost spec g s log allowance work (suc k)
-  refused-by k d = record { passed = λ e. absurd (omega arith); due = λ ne. d }
-
   -- 12: too few records, heads or work pairs
-  pub short-due : (r : Bool) → r ≡ is_short spec g s.cells → r ≡ true → LogCheckPost spec g s log allowance work 12
+  pub short-due : is_short spec g s.cells ≡ true → LogCheckPost spec g s log allowance work (Err ShortBuffer)
   unfolding log_commit_causes Due
-  short-due r e h = refused-by 11 (inl (few-cells (sym e ∙ h), refl))
+  short-due h = inl (few-cells h, refl)
 
-  pub work-due : (r : Bool) → r ≡ ltb (length work / 2) (work_needed spec.max_intervals log) → r ≡ true
-      → LogCheckPost spec g s log allowance work 12
+  pub work-due : length work / 2 < work_needed spec.max_intervals log → LogCheckPost spec g s log allowance work (Err ShortBuffer)
   unfolding log_commit_causes Due LogBuffersShort
-  work-due r e h = refused-by 11 (inl (inr (inr (ltb-true _ _ (sym e ∙ h))), refl))
-
-  pub room-of-test : (r : Bool) → r ≡ is_short spec g s.cells → r ≡ false → Room spec.max_intervals (2 * ray_count g) s.cells
-  room-of-test r e h = room_of spec g s.cells (sym e ∙ h)
-
-  pub work-of-test : (r : Bool) → r ≡ ltb (length work / 2) (work_needed spec.max_intervals log) → r ≡ false
-      → WorkRoom spec.max_intervals log work
-  work-of-test r e h = ltb-false _ _ (sym e ∙ h)
-
-  pub whole-of-test : (r : Bool) → r ≡ is_whole_log log → not r ≡ false → WholeLog log
-  whole-of-test r e h = eqb-true _ _ (sym e ∙ not-false r h)
+  work-due h = inl (inr (inr h), refl)
 
   module _ (room : Room spec.max_intervals (2 * ray_count g) s.cells)
       (w : WorkRoom spec.max_intervals log work) where
     -- 11: part of an entry is over, or the store is not sound
-    pub part-due : (r : Bool) → r ≡ is_whole_log log → not r ≡ true → LogCheckPost spec g s log allowance work 11
+    pub part-due : (WholeLog log → ⊥) → LogCheckPost spec g s log allowance work (Err Unsound)
     unfolding log_commit_causes Due LogInputBad
-    part-due r e h = refused-by 10 (inr (enough room w, inl (inl (eqb-false _ _ (sym e ∙ not-true r h)), refl)))
+    part-due h = inr (enough room w, inl (inl h, refl))
 
-    pub unsound-due : (r : Bool) → Decides (SoundStock spec g s) r → not r ≡ true → LogCheckPost spec g s log allowance work 11
+    pub unsound-due : (SoundStock spec g s → ⊥) → LogCheckPost spec g s log allowance work (Err Unsound)
     unfolding log_commit_causes Due LogInputBad
-    unsound-due r t h = refused-by 10 (inr (enough room w, inl (inr (λ p. clash r (t.1 p) (not-true r h)), refl)))
-
-    pub sound-of-test : (r : Bool) → Decides (SoundStock spec g s) r → not r ≡ false → SoundStock spec g s
-    sound-of-test r t h = t.0 (not-false r h)
+    unsound-due h = inr (enough room w, inl (inr h, refl))
 
     module _ (whole : WholeLog log) (sound : SoundStock spec g s) where
       -- 15: the last generation
-      pub last-due : s.generation ≡ 0xffff_ffff_ffff_ffff → LogCheckPost spec g s log allowance work 15
+      pub last-due : s.generation ≡ 0xffff_ffff_ffff_ffff → LogCheckPost spec g s log allowance work (Err LastGeneration)
       unfolding log_commit_causes Due
-      last-due h = refused-by 14 (inr (enough room w, inr (good whole sound, inl (h, refl))))
+      last-due h = inr (enough room w, inr (good whole sound, inl (h, refl)))
 
       module _ (below : s.generation ≡ 0xffff_ffff_ffff_ffff → ⊥) where
         -- 17: an entry that names no ray
-        pub unnamed-due : (r : Bool) → NamesAll g log r → not r ≡ true → LogCheckPost spec g s log allowance work 17
+        pub unnamed-due : NamesNoRay g (entries log) → LogCheckPost spec g s log allowance work (Err NoRay)
         unfolding log_commit_causes Due
-        unnamed-due r t h = refused-by 16 (inr (enough room w, inr (good whole sound, inr (below, inl (t.no (not-true r h), refl)))))
-
-        pub named-of-test : (r : Bool) → NamesAll g log r → not r ≡ false → EachNamed g log
-        named-of-test r t h = t.yes (not-false r h)
+        unnamed-due h = inr (enough room w, inr (good whole sound, inr (below, inl (h, refl))))
 
         module _ (named : EachNamed g log) where
-          module _ (b : BudgetAnswer) (e : budget_number b ≡ budget_of allowance spec.max_intervals rays left) where
-            -- 9: more rays change than are allowed
-            pub rays-due : Doubles g (ray_lists spec g s.cells) (entries log) → b ≡ Rays → LogCheckPost spec g s log allowance work 9
-            unfolding log_commit_causes Due
-            rays-due d h =
-                let t = rays-passed allowance spec.max_intervals rays left (sym (ap budget_number h) ∙ e) in
-                refused-by 8 (inr (
-                  enough room w,
-                  inr (good whole sound, inr (below, inr (each-no g log named, inl ((over-allowance sound d).0 t, refl)))),
-                ))
+          -- 9: more rays change than are allowed
+          rays-due : Doubles g (ray_lists spec g s.cells) (entries log) → ltb allowance rays ≡ true
+              → Due (stock_log_causes spec g s (commit_of log allowance work)) 9
+          unfolding log_commit_causes Due
+          rays-due d t = inr (
+            enough room w,
+            inr (good whole sound, inr (below, inr (each-no g log named, inl ((over-allowance sound d).0 t, refl)))),
+          )
 
-            -- 10: more intervals than the budget
-            pub intervals-due : Doubles g (ray_lists spec g s.cells) (entries log) → b ≡ Intervals
-                → LogCheckPost spec g s log allowance work 10
-            unfolding log_commit_causes Due
-            intervals-due d h =
-                let t = intervals-passed allowance spec.max_intervals rays left (sym (ap budget_number h) ∙ e) in
-                refused-by 9 (inr (
-                  enough room w,
-                  inr (
-                    good whole sound,
-                    inr (
-                      below,
-                      inr (each-no g log named, inr ((over-allowance sound d).1 t.0, inl ((over-budget sound d).0 t.1, refl))),
-                    ),
-                  ),
-                ))
+          -- 10: more intervals than the budget
+          intervals-due : Doubles g (ray_lists spec g s.cells) (entries log) → ltb allowance rays ≡ false
+              → ltb spec.max_intervals left ≡ true → Due (stock_log_causes spec g s (commit_of log allowance work)) 10
+          unfolding log_commit_causes Due
+          intervals-due d t u = inr (
+            enough room w,
+            inr (
+              good whole sound,
+              inr (
+                below,
+                inr (each-no g log named, inr ((over-allowance sound d).1 t, inl ((over-budget sound d).0 u, refl))),
+              ),
+            ),
+          )
 
-            -- every test is passed
-            pub all-passed : s.generation < 2 ^ 64 → b ≡ Kept → LogCheckPost spec g s log allowance work 0
-            all-passed fits h =
-                let t = both-kept allowance spec.max_intervals rays left (sym (ap budget_number h) ∙ e) in
-                record {
-                  passed = λ z. record {
-                    room = room;
-                    work_room = w;
-                    whole = whole;
-                    sound = sound;
-                    below = under s.generation fits below;
-                    named = named;
-                    few_rays = ltb-false allowance rays t.0;
-                    few_pairs = ltb-false spec.max_intervals left t.1;
-                  };
-                  due = λ ne. absurd (ne refl);
-                }
-              where
-                under : (n : ℕ) → n < 2 ^ 64 → (n ≡ 0xffff_ffff_ffff_ffff → ⊥) → n < 2 ^ 64 - 1
-                under n h ne = omega arith
+          -- the budgets are asked last, so that what they answer is the answer of all tests
+          pub by-budget : Doubles g (ray_lists spec g s.cells) (entries log) → s.generation < 2 ^ 64 → (b : Result ⊤ Refusal)
+              → budget_number b ≡ budget_of allowance spec.max_intervals rays left → LogCheckPost spec g s log allowance work b
+          by-budget d fits (Err e) h = elim (which allowance spec.max_intervals rays left (number_of e) h) [
+            | few_rays_no t k ↦ rw k (rays-due d t)
+            | few_pairs_no t u k ↦ rw k (intervals-due d t u)
+            | both t u k ↦ absurd (not-none e k)
+          ]
+          by-budget d fits (Ok v) h = elim (which allowance spec.max_intervals rays left 0 h) [
+            | few_rays_no t k ↦ absurd (omega (arith, k))
+            | few_pairs_no t u k ↦ absurd (omega (arith, k))
+            | both t u k ↦ record {
+              room = room;
+              work_room = w;
+              whole = whole;
+              sound = sound;
+              below = under s.generation fits below;
+              named = named;
+              few_rays = ltb-false allowance rays t;
+              few_pairs = ltb-false spec.max_intervals left u;
+            }
+          ]
+            where
+              under : (n : ℕ) → n < 2 ^ 64 → (n ≡ 0xffff_ffff_ffff_ffff → ⊥) → n < 2 ^ 64 - 1
+              under n h ne = omega arith
 
   -- no cause is present where every test is passed
   pub passes_none : Doubles g (ray_lists spec g s.cells) (entries log) → LogChecked spec g s log allowance work

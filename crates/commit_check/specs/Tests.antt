@@ -1,10 +1,11 @@
 -- The tests of a log commit, and the number that is due where one is not passed.
-use Rattle.std.specs.Prelude.{◌≡◌, List, ℕ, ◌-◌, ◌*◌, ◌^◌, ◌≤◌, ◌<◌, Float}
+use Rattle.std.specs.Prelude.{List, ℕ, ◌-◌, ◌*◌, ◌^◌, ◌≤◌, ◌<◌, Float, ⊤, Result, Ok, Err}
 use Rattle.grid.specs.Rays.{ray_count}
 use Rattle.grid.specs.declared.DexelStockSpec.{DexelStockSpec}
 use Rattle.grid.specs.declared.DexelGrid.{DexelGrid}
 use Rattle.stock.specs.Stock.{Stock, SoundStock, ray_lists}
-use Rattle.refusal.specs.Refusal.{Cause, Due}
+use Rattle.refusal.specs.Refusal.{Cause, Due, number_of}
+use Rattle.refusal.specs.declared.Refusal.{Refusal}
 use Rattle.log_model.specs.Logs.{entries, WholeLog, Commit, commit_of}
 use Rattle.log_model.specs.Steps.{WorkRoom}
 use Rattle.log_model.specs.Model.{log_commit_causes}
@@ -31,8 +32,8 @@ abbrev pub stock_log_causes : (spec : DexelStockSpec) (g : DexelGrid) → Stock 
 stock_log_causes spec g s c = log_commit_causes spec g ((lent_store spec g).lent s) (¬ SoundStock spec g s)
     (point_sets g (lent_store spec g) s) s.generation c
 
--- the answer of all tests: 0 where each is passed, else the number that is due
-pub record LogCheckPost (spec : DexelStockSpec) (g : DexelGrid) (s : Stock) (log : List Float) (allowance : ℕ)
-    (work : List Float) (r : ℕ) : Type 0 where
-  pub passed : r ≡ 0 → LogChecked spec g s log allowance work
-  pub due : (r ≡ 0 → ⊥) → Due (stock_log_causes spec g s (commit_of log allowance work)) r
+-- the answer of all tests: each is passed, or the refusal whose number is due
+abbrev pub LogCheckPost : (spec : DexelStockSpec) (g : DexelGrid) (s : Stock) (log : List Float) (allowance : ℕ) (work : List Float)
+    → Result ⊤ Refusal → Type 0
+LogCheckPost spec g s log allowance work (Ok u) = LogChecked spec g s log allowance work
+LogCheckPost spec g s log allowance work (Err e) = Due (stock_log_causes spec g s (commit_of log allowance work)) (number_of e)

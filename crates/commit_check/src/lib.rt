@@ -8,7 +8,7 @@ ghost use Rattle.stock.specs.Stock.{stock};
 ghost use Rattle.grid.specs.Facts.{GridFacts};
 
 use grid::{DexelGrid, DexelStockSpec};
-use log_budget::BudgetAnswer;
+use refusal::Refusal;
 
 // Refusal 12 for the work buffer.
 fn is_work_short(n: usize, log: &[f64], work: &[f64]) -> bool
@@ -21,9 +21,8 @@ fn is_work_short(n: usize, log: &[f64], work: &[f64]) -> bool
 // The highest generation: a commit could not step it.
 const LAST_GENERATION: u64 = 0xffff_ffff_ffff_ffff;
 
-// Document 01's number of the first cause that is present, and 0 where there is none. It writes nothing, so that a
-// refused commit leaves every cell.
-pub fn refusal(
+// Refuses a log by the first cause that is present: 12, 11, 15, 17, 9, 10. It writes nothing, so that a refused commit leaves every cell.
+pub fn check_log(
     spec: DexelStockSpec,
     g: DexelGrid,
     spans: &[f64],
@@ -34,33 +33,29 @@ pub fn refusal(
     log: &[f64],
     allowance: u64,
     work: &[f64],
-) -> u32
+) -> Result<(), Refusal>
     requires { GridFacts spec g }
     ensures { LogCheckPost spec g
         (stock spans.now links.now heads.now generation intervals) log.now
         allowance work.now result }
 {
     if stock::is_short(spec, g, spans, links, heads) {
-        return 12;
+        return Err(Refusal::ShortBuffer);
     }
     if is_work_short(spec.max_intervals as usize, log, work) {
-        return 12;
+        return Err(Refusal::ShortBuffer);
     }
     if !log_entries::is_whole_log(log) {
-        return 11;
+        return Err(Refusal::Unsound);
     }
     if !stock::check_stock(spec, g, spans, links, heads, intervals) {
-        return 11;
+        return Err(Refusal::Unsound);
     }
     if generation == LAST_GENERATION {
-        return 15;
+        return Err(Refusal::LastGeneration);
     }
     if !log_entries::names_all(g, log) {
-        return 17;
+        return Err(Refusal::NoRay);
     }
-    match log_budget::budget(spec, g, spans, links, heads, intervals, log, allowance) {
-        BudgetAnswer::Rays => 9,
-        BudgetAnswer::Intervals => 10,
-        BudgetAnswer::Kept => 0,
-    }
+    log_budget::budget(spec, g, spans, links, heads, intervals, log, allowance)
 }

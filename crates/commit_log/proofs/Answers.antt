@@ -6,20 +6,16 @@ use native.Mathlib.Numerals.{add-one}
 use lib.Ieee.{Float}
 use Rattle.grid.specs.Rays.{ray_count}
 use Rattle.grid.specs.Causes.{ByCauses}
-use Rattle.grid.proofs.Causes.{grid-by-causes}
-use Rattle.grid.specs.FromSpec.{grid_of}
-use Rattle.grid.specs.declared.GridAnswer.{GridAnswer}
-use Rattle.grid.specs.declared.GridAnswer.TheVariants.{Accepted as Griddable, Refused as NoGrid}
+use Rattle.std.specs.Prelude.{Result, Ok, Err}
+use Rattle.refusal.specs.declared.Refusal.{Refusal}
 use Rattle.grid.specs.declared.DexelStockSpec.{DexelStockSpec}
 use Rattle.grid.specs.declared.DexelGrid.{DexelGrid}
 use Rattle.store.specs.Store.{used_at, Cells}
 use Rattle.store.specs.Updates.{CellsPastKept, pairs_freed, pairs_laid, applied}
 use Rattle.store.proofs.Checked.{count_of}
 use Rattle.stock.specs.Stock.{Stock, ray_lists}
-use Rattle.stock.specs.declared.CommitAnswer.{CommitAnswer}
-use Rattle.stock.specs.declared.CommitAnswer.TheVariants.{Changed, Refused}
 use Rattle.log_model.specs.Logs.{entries, commit_of}
-use Rattle.log_model.specs.Model.{AnswerDue, refused}
+use Rattle.log_model.specs.Model.{AnswerDue}
 use Rattle.log_model.specs.Runs.{point_sets, CommitEffect, AcceptedEffect}
 use Rattle.log_model.specs.View.{lent_store, CommitOnAnyGrid}
 use Rattle.log_model.proofs.Doubles.{DoubleCells, Doubles, all-doubles}
@@ -28,21 +24,21 @@ use Rattle.log_model.proofs.AcceptedLog.{changed_rays, all-updated, committed-so
 use Rattle.commit_check.specs.Tests.{LogChecked, LogCheckPost}
 use Rattle.commit_check.proofs.Tests.{passes_none}
 use Rattle.commit_apply.specs.Apply.{ApplyPre, ApplyPost}
-use Rattle.commit_log.specs.LogCommit.{answer_of, LogCellsOnAnyGrid, LogCommitPost}
+use Rattle.commit_log.specs.LogCommit.{LogCommitPost}
 use Rattle.logic.specs.Logic.{count_to}
 use Rattle.commit_log.specs.Steps.{LogCommitOnGrid}
 use Rattle.grid.specs.Facts.{GridFacts}
 
 module _ (spec : DexelStockSpec) (g : DexelGrid) (s : Stock) (log : List Float) (allowance : ℕ) (work : List Float) where
   -- a refused commit
-  pub refuse : (k : ℕ) → LogCheckPost spec g s log allowance work k → (k ≡ 0 → ⊥)
-      → LogCommitOnGrid spec g s log allowance work (Refused k) s work
+  pub refuse : (e : Refusal) → LogCheckPost spec g s log allowance work (Err e)
+      → LogCommitOnGrid spec g s log allowance work (Err e) s work
   unfolding AnswerDue CommitEffect
-  refuse k t ne = record { promise = record { answers = t.due ne; leaves = refl }; left = refl }
+  refuse e d = record { promise = record { answers = d; leaves = refl }; left = refl }
 
   -- what the tests make sure of
-  pub ready : GridFacts spec g → (k : ℕ) → LogCheckPost spec g s log allowance work k → k ≡ 0 → ApplyPre spec g s.cells log work
-  ready f k t z = let p = t.passed z in record {
+  pub ready : GridFacts spec g → LogChecked spec g s log allowance work → ApplyPre spec g s.cells log work
+  ready f p = record {
     facts = f;
     room = p.room;
     total = s.intervals;
@@ -53,12 +49,9 @@ module _ (spec : DexelStockSpec) (g : DexelGrid) (s : Stock) (log : List Float) 
   }
 
   -- an accepted commit
-  module _ (k : ℕ) (tested : LogCheckPost spec g s log allowance work k) (z : k ≡ 0)
+  module _ (passes : LogChecked spec g s log allowance work)
       (ds : DoubleCells s.cells.spans) (dl : DoubleCells log) (m : ℕ) (d : Cells) (work' : List Float)
       (done : ApplyPost spec g s.cells log work m d work') where
-    passes : LogChecked spec g s log allowance work
-    passes = tested.passed z
-
     doubles : Doubles g (ray_lists spec g s.cells) (entries log)
     doubles = all-doubles spec g s log ds dl
 
@@ -82,7 +75,7 @@ module _ (spec : DexelStockSpec) (g : DexelGrid) (s : Stock) (log : List Float) 
               (committed-sound spec g s passes.sound passes.room (entries log) doubles done.updates m asked
               passes.few_pairs).store
 
-      pub accept : LogCommitOnGrid spec g s log allowance work (Changed m)
+      pub accept : LogCommitOnGrid spec g s log allowance work (Ok m)
           (record { cells = d; generation = s.generation + 1; intervals = total }) work'
       unfolding AnswerDue CommitEffect point_sets
       accept = record {
@@ -108,21 +101,11 @@ module _ (spec : DexelStockSpec) (g : DexelGrid) (s : Stock) (log : List Float) 
 
 -- a description that `grid` accepts, and one that it refuses
 module _ (spec : DexelStockSpec) (units : List ℕ) (s : Stock) (log : List Float) (allowance : ℕ) (work : List Float) where
-  pub on-grid : (g : DexelGrid) (a : CommitAnswer) (t : Stock) (work' : List Float) → grid_of spec units ≡ Griddable g
+  pub on-grid : (g : DexelGrid) (a : Result ℕ Refusal) (t : Stock) (work' : List Float) → ByCauses spec units (Ok g)
       → LogCommitOnGrid spec g s log allowance work a t work' → LogCommitPost spec units s log allowance work a t work'
   unfolding CommitOnAnyGrid
-  on-grid g a t work' e o = record {
-    described = Griddable g;
-    by = subst (ByCauses spec units) e (grid-by-causes spec units);
-    promise = o.promise;
-    left = o.left;
-  }
+  on-grid g a t work' b o = record { described = Ok g; by = b; promise = o.promise; left = o.left }
 
-  pub no-grid : (k : ℕ) → grid_of spec units ≡ NoGrid k → LogCommitPost spec units s log allowance work (Refused k) s work
+  pub no-grid : (e : Refusal) → ByCauses spec units (Err e) → LogCommitPost spec units s log allowance work (Err e) s work
   unfolding CommitOnAnyGrid
-  no-grid k e = record {
-    described = NoGrid k;
-    by = subst (ByCauses spec units) e (grid-by-causes spec units);
-    promise = (refl, refl);
-    left = refl;
-  }
+  no-grid e b = record { described = Err e; by = b; promise = (refl, refl); left = refl }

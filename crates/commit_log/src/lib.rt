@@ -1,19 +1,18 @@
 // The log commit: merge and commit at once.
 #![tactic(auto)]
 
-ghost use Rattle.std.specs.Prelude.{◌+◌};
+ghost use Rattle.std.specs.Prelude.{MatchResult, Ok, Err};
 ghost use Rattle.commit_log.specs.LogCommit.{LogCommitPost};
 ghost use Rattle.stock.specs.Stock.{stock};
-ghost use Rattle.commit_log.specs.Steps.{LogCommitOnGrid};
-ghost use Rattle.grid.specs.Facts.{GridFacts};
 
-use grid::{DexelGrid, DexelStockSpec, GridAnswer};
-use stock::{CommitAnswer, Outcome, Tally};
+use grid::DexelStockSpec;
+use refusal::Refusal;
+use stock::{Outcome, Tally};
 
-// The log commit, over a grid that is accepted.
+// The log commit: how many rays changed and what the small record then holds, or why it is refused.
 fn commit_grid(
     spec: DexelStockSpec,
-    g: DexelGrid,
+    units: &[u8],
     spans: &mut [f64],
     links: &mut [u64],
     heads: &mut [u64],
@@ -22,30 +21,28 @@ fn commit_grid(
     log: &[f64],
     allowance: u64,
     work: &mut [f64],
-) -> Outcome
-    requires { GridFacts spec g }
-    ensures { LogCommitOnGrid spec g
+) -> Result<(u64, Tally), Refusal>
+    ensures { MatchResult result
+        (λ done. LogCommitPost spec units.now
         (stock spans.old links.old heads.old generation intervals) log.now
-        allowance work.old result.answer
-        (stock spans.new links.new heads.new result.generation result.intervals) work.new }
+        allowance work.old (Ok done.0)
+        (stock spans.new links.new heads.new done.1.generation done.1.intervals) work.new)
+        (λ e. LogCommitPost spec units.now
+        (stock spans.old links.old heads.old generation intervals) log.now
+        allowance work.old (Err e)
+        (stock spans.new links.new heads.new generation intervals) work.new) }
 {
-    let k = commit_check::refusal(
+    let g = grid_from_spec::grid(spec, units)?;
+    commit_check::check_log(
         spec, g, spans, links, heads, generation, intervals, log, allowance, work,
-    );
-    if k != 0 {
-        return Outcome {
-            answer: CommitAnswer::Refused(k),
-            generation,
-            intervals,
-        };
-    }
+    )?;
     let changed = commit_apply::apply_log(spec, g, spans, links, heads, log, work);
     let total = store::count_used(spans, links, spec.max_intervals as usize) as u64;
-    Outcome {
-        answer: CommitAnswer::Changed(changed),
+    let left = Tally {
         generation: generation + 1,
         intervals: total,
-    }
+    };
+    Ok((changed, left))
 }
 
 // The log commit on the numbers of the small record. Refusals: 1, 2, 3, 12, 11, 15, 17, 9, 10.
@@ -68,12 +65,16 @@ pub fn commit_log_on(
         (stock spans.new links.new heads.new result.generation result.intervals)
         work.new }
 {
-    match grid_from_spec::grid(spec, units) {
-        GridAnswer::Accepted(g) => commit_grid(
-            spec, g, spans, links, heads, generation, intervals, log, allowance, work,
-        ),
-        GridAnswer::Refused(k) => Outcome {
-            answer: CommitAnswer::Refused(k),
+    match commit_grid(
+        spec, units, spans, links, heads, generation, intervals, log, allowance, work,
+    ) {
+        Ok((changed, left)) => Outcome {
+            answer: Ok(changed),
+            generation: left.generation,
+            intervals: left.intervals,
+        },
+        Err(e) => Outcome {
+            answer: Err(e),
             generation,
             intervals,
         },
@@ -91,7 +92,7 @@ pub fn commit_log(
     log: &[f64],
     allowance: u64,
     work: &mut [f64],
-) -> CommitAnswer
+) -> Result<u64, Refusal>
     ensures { LogCommitPost spec units.now
         (stock spans.old links.old heads.old tally.old.generation
         tally.old.intervals)

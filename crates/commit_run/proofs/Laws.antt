@@ -1,5 +1,5 @@
 -- What follows from the contract of `run_logs`.
-use mathlib.Core.Path.{◌≡◌, refl, sym, ap, ap₂, ◌∙◌, subst}
+use mathlib.Core.Path.{◌≡◌, refl, ap, ap₂, ◌∙◌, subst}
 use mathlib.Core.Bool.{true}
 use mathlib.Core.List.{List}
 use Prim.Native.Nat.{ℕ, suc, ◌+◌, ◌*◌, ◌/◌, ◌≤◌, ◌<◌}
@@ -8,22 +8,21 @@ use native.Mathlib.Omega.{arith}
 use lib.ListN.{length, get_or, set, length-set}
 use lib.Seq.{get_or-set_other}
 use lib.Ieee.{Float}
-use Rattle.refusal.specs.Refusal.{Due, NoneDue}
+use Rattle.refusal.specs.Refusal.{Due, NoneDue, number_of}
 use Rattle.refusal.proofs.Laws.{due-unique, none-due}
 use Rattle.spans.specs.Spans.{All, Double, Point, holds, sound, equal}
 use Rattle.grid.specs.Causes.{grid_causes, grid_in, ByCauses}
 use Rattle.grid.specs.declared.DexelStockSpec.{DexelStockSpec}
-use Rattle.grid.specs.declared.GridAnswer.{GridAnswer}
-use Rattle.grid.specs.declared.GridAnswer.TheVariants.{Accepted, Refused}
+use Rattle.std.specs.Prelude.{Result, Ok, Err}
+use Rattle.refusal.specs.declared.Refusal.{Refusal}
+use Rattle.grid.specs.declared.DexelGrid.{DexelGrid}
 use Rattle.stock.specs.Stock.{Stock, SoundStock, Kind, ray_list}
-use Rattle.stock.specs.declared.CommitAnswer.{CommitAnswer}
-use Rattle.stock.specs.declared.CommitAnswer.TheVariants.{Changed, Refused as NotCommitted}
 use Rattle.log_model.specs.Logs.{Commit}
-use Rattle.log_model.specs.Model.{LogAnswer, changed, refused, model_after}
+use Rattle.log_model.specs.Model.{LogAnswer, refused, model_after}
 use Rattle.log_model.specs.Runs.{model_start}
 use Rattle.log_model.specs.View.{lent_store, CommitOnAnyGrid}
 use Rattle.commit_log.specs.LogCommit.{answer_of, LogCellsOnAnyGrid}
-use Rattle.commit_run.specs.RunLogs.{commits_to, answer_by, answers_to, answer_code, answer_number, answered, CommitsTo, none}
+use Rattle.commit_run.specs.RunLogs.{commits_to, answer_by, answers_to, answer_code, answer_number, CommitsTo, none}
 use Rattle.commit_run.specs.RunLogs.{more, RunOnGridPost, RunLogsPost}
 use Rattle.commit_run.proofs.Turns.{answer_at}
 use Rattle.commit_run.specs.Refused.{AllRefused}
@@ -33,13 +32,13 @@ use Rattle.grid.specs.Rays.{Ray}
 
 module _ (spec : DexelStockSpec) (units : List ℕ) (k : ℕ) (due : Due (grid_causes spec units) k) where
   -- one commit on it
-  refuses : (d : GridAnswer) (s t : Stock) (c : Commit) (a : LogAnswer) (log work work' : List Float)
-      (x : CommitAnswer) → ByCauses spec units d
+  refuses : (d : Result DexelGrid Refusal) (s t : Stock) (c : Commit) (a : LogAnswer) (log work work' : List Float)
+      (x : Result ℕ Refusal) → ByCauses spec units d
       → CommitOnAnyGrid d spec s c a t
       → LogCellsOnAnyGrid d spec s log work x t work' → (a ≡ refused k) × (t ≡ s) × (work' ≡ work)
   unfolding CommitOnAnyGrid
-  refuses (Accepted g) s t c a log work work' x b p l = absurd (none-due (grid_causes spec units) k b.0 due)
-  refuses (Refused j) s t c a log work work' x b p l = (p.0 ∙ ap refused (due-unique (grid_causes spec units) j k b due), p.1, l)
+  refuses (Ok g) s t c a log work work' x b p l = absurd (none-due (grid_causes spec units) k b.0 due)
+  refuses (Err e) s t c a log work work' x b p l = (p.0 ∙ ap refused (due-unique (grid_causes spec units) (number_of e) k b due), p.1, l)
 
   module _ (logs : List Float) (ends allowances : List ℕ) (s : Stock) (work : List Float) (answers : List ℕ) where
     pub refused-commits : {i : ℕ} {t : Stock} {w : List Float} {ks : List ℕ}

@@ -6,16 +6,14 @@ use Prim.Native.Nat.{ℕ, zero, suc, ◌+◌, ◌*◌, ◌/◌, ◌≤◌, ◌<�
 use lib.ListN.{length, get_or, set, length-set}
 use lib.Seq.{get_or-set_other, get_or-set_same}
 use lib.Ieee.{Float}
-use Rattle.refusal.specs.Refusal.{NoneDue}
+use Rattle.refusal.specs.Refusal.{NoneDue, number_of}
 use Rattle.refusal.proofs.Laws.{none-due}
 use Rattle.grid.specs.Causes.{grid_causes, grid_in, ByCauses}
 use Rattle.grid.specs.declared.DexelStockSpec.{DexelStockSpec}
 use Rattle.grid.specs.declared.DexelGrid.{DexelGrid}
-use Rattle.grid.specs.declared.GridAnswer.{GridAnswer}
-use Rattle.grid.specs.declared.GridAnswer.TheVariants.{Accepted, Refused}
+use Rattle.std.specs.Prelude.{Result, Ok, Err}
+use Rattle.refusal.specs.declared.Refusal.{Refusal}
 use Rattle.stock.specs.Stock.{Stock}
-use Rattle.stock.specs.declared.CommitAnswer.{CommitAnswer}
-use Rattle.stock.specs.declared.CommitAnswer.TheVariants.{Changed, Refused as NotCommitted}
 use Rattle.log_model.specs.Logs.{Commit, commit_of}
 use Rattle.log_model.specs.Model.{LogAnswer}
 use Rattle.log_model.specs.Runs.{Run, done, CommitStep as CommitPromise}
@@ -28,12 +26,12 @@ use Rattle.commit_run.specs.RunLogs.{begin_of, log_from, commit_at, commits_to, 
 use Rattle.commit_run.specs.RunLogs.{answered, RunStepPost, CommitsTo, none, more, RunOnGridPost, RunLogsPost}
 
 -- the two numbers of an answer tell it
-by-numbers : (a : CommitAnswer) → answer_by (answer_code a) (answer_number a) ≡ answer_of a
-by-numbers (Changed n) = refl
-by-numbers (NotCommitted k) = refl
+by-numbers : (a : Result ℕ Refusal) → answer_by (answer_code a) (answer_number a) ≡ answer_of a
+by-numbers (Ok n) = refl
+by-numbers (Err e) = refl
 
 -- answer i stands in its own two cells
-pub answer_at : (answers : List ℕ) (i : ℕ) (a : CommitAnswer) → 2 * i + 1 < length answers
+pub answer_at : (answers : List ℕ) (i : ℕ) (a : Result ℕ Refusal) → 2 * i + 1 < length answers
     → answer_by (get_or (answered answers i a) (2 * i) 0) (get_or (answered answers i a) (2 * i + 1) 0) ≡ answer_of a
 answer_at answers i a fits =
     let first : get_or (answered answers i a) (2 * i) 0 ≡ answer_code a =
@@ -45,7 +43,8 @@ answer_at answers i a fits =
     ap₂ answer_by first second ∙ by-numbers a
 
 -- and the answers before it stay
-answer-before : (answers : List ℕ) (i : ℕ) (a : CommitAnswer) (k : ℕ) → k ≤ i → answers_to (answered answers i a) k ≡ answers_to answers k
+answer-before : (answers : List ℕ) (i : ℕ) (a : Result ℕ Refusal) (k : ℕ) → k ≤ i
+    → answers_to (answered answers i a) k ≡ answers_to answers k
 unfolding answers_to
 answer-before answers i a zero h = refl
 answer-before answers i a (suc k) h =
@@ -91,12 +90,12 @@ run-start spec units s logs ends allowances work answers d = record {
 }
 
 -- a commit on a description without a cause is a step of a run
-on-grid : (spec : DexelStockSpec) (units : List ℕ) (d : GridAnswer) (s t : Stock) (c : Commit) (a : LogAnswer)
+on-grid : (spec : DexelStockSpec) (units : List ℕ) (d : Result DexelGrid Refusal) (s t : Stock) (c : Commit) (a : LogAnswer)
     → NoneDue (grid_causes spec units) → ByCauses spec units d → CommitOnAnyGrid d spec s c a t
     → CommitPromise spec (grid_in spec) (lent_store spec (grid_in spec)) s c a t
 unfolding CommitOnAnyGrid
-on-grid spec units (Accepted g) s t c a e b x = subst (λ (h : DexelGrid). CommitPromise spec h (lent_store spec h) s c a t) b.1 x
-on-grid spec units (Refused k) s t c a e b x = absurd (none-due (grid_causes spec units) k e b)
+on-grid spec units (Ok g) s t c a e b x = subst (λ (h : DexelGrid). CommitPromise spec h (lent_store spec h) s c a t) b.1 x
+on-grid spec units (Err r) s t c a e b x = absurd (none-due (grid_causes spec units) (number_of r) e b)
 
 pub run-next : (spec : DexelStockSpec) (units : List ℕ) (s : Stock) (logs : List Float) (ends allowances : List ℕ)
     (work₀ : List Float) (answers₀ : List ℕ) (i : ℕ) (t : Stock) (at : ℕ) (work : List Float) (answers : List ℕ)
@@ -139,7 +138,8 @@ run-next spec units s logs ends allowances work₀ answers₀ i t at work answer
     begins : get_or ends i 0 ≡ begin_of ends (i + 1)
     begins = ap (begin_of ends) one_more
 
-    same-commit : commit_of (log_from logs at (get_or ends i 0)) (get_or allowances i 0) work ≡ commit_at logs ends allowances (length work₀ / 2) i
+    same-commit : commit_of (log_from logs at (get_or ends i 0)) (get_or allowances i 0) work
+        ≡ commit_at logs ends allowances (length work₀ / 2) i
     same-commit = ap₂ (λ (b : ℕ) (w : ℕ). record {
       log = log_from logs b (get_or ends i 0);
       allowance = get_or allowances i 0;

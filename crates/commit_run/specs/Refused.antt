@@ -1,5 +1,5 @@
 -- A run on a description that `grid` refuses.
-use Rattle.std.specs.Prelude.{◌≡◌, List, ℕ, ◌+◌, ◌-◌, ◌*◌, ◌≤◌, ◌<◌, get_or, Float}
+use Rattle.std.specs.Prelude.{◌≡◌, List, ℕ, ◌+◌, ◌*◌, ◌≤◌, ◌<◌, get_or, Float}
 use Rattle.stock.specs.Stock.{Stock}
 use Rattle.log_model.specs.Model.{refused}
 use Rattle.commit_run.specs.RunLogs.{answer_by}

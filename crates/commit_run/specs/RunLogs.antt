@@ -1,13 +1,13 @@
 -- A list of log commits as a caller lends it: the logs end to end in one slice, the cell where each ends, and each
 -- one's allowance. Two numbers tell each answer: 0 and how many rays changed, or 1 and the refusal's number.
-use Rattle.std.specs.Prelude.{◌≡◌, List, [], ◌∷◌, ◌++◌, ℕ, zero, suc, ◌+◌, ◌-◌, ◌*◌, ◌/◌, ◌≤◌, ◌<◌, length, get_or, take, drop, set, Float}
-use Rattle.refusal.specs.Refusal.{NoneDue}
+use Rattle.std.specs.Prelude.{◌≡◌, List, [], ◌∷◌, ◌++◌, ℕ, zero, suc, ◌+◌, ◌-◌, ◌*◌, ◌/◌, ◌≤◌, ◌<◌, length, get_or, take, drop, set}
+use Rattle.std.specs.Prelude.{Float, Result, Ok, Err}
+use Rattle.refusal.specs.Refusal.{NoneDue, number_of}
+use Rattle.refusal.specs.declared.Refusal.{Refusal}
 use Rattle.grid.specs.Causes.{grid_causes, grid_in}
 use Rattle.grid.specs.declared.DexelStockSpec.{DexelStockSpec}
 use Rattle.grid.specs.declared.DexelGrid.{DexelGrid}
 use Rattle.stock.specs.Stock.{Stock, SoundStock, Kind, ray_list}
-use Rattle.stock.specs.declared.CommitAnswer.{CommitAnswer}
-use Rattle.stock.specs.declared.CommitAnswer.TheVariants.{Changed, Refused}
 use Rattle.spans.specs.Spans.{All, Double}
 use Rattle.log_model.specs.Logs.{Commit}
 use Rattle.log_model.specs.Model.{LogAnswer, changed, refused}
@@ -50,21 +50,21 @@ answers_to answers zero = []
 answers_to answers (suc k) = answers_to answers k ++ (answer_by (get_or answers (2 * k) 0) (get_or answers (2 * k + 1) 0) ∷ [])
 
 -- the two numbers of an answer
-abbrev pub answer_code : CommitAnswer → ℕ
-answer_code (Changed n) = 0
-answer_code (Refused k) = 1
+abbrev pub answer_code : Result ℕ Refusal → ℕ
+answer_code (Ok n) = 0
+answer_code (Err e) = 1
 
-abbrev pub answer_number : CommitAnswer → ℕ
-answer_number (Changed n) = n
-answer_number (Refused k) = k
+abbrev pub answer_number : Result ℕ Refusal → ℕ
+answer_number (Ok n) = n
+answer_number (Err e) = number_of e
 
-abbrev pub answered : List ℕ → ℕ → CommitAnswer → List ℕ
+abbrev pub answered : List ℕ → ℕ → Result ℕ Refusal → List ℕ
 answered answers i a = set (set answers (2 * i) (answer_code a)) (2 * i + 1) (answer_number a)
 
 -- one commit of the list, and its answer in its two cells
 pub record RunStepPost (spec : DexelStockSpec) (units : List ℕ) (s : Stock) (log : List Float) (allowance : ℕ)
     (work : List Float) (answers : List ℕ) (i : ℕ) (t : Stock) (work' : List Float) (answers' : List ℕ) : Type 0 where
-  pub answer : CommitAnswer
+  pub answer : Result ℕ Refusal
   pub commits : LogCommitPost spec units s log allowance work answer t work'
   pub written : answers' ≡ answered answers i answer
 
@@ -92,6 +92,7 @@ RunOnGridPost spec units s cs vs t = NoneDue (grid_causes spec units) → RunPos
 pub record RunLogsPost (spec : DexelStockSpec) (units : List ℕ) (logs : List Float) (ends allowances : List ℕ)
     (s : Stock) (work : List Float) (answers : List ℕ) (t : Stock) (work' : List Float) (answers' : List ℕ) : Type 0 where
   pub commits : CommitsTo spec units logs ends allowances s work answers (length ends) t work' answers'
-  pub ran : RunOnGridPost spec units s (commits_to logs ends allowances (length work / 2) (length ends)) (answers_to answers' (length ends)) t
+  pub ran : RunOnGridPost spec units s
+      (commits_to logs ends allowances (length work / 2) (length ends)) (answers_to answers' (length ends)) t
   -- each end of every list that is left is a double
   pub doubles : (r : ℕ) (k : Kind) → All Double (ray_list spec t.cells r k)

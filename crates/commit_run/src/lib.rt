@@ -6,7 +6,8 @@ ghost use Rattle.commit_run.specs.RunLogs.{RunLogsPre, log_from, answered, RunSt
 ghost use Rattle.stock.specs.Stock.{stock};
 
 use grid::DexelStockSpec;
-use stock::{CommitAnswer, Tally};
+use refusal::Refusal;
+use stock::Tally;
 
 // Writes two numbers to the cells of answer i.
 fn put_numbers(answers: &mut [u64], i: usize, kind: u64, number: u64)
@@ -18,13 +19,13 @@ fn put_numbers(answers: &mut [u64], i: usize, kind: u64, number: u64)
 }
 
 // Tells answer i.
-fn put_answer(answers: &mut [u64], i: usize, answer: CommitAnswer)
+fn put_answer(answers: &mut [u64], i: usize, answer: Result<u64, Refusal>)
     requires { 2 * i + 1 < length answers.old }
     ensures { answers.new ≡ answered answers.old i answer }
 {
     match answer {
-        CommitAnswer::Changed(n) => put_numbers(answers, i, 0, n),
-        CommitAnswer::Refused(k) => put_numbers(answers, i, 1, k as u64),
+        Ok(n) => put_numbers(answers, i, 0, n),
+        Err(e) => put_numbers(answers, i, 1, u32::from(e) as u64),
     }
 }
 
@@ -96,8 +97,7 @@ pub fn run_logs(
     let count = ends.len();
     let mut left = tally;
     let mut at: usize = 0;
-    let mut i: usize = 0;
-    while i < count {
+    for i in 0..count {
         let end = ends[i];
         left = run_one(
             spec,
@@ -115,7 +115,6 @@ pub fn run_logs(
             i,
         );
         at = end;
-        i += 1;
     }
     left
 }

@@ -12,7 +12,7 @@
 
 use input_bytes::InputBytes;
 use std::io;
-use stock::{CommitAnswer, Outcome, Tally};
+use stock::{Outcome, Tally};
 
 // The store of a run and its small record.
 #[derive(Clone, Copy)]
@@ -53,7 +53,7 @@ fn changes_in(
         links,
         heads,
         w[15],
-        vector_rows::first_numbers(&changes, w[16] as usize),
+        vector_rows::first(&changes, w[16] as usize),
         vector_rows::first(&pairs, w[17] as usize),
     )
 }
@@ -95,52 +95,25 @@ fn work_agrees(w: &[u64; 170], work: &[f64], cleared: usize) -> bool {
 
 // The spans from word 22 on, the links from 52, the heads from 82.
 fn store_agrees(w: &[u64; 170], spans: &[f64], links: &[u64], heads: &[u64]) -> bool {
-    if !vector_rows::cells_agree(spans, w, 22, 0, 30) {
-        return false;
-    }
-    if !vector_rows::numbers_agree(links, w, 52, 30) {
-        return false;
-    }
-    vector_rows::numbers_agree(heads, w, 82, 12)
+    vector_rows::cells_agree(spans, w, 22, 0, 30)
+        && vector_rows::numbers_agree(links, w, 52, 30)
+        && vector_rows::numbers_agree(heads, w, 82, 12)
 }
 
 // Words 18 to 21: the refusal, 0 for none, the changed rays, the generation and the interval total. An accepted log
 // commit clears the work buffer.
 fn answer_agrees(w: &[u64; 170], o: Outcome, work: &[f64]) -> bool {
-    if o.generation != w[20] {
-        return false;
-    }
-    if o.intervals != w[21] {
+    if o.generation != w[20] || o.intervals != w[21] {
         return false;
     }
     let answer = o.answer;
     match answer {
-        CommitAnswer::Changed(n) => {
-            if w[18] != 0 {
-                return false;
-            }
-            if n != w[19] {
-                return false;
-            }
-            if w[0] == 0 {
-                return work_agrees(w, work, 0);
-            }
-            work_agrees(w, work, w[17] as usize)
+        Ok(n) => {
+            let cleared = if w[0] == 0 { 0 } else { w[17] as usize };
+            w[18] == 0 && n == w[19] && work_agrees(w, work, cleared)
         }
-        CommitAnswer::Refused(k) => {
-            if k as u64 != w[18] {
-                return false;
-            }
-            work_agrees(w, work, 0)
-        }
+        Err(e) => u32::from(e) as u64 == w[18] && work_agrees(w, work, 0),
     }
-}
-
-fn both(a: bool, b: bool) -> bool {
-    if a {
-        return b;
-    }
-    false
 }
 
 // One commit of the run. Words 12 to 14: the cells of the spans, the links and the heads that are lent.
@@ -153,16 +126,13 @@ fn commit_step(w: &[u64; 170], s: Store) -> Shown {
         w,
         s.tally,
         vector_rows::first_mut(&mut spans, w[12] as usize),
-        vector_rows::first_numbers_mut(&mut links, w[13] as usize),
-        vector_rows::first_numbers_mut(&mut heads, w[14] as usize),
+        vector_rows::first_mut(&mut links, w[13] as usize),
+        vector_rows::first_mut(&mut heads, w[14] as usize),
         &mut work,
     );
-    let agrees = both(
-        answer_agrees(w, o, &work),
-        store_agrees(w, &spans, &links, &heads),
-    );
+    let agrees = answer_agrees(w, o, &work) && store_agrees(w, &spans, &links, &heads);
     Shown {
-        agrees: agrees,
+        agrees,
         store: Store {
             spans,
             links,
@@ -199,15 +169,13 @@ fn start_step(w: &[u64; 170]) -> Shown {
 
 // A row of a kind that there is not leaves the store.
 fn shown_by(w: &[u64; 170], s: Store) -> Shown {
-    if w[0] < 2 {
-        return commit_step(w, s);
-    }
-    if w[0] == 2 {
-        return start_step(w);
-    }
-    Shown {
-        agrees: false,
-        store: s,
+    match w[0] {
+        0 | 1 => commit_step(w, s),
+        2 => start_step(w),
+        _ => Shown {
+            agrees: false,
+            store: s,
+        },
     }
 }
 

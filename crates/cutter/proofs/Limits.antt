@@ -139,7 +139,8 @@ module _ (shape : CutterShape) (c : PreparedCutter) where
         (and_right (from_zero c.slope) _ (and_right (from_zero c.tip_height) _ heights)) o
     fit-tool (corner_out corner e o) = not-out plus_zero million corner (own (Bull corner) e) o
     fit-tool (drill_angle_out angle e o) = not-out plus_zero million angle (own (Drill angle) e) o
-    fit-tool (chamfer_angle_out angle tip e o) = not-out plus_zero million angle (and_left (from_zero angle) _ (own (Chamfer angle tip) e)) o
+    fit-tool (chamfer_angle_out angle tip e o) =
+        not-out plus_zero million angle (and_left (from_zero angle) _ (own (Chamfer angle tip) e)) o
     fit-tool (chamfer_tip_out angle tip e o) = not-out plus_zero million tip (and_right (from_zero angle) _ (own (Chamfer angle tip) e)) o
     fit-tool (dovetail_angle_out angle e o) = not-out plus_zero million angle (and_left (from_zero angle) _ (own (Dovetail angle) e)) o
     fit-tool (overall_length_out o) = not-out c.cutting_length_mm million c.overall_length_mm fit-lengths o

@@ -1,5 +1,5 @@
 -- The radius of a cutter by height, each operation rounded (tool.rs: radius_at; sweep.rs: cut_radius, cut_max, cut_min).
-use Rattle.std.specs.Prelude.{Bool, true, false, cond, not, ◌||◌, ◌&&◌, Float}
+use Rattle.std.specs.Prelude.{Bool, true, false, cond, not, ◌||◌, ◌&&◌, Float, Option, None, Some}
 use Rattle.std.specs.Float.{nan, inf, fin, binary64}
 use Rattle.std.specs.Float.Ieee.{add, sub, mul, div, lt, le}
 use Rattle.doubles.specs.Constants.{plus_zero, two}
@@ -10,8 +10,6 @@ use Rattle.cutter.specs.declared.CutterShape.TheVariants.{Flat, Ball, Bull, Dril
 use Rattle.cutter.specs.declared.PreparedCutter.{PreparedCutter}
 use Rattle.cutter.specs.declared.ProfileSlice.{ProfileSlice}
 use Rattle.cutter.specs.declared.ProfileSlice.TheVariants.{Cutting, NonCutting}
-use Rattle.cutter.specs.declared.Radius.{Radius}
-use Rattle.cutter.specs.declared.Radius.TheVariants.{Is}
 
 -- neither a NaN nor an infinity
 unfoldable pub is_finite : Float → Bool
@@ -62,12 +60,12 @@ radius_of ProfileSlice.Outside = plus_zero
 unfoldable pub cut_radius : CutterShape → PreparedCutter → Float → Float
 cut_radius shape c h = radius_of (radius_at shape c (clamp_of h plus_zero c.cutting_length_mm))
 
-unfoldable pub cut_max : CutterShape → PreparedCutter → Float → Float → Radius
+unfoldable pub cut_max : CutterShape → PreparedCutter → Float → Float → Option Float
 cut_max shape c h0 h1 =
     let lo = larger_of h0 plus_zero in
     let hi = smaller_of h1 c.cutting_length_mm in
-    cond (le lo hi) (Is (cut_radius shape c (clamp_of c.tip_height lo hi))) Radius.Outside
+    cond (le lo hi) (Some (cut_radius shape c (clamp_of c.tip_height lo hi))) None
 
-unfoldable pub cut_min : CutterShape → PreparedCutter → Float → Float → Radius
+unfoldable pub cut_min : CutterShape → PreparedCutter → Float → Float → Option Float
 cut_min shape c h0 h1 =
-    cond (le plus_zero h0 && le h1 c.cutting_length_mm) (Is (smaller_of (cut_radius shape c h0) (cut_radius shape c h1))) Radius.Outside
+    cond (le plus_zero h0 && le h1 c.cutting_length_mm) (Some (smaller_of (cut_radius shape c h0) (cut_radius shape c h1))) None

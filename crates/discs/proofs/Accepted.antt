@@ -1,5 +1,6 @@
 -- W-234 over a sweep: where refusal 7 is not due the guard is 1 at most (`fit-covered`), so the theorem holds of every chord, axis
 -- and ray of an accepted sweep, and its log has the covering pairs, turned (`accepted-covered`). Assumes nothing.
+use Rattle.std.specs.Prelude.{Ok}
 use mathlib.Core.Path.{sym, subst}
 use mathlib.Core.List.{List, [], ◌∷◌}
 use Prim.Native.Nat.{ℕ, ◌-◌, ◌<◌}
@@ -18,7 +19,6 @@ use Rattle.sweep_model.specs.ChordLimits.{BadChords, guard_out}
 use Rattle.sweep_model.specs.SweepEntries.{Setting, chord_on_axis_in, chord_in, log_of}
 use Rattle.sweep.specs.Answer.{setting_causes, visit_causes, causes_in, sweep_causes, SweepPost}
 use Rattle.sweep.specs.declared.Totals.{Totals}
-use Rattle.sweep.specs.declared.SweepAnswer.TheVariants.{Accepted}
 use Rattle.discs.specs.Standing.{EndsCovered, VisitedRay, EntryTurned, SweepCovered}
 use Rattle.discs.proofs.Standing.{ends-covered}
 use Rattle.discs.proofs.Logged.{entry-turned}
@@ -43,7 +43,7 @@ module _ (s : Setting) (chords : List Float) where
 
     -- what `sweep` promises of an accepted call gives the theorem for its log
     pub accepted-covered : (before after : List Float) (t : Totals)
-        → SweepPost (sweep_causes units s intervals chords budget len) s intervals chords before after (Accepted t)
+        → SweepPost (sweep_causes units s intervals chords budget len) s intervals chords before after (Ok t)
         → SweepCovered s chords after t.entries
     accepted-covered before after t post =
         record {

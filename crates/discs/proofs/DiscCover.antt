@@ -14,7 +14,7 @@ use lib.IntN.{ℤ, pos, nat_abs, ◌+ℤ◌, ◌-ℤ◌, ◌*ℤ◌}
 use lib.Signed.{◌≤ℤ◌}
 use lib.Pow.{pow_pos}
 use lib.Ieee.{Float, fin, Format, prec, low, add, sub, mul, lt, le, fits}
-use lib.Ieee.Scale.{finite, overflow}
+use lib.Ieee.Scale.{overflow}
 use Rattle.doubles_sqrt.specs.Root.{square_root}
 use Rattle.doubles.specs.Doubles.{larger_of}
 use Rattle.doubles.proofs.Order.{fin-number}
@@ -302,7 +302,8 @@ module _ (f : Format) (M G H : ℕ) (room : FormatRoom f M) (cx half guard : Flo
             (fine f M (nat_abs u) room.sums (omega (arith, abs_is u, w-near.size))),
         stretched (2 ^ prec f) M G H (plus zx) (minus zx) (plus t) (minus t) (plus w) (minus w) (plus u) (minus u)
             (plus (round_whole_ℤ (prec f) u)) (minus (round_whole_ℤ (prec f) u)) (pow_pos (prec f)) least g-le t-size
-            (omega (arith, add_parts zx (pos H))) w-near u-size (omega (arith, add_parts w (pos G))) (whole_ℤ-error (prec f) u (prec-pos f)),
+            (omega (arith, add_parts zx (pos H))) w-near u-size (omega (arith, add_parts w (pos G))) (whole_ℤ-error (prec f) u
+            (prec-pos f)),
       )
 
   pub low_end : (z : ℤ) × (HasUnits f (sub f (sub f cx half) guard) z) × (plus z + minus zx + H ≤ plus zx + minus z)

@@ -51,8 +51,10 @@ use Rattle.discs.proofs.Accepted.{fit-covered}
 asked-at : (c : PlanePoint) → SizeAtMost (millimetres 20) c.x → SizeAtMost (millimetres 20) c.y
     → StandingPre (millimetres 20) standing.profile example_chord example_section c (ratio 13 1)
 unfolding least_margin standing standing_chord example_chord example_section blank flat ratio of_bits of_int to_unsigned neg add sub mul
-    div lt le eq fits is_nan signed_magnitude magnitude larger_of smaller_of abs_of clamp_of floor_of ceil_of is_finite off_tool cutting_radius
-    radius_at cut_radius cut_max axis_digit world_axis_of local_axis_of sign_along local_at local_of turned world_of by_digit cell_count plan_point
+    div lt le eq fits is_nan signed_magnitude magnitude larger_of smaller_of abs_of clamp_of floor_of ceil_of is_finite off_tool
+    cutting_radius
+    radius_at cut_radius cut_max axis_digit world_axis_of local_axis_of sign_along local_at local_of turned world_of by_digit cell_count
+    plan_point
     reach_of axis_scale_of chord_on_axis_of local_center section_with section_of chord_of
 asked-at c x y =
     record {
@@ -75,16 +77,20 @@ asked-at c x y =
 
 pub first-asked : StandingPre (millimetres 20) standing.profile example_chord example_section example_chord.a (ratio 13 1)
 unfolding least_margin standing standing_chord example_chord example_section blank flat ratio of_bits of_int to_unsigned neg add sub mul
-    div lt le eq fits is_nan signed_magnitude magnitude larger_of smaller_of abs_of clamp_of floor_of ceil_of is_finite off_tool cutting_radius
-    radius_at cut_radius cut_max axis_digit world_axis_of local_axis_of sign_along local_at local_of turned world_of by_digit cell_count plan_point
+    div lt le eq fits is_nan signed_magnitude magnitude larger_of smaller_of abs_of clamp_of floor_of ceil_of is_finite off_tool
+    cutting_radius
+    radius_at cut_radius cut_max axis_digit world_axis_of local_axis_of sign_along local_at local_of turned world_of by_digit cell_count
+    plan_point
     reach_of axis_scale_of chord_on_axis_of local_center section_with section_of chord_of
 first-asked =
     asked-at example_chord.a (record { held = tt; finite = tt; bound = lit≤ tt }) (record { held = tt; finite = tt; bound = lit≤ tt })
 
 pub last-asked : StandingPre (millimetres 20) standing.profile example_chord example_section example_chord.b (ratio 13 1)
 unfolding least_margin standing standing_chord example_chord example_section blank flat ratio of_bits of_int to_unsigned neg add sub mul
-    div lt le eq fits is_nan signed_magnitude magnitude larger_of smaller_of abs_of clamp_of floor_of ceil_of is_finite off_tool cutting_radius
-    radius_at cut_radius cut_max axis_digit world_axis_of local_axis_of sign_along local_at local_of turned world_of by_digit cell_count plan_point
+    div lt le eq fits is_nan signed_magnitude magnitude larger_of smaller_of abs_of clamp_of floor_of ceil_of is_finite off_tool
+    cutting_radius
+    radius_at cut_radius cut_max axis_digit world_axis_of local_axis_of sign_along local_at local_of turned world_of by_digit cell_count
+    plan_point
     reach_of axis_scale_of chord_on_axis_of local_center section_with section_of chord_of
 last-asked =
     asked-at example_chord.b (record { held = tt; finite = tt; bound = lit≤ tt }) (record { held = tt; finite = tt; bound = lit≤ tt })
@@ -99,16 +105,20 @@ chord-fits = refl
 low-rim : InDisc example_chord.a.x example_chord.a.y (ratio 13 1) example_section.y0 example_section.y1 1
     (neg_ℤ (pos (millimetres 7))) (pos 0)
 unfolding least_margin standing standing_chord example_chord example_section blank flat ratio of_bits of_int to_unsigned neg add sub mul
-    div lt le eq fits is_nan signed_magnitude magnitude larger_of smaller_of abs_of clamp_of floor_of ceil_of is_finite off_tool cutting_radius
-    radius_at cut_radius cut_max axis_digit world_axis_of local_axis_of sign_along local_at local_of turned world_of by_digit cell_count plan_point
+    div lt le eq fits is_nan signed_magnitude magnitude larger_of smaller_of abs_of clamp_of floor_of ceil_of is_finite off_tool
+    cutting_radius
+    radius_at cut_radius cut_max axis_digit world_axis_of local_axis_of sign_along local_at local_of turned world_of by_digit cell_count
+    plan_point
     reach_of axis_scale_of chord_on_axis_of local_center section_with section_of chord_of
 low-rim = record { scale = lit< tt; near = lit≤ tt; above = le_z_yes tt; below = le_z_yes tt }
 
 high-rim : InDisc example_chord.b.x example_chord.b.y (ratio 13 1) example_section.y0 example_section.y1 1
     (pos (millimetres 32)) (pos (millimetres 10))
 unfolding least_margin standing standing_chord example_chord example_section blank flat ratio of_bits of_int to_unsigned neg add sub mul
-    div lt le eq fits is_nan signed_magnitude magnitude larger_of smaller_of abs_of clamp_of floor_of ceil_of is_finite off_tool cutting_radius
-    radius_at cut_radius cut_max axis_digit world_axis_of local_axis_of sign_along local_at local_of turned world_of by_digit cell_count plan_point
+    div lt le eq fits is_nan signed_magnitude magnitude larger_of smaller_of abs_of clamp_of floor_of ceil_of is_finite off_tool
+    cutting_radius
+    radius_at cut_radius cut_max axis_digit world_axis_of local_axis_of sign_along local_at local_of turned world_of by_digit cell_count
+    plan_point
     reach_of axis_scale_of chord_on_axis_of local_center section_with section_of chord_of
 high-rim = record { scale = lit< tt; near = lit≤ tt; above = le_z_yes tt; below = le_z_yes tt }
 
@@ -116,7 +126,8 @@ pub example-held : HoldsClosed 1 (neg_ℤ (pos (millimetres 7))) (outer_local st
     × HoldsClosed 1 (pos (millimetres 32)) (outer_local standing.profile example_chord example_section)
 unfolding standing example_chord example_section
 example-held =
-    let both = fit-covered standing standing_chord (fit-chords (frame_of PosZ) least_margin standing_chord chord-fits) 0 (world_axis 0) 0 0 in (
+    let both = fit-covered standing standing_chord (fit-chords (frame_of PosZ) least_margin standing_chord chord-fits) 0
+    (world_axis 0) 0 0 in (
       both.at_first (millimetres 20) (ratio 13 1) first-asked 1 (neg_ℤ (pos (millimetres 7))) (pos 0) low-rim,
       both.at_last (millimetres 20) (ratio 13 1) last-asked 1 (pos (millimetres 32)) (pos (millimetres 10)) high-rim,
     )
@@ -129,22 +140,29 @@ is_done (Stop n) = false
 walk-done : is_done (walk_of standing standing_chord 2 12) ≡ true
 unfolding least_margin standing standing_chord blank flat axis_rays_of axis_entries first_axis second_axis chord_entries sweep_entries
     chord_of walk entry_of entry_for ray_entry each row_entries rect_entries outer_from outer_of inner_from inner_of ray_hit_of plan_point
-    reach_of axis_scale_of chord_on_axis_of span_over cells_met cells_across rectangle_of local_center section_with section_of last_of spans_meet
+    reach_of axis_scale_of chord_on_axis_of span_over cells_met cells_across rectangle_of local_center section_with section_of last_of
+    spans_meet
     overlaps_of record_at uncut_spans uncut_links uncut_heads places ends_at band_distance half_chord chord_strip disk_strip stadium_strip
     hull side_strip inside crossing edge edges clip widen widen_all extent_strip polygon_strip is_finite cutting_radius off_tool
-    radius_at cut_radius cut_max cut_min axis_digit world_axis_of local_axis_of sign_along local_at local_of turned world_of ray_count rays_along
-    offset ray_axis bounds_of cell_at cell_count by_digit square_root ratio larger_of smaller_of abs_of clamp_of floor_of ceil_of of_bits of_int
+    radius_at cut_radius cut_max cut_min axis_digit world_axis_of local_axis_of sign_along local_at local_of turned world_of ray_count
+    rays_along
+    offset ray_axis bounds_of cell_at cell_count by_digit square_root ratio larger_of smaller_of abs_of clamp_of floor_of ceil_of of_bits
+    of_int
     to_unsigned neg add sub mul div lt le eq is_nan
 walk-done = refl
 
 pub two-entries : logged_entries (sweep_entries standing standing_chord) ≡ 2
 unfolding least_margin standing standing_chord blank flat axis_rays_of axis_entries first_axis second_axis chord_entries sweep_entries
-    chord_of logged_entries entry_of entry_for ray_entry each row_entries rect_entries outer_from outer_of inner_from inner_of ray_hit_of plan_point
-    reach_of axis_scale_of chord_on_axis_of span_over cells_met cells_across rectangle_of local_center section_with section_of last_of spans_meet
+    chord_of logged_entries entry_of entry_for ray_entry each row_entries rect_entries outer_from outer_of inner_from inner_of ray_hit_of
+    plan_point
+    reach_of axis_scale_of chord_on_axis_of span_over cells_met cells_across rectangle_of local_center section_with section_of last_of
+    spans_meet
     overlaps_of record_at uncut_spans uncut_links uncut_heads places ends_at band_distance half_chord chord_strip disk_strip stadium_strip
     hull side_strip inside crossing edge edges clip widen widen_all extent_strip polygon_strip is_finite cutting_radius off_tool
-    radius_at cut_radius cut_max cut_min axis_digit world_axis_of local_axis_of sign_along local_at local_of turned world_of ray_count rays_along
-    offset ray_axis bounds_of cell_at cell_count by_digit square_root ratio larger_of smaller_of abs_of clamp_of floor_of ceil_of of_bits of_int
+    radius_at cut_radius cut_max cut_min axis_digit world_axis_of local_axis_of sign_along local_at local_of turned world_of ray_count
+    rays_along
+    offset ray_axis bounds_of cell_at cell_count by_digit square_root ratio larger_of smaller_of abs_of clamp_of floor_of ceil_of of_bits
+    of_int
     to_unsigned neg add sub mul div lt le eq is_nan
 two-entries = refl
 

@@ -190,7 +190,8 @@ module _ (N n W U r e D rho dy a b p H : ℕ) (F : Precision N n W) (S : Factors
   chord-covers hr hu =
       let c0 = N * N * N * ((N + 2) * (N + 2)) in
       le_of_mul-le-mul_left
-      (last c0 (n * n * n * ((N + 1) * (N + 1))) (N * N * (N * N)) (n * n * n * (n * n)) (r * r) ((r + e) * (r + e)) (H * H) (D * D) (W * U)
+      (last c0 (n * n * n * ((N + 1) * (N + 1))) (N * N * (N * N)) (n * n * n * (n * n)) (r * r) ((r + e) * (r + e)) (H * H) (D * D)
+      (W * U)
       (margin N (N * N * (N * N)) (n * n * n * (n * n)) c0 W U r e F.half F.fifth F.first hr hu)
       (total N (N * N) (n * n) (n * n * n) ((N + 1) * (N + 1)) ((N + 2) * (N + 2)) (rho * rho) (dy * dy)
       ((rho - dy) * (rho + dy)) ((r + e) * (r + e)) (H * H) (D * D) (W * U) (parted N n W r e D rho dy a b F S)

@@ -1,6 +1,7 @@
 -- Every entry of a sweep's log is of a ray that the sweep visits, with that ray's outer pair in world direction (`entry-turned`),
 -- and every such ray has its entry, if it has one, among the sweep's (`visited-logged`): the entries are those of the rays one
 -- after the other, each with six cells or none. Assumes nothing.
+use Rattle.std.specs.Prelude.{Option, None, Some}
 use mathlib.Core.Path.{◌≡◌, refl, ap, ◌∙◌, subst}
 use mathlib.Core.List.Memᴰ
 use mathlib.Core.List.{List, [], ◌∷◌, ◌++◌, append_assoc, Memᴰ}
@@ -20,8 +21,6 @@ use Rattle.sweep_model.specs.SweepEntries.{Setting, axis_rays_of, chord_on_axis_
 use Rattle.sweep_model.specs.SweepEntries.{second_axis, chord_entries, sweep_entries, log_of}
 use Rattle.sweep_model.specs.declared.Chord.{Chord}
 use Rattle.sweep_model.specs.declared.HitPairs.{HitPairs}
-use Rattle.sweep_model.specs.declared.RayHit.{RayHit}
-use Rattle.sweep_model.specs.declared.RayHit.TheVariants.{On, Off}
 use Rattle.sweep_visits.proofs.Walks.{OfEach, of-append, of-each, of-rectangle, has-each, rectangle-has}
 use Rattle.discs.specs.Outer.{outer_local, world_strip}
 use Rattle.discs.specs.Standing.{VisitedRay, ray_chord, ray_section, EntryTurned}
@@ -110,10 +109,10 @@ module _ (s : Setting) (chords : List Float) where
           possible_at s.spec.max_intervals (axis_rays_of s.grid v.axis) s.cells.spans s.cells.links
           s.cells.heads v.iu v.iv
 
-      go : (x : RayHit) → ray_hit_of s.profile (ray_chord s chords v) (ray_section s chords v) possible ≡ x
+      go : (x : Option HitPairs) → ray_hit_of s.profile (ray_chord s chords v) (ray_section s chords v) possible ≡ x
           → NoneOrLogged (entry_for v.axis (index_of (axis_rays_of s.grid v.axis) v.iu v.iv) x)
-      go Off e = inl refl
-      go (On h) e = inr (record {
+      go None e = inl refl
+      go (Some h) e = inr (record {
         ray = v;
         pairs = h;
         is = refl;

@@ -1,12 +1,11 @@
 -- The outer pair that the sweep works out is `outer_local` turned to world direction (`outer-turned`), and so is the pair of a ray
 -- that is hit (`hit-turned`). Assumes nothing.
+use Rattle.std.specs.Prelude.{Option, None, Some}
 use mathlib.Core.Path.{◌≡◌, refl, ◌∙◌, subst}
 use mathlib.Core.Bool.{Bool, true, false, cond}
 use mathlib.Core.List.{List}
 use lib.Ieee.{Float, binary64, add}
 use Rattle.cutter.specs.Cutter.{cut_max}
-use Rattle.cutter.specs.declared.Radius.{Radius}
-use Rattle.cutter.specs.declared.Radius.TheVariants.{Is}
 use Rattle.strips.specs.Strip.{stadium_strip}
 use Rattle.strips.specs.declared.Strip.{Strip}
 use Rattle.strips.specs.declared.Strip.TheVariants.{Hit, Miss}
@@ -16,8 +15,6 @@ use Rattle.sweep_model.specs.declared.Profile.{Profile}
 use Rattle.sweep_model.specs.declared.ChordOnAxis.{ChordOnAxis}
 use Rattle.sweep_model.specs.declared.Section.{Section}
 use Rattle.sweep_model.specs.declared.HitPairs.{HitPairs}
-use Rattle.sweep_model.specs.declared.RayHit.{RayHit}
-use Rattle.sweep_model.specs.declared.RayHit.TheVariants.{On, Off}
 use Rattle.discs.specs.Outer.{widened_by, outer_local_at, outer_local, world_strip}
 
 from-turned : (l : ChordOnAxis) (s : Strip) → outer_from l s ≡ world_strip l.frame l.la (widened_by l.guard s)
@@ -25,9 +22,9 @@ unfolding outer_from widened_by
 from-turned l Miss = refl
 from-turned l (Hit lo hi) = refl
 
-at-turned : (l : ChordOnAxis) (s : Section) (r : Radius) → outer_at l s r ≡ world_strip l.frame l.la (outer_local_at l s r)
-at-turned l s Radius.Outside = refl
-at-turned l s (Is r) = from-turned l (stadium_strip l.a l.b l.length (add binary64 r l.e) s.y0 s.y1)
+at-turned : (l : ChordOnAxis) (s : Section) (r : Option Float) → outer_at l s r ≡ world_strip l.frame l.la (outer_local_at l s r)
+at-turned l s None = refl
+at-turned l s (Some r) = from-turned l (stadium_strip l.a l.b l.length (add binary64 r l.e) s.y0 s.y1)
 
 pub outer-turned : (p : Profile) (l : ChordOnAxis) (s : Section) → outer_of p l s ≡ world_strip l.frame l.la (outer_local p l s)
 unfolding outer_of outer_local
@@ -36,9 +33,9 @@ outer-turned p l s = at-turned l s (cut_max p.shape p.cutter s.w0 s.w1)
 -- ---- the pair of a ray that is hit
 
 -- a hit has the ends of o
-abbrev HasEnds : Strip → RayHit → Type 0
-HasEnds o Off = Unit {0}
-HasEnds o (On h) = Hit h.outer.lo h.outer.hi ≡ o
+abbrev HasEnds : Strip → Option HitPairs → Type 0
+HasEnds o None = Unit {0}
+HasEnds o (Some h) = Hit h.outer.lo h.outer.hi ≡ o
 
 module _ (p : Profile) (l : ChordOnAxis) (s : Section) (possible : List Float) where
   hit-ends : HasEnds (outer_of p l s) (ray_hit_of p l s possible)
@@ -46,15 +43,15 @@ module _ (p : Profile) (l : ChordOnAxis) (s : Section) (possible : List Float) w
   hit-ends = go (spans_meet possible l.reach) (outer_of p l s)
     where
       found : (lo hi : Float) (b : Bool)
-          → HasEnds (Hit lo hi) (cond b (On (record { outer = pair lo hi; inner = inner_of p l s })) Off)
+          → HasEnds (Hit lo hi) (cond b (Some (record { outer = pair lo hi; inner = inner_of p l s })) None)
       found lo hi true = refl
       found lo hi false = tt
 
-      go : (b : Bool) (o : Strip) → HasEnds o (cond b (hit_with p l s possible o) Off)
+      go : (b : Bool) (o : Strip) → HasEnds o (cond b (hit_with p l s possible o) None)
       go false o = tt
       go true Miss = tt
       go true (Hit lo hi) = found lo hi (overlaps_of possible (pair lo hi))
 
-  pub hit-turned : (h : HitPairs) → ray_hit_of p l s possible ≡ On h
+  pub hit-turned : (h : HitPairs) → ray_hit_of p l s possible ≡ Some h
       → Hit h.outer.lo h.outer.hi ≡ world_strip l.frame l.la (outer_local p l s)
   hit-turned h e = subst (HasEnds (outer_of p l s)) e hit-ends ∙ outer-turned p l s

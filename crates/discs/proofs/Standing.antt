@@ -1,5 +1,6 @@
 -- W-234: for the tool at either end of a chord, the outer pair before it is turned holds each point of the exact disc within the
 -- band, if the guard is 1 at most. Assumes nothing.
+use Rattle.std.specs.Prelude.{Float, Option}
 use mathlib.Core.Path.{◌≡◌, sym, subst}
 use mathlib.Core.Bool.{true}
 use mathlib.Core.Logic.{inl, inr}
@@ -7,7 +8,6 @@ use lib.Ieee.{le}
 use Rattle.logic.proofs.Bools.{by_cases}
 use Rattle.doubles.specs.Constants.{one}
 use Rattle.doubles.specs.Ranges.{OutOfPositive}
-use Rattle.cutter.specs.declared.Radius.{Radius}
 use Rattle.sweep_model.specs.declared.Profile.{Profile}
 use Rattle.sweep_model.specs.declared.ChordOnAxis.{ChordOnAxis}
 use Rattle.sweep_model.specs.declared.Section.{Section}
@@ -23,11 +23,11 @@ unfolding outer_local OutOfPositive
 ends-covered p l s fits =
     record {
       at_first = λ M r S scale x y d.
-          subst (λ (q : Radius). HoldsClosed scale x (outer_local_at l s q)) (sym S.widest)
+          subst (λ (q : Option Float). HoldsClosed scale x (outer_local_at l s q)) (sym S.widest)
           (first-covered M l.a l.b l.length s.y0 s.y1 l.e l.guard r
           (guard-most M l.guard S.numbers.guard_bounded most) scale x y S.numbers d);
       at_last = λ M r S scale x y d.
-          subst (λ (q : Radius). HoldsClosed scale x (outer_local_at l s q)) (sym S.widest)
+          subst (λ (q : Option Float). HoldsClosed scale x (outer_local_at l s q)) (sym S.widest)
           (last-covered M l.a l.b l.length s.y0 s.y1 l.e l.guard r
           (guard-most M l.guard S.numbers.guard_bounded most) scale x y S.numbers d);
     }

@@ -1,11 +1,9 @@
 -- The outer pair of a ray before it is turned to world direction. `outer-turned` in proofs/Outer.antt says that the pair which
 -- the sweep works out (`outer_of`) is this one turned.
-use Rattle.std.specs.Prelude.{Float}
+use Rattle.std.specs.Prelude.{Float, Option, None, Some}
 use Rattle.std.specs.Float.{binary64}
 use Rattle.std.specs.Float.Ieee.{add, sub}
 use Rattle.cutter.specs.Cutter.{cut_max}
-use Rattle.cutter.specs.declared.Radius.{Radius}
-use Rattle.cutter.specs.declared.Radius.TheVariants.{Is}
 use Rattle.frame.specs.Frame.{world_of}
 use Rattle.frame.specs.declared.Frame.{Frame}
 use Rattle.frame.specs.declared.LocalAxis.{LocalAxis}
@@ -23,9 +21,9 @@ widened_by guard Miss = Miss
 widened_by guard (Hit lo hi) = Hit (sub binary64 lo guard) (add binary64 hi guard)
 
 -- the strip over the band of the stadium of the radius r and e, widened
-abbrev pub outer_local_at : ChordOnAxis → Section → Radius → Strip
-outer_local_at l s Radius.Outside = Miss
-outer_local_at l s (Is r) = widened_by l.guard (stadium_strip l.a l.b l.length (add binary64 r l.e) s.y0 s.y1)
+abbrev pub outer_local_at : ChordOnAxis → Section → Option Float → Strip
+outer_local_at l s None = Miss
+outer_local_at l s (Some r) = widened_by l.guard (stadium_strip l.a l.b l.length (add binary64 r l.e) s.y0 s.y1)
 
 -- the same for the widest radius over the ray's window of heights
 unfoldable pub outer_local : Profile → ChordOnAxis → Section → Strip

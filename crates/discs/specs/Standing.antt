@@ -1,11 +1,10 @@
 -- W-234: the tool standing still at a point of the plan, with the widest radius of the ray's window, over the definitions that
 -- the sweep's contract cites. `l.a` and `l.b` are the ends of a chord as the rays of an axis see them: x along the ray, y
 -- across it.
-use Rattle.std.specs.Prelude.{◌≡◌, List, ◌⊎◌, ℕ, ◌/◌, ◌<◌, ℤ, Float, length}
+use Rattle.std.specs.Prelude.{◌≡◌, List, ◌⊎◌, ℕ, ◌/◌, ◌<◌, ℤ, Float, length, Some}
 use Rattle.grid.specs.Grid.{whole}
 use Rattle.grid.specs.declared.WorldAxis.{WorldAxis}
 use Rattle.cutter.specs.Cutter.{cut_max}
-use Rattle.cutter.specs.declared.Radius.TheVariants.{Is}
 use Rattle.strips.specs.declared.PlanePoint.{PlanePoint}
 use Rattle.strips.specs.declared.Strip.TheVariants.{Hit}
 use Rattle.log_model.specs.Logs.{entry_at}
@@ -22,7 +21,7 @@ use Rattle.discs.specs.Outer.{outer_local, world_strip}
 -- what is asked of a ray's section and a centre c: r is the widest radius over the ray's window as the sweep works it out, before
 -- e is added, and the numbers are as W-234 asks
 pub record StandingPre (M : ℕ) (p : Profile) (l : ChordOnAxis) (s : Section) (c : PlanePoint) (r : Float) : Type 0 where
-  pub widest : cut_max p.shape p.cutter s.w0 s.w1 ≡ Is r
+  pub widest : cut_max p.shape p.cutter s.w0 s.w1 ≡ Some r
   pub numbers : DiscPre M c.x c.y s.y0 s.y1 l.e l.guard r
 
 -- the outer pair holds each point of the disc of radius r around c within the band

@@ -1,6 +1,8 @@
 -- The floor of a finite double is the greatest whole number that is not above it (`floor-greatest`), and the ceiling
 -- the least that is not below it (`ceil-least`); an infinity and a NaN come back as they are. Assumes nothing.
-use Rattle.std.proofs.Common.{◌≡◌, ℕ, ◌+◌, ◌*◌, ◌/◌, ◌%◌, ◌<◌, ◌≤◌, Bool, true, false, T, ℤ, sym, refl, ap, ◌∙◌, subst, true≢false, zero-le, le_trans, le_of_eq, mul-le-mul_right, le-div_iff_mul-le, zero-mul, mul-one, mul_right_comm, le_of_mul-le-mul_right, arith}
+use Rattle.std.proofs.Common.{◌≡◌, ℕ, ◌+◌, ◌*◌, ◌/◌, ◌%◌, ◌<◌, ◌≤◌, Bool, true, false, T, ℤ, sym, refl, ap, ◌∙◌, subst}
+use Rattle.std.proofs.Common.{true≢false, zero-le, le_trans, le_of_eq, mul-le-mul_right, le-div_iff_mul-le, zero-mul, mul-one}
+use Rattle.std.proofs.Common.{mul_right_comm, le_of_mul-le-mul_right, arith}
 use native.Mathlib.Nat.{mul-mod_left}
 use lib.Ieee.{Float, nan, inf, fin, binary64, up, down, le, neg, fits}
 use lib.Ieee.Fits.{down_pos, round-fits, neg-fits}

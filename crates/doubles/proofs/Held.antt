@@ -1,5 +1,6 @@
 -- What it says of a finite value that a format holds it: the bounds of its digits, its denominator and its size. Assumes nothing.
-use Rattle.std.proofs.Common.{ℕ, zero, suc, ◌*◌, ◌%◌, ◌^◌, ◌<◌, ◌≤◌, Bool, ◌&&◌, T, eqb, ltb, leb, ℤ, sym, subst, le_trans, le_of_eq, mul-le-mul_right, mul-pos, one-mul, zero-mul, eqb→eq, ltb→lt, leb→le, pow_pos}
+use Rattle.std.proofs.Common.{ℕ, zero, suc, ◌*◌, ◌%◌, ◌^◌, ◌<◌, ◌≤◌, Bool, ◌&&◌, T, eqb, ltb, leb, ℤ, sym, subst, le_trans}
+use Rattle.std.proofs.Common.{le_of_eq, mul-le-mul_right, mul-pos, one-mul, zero-mul, eqb→eq, ltb→lt, leb→le, pow_pos}
 use lib.Ieee.{fin, Format, prec, emax, low, up, down, fits}
 use lib.Ieee.Fits.{and_l, and_r, up_pos, down_pos}
 

@@ -1,8 +1,8 @@
 -- The total order of IEEE 754-2019.
 use Rattle.std.specs.Prelude.{ℕ, ◌+◌, ◌-◌, ◌^◌, Bool, true, false, cond, is_nan, nat_lt, to_bits, Float}
 use Rattle.std.specs.Float.{binary64}
-use Rattle.doubles.specs.declared.Ordering.{Ordering}
-use Rattle.doubles.specs.declared.Ordering.TheVariants.{Less, Equal, Greater}
+use Rattle.std.specs.declared.cmp.Ordering.{Ordering}
+use Rattle.std.specs.declared.cmp.Ordering.TheVariants.{Less, Equal, Greater}
 
 -- The `total_cmp` order: Rust compares the bits as signed numbers, all but the sign flipped where the sign is set.
 -- This is that number, counted up from the lowest. A NaN has no bits here. Every NaN counts as one, above all else,

@@ -37,36 +37,16 @@ pub fn ceil(x: f64) -> f64
     -floor(-x)
 }
 
-// Rust's `cmp::Ordering`.
-#[derive(Clone, Copy)]
-pub enum Ordering {
-    Less,
-    Equal,
-    Greater,
-}
-
 // Rust's `x as u64` and `x as usize`: without the fraction, at the nearest end of the range where x is out of it, and 0 for a NaN.
 pub fn to_u64(x: f64) -> u64
     ensures { result ≡ to_unsigned 64 x }
 {
-    if x > -1.0 {
-        if x < 18446744073709551616.0 {
-            return std::num::truncating_f64_to_u64(x);
-        }
-        return 0xffff_ffff_ffff_ffff;
-    }
-    0
+    std::num::saturating_f64_to_u64(x)
 }
 
 // The size of x, with the sign clear.
 pub fn abs(x: f64) -> f64
     ensures { result ≡ abs_of x }
 {
-    if x < 0.0 {
-        return -x;
-    }
-    if x == 0.0 {
-        return 0.0;
-    }
-    x
+    x.abs()
 }

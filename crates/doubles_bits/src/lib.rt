@@ -6,16 +6,17 @@ ghost use Rattle.std.specs.Float.{binary64};
 ghost use Rattle.std.specs.Float.Ieee.{of_bits, to_bits};
 ghost use Rattle.doubles.specs.TotalOrder.{key_of, total_of};
 
-use doubles::Ordering;
+use std::cmp::Ordering;
 
 // The place of x in the `total_cmp` order, counted from 0. A NaN, of which no bits can be had, counts as the highest.
+#[tactic(auto, unfolding(doubles::specs::TotalOrder::key_of, doubles::specs::TotalOrder::key_of_bits))]
 pub fn order_key(x: f64) -> u64
     ensures { result ≡ key_of x }
 {
-    if x != x {
+    if x.is_nan() {
         return 0xffff_ffff_ffff_ffff;
     }
-    let bits = f64::to_bits(x);
+    let bits = x.to_bits();
     if bits < 0x8000_0000_0000_0000 {
         bits + 0x8000_0000_0000_0000
     } else {
@@ -27,15 +28,7 @@ pub fn order_key(x: f64) -> u64
 pub fn total_cmp(a: f64, b: f64) -> Ordering
     ensures { result ≡ total_of a b }
 {
-    let j = order_key(a);
-    let k = order_key(b);
-    if j < k {
-        return Ordering::Less;
-    }
-    if k < j {
-        return Ordering::Greater;
-    }
-    Ordering::Equal
+    order_key(a).cmp(&order_key(b))
 }
 
 // The double with this bit pattern. Every NaN's pattern gives the one NaN.
@@ -43,7 +36,7 @@ pub fn of_bits(bits: u64) -> f64
     ensures { result ≡ of_bits binary64 bits }
 {
     if bits % 0x8000_0000_0000_0000 > 0x7ff0_0000_0000_0000 {
-        return 0.0 / 0.0;
+        return f64::NAN;
     }
     f64::from_bits(bits)
 }
@@ -52,8 +45,8 @@ pub fn of_bits(bits: u64) -> f64
 pub fn bits_of(x: f64) -> u64
     ensures { result ≡ to_bits binary64 x }
 {
-    if x != x {
+    if x.is_nan() {
         return 0x7ff8_0000_0000_0000;
     }
-    f64::to_bits(x)
+    x.to_bits()
 }

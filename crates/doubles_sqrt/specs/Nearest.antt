@@ -1,5 +1,5 @@
 -- IEEE 754's square root: the double nearest to the exact root.
-use Rattle.std.specs.Prelude.{◌+◌, ◌-◌, ◌*◌, ◌^◌, ◌<◌, T, Float}
+use Rattle.std.specs.Prelude.{◌+◌, ◌*◌, ◌^◌, ◌<◌, T, Float}
 use Rattle.std.specs.Float.{Format}
 use Rattle.std.specs.Float.Ieee.{low, fits}
 use Rattle.std.specs.Float.Ieee.Positive.{positive}

@@ -19,10 +19,10 @@ struct Radicand {
 pub fn sqrt(x: f64) -> f64
     ensures { result ≡ square_root binary64 x }
 {
-    if x != x {
+    if x.is_nan() {
         return x;
     }
-    let bits = f64::to_bits(x);
+    let bits = x.to_bits();
     if bits == 0 {
         return x;
     }
@@ -33,7 +33,7 @@ pub fn sqrt(x: f64) -> f64
         return x;
     }
     if 0x8000_0000_0000_0000 < bits {
-        return 0.0 / 0.0;
+        return f64::NAN;
     }
     f64::from_bits(root_bits(bits))
 }
@@ -63,14 +63,11 @@ fn radicand_of(bits: u64) -> Radicand
     let digits = 0x10_0000_0000_0000 + bits % 0x10_0000_0000_0000;
     let half = (field - 1) / 2 + 511;
     if (field - 1) % 2 == 0 {
-        return Radicand {
-            m: digits,
-            half: half,
-        };
+        return Radicand { m: digits, half };
     }
     Radicand {
         m: digits * 2,
-        half: half,
+        half,
     }
 }
 
@@ -84,10 +81,10 @@ fn normalized(a: Radicand) -> Radicand
     let mut m = a.m;
     let mut half = a.half;
     while m < 0x10_0000_0000_0000 {
-        m = m * 4;
-        half = half - 1;
+        m *= 4;
+        half -= 1;
     }
-    Radicand { m: m, half: half }
+    Radicand { m, half }
 }
 
 // The whole root of m * 2^54, from the whole root s of m, its upper 27 digits: the lower ones are
@@ -117,7 +114,7 @@ fn whole_root(m: u64) -> u64
 {
     let mut root = heron(m, heron(m, first_guess(m)));
     while m < root * root {
-        root = root - 1;
+        root -= 1;
     }
     root
 }

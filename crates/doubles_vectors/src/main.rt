@@ -8,90 +8,54 @@
 #![tactic(auto)]
 
 use input_bytes::InputBytes;
+use std::cmp::Ordering;
 use std::io;
 
-fn order_number(o: doubles::Ordering) -> u64 {
+fn order_number(o: Ordering) -> u64 {
     match o {
-        doubles::Ordering::Less => 0,
-        doubles::Ordering::Equal => 1,
-        doubles::Ordering::Greater => 2,
+        Ordering::Less => 0,
+        Ordering::Equal => 1,
+        Ordering::Greater => 2,
     }
-}
-
-fn number_of(b: bool) -> u64 {
-    if b {
-        return 1;
-    }
-    0
 }
 
 // The answer of a function of doubles.
 fn double_answer(op: u64, x: f64, y: f64, z: f64) -> f64 {
-    if op == 0 {
-        return doubles_minmax::larger(x, y);
+    match op {
+        0 => doubles_minmax::larger(x, y),
+        1 => doubles_minmax::smaller(x, y),
+        2 => doubles_minmax::clamp(x, y, z),
+        3 => doubles::floor(x),
+        4 => doubles::ceil(x),
+        5 => doubles::abs(x),
+        6 => doubles_sqrt::sqrt(x),
+        14 => x * y,
+        _ => x / y,
     }
-    if op == 1 {
-        return doubles_minmax::smaller(x, y);
-    }
-    if op == 2 {
-        return doubles_minmax::clamp(x, y, z);
-    }
-    if op == 3 {
-        return doubles::floor(x);
-    }
-    if op == 4 {
-        return doubles::ceil(x);
-    }
-    if op == 5 {
-        return doubles::abs(x);
-    }
-    if op == 6 {
-        return doubles_sqrt::sqrt(x);
-    }
-    if op == 14 {
-        return x * y;
-    }
-    x / y
 }
 
 // Whether the test of this number holds. `of_bits` is tried on a whole number's double, made without it.
 fn holds(op: u64, a: u64, b: u64) -> bool {
     let x = doubles_bits::of_bits(a);
-    if op == 11 {
-        return x == std::num::nearest_u64_to_f64(b);
+    match op {
+        11 => x == std::num::nearest_u64_to_f64(b),
+        12 => x < doubles_bits::of_bits(b),
+        _ => x <= doubles_bits::of_bits(b),
     }
-    if op == 12 {
-        return x < doubles_bits::of_bits(b);
-    }
-    x <= doubles_bits::of_bits(b)
 }
 
 // The answer of each function. `bits_of` is tried on a whole number's double, made without `of_bits`.
 fn answer(op: u64, a: u64, b: u64, c: u64) -> u64 {
-    if op == 7 {
-        return doubles_bits::order_key(doubles_bits::of_bits(a));
+    let x = doubles_bits::of_bits(a);
+    let y = doubles_bits::of_bits(b);
+    match op {
+        7 => doubles_bits::order_key(x),
+        8 => order_number(doubles_bits::total_cmp(x, y)),
+        9 => doubles::to_u64(x),
+        10 => doubles_bits::bits_of(std::num::nearest_u64_to_f64(a)),
+        11..=13 => u64::from(holds(op, a, b)),
+        _ => doubles_bits::bits_of(double_answer(op, x, y, doubles_bits::of_bits(c))),
     }
-    if op == 8 {
-        return order_number(doubles_bits::total_cmp(
-            doubles_bits::of_bits(a),
-            doubles_bits::of_bits(b),
-        ));
-    }
-    if op == 9 {
-        return doubles::to_u64(doubles_bits::of_bits(a));
-    }
-    if op == 10 {
-        return doubles_bits::bits_of(std::num::nearest_u64_to_f64(a));
-    }
-    if op > 10 && op < 14 {
-        return number_of(holds(op, a, b));
-    }
-    doubles_bits::bits_of(double_answer(
-        op,
-        doubles_bits::of_bits(a),
-        doubles_bits::of_bits(b),
-        doubles_bits::of_bits(c),
-    ))
 }
 
 fn answer_agrees(w: &[u64; 5]) -> bool {

@@ -7,62 +7,41 @@ ghost use Rattle.enum_codes.specs.Codes.{axis_of, named_shape, shape_of};
 use cutter::CutterShape;
 use frame::Axis;
 
+#[tactic(auto, unfolding(crate::specs::Codes::axis_of))]
 pub fn axis_of(n: u64) -> Axis
     ensures { result ≡ axis_of n }
 {
-    if n == 0 {
-        return Axis::PosX;
+    match n {
+        0 => Axis::PosX,
+        1 => Axis::NegX,
+        2 => Axis::PosY,
+        3 => Axis::NegY,
+        4 => Axis::PosZ,
+        _ => Axis::NegZ,
     }
-    if n == 1 {
-        return Axis::NegX;
-    }
-    if n == 2 {
-        return Axis::PosY;
-    }
-    if n == 3 {
-        return Axis::NegY;
-    }
-    if n == 4 {
-        return Axis::PosZ;
-    }
-    Axis::NegZ
 }
 
 // A number that names no shape gives one beyond every limit.
+#[tactic(auto, unfolding(crate::specs::Codes::named_shape))]
 pub fn named_shape(kind: u64, m: f64, n: f64) -> CutterShape
     ensures { result ≡ named_shape kind m n }
 {
-    if kind == 0 {
-        return CutterShape::Flat;
+    match kind {
+        0 => CutterShape::Flat,
+        1 => CutterShape::Ball,
+        2 => CutterShape::Bull(m),
+        3 => CutterShape::Drill(m),
+        4 => CutterShape::Chamfer(m, n),
+        5 => CutterShape::Beam,
+        6 => CutterShape::Probe,
+        7 => CutterShape::Lollipop,
+        8 => CutterShape::Dovetail(m),
+        _ => CutterShape::Dovetail(f64::NAN),
     }
-    if kind == 1 {
-        return CutterShape::Ball;
-    }
-    if kind == 2 {
-        return CutterShape::Bull(m);
-    }
-    if kind == 3 {
-        return CutterShape::Drill(m);
-    }
-    if kind == 4 {
-        return CutterShape::Chamfer(m, n);
-    }
-    if kind == 5 {
-        return CutterShape::Beam;
-    }
-    if kind == 6 {
-        return CutterShape::Probe;
-    }
-    if kind == 7 {
-        return CutterShape::Lollipop;
-    }
-    if kind == 8 {
-        return CutterShape::Dovetail(m);
-    }
-    CutterShape::Dovetail(0.0 / 0.0)
 }
 
 // A number that names no axis gives a shape beyond every limit, but a beam stays one.
+#[tactic(auto, unfolding(crate::specs::Codes::shape_of))]
 pub fn shape_of(axis: u64, kind: u64, m: f64, n: f64) -> CutterShape
     ensures { result ≡ shape_of axis kind m n }
 {
@@ -70,7 +49,7 @@ pub fn shape_of(axis: u64, kind: u64, m: f64, n: f64) -> CutterShape
         return CutterShape::Beam;
     }
     if axis > 5 {
-        return CutterShape::Dovetail(0.0 / 0.0);
+        return CutterShape::Dovetail(f64::NAN);
     }
     named_shape(kind, m, n)
 }

@@ -7,7 +7,7 @@ ghost use Rattle.frame.specs.Frame.{axis_digit, frame_of, world_axis_of, local_a
 use grid::{Vec3, WorldAxis};
 
 // A tool axis along a signed world axis: the direction from the tool's tip toward the spindle.
-#[derive(Clone, Copy)]
+#[derive(Clone, Copy, Debug, PartialEq, Eq)]
 pub enum Axis {
     PosX,
     NegX,
@@ -18,63 +18,51 @@ pub enum Axis {
 }
 
 // Document 01's local axis, a digit 0 to 2. 2 and every larger digit is the tool's own axis, so that every function over it is total.
-#[derive(Clone, Copy)]
+#[derive(Clone, Copy, Debug, PartialEq, Eq)]
 pub struct LocalAxis(pub u8);
 
 // local[0] = world[first]; the next two world axes follow in a cycle, and have the sign.
-#[derive(Clone, Copy)]
+#[derive(Clone, Copy, Debug, PartialEq)]
 pub struct Frame {
     pub first: WorldAxis,
     pub sign: f64,
 }
 
 // The two ends of an interval along an axis.
-#[derive(Clone, Copy)]
+#[derive(Clone, Copy, Debug, PartialEq)]
 pub struct Pair {
     pub lo: f64,
     pub hi: f64,
 }
 
+#[tactic(auto, unfolding(crate::specs::Frame::axis_digit))]
 fn digit(n: u8) -> u8
     ensures { result ≡ axis_digit n }
 {
-    if n < 2 { n } else { 2 }
+    n.min(2)
 }
 
 impl Axis {
     pub fn frame(self) -> Frame
         ensures { result ≡ frame_of self }
     {
-        match self {
-            Axis::PosX => Frame {
-                first: WorldAxis(1),
-                sign: 1.0,
-            },
-            Axis::NegX => Frame {
-                first: WorldAxis(1),
-                sign: -1.0,
-            },
-            Axis::PosY => Frame {
-                first: WorldAxis(2),
-                sign: 1.0,
-            },
-            Axis::NegY => Frame {
-                first: WorldAxis(2),
-                sign: -1.0,
-            },
-            Axis::PosZ => Frame {
-                first: WorldAxis(0),
-                sign: 1.0,
-            },
-            Axis::NegZ => Frame {
-                first: WorldAxis(0),
-                sign: -1.0,
-            },
+        let (first, sign) = match self {
+            Axis::PosX => (1, 1.0),
+            Axis::NegX => (1, -1.0),
+            Axis::PosY => (2, 1.0),
+            Axis::NegY => (2, -1.0),
+            Axis::PosZ => (0, 1.0),
+            Axis::NegZ => (0, -1.0),
+        };
+        Frame {
+            first: WorldAxis(first),
+            sign,
         }
     }
 }
 
 // The world axis of a local one.
+#[tactic(auto, unfolding(crate::specs::Frame::world_axis_of))]
 pub fn world_axis(f: Frame, i: LocalAxis) -> WorldAxis
     ensures { result ≡ world_axis_of f i }
 {
@@ -84,6 +72,7 @@ pub fn world_axis(f: Frame, i: LocalAxis) -> WorldAxis
 }
 
 // The local axis of a world one.
+#[tactic(auto, unfolding(crate::specs::Frame::local_axis_of))]
 pub fn local_axis(f: Frame, a: WorldAxis) -> LocalAxis
     ensures { result ≡ local_axis_of f a }
 {
@@ -93,15 +82,14 @@ pub fn local_axis(f: Frame, a: WorldAxis) -> LocalAxis
 }
 
 // The sign of a local axis.
+#[tactic(auto, unfolding(crate::specs::Frame::sign_along))]
 pub fn sign_along(f: Frame, i: LocalAxis) -> f64
     ensures { result ≡ sign_along f i }
 {
-    if i.0 == 0 {
-        return 1.0;
-    }
-    f.sign
+    if i.0 == 0 { 1.0 } else { f.sign }
 }
 
+#[tactic(auto, unfolding(crate::specs::Frame::local_at))]
 fn coordinate(f: Frame, p: Vec3, i: LocalAxis) -> f64
     ensures { result ≡ local_at f p i }
 {
@@ -109,6 +97,7 @@ fn coordinate(f: Frame, p: Vec3, i: LocalAxis) -> f64
 }
 
 // A world point in the tool's frame.
+#[tactic(auto, unfolding(crate::specs::Frame::local_of))]
 pub fn local(f: Frame, p: Vec3) -> Vec3
     ensures { result ≡ local_of f p }
 {
@@ -120,14 +109,16 @@ pub fn local(f: Frame, p: Vec3) -> Vec3
 }
 
 // The world interval of an interval along a local axis: a reversed axis negates its ends and swaps them.
+#[tactic(auto, unfolding(crate::specs::Frame::world_of, crate::specs::Frame::turned))]
 pub fn world(f: Frame, i: LocalAxis, s: Pair) -> Pair
     ensures { result ≡ world_of f i s }
 {
     if sign_along(f, i) > 0.0 {
-        return s;
-    }
-    Pair {
-        lo: -s.hi,
-        hi: -s.lo,
+        s
+    } else {
+        Pair {
+            lo: -s.hi,
+            hi: -s.lo,
+        }
     }
 }

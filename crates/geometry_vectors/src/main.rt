@@ -6,9 +6,9 @@
 // many differ, then how many can't be read, and the number of the first row that differs.
 #![tactic(auto)]
 
-use cutter::{ProfileSlice, Radius};
-use cutter_check::ToolCheck;
+use cutter::ProfileSlice;
 use input_bytes::InputBytes;
+use refusal::Refusal;
 use std::io;
 use strips::{PlanePoint, Strip};
 
@@ -20,11 +20,7 @@ struct Answer {
 }
 
 fn number(kind: u64, a: f64) -> Answer {
-    Answer {
-        kind: kind,
-        a: a,
-        b: 0.0,
-    }
+    Answer { kind, a, b: 0.0 }
 }
 
 fn strip_answer(s: Strip) -> Answer {
@@ -46,17 +42,17 @@ fn slice_answer(s: ProfileSlice) -> Answer {
     }
 }
 
-fn radius_answer(s: Radius) -> Answer {
-    match s {
-        Radius::Is(r) => number(1, r),
-        Radius::Outside => number(0, 0.0),
+fn radius_answer(r: Option<f64>) -> Answer {
+    match r {
+        Some(r) => number(1, r),
+        None => number(0, 0.0),
     }
 }
 
-fn check_answer(t: ToolCheck) -> Answer {
+fn check_answer(t: Result<(), Refusal>) -> Answer {
     match t {
-        ToolCheck::Accepted => number(0, 0.0),
-        ToolCheck::Refused(k) => number(k as u64, 0.0),
+        Ok(()) => number(0, 0.0),
+        Err(e) => number(u32::from(e) as u64, 0.0),
     }
 }
 
@@ -68,32 +64,30 @@ fn point(x: u64, y: u64) -> PlanePoint {
 }
 
 fn answer_strips(w: &[u64; 18]) -> Answer {
-    if w[0] == 0 {
-        return strip_answer(strips::disk_strip(
+    strip_answer(match w[0] {
+        0 => strips::disk_strip(
             point(w[1], w[2]),
             doubles_bits::of_bits(w[3]),
             doubles_bits::of_bits(w[4]),
             doubles_bits::of_bits(w[5]),
-        ));
-    }
-    if w[0] == 1 {
-        return strip_answer(strips::polygon_strip(
+        ),
+        1 => strips::polygon_strip(
             point(w[1], w[2]),
             point(w[3], w[4]),
             point(w[5], w[6]),
             point(w[7], w[8]),
             doubles_bits::of_bits(w[9]),
             doubles_bits::of_bits(w[10]),
-        ));
-    }
-    strip_answer(strips::stadium_strip(
-        point(w[1], w[2]),
-        point(w[3], w[4]),
-        doubles_bits::of_bits(w[5]),
-        doubles_bits::of_bits(w[6]),
-        doubles_bits::of_bits(w[7]),
-        doubles_bits::of_bits(w[8]),
-    ))
+        ),
+        _ => strips::stadium_strip(
+            point(w[1], w[2]),
+            point(w[3], w[4]),
+            doubles_bits::of_bits(w[5]),
+            doubles_bits::of_bits(w[6]),
+            doubles_bits::of_bits(w[7]),
+            doubles_bits::of_bits(w[8]),
+        ),
+    })
 }
 
 fn answer_cutter(w: &[u64; 18]) -> Answer {
@@ -101,19 +95,13 @@ fn answer_cutter(w: &[u64; 18]) -> Answer {
     let c = vector_rows::cutter_at(w, 4);
     let h0 = doubles_bits::of_bits(w[13]);
     let h1 = doubles_bits::of_bits(w[14]);
-    if w[0] == 3 {
-        return slice_answer(cutter::radius_at(shape, c, h0));
+    match w[0] {
+        3 => slice_answer(cutter::radius_at(shape, c, h0)),
+        4 => number(1, cutter::cut_radius(shape, c, h0)),
+        5 => radius_answer(cutter::cut_max(shape, c, h0, h1)),
+        6 => radius_answer(cutter::cut_min(shape, c, h0, h1)),
+        _ => check_answer(cutter_check::check_tool(shape, c)),
     }
-    if w[0] == 4 {
-        return number(1, cutter::cut_radius(shape, c, h0));
-    }
-    if w[0] == 5 {
-        return radius_answer(cutter::cut_max(shape, c, h0, h1));
-    }
-    if w[0] == 6 {
-        return radius_answer(cutter::cut_min(shape, c, h0, h1));
-    }
-    check_answer(cutter_check::check_tool(shape, c))
 }
 
 fn answer_of(w: &[u64; 18]) -> Answer {
@@ -125,23 +113,14 @@ fn answer_of(w: &[u64; 18]) -> Answer {
 
 // Equal as numbers, or both NaN.
 fn same(a: f64, b: f64) -> bool {
-    if a == b {
-        return true;
-    }
-    if a != a {
-        return b != b;
-    }
-    false
+    a == b || (a != a && b != b)
 }
 
 fn agrees(w: &[u64; 18]) -> bool {
     let x = answer_of(w);
-    if x.kind == w[15] {
-        if same(x.a, doubles_bits::of_bits(w[16])) {
-            return same(x.b, doubles_bits::of_bits(w[17]));
-        }
-    }
-    false
+    x.kind == w[15]
+        && same(x.a, doubles_bits::of_bits(w[16]))
+        && same(x.b, doubles_bits::of_bits(w[17]))
 }
 
 fn main(rt: HostRuntime) -> io::Result<()> {

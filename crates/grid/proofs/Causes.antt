@@ -9,6 +9,7 @@ use native.Mathlib.Omega.{arith}
 use borrow.Author.Tests.{ltb-true, ltb-false}
 use lib.Dec.{ltb}
 use lib.Ieee.{binary64, mul, lt, to_unsigned}
+use Rattle.std.specs.Prelude.{Result, Ok, Err}
 use Rattle.doubles.specs.Constants.{two}
 use Rattle.refusal.specs.Refusal.{Due, NoneDue}
 use Rattle.grid.specs.Axes.{by_digit, world_axis, along_of, cells_along}
@@ -20,8 +21,9 @@ use Rattle.grid.specs.Causes.{units_not_mm}
 use Rattle.grid.specs.declared.Vec3.{Vec3}
 use Rattle.grid.specs.declared.WorldAxis.{WorldAxis}
 use Rattle.grid.specs.declared.DexelStockSpec.{DexelStockSpec}
-use Rattle.grid.specs.declared.GridAnswer.{GridAnswer}
-use Rattle.grid.specs.declared.GridAnswer.TheVariants.{Accepted, Refused}
+use Rattle.grid.specs.declared.DexelGrid.{DexelGrid}
+use Rattle.refusal.specs.declared.Refusal.{Refusal}
+use Rattle.refusal.specs.declared.Refusal.TheVariants.{Description, RayLimit, IntervalLimit}
 use Rattle.grid.proofs.Counts.{Cells, cells_whole, above-is, some-cell, cast-exact}
 use Rattle.grid.proofs.Sums.{wholes, total-test, total-exact, twice-test}
 use Rattle.grid.proofs.Described.{each, above-axis, not-above, not-mm, passes, clause, no-clause}
@@ -119,17 +121,17 @@ module _ (s : DexelStockSpec) (ceiling : s.max_rays < 2 ^ 32) where
 -- ---- the answer
 
 -- `grid_over` from refusal 3 on, and from the second test of 2 on
-abbrev from3 : DexelStockSpec → GridAnswer
-from3 s = cond (lt (whole s.max_intervals) (mul binary64 two (rays_of (dims_in s)))) (Refused 3) (Accepted (grid_in s))
+abbrev from3 : DexelStockSpec → Result DexelGrid Refusal
+from3 s = cond (lt (whole s.max_intervals) (mul binary64 two (rays_of (dims_in s)))) (Err IntervalLimit) (Ok (grid_in s))
 
-abbrev from2 : DexelStockSpec → GridAnswer
-from2 s = cond (lt (whole s.max_rays) (rays_of (dims_in s))) (Refused 2) (from3 s)
+abbrev from2 : DexelStockSpec → Result DexelGrid Refusal
+from2 s = cond (lt (whole s.max_rays) (rays_of (dims_in s))) (Err RayLimit) (from3 s)
 
 module _ (s : DexelStockSpec) (units : List ℕ) where
   module _ (n1 : Misdescribed s (sizes_of s) units → ⊥) where
     module _ (ceiling : s.max_rays < 2 ^ 32) (f : Few s ceiling) where
       third : ray_count (grid_in s) ≤ s.max_rays → (b : Bool) → lt (whole s.max_intervals) (mul binary64 two (rays_of (dims_in s))) ≡ b
-          → ByCauses s units (cond b (Refused 3) (Accepted (grid_in s)))
+          → ByCauses s units (cond b (Err IntervalLimit) (Ok (grid_in s)))
       unfolding Due NoneDue grid_causes OverBudget
       third l true e = inr (n1, inr (not-crowded s ceiling f l, inl (ltb-true _ _ (sym (intervals-test s ceiling f l) ∙ e), refl)))
       third l false e =
@@ -137,7 +139,7 @@ module _ (s : DexelStockSpec) (units : List ℕ) where
           ((n1, (not-crowded s ceiling f l, ((λ (o : s.max_intervals < 2 * ray_count (grid_in s)). omega arith), tt))), refl)
 
       second : (b : Bool) → lt (whole s.max_rays) (rays_of (dims_in s)) ≡ b
-          → ByCauses s units (cond b (Refused 2) (from3 s))
+          → ByCauses s units (cond b (Err RayLimit) (from3 s))
       unfolding Due grid_causes Crowded
       second true e = inr (n1, inl (inr (ltb-true _ _ (sym (rays-test s ceiling f) ∙ e)), refl))
       second false e = third (ltb-false _ _ (sym (rays-test s ceiling f) ∙ e))
@@ -148,7 +150,7 @@ module _ (s : DexelStockSpec) (units : List ℕ) where
     over ceiling = go (any_above (dims_in s) (whole s.max_rays)) refl
       where
         go : (b : Bool) → any_above (dims_in s) (whole s.max_rays) ≡ b
-            → ByCauses s units (cond b (Refused 2) (from2 s))
+            → ByCauses s units (cond b (Err RayLimit) (from2 s))
         go true e = let o = above-axis (dims_in s) (whole s.max_rays) e in
             inr (n1, inl (inl (o.0, ltb-true _ _ (sym (axis-test s ceiling o.0) ∙ o.1)), refl))
         go false e = second ceiling (few s ceiling e) (lt (whole s.max_rays) (rays_of (dims_in s))) refl
@@ -158,7 +160,7 @@ module _ (s : DexelStockSpec) (units : List ℕ) where
   grid-by-causes = go (is_mm units) refl (misdescribed s (sizes_of s) (extents_of s)) refl
     where
       go : (b : Bool) → is_mm units ≡ b → (c : Bool) → misdescribed s (sizes_of s) (extents_of s) ≡ c
-          → ByCauses s units (cond (not b) (Refused 1) (cond c (Refused 1) (grid_over s (extents_of s) (dims_in s))))
+          → ByCauses s units (cond (not b) (Err Description) (cond c (Err Description) (grid_over s (extents_of s) (dims_in s))))
       go false m c e = inl (units_not_mm (not-mm units m), refl)
       go true m true e = inl (clause s (sizes_of s) units e, refl)
       go true m false e =
@@ -166,5 +168,5 @@ module _ (s : DexelStockSpec) (units : List ℕ) where
           let l = p.few_rays in
           over (no-clause s (sizes_of s) units m p) (omega arith)
 
-  pub grid-post : (r : GridAnswer) → r ≡ grid_of s units → GridPost s units r
+  pub grid-post : (r : Result DexelGrid Refusal) → r ≡ grid_of s units → GridPost s units r
   grid-post r e = record { is = e; by = subst (ByCauses s units) (sym e) grid-by-causes }

@@ -8,6 +8,7 @@ use native.Mathlib.Omega.{arith}
 use lib.Ieee.{Float, binary64, sub, div, neg, lt, le}
 use lib.Ieee.Exact.{HasValue}
 use lib.Ieee.Scale.{finite}
+use Rattle.std.specs.Prelude.{Ok}
 use Rattle.doubles.specs.Constants.{million, millionth}
 use Rattle.refusal.specs.Refusal.{NoneDue}
 use Rattle.grid.specs.Axes.{by_digit, world_axis, along_of, cells_along, step_along}
@@ -19,7 +20,6 @@ use Rattle.grid.specs.declared.Vec3.{Vec3}
 use Rattle.grid.specs.declared.WorldAxis.{WorldAxis}
 use Rattle.grid.specs.declared.DexelStockSpec.{DexelStockSpec}
 use Rattle.grid.specs.declared.DexelGrid.{DexelGrid}
-use Rattle.grid.specs.declared.GridAnswer.TheVariants.{Accepted}
 use Rattle.grid.proofs.Counts.{value}
 use Rattle.grid.proofs.Described.{each, and_both, Passes, no-clause-passes}
 use Rattle.grid.proofs.Extents.{Sized, sized-finite, million-sized, sub-sized, step-sized, box}
@@ -159,10 +159,10 @@ module _ (s : DexelStockSpec) (p : Passes s (sizes_of s)) (n2 : Crowded s (grid_
       }
 
 -- a grid that `grid` accepts a description with
-pub grid-facts : (s : DexelStockSpec) (units : List ℕ) (g : DexelGrid) → grid_of s units ≡ Accepted g → GridFacts s g
+pub grid-facts : (s : DexelStockSpec) (units : List ℕ) (g : DexelGrid) → grid_of s units ≡ Ok g → GridFacts s g
 unfolding NoneDue grid_causes
 grid-facts s units g h =
-    let b : ByCauses s units (Accepted g) = subst (ByCauses s units) h (grid-by-causes s units) in
+    let b : ByCauses s units (Ok g) = subst (ByCauses s units) h (grid-by-causes s units) in
     subst (GridFacts s) (sym b.1) (made s (no-clause-passes s (sizes_of s) units b.0.0) b.0.1.0 b.0.1.1.0)
 
 -- the cells along any axis

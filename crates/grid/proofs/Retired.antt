@@ -15,22 +15,23 @@ use lib.Ieee.Bits.{is_true}
 use lib.Ieee.Order.{round_mono}
 use lib.Ieee.Fits.{down_pos}
 use Rattle.logic.proofs.Bools.{clash}
+use Rattle.std.specs.Prelude.{Result, Ok, Err}
 use Rattle.doubles.specs.Constants.{one, two, million, millionth}
 use Rattle.doubles.specs.Doubles.{larger_of, abs_of}
 use Rattle.doubles.proofs.Order.{le_trans, le→not-lt}
 use Rattle.doubles.proofs.Pick.{larger-either}
 use Rattle.refusal.specs.Refusal.{Due, NoneDue}
+use Rattle.refusal.specs.declared.Refusal.TheVariants.{Description, RayLimit, IntervalLimit}
 use Rattle.grid.specs.Axes.{by_digit, world_axis, along_of, step_along}
 use Rattle.grid.specs.Grid.{whole}
 use Rattle.grid.specs.FromSpec.{any_above, is_mm, sizes_of, extents_of, misdescribed, dims_of, grid_with, rays_of, grid_over, grid_of}
 use Rattle.grid.specs.Causes.{dims_in, grid_in, grid_causes, ByCauses, GridPost}
-use Rattle.grid.specs.Retired.{BoxFits, c128, epsilon, magnitude_of, least_step, TooFine, too_fine, grid_as_rust}
+use Rattle.grid.specs.Retired.{BoxFits, c128, epsilon, magnitude_of, least_step, TooFine, too_fine, grid_as_rust, by_number}
 use Rattle.grid.specs.declared.Vec3.{Vec3}
 use Rattle.grid.specs.declared.WorldAxis.{WorldAxis}
 use Rattle.grid.specs.declared.DexelStockSpec.{DexelStockSpec}
 use Rattle.grid.specs.declared.DexelGrid.{DexelGrid}
-use Rattle.grid.specs.declared.GridAnswer.{GridAnswer}
-use Rattle.grid.specs.declared.GridAnswer.TheVariants.{Accepted, Refused}
+use Rattle.refusal.specs.declared.Refusal.{Refusal}
 use Rattle.grid.proofs.Described.{below-axis, passes, no-clause-passes}
 use Rattle.grid.proofs.Extents.{Sized}
 use Rattle.grid.proofs.Causes.{grid-by-causes}
@@ -125,38 +126,59 @@ unfolding NoneDue grid_causes
 no-fourth-cause s units n = never-too-fine s (sizes_of s) (no-clause-passes s (sizes_of s) units n.0).box
 
 -- the grid of an accepted answer has no step below the limit
-pub accepted-not-too-fine : (s : DexelStockSpec) (units : List ℕ) (g : DexelGrid) → GridPost s units (Accepted g) → TooFine s g → ⊥
+pub accepted-not-too-fine : (s : DexelStockSpec) (units : List ℕ) (g : DexelGrid) → GridPost s units (Ok g) → TooFine s g → ⊥
 accepted-not-too-fine s units g p t = no-fourth-cause s units p.by.0 (subst (TooFine s) p.by.1 t)
 
--- the Rust's answer, with its fourth test, is the port's for every input
-pub grid-as-rust : (s : DexelStockSpec) (units : List ℕ) → grid_as_rust s units ≡ grid_of s units
+-- the Rust's answer, with its fourth test, is the port's for every input, number for number
+pub grid-as-rust : (s : DexelStockSpec) (units : List ℕ) → grid_as_rust s units ≡ by_number (grid_of s units)
 unfolding grid_as_rust grid_of grid_over
 grid-as-rust s units = go (is_mm units) (misdescribed s (sizes_of s) (extents_of s)) refl
+    ∙ numbered (not (is_mm units)) (misdescribed s (sizes_of s) (extents_of s)) (any_above (dims_in s) (whole s.max_rays)) _ _
   where
     -- 2, 3 and what follows them
-    after : GridAnswer → GridAnswer
+    after : Result DexelGrid ℕ → Result DexelGrid ℕ
     after r =
-        cond (any_above (dims_in s) (whole s.max_rays)) (Refused 2)
-        (cond (lt (whole s.max_rays) (rays_of (dims_in s))) (Refused 2)
-        (cond (lt (whole s.max_intervals) (mul binary64 two (rays_of (dims_in s)))) (Refused 3) r))
+        cond (any_above (dims_in s) (whole s.max_rays)) (Err 2)
+        (cond (lt (whole s.max_rays) (rays_of (dims_in s))) (Err 2)
+        (cond (lt (whole s.max_intervals) (mul binary64 two (rays_of (dims_in s)))) (Err 3) r))
 
-    rest : Bool → GridAnswer
-    rest t = after (cond t (Refused 4) (Accepted (grid_in s)))
+    rest : Bool → Result DexelGrid ℕ
+    rest t = after (cond t (Err 4) (Ok (grid_in s)))
 
     go : (b c : Bool) → misdescribed s (sizes_of s) (extents_of s) ≡ c
-        → cond (not b) (Refused 1) (cond c (Refused 1) (rest (too_fine s.min_mm s.max_mm (grid_in s))))
-        ≡ cond (not b) (Refused 1) (cond c (Refused 1) (after (Accepted (grid_in s))))
+        → cond (not b) (Err 1) (cond c (Err 1) (rest (too_fine s.min_mm s.max_mm (grid_in s))))
+        ≡ cond (not b) (Err 1) (cond c (Err 1) (after (Ok (grid_in s))))
     go false c e = refl
     go true true e = refl
     go true false e = ap rest (test-passes s (sizes_of s) (passes s (sizes_of s) e).box)
 
+    -- the answers of the five tests, with their numbers
+    numbered : (a b c d e : Bool)
+        → cond a (Err 1) (cond b (Err 1) (cond c (Err 2) (cond d (Err 2) (cond e (Err 3) (Ok (grid_in s))))))
+        ≡ by_number (cond a (Err Description) (cond b (Err Description)
+        (cond c (Err RayLimit) (cond d (Err RayLimit) (cond e (Err IntervalLimit) (Ok (grid_in s)))))))
+    numbered true b c d e = refl
+    numbered false true c d e = refl
+    numbered false false true d e = refl
+    numbered false false false true e = refl
+    numbered false false false false true = refl
+    numbered false false false false false = refl
+
 -- so the Rust gives 4 to no input
-pub rust-never-gives-4 : (s : DexelStockSpec) (units : List ℕ) → grid_as_rust s units ≡ Refused 4 → ⊥
+pub rust-never-gives-4 : (s : DexelStockSpec) (units : List ℕ) → grid_as_rust s units ≡ Err 4 → ⊥
 unfolding Due grid_causes
-rust-never-gives-4 s units e = none (subst (ByCauses s units) (sym (grid-as-rust s units) ∙ e) (grid-by-causes s units))
+rust-never-gives-4 s units e = go (grid_of s units) (grid-by-causes s units) (sym (grid-as-rust s units) ∙ e)
   where
     none : Due (grid_causes s units) 4 → ⊥
     none (inl d) = absurd (omega (arith, d.1))
     none (inr (n, inl d)) = absurd (omega (arith, d.1))
     none (inr (n, inr (m, inl d))) = absurd (omega (arith, d.1))
     none (inr (n, inr (m, inr (o, d)))) = d
+
+    number : Result DexelGrid ℕ → ℕ
+    number (Ok g) = 0
+    number (Err k) = k
+
+    go : (r : Result DexelGrid Refusal) → ByCauses s units r → by_number r ≡ Err 4 → ⊥
+    go (Ok g) p h = absurd (omega (arith, ap number h))
+    go (Err k) p h = none (subst (Due (grid_causes s units)) (ap number h) p)

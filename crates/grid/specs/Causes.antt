@@ -1,9 +1,9 @@
 -- The refusals of `grid` in document 01's own words, over whole numbers of cells and rays.
-use Rattle.std.specs.Prelude.{◌≡◌, true, List, [], ◌∷◌, ◌⊎◌, ℕ, ◌*◌, ◌<◌}
+use Rattle.std.specs.Prelude.{◌≡◌, true, List, [], ◌∷◌, ◌⊎◌, ℕ, ◌*◌, ◌<◌, Result, Ok, Err}
 use Rattle.std.specs.Float.Ieee.{neg, lt}
 use Rattle.doubles.specs.Constants.{million, millionth}
 use Rattle.doubles.specs.Ranges.{OutOf}
-use Rattle.refusal.specs.Refusal.{Cause, cause, Due, NoneDue}
+use Rattle.refusal.specs.Refusal.{Cause, cause, Due, NoneDue, number_of}
 use Rattle.grid.specs.Axes.{along_of, cells_along}
 use Rattle.grid.specs.FromSpec.{least_size, sizes_of, extents_of, dims_of, grid_with, grid_of}
 use Rattle.grid.specs.Rays.{ray_count}
@@ -11,8 +11,7 @@ use Rattle.grid.specs.declared.Vec3.{Vec3}
 use Rattle.grid.specs.declared.WorldAxis.{WorldAxis}
 use Rattle.grid.specs.declared.DexelStockSpec.{DexelStockSpec}
 use Rattle.grid.specs.declared.DexelGrid.{DexelGrid}
-use Rattle.grid.specs.declared.GridAnswer.{GridAnswer}
-use Rattle.grid.specs.declared.GridAnswer.TheVariants.{Accepted, Refused}
+use Rattle.refusal.specs.declared.Refusal.{Refusal}
 
 -- the bytes of "mm"
 abbrev pub mm : List ℕ
@@ -54,12 +53,12 @@ grid_causes s units =
     ∷ []
 
 -- an answer of `grid` by these causes
-abbrev pub ByCauses : DexelStockSpec → (units : List ℕ) → GridAnswer → Type 0
-ByCauses s units (Refused k) = Due (grid_causes s units) k
-ByCauses s units (Accepted g) = NoneDue (grid_causes s units) × (g ≡ grid_in s)
+abbrev pub ByCauses : DexelStockSpec → (units : List ℕ) → Result DexelGrid Refusal → Type 0
+ByCauses s units (Err e) = Due (grid_causes s units) (number_of e)
+ByCauses s units (Ok g) = NoneDue (grid_causes s units) × (g ≡ grid_in s)
 
 -- what `grid` promises: the Rust's answer, number for number (by `grid-as-rust` in proofs/Retired.antt with its last test
 -- too), and that it is document 01's, by its causes
-pub record GridPost (s : DexelStockSpec) (units : List ℕ) (r : GridAnswer) : Type 0 where
+pub record GridPost (s : DexelStockSpec) (units : List ℕ) (r : Result DexelGrid Refusal) : Type 0 where
   pub is : r ≡ grid_of s units
   pub by : ByCauses s units r

@@ -2,7 +2,7 @@
 -- tests are those of the Rust but its last, which fails for no description that passes the others (specs/Retired.antt).
 -- specs/Causes.antt has the refusals in document 01's own words; `grid-by-causes` in proofs/Causes.antt shows that they say
 -- the same.
-use Rattle.std.specs.Prelude.{Bool, cond, not, ◌&&◌, ◌||◌, List, ℕ, eqb, ltb, length, get_or, Float}
+use Rattle.std.specs.Prelude.{Bool, cond, not, ◌&&◌, ◌||◌, List, ℕ, eqb, ltb, length, get_or, Float, Result, Ok, Err}
 use Rattle.std.specs.Float.{binary64}
 use Rattle.std.specs.Float.Ieee.{of_bits, to_unsigned, add, sub, mul, div, neg, lt}
 use Rattle.doubles.specs.Constants.{million, millionth, one, two}
@@ -10,8 +10,8 @@ use Rattle.doubles.specs.Doubles.{larger_of, ceil_of}
 use Rattle.grid.specs.declared.Vec3.{Vec3}
 use Rattle.grid.specs.declared.DexelStockSpec.{DexelStockSpec}
 use Rattle.grid.specs.declared.DexelGrid.{DexelGrid}
-use Rattle.grid.specs.declared.GridAnswer.{GridAnswer}
-use Rattle.grid.specs.declared.GridAnswer.TheVariants.{Accepted, Refused}
+use Rattle.refusal.specs.declared.Refusal.{Refusal}
+use Rattle.refusal.specs.declared.Refusal.TheVariants.{Description, RayLimit, IntervalLimit}
 use Rattle.grid.specs.Grid.{whole, all_between}
 
 -- 1e-5
@@ -84,15 +84,15 @@ rays_of d = add binary64 (add binary64 (mul binary64 d.x d.y) (mul binary64 d.y 
 -- ---- the answer
 
 -- refusals 2 and 3, over the cells along each axis
-unfoldable pub grid_over : DexelStockSpec → (extents dims : Vec3) → GridAnswer
+unfoldable pub grid_over : DexelStockSpec → (extents dims : Vec3) → Result DexelGrid Refusal
 grid_over s extents dims =
-    cond (any_above dims (whole s.max_rays)) (Refused 2)
-    (cond (lt (whole s.max_rays) (rays_of dims)) (Refused 2)
-    (cond (lt (whole s.max_intervals) (mul binary64 two (rays_of dims))) (Refused 3)
-    (Accepted (grid_with extents dims))))
+    cond (any_above dims (whole s.max_rays)) (Err RayLimit)
+    (cond (lt (whole s.max_rays) (rays_of dims)) (Err RayLimit)
+    (cond (lt (whole s.max_intervals) (mul binary64 two (rays_of dims))) (Err IntervalLimit)
+    (Ok (grid_with extents dims))))
 
-unfoldable pub grid_of : DexelStockSpec → (units : List ℕ) → GridAnswer
+unfoldable pub grid_of : DexelStockSpec → (units : List ℕ) → Result DexelGrid Refusal
 grid_of s units =
-    cond (not (is_mm units)) (Refused 1)
-    (cond (misdescribed s (sizes_of s) (extents_of s)) (Refused 1)
+    cond (not (is_mm units)) (Err Description)
+    (cond (misdescribed s (sizes_of s) (extents_of s)) (Err Description)
     (grid_over s (extents_of s) (dims_of (extents_of s) (sizes_of s))))

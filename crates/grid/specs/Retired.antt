@@ -1,6 +1,6 @@
 -- The test behind the retired number 4, as the Rust has it. No contract cites it: proofs/Retired.antt shows that it fails for no
 -- description that passes the tests before it.
-use Rattle.std.specs.Prelude.{◌≡◌, Bool, true, false, cond, not, List, ℕ, Float}
+use Rattle.std.specs.Prelude.{◌≡◌, Bool, true, false, cond, not, List, ℕ, Float, Result, Ok, Err}
 use Rattle.std.specs.Float.{binary64}
 use Rattle.std.specs.Float.Ieee.{of_bits, mul, neg, lt}
 use Rattle.doubles.specs.Constants.{million, millionth, one, two}
@@ -12,8 +12,8 @@ use Rattle.grid.specs.declared.Vec3.{Vec3}
 use Rattle.grid.specs.declared.WorldAxis.{WorldAxis}
 use Rattle.grid.specs.declared.DexelStockSpec.{DexelStockSpec}
 use Rattle.grid.specs.declared.DexelGrid.{DexelGrid}
-use Rattle.grid.specs.declared.GridAnswer.{GridAnswer}
-use Rattle.grid.specs.declared.GridAnswer.TheVariants.{Accepted, Refused}
+use Rattle.refusal.specs.declared.Refusal.{Refusal}
+use Rattle.refusal.specs.Refusal.{number_of}
 
 -- what is asked of a box and its cell sizes: coordinates of at most 1e6 in size, cells from 1e-5 to 1e6, extents of at least 1e-6
 pub record BoxFits (s : DexelStockSpec) (sizes : Vec3) : Type 0 where
@@ -47,16 +47,22 @@ TooFine s g = (a : WorldAxis) × (lt (step_along g a) (least_step s.min_mm s.max
 unfoldable pub too_fine : (min max : Vec3) → DexelGrid → Bool
 too_fine p q g = any_below (record { x = g.s0; y = g.s1; z = g.s2 }) (least_step p q)
 
--- the Rust's `grid`: its tests in its order, each as the port has it, and the one of the steps last
-unfoldable pub grid_as_rust : DexelStockSpec → (units : List ℕ) → GridAnswer
+-- the Rust's `grid`: its tests in its order, each as the port has it, and the one of the steps last. It refuses with the numbers
+-- of document 01, since `Refusal` has no 4
+unfoldable pub grid_as_rust : DexelStockSpec → (units : List ℕ) → Result DexelGrid ℕ
 grid_as_rust s units =
     let extents = extents_of s in
     let dims = dims_of extents (sizes_of s) in
     let g = grid_with extents dims in
-    cond (not (is_mm units)) (Refused 1)
-    (cond (misdescribed s (sizes_of s) extents) (Refused 1)
-    (cond (any_above dims (whole s.max_rays)) (Refused 2)
-    (cond (lt (whole s.max_rays) (rays_of dims)) (Refused 2)
-    (cond (lt (whole s.max_intervals) (mul binary64 two (rays_of dims))) (Refused 3)
-    (cond (too_fine s.min_mm s.max_mm g) (Refused 4)
-    (Accepted g))))))
+    cond (not (is_mm units)) (Err 1)
+    (cond (misdescribed s (sizes_of s) extents) (Err 1)
+    (cond (any_above dims (whole s.max_rays)) (Err 2)
+    (cond (lt (whole s.max_rays) (rays_of dims)) (Err 2)
+    (cond (lt (whole s.max_intervals) (mul binary64 two (rays_of dims))) (Err 3)
+    (cond (too_fine s.min_mm s.max_mm g) (Err 4)
+    (Ok g))))))
+
+-- an answer of the port with the number of its refusal
+abbrev pub by_number : Result DexelGrid Refusal → Result DexelGrid ℕ
+by_number (Ok g) = Ok g
+by_number (Err e) = Err (number_of e)

@@ -6,31 +6,11 @@
 // the number of the first row that differs.
 #![tactic(auto)]
 
-ghost use Rattle.grid_vectors.specs.Facts.{FactsOf};
 ghost use Rattle.grid.specs.Facts.{GridFacts};
 
-use grid::{DexelGrid, DexelStockSpec, GridAnswer, WorldAxis};
+use grid::{DexelGrid, DexelStockSpec, WorldAxis};
 use input_bytes::InputBytes;
 use std::io;
-
-// The answer of `grid` for the units of this number.
-fn gridded(spec: DexelStockSpec, units: u64) -> GridAnswer
-    ensures { FactsOf spec result }
-{
-    if units == 0 {
-        return grid_from_spec::grid(spec, &[b'm', b'm']);
-    }
-    if units == 1 {
-        return grid_from_spec::grid(spec, &[b'm']);
-    }
-    if units == 2 {
-        return grid_from_spec::grid(spec, &[b'm', b'm', b'm']);
-    }
-    if units == 3 {
-        return grid_from_spec::grid(spec, &[b'c', b'm']);
-    }
-    grid_from_spec::grid(spec, &[b'm', b'n'])
-}
 
 // The answers about an accepted grid.
 fn asked(
@@ -66,20 +46,27 @@ fn asked(
     ]
 }
 
+// The answer of `grid` for the units of this number.
 fn answer(
     spec: DexelStockSpec,
-    units: u64,
+    number: u64,
     axis: WorldAxis,
     index: u64,
     i: u64,
     x: f64,
 ) -> [u64; 14] {
-    let r = gridded(spec, units);
-    match r {
-        GridAnswer::Accepted(g) => asked(spec, g, axis, index, i, x),
-        GridAnswer::Refused(k) => {
+    let units: &[u8] = match number {
+        0 => b"mm",
+        1 => b"m",
+        2 => b"mmm",
+        3 => b"cm",
+        _ => b"mn",
+    };
+    match grid_from_spec::grid(spec, units) {
+        Ok(g) => asked(spec, g, axis, index, i, x),
+        Err(e) => {
             let mut refused = [0; 14];
-            refused[0] = k as u64;
+            refused[0] = u32::from(e) as u64;
             refused
         }
     }

@@ -1,59 +1,45 @@
--- One digit of a number in a text: what it adds, and where the text has none. Assumes nothing.
+-- One digit of a number more: what it adds, and where the text has none. Assumes nothing.
 use mathlib.Core.Path.{◌≡◌, refl, sym, ap, ◌∙◌, subst}
 use mathlib.Core.Bool.{Bool, true, false, cond}
-use mathlib.Core.List.{List, ◌∷◌}
-use Prim.Native.Nat.{ℕ, suc, ◌+◌, ◌-◌, ◌*◌, ◌^◌, ◌≤◌, ◌<◌, zero-le}
-use native.Mathlib.Nat.{add-zero, sub-zero, sub_self, mul-add, lt_of_lt_of_le}
+use mathlib.Core.List.{List}
+use Prim.Native.Nat.{ℕ, suc, ◌+◌, ◌-◌, ◌*◌, ◌^◌, ◌≤◌, ◌<◌}
+use native.Mathlib.Nat.{mul-add, lt_of_lt_of_le}
+use native.Mathlib.Numerals.{add-one}
 use native.Mathlib.Omega.{arith}
-use borrow.Author.Tests.{lt-ltb, le-ltb, ltb-true}
+use borrow.Author.Tests.{ltb-true, le-leb, lt-leb}
 use lib.Dec.{ltb, lit<}
 use lib.Pow.{pow-add, pow_mono}
 use lib.ListN.{length, take, drop, get_or}
 use lib.Seq.{drop-cons}
-use Rattle.hex_text.specs.Hex.{hex_digit, hex_number}
-use Rattle.hex_text.specs.declared.Word.TheVariants.{Value, Missing}
+use Rattle.std.proofs.lemmas.List.{drop_all}
+use Rattle.std.specs.Prelude.{Option, None, Some}
+use Rattle.std.specs.Option.{option_and_then}
+use Rattle.hex_text.specs.Hex.{hex_digit, hex_number, hex_at}
 
-pub digit-le : (c : ℕ) → hex_digit c ≤ 16
+-- a digit counts less than 16
+pub digit-lt : (c d : ℕ) → hex_digit c ≡ Some d → d < 16
 unfolding hex_digit
-digit-le c = go (ltb c 48) (ltb c 58) (ltb c 97) (ltb c 103) (ltb-true c 58) (ltb-true c 103)
+digit-lt c d = go (ltb c 48) (ltb c 58) (ltb c 97) (ltb c 103) (ltb-true c 58) (ltb-true c 103)
   where
-    go : (s t u v : Bool) → (t ≡ true → c < 58) → (v ≡ true → c < 103) → cond s 16 (cond t (c - 48) (cond u 16 (cond v (c - 87) 16))) ≤ 16
-    go true t u v f g = omega arith
-    go false true u v f g = let h = f refl in omega arith
-    go false false true v f g = omega arith
-    go false false false true f g = let h = g refl in omega arith
-    go false false false false f g = omega arith
+    value : Option ℕ → ℕ
+    value None = 0
+    value (Some v) = v
 
-module _ (text : List ℕ) (k j v : ℕ) (h : j < length text) where
-  first : hex_number v (take (suc k) (drop j text)) ≡ hex_number v (get_or text j 0 ∷ take k (drop (suc j) text))
-  first = ap (λ (l : List ℕ). hex_number v (take (suc k) l)) (drop-cons text j 0 h)
+    go : (s t u v : Bool) → (t ≡ true → c < 58) → (v ≡ true → c < 103)
+        → cond s None (cond t (Some (c - 48)) (cond u None (cond v (Some (c - 87)) None))) ≡ Some d → d < 16
+    go true t u v f g e = omega (arith, ap value e)
+    go false true u v f g e = let h = f refl in omega (arith, ap value e)
+    go false false true v f g e = omega (arith, ap value e)
+    go false false false true f g e = let h = g refl in omega (arith, ap value e)
+    go false false false false f g e = omega (arith, ap value e)
 
-  pub more : hex_digit (get_or text j 0) < 16
-      → hex_number v (take (suc k) (drop j text)) ≡ hex_number (v * 16 + hex_digit (get_or text j 0)) (take k (drop (suc j) text))
-  unfolding hex_number
-  more l = first ∙ ap (λ (b : Bool). cond b
-      (hex_number (v * 16 + hex_digit (get_or text j 0)) (take k (drop (suc j) text))) Missing)
-      (lt-ltb (hex_digit (get_or text j 0)) 16 l)
-
-  pub stop : 16 ≤ hex_digit (get_or text j 0) → hex_number v (take (suc k) (drop j text)) ≡ Missing
-  unfolding hex_number
-  stop l = first ∙ ap (λ (b : Bool). cond b
-      (hex_number (v * 16 + hex_digit (get_or text j 0)) (take k (drop (suc j) text))) Missing)
-      (le-ltb (hex_digit (get_or text j 0)) 16 l)
-
--- `value` is what the first i of the n digits at place k count
-pub record Read (text : List ℕ) (k n value i : ℕ) : Type 0 where
-  pub same : hex_number value (take (n - i) (drop (k + i) text)) ≡ hex_number 0 (take n (drop k text))
+-- `value` is what the first i digits count
+pub record Read (digits : List ℕ) (value i : ℕ) : Type 0 where
+  pub same : hex_number value (drop i digits) ≡ hex_number 0 digits
   pub small : value < 2 ^ (4 * i)
-  pub within : i ≤ n
 
-pub read_none : (text : List ℕ) (k n : ℕ) → Read text k n 0 0
-read_none text k n = record {
-  same = ap (λ (j : ℕ). hex_number 0 (take j (drop (k + 0) text))) (sub-zero n)
-      ∙ ap (λ (j : ℕ). hex_number 0 (take n (drop j text))) (add-zero k);
-  small = lit< tt;
-  within = zero-le;
-}
+pub read_none : (digits : List ℕ) → Read digits 0 0
+read_none digits = record { same = refl; small = lit< tt }
 
 pub small_at : (value i : ℕ) → value < 2 ^ (4 * i) → i < 16 → value < 2 ^ 60
 small_at value i h l = lt_of_lt_of_le h (pow_mono exponent)
@@ -61,42 +47,40 @@ small_at value i h l = lt_of_lt_of_le h (pow_mono exponent)
     exponent : 4 * i ≤ 60
     exponent = omega arith
 
-module _ (text : List ℕ) (k n value i : ℕ) (r : Read text k n value i) (l : i < n) (h : k + n ≤ length text) where
-  left : n - i ≡ suc (n - (i + 1))
-  left = omega arith
+module _ (digits : List ℕ) (value i : ℕ) (r : Read digits value i) (l : i < length digits) where
+  -- what the digit at i makes of the number
+  step : (o : Option ℕ) → hex_digit (get_or digits i 0) ≡ o
+      → option_and_then (λ d. hex_number (value * 16 + d) (drop (suc i) digits)) o ≡ hex_number 0 digits
+  unfolding hex_number
+  step o e =
+      ap (option_and_then (λ (d : ℕ). hex_number (value * 16 + d) (drop (suc i) digits))) (sym e)
+      ∙ ap (hex_number value) (sym (drop-cons digits i 0 l)) ∙ r.same
 
-  place : k + i < length text
-  place = omega arith
-
-  pub read_more : hex_digit (get_or text (k + i) 0) < 16 → Read text k n (value * 16 + hex_digit (get_or text (k + i) 0)) (i + 1)
-  read_more d =
-      let c = hex_digit (get_or text (k + i) 0) in
-      record {
-        same =
-            ap (λ (j : ℕ). hex_number (value * 16 + c) (take (n - (i + 1)) (drop j text))) (sym next)
-            ∙ sym (more text (n - (i + 1)) (k + i) value place d)
-            ∙ ap (λ (j : ℕ). hex_number value (take j (drop (k + i) text))) (sym left)
-            ∙ r.same;
-        small = subst (λ (p : ℕ). value * 16 + c < p) (sym wide) (grown value c (2 ^ (4 * i)) r.small d);
-        within = one_more;
-      }
+  pub read_more : (d : ℕ) → hex_digit (get_or digits i 0) ≡ Some d → Read digits (value * 16 + d) (i + 1)
+  read_more d e = record {
+    same = rw (add-one i) (step (Some d) e);
+    small = subst (λ (p : ℕ). value * 16 + d < p) (sym wide) (grown value d (2 ^ (4 * i)) r.small (digit-lt _ d e));
+  }
     where
-      one_more : i + 1 ≤ n
-      one_more = omega arith
-
-      next : suc (k + i) ≡ k + (i + 1)
-      next = omega arith
-
       wide : 2 ^ (4 * (i + 1)) ≡ 2 ^ (4 * i) * 2 ^ 4
       wide = ap (λ (z : ℕ). 2 ^ z) (mul-add 4 i 1) ∙ pow-add 2 (4 * i) 4
 
       grown : (a b p : ℕ) → a < p → b < 16 → a * 16 + b < p * 2 ^ 4
       grown a b p f g = omega arith
 
-  pub read-stop : 16 ≤ hex_digit (get_or text (k + i) 0) → hex_number 0 (take n (drop k text)) ≡ Missing
-  read-stop d = sym r.same ∙ ap (λ (j : ℕ). hex_number value (take j (drop (k + i) text))) left
-      ∙ stop text (n - (i + 1)) (k + i) value place d
+  pub read-stop : hex_digit (get_or digits i 0) ≡ None → None ≡ hex_number 0 digits
+  read-stop e = step None e
 
-pub read_all : (text : List ℕ) (k n value : ℕ) → Read text k n value n → Value value ≡ hex_number 0 (take n (drop k text))
+pub read_all : (digits : List ℕ) (value i : ℕ) → Read digits value i → length digits ≤ i → Some value ≡ hex_number 0 digits
 unfolding hex_number
-read_all text k n value r = sym (ap (λ (j : ℕ). hex_number value (take j (drop (k + n) text))) (sub_self n)) ∙ r.same
+read_all digits value i r h = ap (hex_number value) (sym (drop_all i digits h)) ∙ r.same
+
+-- the text ends before the number does
+pub past : (text : List ℕ) (k n : ℕ) → n ≤ 16 → length text < k + n → None ≡ hex_at text k n
+unfolding hex_at
+past text k n l h = simp (le-leb n 16 l, lt-leb (k + n) (length text) h)
+
+pub inside : (text digits : List ℕ) (k n : ℕ) (w : Option ℕ) → n ≤ 16 → k + n ≤ length text → digits ≡ take n (drop k text)
+    → w ≡ hex_number 0 digits → w ≡ hex_at text k n
+unfolding hex_at
+inside text digits k n w l h d e = simp (le-leb n 16 l, le-leb (k + n) (length text) h) (e ∙ ap (hex_number 0) d)

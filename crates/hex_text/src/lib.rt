@@ -3,61 +3,39 @@
 
 ghost use Rattle.std.specs.Prelude.{◌≡◌};
 ghost use Rattle.hex_text.specs.Hex.{hex_digit, hex_at};
-// A number that was read, or none: the text ends before it, or something else than a digit stands there.
-#[derive(Clone, Copy)]
-pub enum Word {
-    Value(u64),
-    Missing,
-}
 
-// What the digit with this ASCII code counts, `0` to `9` and `a` to `f`, and 16 for every other byte.
-pub fn digit(code: u8) -> u64
+// What the digit with this ASCII code counts, `0` to `9` and `a` to `f`, and none for every other byte.
+#[tactic(auto, unfolding(crate::specs::Hex::hex_digit))]
+pub fn digit(code: u8) -> Option<u64>
     ensures { result ≡ hex_digit code }
 {
-    let c = code as u64;
-    if c < 48 {
-        return 16;
+    match code {
+        b'0'..=b'9' => Some(u64::from(code - b'0')),
+        b'a'..=b'f' => Some(u64::from(code - b'a') + 10),
+        _ => None,
     }
-    if c < 58 {
-        return c - 48;
-    }
-    if c < 97 {
-        return 16;
-    }
-    if c < 103 {
-        return c - 87;
-    }
-    16
 }
 
-// The number of `count` digits at place `at` of the text, and none where there are more than 16.
-pub fn hex_at(text: &[u8], at: usize, count: usize) -> Word
+// The number of `count` digits at place `at` of the text, and none where there are more than 16, the text ends before it, or something
+// else than a digit stands there.
+pub fn hex_at(text: &[u8], at: usize, count: usize) -> Option<u64>
     ensures { result ≡ hex_at text.now at count }
 {
     if 16 < count {
-        return Word::Missing;
+        return None;
     }
-    if text.len() < count {
-        return Word::Missing;
-    }
-    if text.len() - count < at {
-        return Word::Missing;
-    }
+    let end = at.checked_add(count)?;
+    let digits = text.get(at..end)?;
     let mut value: u64 = 0;
-    let mut i = 0;
-    while i < count {
-        let d = digit(text[at + i]);
-        if d == 16 {
-            return Word::Missing;
-        }
+    for c in digits {
+        let d = digit(*c)?;
         value = value * 16 + d;
-        i += 1;
     }
-    Word::Value(value)
+    Some(value)
 }
 
 // The number of 16 digits at place `at` of the text.
-pub fn word_at(text: &[u8], at: usize) -> Word
+pub fn word_at(text: &[u8], at: usize) -> Option<u64>
     ensures { result ≡ hex_at text.now at 16 }
 {
     hex_at(text, at, 16)

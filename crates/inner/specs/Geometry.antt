@@ -1,14 +1,12 @@
 -- The answers of the strips and of the cutter as numbers.
-use Rattle.std.specs.Prelude.{◌≡◌, ◌⊎◌, ℕ}
+use Rattle.std.specs.Prelude.{◌≡◌, ℕ, Float, Option, None, Some, Result, Ok, Err}
 use Rattle.doubles.specs.Constants.{plus_zero}
 use Rattle.strips.specs.declared.Strip.{Strip}
 use Rattle.strips.specs.declared.Strip.TheVariants.{Hit, Miss}
 use Rattle.cutter.specs.declared.ProfileSlice.{ProfileSlice}
-use Rattle.cutter.specs.declared.ProfileSlice.TheVariants.{Cutting, NonCutting}
-use Rattle.cutter.specs.declared.Radius.{Radius}
-use Rattle.cutter.specs.declared.Radius.TheVariants.{Is}
-use Rattle.cutter_check.specs.declared.ToolCheck.{ToolCheck}
-use Rattle.cutter_check.specs.declared.ToolCheck.TheVariants.{Accepted, Refused}
+use Rattle.cutter.specs.declared.ProfileSlice.TheVariants.{Cutting, NonCutting, Outside}
+use Rattle.refusal.specs.Refusal.{number_of}
+use Rattle.refusal.specs.declared.Refusal.{Refusal}
 use Rattle.inner.specs.declared.StripNumbers.{StripNumbers}
 use Rattle.inner.specs.declared.RadiusNumbers.{RadiusNumbers}
 
@@ -19,12 +17,17 @@ strip_as Miss = record { hit = 0; lo = plus_zero; hi = plus_zero }
 unfoldable pub slice_as : ProfileSlice → RadiusNumbers
 slice_as (Cutting x) = record { kind = 1; radius = x }
 slice_as (NonCutting x) = record { kind = 2; radius = x }
-slice_as ProfileSlice.Outside = record { kind = 0; radius = plus_zero }
+slice_as Outside = record { kind = 0; radius = plus_zero }
 
-unfoldable pub radius_as : Radius → RadiusNumbers
-radius_as (Is x) = record { kind = 1; radius = x }
-radius_as Radius.Outside = record { kind = 0; radius = plus_zero }
+unfoldable pub radius_as : Option Float → RadiusNumbers
+radius_as (Some x) = record { kind = 1; radius = x }
+radius_as None = record { kind = 0; radius = plus_zero }
 
 -- 0 where the tool is accepted, else the refusal's number
-abbrev pub CheckedAs : (ToolCheck → Type 0) → ℕ → Type 0
-CheckedAs answer r = (answer Accepted × (r ≡ 0)) ⊎ answer (Refused r)
+abbrev pub check_code : Result (Unit {0}) Refusal → ℕ
+check_code (Ok u) = 0
+check_code (Err e) = number_of e
+
+-- the code of an answer
+abbrev pub CheckedAs : (Result (Unit {0}) Refusal → Type 0) → ℕ → Type 0
+CheckedAs answer k = (r : Result (Unit {0}) Refusal) × (answer r × (k ≡ check_code r))

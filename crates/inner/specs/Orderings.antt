@@ -1,7 +1,7 @@
 -- Rust's `cmp::Ordering` as a number.
 use Rattle.std.specs.Prelude.{ℕ}
-use Rattle.doubles.specs.declared.Ordering.{Ordering}
-use Rattle.doubles.specs.declared.Ordering.TheVariants.{Less, Equal, Greater}
+use Rattle.std.specs.declared.cmp.Ordering.{Ordering}
+use Rattle.std.specs.declared.cmp.Ordering.TheVariants.{Less, Equal, Greater}
 
 abbrev pub ordering_code : Ordering → ℕ
 ordering_code Less = 0

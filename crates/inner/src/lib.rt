@@ -24,8 +24,7 @@ ghost use Rattle.store.specs.Store.{cells};
 ghost use Rattle.stock.specs.Stock.{SoundCells};
 ghost use Rattle.ray_text.specs.Run.{ProgramRan};
 
-use cutter::{PreparedCutter, ProfileSlice, Radius};
-use cutter_check::ToolCheck;
+use cutter::{PreparedCutter, ProfileSlice};
 use grid::{DexelGrid, DexelStockSpec, RayCenter, WorldAxis};
 use strips::{PlanePoint, Strip};
 
@@ -102,31 +101,28 @@ pub fn tridexel_inner_total_cmp(a: f64, b: f64) -> u32
 {
     let o = doubles_bits::total_cmp(a, b);
     match o {
-        doubles::Ordering::Less => 0,
-        doubles::Ordering::Equal => 1,
-        doubles::Ordering::Greater => 2,
+        std::cmp::Ordering::Less => 0,
+        std::cmp::Ordering::Equal => 1,
+        std::cmp::Ordering::Greater => 2,
     }
 }
 
 // The strips. An answer is 1 and the two ends, or 0.
 
 #[repr(C)]
-#[derive(Clone, Copy)]
+#[derive(Clone, Copy, Debug, PartialEq)]
 pub struct StripNumbers {
     pub hit: u64,
     pub lo: f64,
     pub hi: f64,
 }
 
+#[tactic(auto, unfolding(crate::specs::Geometry::strip_as))]
 fn strip_numbers(s: Strip) -> StripNumbers
     ensures { result ≡ strip_as s }
 {
     match s {
-        Strip::Hit(lo, hi) => StripNumbers {
-            hit: 1,
-            lo: lo,
-            hi: hi,
-        },
+        Strip::Hit(lo, hi) => StripNumbers { hit: 1, lo, hi },
         Strip::Miss => StripNumbers {
             hit: 0,
             lo: 0.0,
@@ -170,12 +166,13 @@ pub fn tridexel_inner_stadium_strip(
 // The cutter. A shape goes in as its number and its own numbers.
 
 #[repr(C)]
-#[derive(Clone, Copy)]
+#[derive(Clone, Copy, Debug, PartialEq)]
 pub struct RadiusNumbers {
     pub kind: u64,
     pub radius: f64,
 }
 
+#[tactic(auto, unfolding(crate::specs::Geometry::slice_as))]
 fn slice_numbers(s: ProfileSlice) -> RadiusNumbers
     ensures { result ≡ slice_as s }
 {
@@ -189,12 +186,13 @@ fn slice_numbers(s: ProfileSlice) -> RadiusNumbers
     }
 }
 
-fn radius_numbers(s: Radius) -> RadiusNumbers
-    ensures { result ≡ radius_as s }
+#[tactic(auto, unfolding(crate::specs::Geometry::radius_as))]
+fn radius_numbers(r: Option<f64>) -> RadiusNumbers
+    ensures { result ≡ radius_as r }
 {
-    match s {
-        Radius::Is(x) => RadiusNumbers { kind: 1, radius: x },
-        Radius::Outside => RadiusNumbers {
+    match r {
+        Some(x) => RadiusNumbers { kind: 1, radius: x },
+        None => RadiusNumbers {
             kind: 0,
             radius: 0.0,
         },
@@ -258,10 +256,9 @@ pub fn tridexel_inner_cut_min(
 pub fn tridexel_inner_check_tool(kind: u64, m: f64, n: f64, c: PreparedCutter) -> u32
     ensures { CheckedAs (ToolCheckPost (named_shape kind m n) c) result }
 {
-    let t = cutter_check::check_tool(enum_codes::named_shape(kind, m, n), c);
-    match t {
-        ToolCheck::Accepted => 0,
-        ToolCheck::Refused(k) => k,
+    match cutter_check::check_tool(enum_codes::named_shape(kind, m, n), c) {
+        Ok(()) => 0,
+        Err(e) => u32::from(e),
     }
 }
 

@@ -24,8 +24,7 @@ ghost use Rattle.store.specs.Store.{cells};
 ghost use Rattle.stock.specs.Stock.{SoundCells};
 ghost use Rattle.ray_text.specs.Run.{ProgramRan};
 
-use cutter::{PreparedCutter, ProfileSlice, Radius};
-use cutter_check::ToolCheck;
+use cutter::PreparedCutter;
 use grid::{DexelGrid, DexelStockSpec, RayCenter, WorldAxis};
 use inner::{RadiusNumbers, StripNumbers};
 use strips::PlanePoint;

@@ -1,4 +1,3 @@
 -- The laws of `log_batches`.
 pub mod Batching
 pub mod Same
-pub mod Gathered

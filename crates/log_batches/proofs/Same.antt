@@ -1,56 +1,36 @@
--- Keys that stay the same when two of them are exchanged, and so through any number of exchanges.
-use Rattle.std.proofs.Common.{◌≡◌, ℕ, ◌<◌, ◌≤◌, List, length, get_or, set, refl, ap, ◌∙◌, arith, length-set, get_or-set_other, get_or-set_same}
-use native.Mathlib.Decide.{ℕ_discrete}
+-- The first keys stay the same where they are put in another order.
+use Rattle.std.proofs.Common.{◌≡◌, ℕ, ◌<◌, ◌≤◌, List, ◌++◌, length, get_or, take, drop, ◌∙◌, sym, arith, length-append, length-drop}
+use Rattle.std.proofs.lemmas.List.{get_or_append_left, get_or_read, get_or-take, length-take-le}
+use Rattle.std.proofs.lemmas.List.Elements.{Contains-get_or}
+use Rattle.std.proofs.lemmas.List.Sorted.{Contains-permutation, IsPermutation-sym, length_permutation}
+use Rattle.std.specs.List.{Contains}
+use Rattle.std.specs.List.Sorted.{IsPermutation}
 use Rattle.log_batches.specs.Batches.{SameKeys}
 
-pub keys-refl : (m : ℕ) (keys : List ℕ) → SameKeys m keys keys
-keys-refl m keys = record { size = refl; each = λ t h. (t, h, refl); all = λ s h. (s, h, refl) }
+module _ (m : ℕ) (keys part : List ℕ) (fit : m ≤ length keys) (p : IsPermutation (take m keys) part) where
+  front : length (take m keys) ≡ m
+  front = length-take-le m keys fit
 
-pub keys-trans : {m : ℕ} {a b c : List ℕ} → SameKeys m a b → SameKeys m b c → SameKeys m a c
-keys-trans p q = record {
-  size = q.size ∙ p.size;
-  each = λ t h. let (s, l, e) = q.each t h in let (r, k, d) = p.each s l in (r, k, e ∙ d);
-  all = λ r h. let (s, l, e) = p.all r h in let (t, k, d) = q.all s l in (t, k, d ∙ e);
-}
+  size : length part ≡ m
+  size = length_permutation (take m keys) part p ∙ front
 
-module _ (m : ℕ) (keys : List ℕ) (i j : ℕ) (hi : i < m) (hj : j < m) (fit : m ≤ length keys) where
-  first : List ℕ
-  first = set keys i (get_or keys j 0)
+  first : (t : ℕ) → t < m → get_or (part ++ drop m keys) t 0 ≡ get_or part t 0
+  first t h = get_or_append_left part (drop m keys) 0 t (omega (arith, size))
 
-  exchanged : List ℕ
-  exchanged = set first j (get_or keys i 0)
-
-  fits : length first ≡ length keys
-  unfolding first
-  fits = length-set keys i (get_or keys j 0)
-
-  at_j : get_or exchanged j 0 ≡ get_or keys i 0
-  unfolding exchanged
-  at_j = get_or-set_same first j (get_or keys i 0) 0 (omega (arith, fits))
-
-  at_i : get_or exchanged i 0 ≡ get_or keys j 0
-  unfolding exchanged first
-  at_i = elim (ℕ_discrete i j) [
-    | yes e ↦ ap (λ (x : ℕ). get_or exchanged x 0) e ∙ at_j ∙ ap (λ (x : ℕ). get_or keys x 0) e
-    | no e ↦ get_or-set_other first j i (get_or keys i 0) 0 e ∙ get_or-set_same keys i (get_or keys j 0) 0 (omega arith)
-  ]
-
-  elsewhere : (t : ℕ) → (t ≡ i → ⊥) → (t ≡ j → ⊥) → get_or exchanged t 0 ≡ get_or keys t 0
-  unfolding exchanged first
-  elsewhere t a b = get_or-set_other first j t (get_or keys i 0) 0 b ∙ get_or-set_other keys i t (get_or keys j 0) 0 a
-
-  -- whose key stands at place t after the exchange, and where the key of place t then stands
-  partner : (t : ℕ) → t < m → (s : ℕ) × (s < m) × (get_or exchanged t 0 ≡ get_or keys s 0) × (get_or exchanged s 0 ≡ get_or keys t 0)
-  partner t h = elim (ℕ_discrete t i) [
-    | yes e ↦ (j, hj, rw e at_i, rw e at_j)
-    | no a ↦ elim (ℕ_discrete t j) [ yes e ↦ (i, hi, rw e at_j, rw e at_i) | no b ↦ (t, h, elsewhere t a b, elsewhere t a b) ]
-  ]
+  -- where a number stands
+  place : (xs : List ℕ) (x : ℕ) → Contains xs x → (k : ℕ) × (k < length xs) × (x ≡ get_or xs k 0)
+  place xs x (k, l, e) = (k, l, get_or_read xs k x l (sym e) 0)
 
   -- THE LAW: the keys stay the same
-  pub same-exchanged : SameKeys m keys (set (set keys i (get_or keys j 0)) j (get_or keys i 0))
-  unfolding exchanged first
-  same-exchanged = record {
-    size = length-set first j (get_or keys i 0) ∙ fits;
-    each = λ t h. let (s, l, e, _) = partner t h in (s, l, e);
-    all = λ t h. let (s, l, _, e) = partner t h in (s, l, e);
+  pub same_permuted : SameKeys m keys (part ++ drop m keys)
+  same_permuted = record {
+    size = omega (arith, length-append part (drop m keys), length-drop m keys, size);
+    each = λ t h.
+        let (s, l, e) = place (take m keys) (get_or part t 0) (Contains-permutation part (take m keys) (get_or part t 0)
+        (IsPermutation-sym (take m keys) part p) (Contains-get_or part t 0 (omega (arith, size)))) in
+        (s, omega (arith, l, front), first t h ∙ e ∙ get_or-take m keys s 0 (omega (arith, l, front)));
+    all = λ s h.
+        let (t, l, e) = place part (get_or (take m keys) s 0) (Contains-permutation (take m keys) part (get_or (take m keys) s 0) p
+        (Contains-get_or (take m keys) s 0 (omega (arith, front)))) in
+        (t, omega (arith, l, size), first t (omega (arith, l, size)) ∙ sym e ∙ get_or-take m keys s 0 h);
   }

@@ -1,5 +1,5 @@
 -- The entries of a batch of rays as keys: the ray, counted from the batch's first one, times the number of entries, and the place.
-use Rattle.std.specs.Prelude.{◌≡◌, ℕ, ◌+◌, ◌-◌, ◌*◌, ◌^◌, ◌<◌, ◌≤◌, Bool, true, false, List, length, slice_index, Float}
+use Rattle.std.specs.Prelude.{◌≡◌, ℕ, ◌+◌, ◌-◌, ◌*◌, ◌^◌, ◌<◌, ◌≤◌, List, length, slice_index, Float, Option, IfSome}
 use Rattle.grid.specs.declared.DexelGrid.{DexelGrid}
 use Rattle.log_model.specs.Logs.{entry_at, entry_count, entry_ray}
 use Rattle.log_keys.specs.KeysKept.{KeysBefore}
@@ -22,13 +22,17 @@ pub record AddPre (n : ℕ) (keys : List ℕ) (w : Batch) : Type 0 where
   pub fits : w.width * n < 2 ^ 64
   pub room : w.count ≤ length keys
 
--- a batch of at most `width` rays: unless it is full its keys fit the buffer, and the claim on them holds
-pub record BatchPost (width : ℕ) (before after : List ℕ) (r : Batch) (claim : Type 0) : Type 0 where
+-- a batch of at most `width` rays: its keys fit the buffer, and the claim on them holds
+pub record BatchHeld (width : ℕ) (keys : List ℕ) (w : Batch) (claim : Type 0) : Type 0 where
+  pub some : 0 < w.width
+  pub most : w.width ≤ width
+  pub room : w.count ≤ length keys
+  pub batched : claim
+
+-- the answer is such a batch, or none
+pub record BatchPost (width : ℕ) (before after : List ℕ) (r : Option Batch) (claim : Batch → Type 0) : Type 0 where
   pub size : length after ≡ length before
-  pub some : 0 < r.width
-  pub most : r.width ≤ width
-  pub room : r.full ≡ false → r.count ≤ length after
-  pub batched : r.full ≡ false → claim
+  pub batch : IfSome r (λ w. BatchHeld width after w (claim w))
 
 -- what is gathered stays gathered as far as the batch goes now
 pub record StaysBatched (n : ℕ) (before : List ℕ) (w : Batch) (after : List ℕ) (r : Batch) : Type 0 where
@@ -36,24 +40,24 @@ pub record StaysBatched (n : ℕ) (before : List ℕ) (w : Batch) (after : List 
       → Batched rays n first passed r.width after r.count
 
 -- so it does, and the batch has room for a key more
-abbrev pub BatchRoomPost : (n : ℕ) (before : List ℕ) (w : Batch) (after : List ℕ) (r : Batch) → Type 0
+abbrev pub BatchRoomPost : (n : ℕ) (before : List ℕ) (w : Batch) (after : List ℕ) (r : Option Batch) → Type 0
 BatchRoomPost n before w after r =
-    BatchPost w.width before after r ((r.count < length after) × StaysBatched n before w after r)
+    BatchPost w.width before after r (λ t. (t.count < length after) × StaysBatched n before w after t)
 
 -- the entry at place i is gathered too
-abbrev pub AddPost : (first ray n i : ℕ) (before : List ℕ) (w : Batch) (after : List ℕ) (r : Batch) → Type 0
+abbrev pub AddPost : (first ray n i : ℕ) (before : List ℕ) (w : Batch) (after : List ℕ) (r : Option Batch) → Type 0
 AddPost first ray n i before w after r = BatchPost w.width before after r
-    ((rays : ℕ → ℕ) → rays i ≡ ray → Batched rays n first i w.width before w.count
-    → Batched rays n first (i + 1) r.width after r.count)
+    (λ t. (rays : ℕ → ℕ) → rays i ≡ ray → Batched rays n first i w.width before w.count
+    → Batched rays n first (i + 1) t.width after t.count)
 
 -- the entries of a batch of rays before place `passed` are gathered
-abbrev pub RaysGathered : (g : DexelGrid) (log : List Float) (first width : ℕ) (before : List ℕ) (passed : ℕ) (after : List ℕ) (r : Batch)
-    → Type 0
+abbrev pub RaysGathered : (g : DexelGrid) (log : List Float) (first width : ℕ) (before : List ℕ) (passed : ℕ) (after : List ℕ)
+    (r : Option Batch) → Type 0
 RaysGathered g log first width before passed after r = BatchPost width before after r
-    (Batched (λ i. entry_ray g (entry_at log i)) (entry_count log) first passed r.width after r.count)
+    (λ t. Batched (λ i. entry_ray g (entry_at log i)) (entry_count log) first passed t.width after t.count)
 
 -- all are
-abbrev pub GatherRaysPost : (g : DexelGrid) (log : List Float) (first width : ℕ) (before after : List ℕ) (r : Batch) → Type 0
+abbrev pub GatherRaysPost : (g : DexelGrid) (log : List Float) (first width : ℕ) (before after : List ℕ) (r : Option Batch) → Type 0
 GatherRaysPost g log first width before after r = RaysGathered g log first width before (entry_count log) after r
 
 -- the first m keys are the same, in some order and however often
@@ -62,6 +66,6 @@ pub record SameKeys (m : ℕ) (before after : List ℕ) : Type 0 where
   pub each : (t : ℕ) → t < m → (s : ℕ) × (s < m) × (slice_index after t ≡ slice_index before s)
   pub all : (s : ℕ) → s < m → (t : ℕ) × (t < m) × (slice_index after t ≡ slice_index before s)
 
--- none of the first m keys is below the one in front of it, where the answer is so
-abbrev pub KeysAscend : List ℕ → ℕ → Bool → Type 0
-KeysAscend keys m r = r ≡ true → (i : ℕ) → 0 < i → i < m → slice_index keys (i - 1) ≤ slice_index keys i
+-- none of the first m keys is below the one in front of it
+abbrev pub KeysAscend : List ℕ → ℕ → Type 0
+KeysAscend keys m = (i : ℕ) → 0 < i → i < m → slice_index keys (i - 1) ≤ slice_index keys i

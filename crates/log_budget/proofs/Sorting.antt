@@ -1,10 +1,9 @@
--- The next batch, full or sorted: sorting the keys of a batch leaves them those of the batch.
-use mathlib.Core.Path.{◌≡◌, refl, sym, ◌∙◌}
-use mathlib.Core.Bool.{true, true≢false}
+-- The next batch, sorted: sorting the keys of a batch leaves them those of the batch.
+use mathlib.Core.Path.{◌∙◌}
+use Rattle.std.specs.Prelude.{Some}
 use mathlib.Core.List.{List}
 use Prim.Native.Nat.{ℕ, ◌+◌, ◌≤◌}
 use native.Mathlib.Omega.{arith}
-use lib.ListN.{length}
 use lib.Ieee.{Float}
 use Rattle.grid.specs.Rays.{ray_count}
 use Rattle.grid.specs.declared.DexelGrid.{DexelGrid}
@@ -21,27 +20,18 @@ keys-sorted s b = record {
 }
 
 module _ {g : DexelGrid} {log : List Float} {first width : ℕ} {before between after : List ℕ} {r : Batch}
-    (inside : first + width ≤ ray_count g) (h : GatherRaysPost g log first width before between r) where
-  -- a batch that is full, or answered so: its keys say nothing
-  pub full-batch : {t : Batch} → length after ≡ length between → t.width ≡ r.width → t.full ≡ true
-      → NextBatchPost g log first before after t
-  full-batch same width_is full = record {
-    size = same ∙ h.size;
-    some = rw width_is h.some;
-    inside = omega (arith, h.most);
-    keys = λ e. absurd (true≢false (sym full ∙ e));
-  }
-
-  -- THE LAW: keys that are gathered, sorted and found to ascend
-  pub sorted-batch : SameKeys r.count between after → KeysAscend after r.count true → NextBatchPost g log first before after r
+    (inside : first + width ≤ ray_count g) (h : GatherRaysPost g log first width before between (Some r)) where
+  -- THE LAW: keys that are gathered and sorted
+  pub sorted-batch : SameKeys r.count between after → KeysAscend after r.count → NextBatchPost g log first before after (Some r)
   sorted-batch s ascend = record {
     size = s.size ∙ h.size;
-    some = h.some;
-    inside = omega (arith, h.most);
-    keys = λ e. record {
-      room = omega (arith, h.room e, s.size);
-      inside = omega (arith, h.most);
-      batched = keys-sorted s (h.batched e);
-      ascending = ascend refl;
-    };
+    batch = (
+      h.batch.some,
+      record {
+        room = omega (arith, h.batch.room, s.size);
+        inside = omega (arith, h.batch.most);
+        batched = keys-sorted s h.batch.batched;
+        ascending = ascend;
+      },
+    );
   }

@@ -1,19 +1,18 @@
 -- Which budget a log commit would pass.
-use Rattle.std.specs.Prelude.{cond, List, ℕ, ltb, Float}
+use Rattle.std.specs.Prelude.{cond, List, ℕ, ltb, Float, Result, Ok, Err, ⊤}
 use Rattle.grid.specs.declared.DexelStockSpec.{DexelStockSpec}
 use Rattle.grid.specs.declared.DexelGrid.{DexelGrid}
 use Rattle.log_model.specs.Logs.{entries}
 use Rattle.log_model.specs.Counts.{changed_ray_count, pairs_after}
-use Rattle.log_budget.specs.declared.BudgetAnswer.{BudgetAnswer}
-use Rattle.log_budget.specs.declared.BudgetAnswer.TheVariants.{Kept, Rays, Intervals}
+use Rattle.refusal.specs.Refusal.{number_of}
+use Rattle.refusal.specs.declared.Refusal.{Refusal}
 use Rattle.stock.specs.Stock.{ray_lists}
 use Rattle.store.specs.Store.{Cells}
 
 -- document 01's number of each answer; 0 where there is none
-abbrev pub budget_number : BudgetAnswer → ℕ
-budget_number Kept = 0
-budget_number Rays = 9
-budget_number Intervals = 10
+abbrev pub budget_number : Result ⊤ Refusal → ℕ
+budget_number (Ok _) = 0
+budget_number (Err e) = number_of e
 
 -- 9: one more changed ray than allowed; 10: intervals after the commit above `max_intervals`; 9 comes first
 unfoldable pub budget_of : (allowance intervals changed left : ℕ) → ℕ

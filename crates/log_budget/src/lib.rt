@@ -17,22 +17,15 @@ ghost use Rattle.store.specs.Store.{cells};
 use grid::{DexelGrid, DexelStockSpec};
 use log_batches::Batch;
 use log_count::RayTotals;
+use refusal::Refusal;
 
 // As many keys of entries as a batch holds, and as many cells for the hits of a list.
 const KEYS: usize = 3072;
 
 const CELLS: usize = 1024;
 
-// Which of the two budgets a commit would not keep, if any.
-#[derive(Clone, Copy)]
-pub enum BudgetAnswer {
-    Kept,
-    Rays,
-    Intervals,
-}
-
 // The first ray that is not counted, how many rays to try next, and the totals.
-#[derive(Clone, Copy)]
+#[derive(Clone, Copy, Debug, PartialEq, Eq)]
 pub struct CountNextAnswer {
     pub next: usize,
     pub guess: usize,
@@ -45,14 +38,12 @@ fn end_of_ray(keys: &[u64], m: usize, i: usize, n: u64) -> usize
     ensures { RunEnd keys.now m i n result }
 {
     let d = keys[i] / n;
-    let mut j = i + 1;
-    while j < m {
+    for j in i + 1..m {
         if keys[j] / n != d {
-            break;
+            return j;
         }
-        j += 1;
     }
-    j
+    m
 }
 
 // The totals with the rays of a batch, whose first m keys ascend.
@@ -98,26 +89,17 @@ fn count_batch(
     t
 }
 
-// The smaller of two numbers.
-fn smaller(x: usize, y: usize) -> usize
-    ensures { (result ≤ x) × (result ≤ y) × ((result ≡ x) ⊎ (result ≡ y)) }
-{
-    if x < y {
-        return x;
-    }
-    y
-}
-
 // How many rays to try next, after a batch of `width` rays with `count` entries: a quarter more than would fill the buffer, at most
 // twenty times as many.
 fn guess(width: usize, count: usize, room: usize) -> usize
     requires { (count ≤ room) × (room ≤ 2 ^ 16) }
 {
-    let w = smaller(width, 0x100_0000_0000);
-    let mut next = 16 * w;
-    if room < 16 * count {
-        next = w * room / count;
-    }
+    let w = width.min(0x100_0000_0000);
+    let next = if room < 16 * count {
+        w * room / count
+    } else {
+        16 * w
+    };
     next + next / 4
 }
 
@@ -126,35 +108,26 @@ fn fit_width(guess: usize, most: usize, n: usize) -> usize
     requires { (0 < most) × (0 < n) }
     ensures { (0 < result) × (result ≤ most) × (result * n < 2 ^ 64) }
 {
-    let w = smaller(smaller(usize::MAX / n, most), guess);
-    if w == 0 {
-        return 1;
-    }
-    w
+    guess.min(most).min(usize::MAX / n).max(1)
 }
 
-// Gathers the entries of the next rays and sorts their keys. The batch is full where its first ray alone does not fit, or where the keys
-// would not ascend, which sorting rules out.
-fn next_batch(g: DexelGrid, log: &[f64], first: usize, width: usize, keys: &mut [u64]) -> Batch
+// Gathers the entries of the next rays and sorts their keys. There is no batch where its first ray alone does not fit.
+fn next_batch(
+    g: DexelGrid,
+    log: &[f64],
+    first: usize,
+    width: usize,
+    keys: &mut [u64],
+) -> Option<Batch>
     requires { (ray_count g ≤ 2 ^ 53) × EachNamed g log.now × NextBatchPre g log.now first width keys.old }
     ensures { NextBatchPost g log.now first keys.old keys.new result }
 {
-    let w = log_batches::gather_rays(g, log, first, width, keys);
-    if w.full {
-        return w;
-    }
+    let w = log_batches::gather_rays(g, log, first, width, keys)?;
     log_batches::sort_keys(keys, w.count);
-    if log_batches::ascends(keys, w.count) {
-        return w;
-    }
-    Batch {
-        width: w.width,
-        count: w.count,
-        full: true,
-    }
+    Some(w)
 }
 
-// Counts the rays of the next batch, or the first of them alone where that is full.
+// Counts the rays of the next batch, or the first of them alone where there is none.
 fn count_next(
     spec: DexelStockSpec,
     g: DexelGrid,
@@ -173,8 +146,7 @@ fn count_next(
     ensures { CountNextPost spec g (cells spans.now links.now heads.now) log.now first
         keys.old keys.new buffer.old buffer.new result }
 {
-    let w = next_batch(g, log, first, width, keys);
-    if w.full {
+    let Some(w) = next_batch(g, log, first, width, keys) else {
         let alone = log_count::count_long(
             spec, g, spans, links, heads, log, first, keys, buffer, t,
         );
@@ -183,7 +155,7 @@ fn count_next(
             guess: width,
             totals: alone,
         };
-    }
+    };
     let totals = count_batch(
         spec, g, spans, links, heads, log, first, w.width, keys, w.count, buffer, t,
     );
@@ -206,7 +178,7 @@ fn count_all(
     allowance: u64,
     keys: &mut [u64],
     buffer: &mut [f64],
-) -> BudgetAnswer
+) -> Result<(), Refusal>
     requires { Countable spec g (cells spans.now links.now heads.now) intervals log.now × (0 < entry_count log.now)
         × (0 < length keys.old) × (length keys.old ≤ 2 ^ 16) × Shaped buffer.old }
     ensures { budget_number result ≡ budget_in spec g (cells spans.now links.now heads.now)
@@ -227,15 +199,15 @@ fn count_all(
         );
         t = s.totals;
         if t.changed > allowance {
-            return BudgetAnswer::Rays;
+            return Err(Refusal::RayBudget);
         }
         first = s.next;
         wanted = s.guess;
     }
     if t.pairs > spec.max_intervals {
-        return BudgetAnswer::Intervals;
+        return Err(Refusal::IntervalBudget);
     }
-    BudgetAnswer::Kept
+    Ok(())
 }
 
 // Whether no log with so many entries can change more rays than the allowance: it has no more entries, or the grid no more rays.
@@ -243,14 +215,7 @@ fn allows_all(g: DexelGrid, entries: u64, allowance: u64) -> bool
     requires { ray_count g < 2 ^ 64 }
     ensures { result ≡ true → (entries ≤ allowance) ⊎ (ray_count g ≤ allowance) }
 {
-    if entries <= allowance {
-        return true;
-    }
-    let rays = grid_rays::total_rays(g);
-    if rays <= allowance {
-        return true;
-    }
-    false
+    entries <= allowance || grid_rays::total_rays(g) <= allowance
 }
 
 // Whether a log commit keeps the allowance of changed rays and the interval budget. Where neither is within reach of the log, no ray is
@@ -264,19 +229,17 @@ pub fn budget(
     intervals: u64,
     log: &[f64],
     allowance: u64,
-) -> BudgetAnswer
+) -> Result<(), Refusal>
     requires { Countable spec g (cells spans.now links.now heads.now) intervals log.now }
     ensures { budget_number result ≡ budget_in spec g (cells spans.now links.now heads.now)
         log.now allowance }
 {
     let entries = log_entries::entry_count(log) as u64;
-    if allows_all(g, entries, allowance) {
-        if intervals + 3 * entries <= spec.max_intervals {
-            return BudgetAnswer::Kept;
-        }
+    if allows_all(g, entries, allowance) && intervals + 3 * entries <= spec.max_intervals {
+        return Ok(());
     }
     if entries == 0 {
-        return BudgetAnswer::Kept;
+        return Ok(());
     }
     let mut keys = [0; KEYS];
     let mut buffer = [0.0; CELLS];

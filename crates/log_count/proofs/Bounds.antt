@@ -166,7 +166,8 @@ module _ {spec : DexelStockSpec} {g : DexelGrid} {c : Cells} {intervals : ℕ} {
 
     pub untouched : left_of spec g c log ray ≡ pairs_of spec c ray
     unfolding left_of pairs_of
-    untouched = ap₂ (λ (o i : List Float). starts_left (ray_list spec c ray Possible) i + starts_left (ray_list spec c ray Certain) (o ++ i))
+    untouched =
+        ap₂ (λ (o i : List Float). starts_left (ray_list spec c ray Possible) i + starts_left (ray_list spec c ray Certain) (o ++ i))
         (no_pairs outer) (no_pairs inner)
         ∙ ap₂ ◌+◌ (none-taken (ray_list spec c ray Possible) (ok.is_sound.valid ray h).possible_sound)
         (none-taken (ray_list spec c ray Certain) (ok.is_sound.valid ray h).certain_sound)

@@ -71,7 +71,8 @@ module _ {g : DexelGrid} {log : List Float} {ray : ℕ} {b : Float} {keys : List
           elim (by_cases (lt b (hit_lo k e))) [
             | inl p ↦
                 let under = le_lt_trans (least_past b e) x w.keys.end
-                (le_trans (least_past b e) (hit_lo k e) x (least-before b e k rises p) (and_left (le (hit_lo k e) x) (lt x (hit_hi k e)) lies))
+                (le_trans (least_past b e) (hit_lo k e) x (least-before b e k rises p)
+                (and_left (le (hit_lo k e) x) (lt x (hit_hi k e)) lies))
                 (and_right (le b x) (lt x w.keys.end) h) in
                 let (t, a, q) = r.long_keys.held.all l.place l.below (l.on_ray, under) in
                 inr (struck-hits log (take w.keys.count keys) certain x (length (take w.keys.count keys)) t

@@ -40,13 +40,15 @@ pairs_of spec c ray = length (ray_list spec c ray Possible) / 2 + length (ray_li
 unfoldable pub left_of : DexelStockSpec → DexelGrid → Cells → List Float → ℕ → ℕ
 unfolding starts_left hits_on_ray entries
 left_of spec g c log ray =
-    starts_left (ray_list spec c ray Possible) (loses_of g log ray false) + starts_left (ray_list spec c ray Certain) (loses_of g log ray true)
+    starts_left (ray_list spec c ray Possible) (loses_of g log ray false)
+    + starts_left (ray_list spec c ray Certain) (loses_of g log ray true)
 
 -- the ray would change
 unfoldable pub is_changed_ray : DexelStockSpec → DexelGrid → Cells → List Float → ℕ → Bool
 unfolding is_hit_by hits_on_ray entries
 is_changed_ray spec g c log ray =
-    is_hit_by (ray_list spec c ray Possible) (loses_of g log ray false) || is_hit_by (ray_list spec c ray Certain) (loses_of g log ray true)
+    is_hit_by (ray_list spec c ray Possible) (loses_of g log ray false)
+    || is_hit_by (ray_list spec c ray Certain) (loses_of g log ray true)
 
 -- ---- all rays
 

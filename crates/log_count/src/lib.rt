@@ -16,7 +16,7 @@ use grid::{DexelGrid, DexelStockSpec};
 use log_left::Rest;
 
 // One list: whether it would change, its pairs, and the pairs it would then have.
-#[derive(Clone, Copy)]
+#[derive(Clone, Copy, Debug, PartialEq, Eq)]
 pub struct ListCount {
     pub changes: bool,
     pub before: u64,
@@ -24,14 +24,14 @@ pub struct ListCount {
 }
 
 // The rays that would change, and the pairs of all lists, as far as counted.
-#[derive(Clone, Copy)]
+#[derive(Clone, Copy, Debug, PartialEq, Eq)]
 pub struct RayTotals {
     pub changed: u64,
     pub pairs: u64,
 }
 
 // Both lists of a ray as far as they are walked, and where the stretch of numbers ends that was taken from them.
-#[derive(Clone, Copy)]
+#[derive(Clone, Copy, Debug, PartialEq)]
 pub struct RayWalks {
     pub possible: Rest,
     pub certain: Rest,
@@ -67,7 +67,7 @@ fn count_list(
         (hits_to log.now keys.now certain (length keys.now))
         buffer.old buffer.new result }
 {
-    let top = 1.0 / 0.0;
+    let top = f64::INFINITY;
     let r = log_left::start(spans, links, n, head);
     let t = log_stretches::take_hits(
         spans, links, n, r, log, keys, certain, buffer, -top, top, -top,
@@ -81,22 +81,12 @@ fn add_ray(t: RayTotals, p: ListCount, c: ListCount) -> RayTotals
     ensures { AddRayPost t p c result }
 {
     let pairs = t.pairs - (p.before + c.before) + (p.after + c.after);
-    if p.changes {
-        return RayTotals {
-            changed: t.changed + 1,
-            pairs,
-        };
-    }
-    if c.changes {
-        return RayTotals {
-            changed: t.changed + 1,
-            pairs,
-        };
-    }
-    RayTotals {
-        changed: t.changed,
-        pairs,
-    }
+    let changed = if p.changes || c.changes {
+        t.changed + 1
+    } else {
+        t.changed
+    };
+    RayTotals { changed, pairs }
 }
 
 // The totals with one ray more, whose entries are those with these keys.
@@ -197,7 +187,7 @@ pub fn count_long(
         buffer.old buffer.new result }
 {
     let n = spec.max_intervals as usize;
-    let top = 1.0 / 0.0;
+    let top = f64::INFINITY;
     let head = store::ray_heads(heads, ray);
     let p = log_left::start(spans, links, n, head.possible);
     let c = log_left::start(spans, links, n, head.certain);

@@ -1,5 +1,4 @@
 pub mod Places
-pub mod Tests
 pub mod Sizes
 pub mod Axes
 pub mod Wholes

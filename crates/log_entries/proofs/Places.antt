@@ -1,11 +1,13 @@
 -- The pairs on a ray by the number of the ray, and by the places of its entries.
-use Rattle.std.proofs.Common.{◌≡◌, ℕ, zero, suc, ◌+◌, ◌<◌, ◌≤◌, Bool, true, false, cond, ◌&&◌, eqb, List, ◌∷◌, ◌++◌, refl, ap, ◌∙◌, subst, ap₂, arith}
+use Rattle.std.proofs.Common.{◌≡◌, ℕ, zero, suc, ◌+◌, ◌<◌, ◌≤◌, Bool, true, false, cond, ◌&&◌, eqb, List, ◌∷◌, ◌++◌, refl, ap, ◌∙◌}
+use Rattle.std.proofs.Common.{subst, ap₂, arith}
 use mathlib.Core.Bool.{false≢true}
 use lib.Ieee.{Float}
 use Rattle.logic.proofs.Bools.{clash}
 use Rattle.grid.specs.Rays.{ray_count, Ray}
 use Rattle.grid.specs.declared.DexelGrid.{DexelGrid}
-use Rattle.log_model.specs.Logs.{entry_at, entries_from, entry_count, entries, names_some_ray, entry_ray, HitKind, hit_lo, hit_hi, hits_on_ray}
+use Rattle.log_model.specs.Logs.{entry_at, entries_from, entry_count, entries, names_some_ray, entry_ray, HitKind, hit_lo, hit_hi}
+use Rattle.log_model.specs.Logs.{hits_on_ray}
 use Rattle.log_model.specs.Model.{NamesNoRay}
 use Rattle.log_model.proofs.Entries.{entry-at}
 use Rattle.log_model.proofs.Naming.{named-below}

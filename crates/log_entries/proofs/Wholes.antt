@@ -1,5 +1,6 @@
 -- A whole number from 1 up and below 2^32 can be cast: the cast loses nothing and gives the number.
-use Rattle.std.proofs.Common.{◌≡◌, ℕ, ◌-◌, ◌*◌, ◌/◌, ◌%◌, ◌^◌, ◌<◌, ◌≤◌, min, Bool, true, false, cond, not, ◌&&◌, T, eqb, ltb, leb, ℤ, pos, sym, refl, ap, ◌∙◌, subst, div-lt_iff_lt-mul, mul_right_comm, arith, ltb-true, lt-ltb, eq-eqb, eqb-true, le-leb}
+use Rattle.std.proofs.Common.{◌≡◌, ℕ, ◌*◌, ◌/◌, ◌%◌, ◌^◌, ◌<◌, min, true, false, ◌&&◌, T, eqb, ltb, leb, ℤ, sym, refl, ap, ◌∙◌, subst}
+use Rattle.std.proofs.Common.{div-lt_iff_lt-mul, mul_right_comm, arith, ltb-true, lt-ltb, eq-eqb, eqb-true, le-leb}
 use mathlib.Core.Bool.{false≢true}
 use native.Mathlib.Nat.{eq_of_mul-eq-mul_right, mul-mod_left}
 use lib.Ieee.{Float, nan, inf, fin, up, down, binary64, lt, le, eq, of_int, of_bits, to_unsigned, in_unsigned, whole, round, prec}

@@ -19,7 +19,8 @@ pub record NamesAll (g : DexelGrid) (log : List Float) (r : Bool) : Type 0 where
 -- least 1
 unfoldable pub before_axis : Float → (first second : ℕ) → ℕ
 before_axis axis first second =
-    cond (le (from_bits binary64 0x4000_0000_0000_0000) axis) (first + second) (cond (le (from_bits binary64 0x3ff0_0000_0000_0000) axis) first 0)
+    cond (le (from_bits binary64 0x4000_0000_0000_0000) axis) (first + second)
+    (cond (le (from_bits binary64 0x3ff0_0000_0000_0000) axis) first 0)
 
 -- of the places i to i + k - 1 those whose entry is on the ray, in a log whose entries each name one
 unfoldable pub named_from : DexelGrid → List Float → (ray i k : ℕ) → List ℕ

@@ -48,21 +48,16 @@ fn is_whole(x: f64) -> bool
 }
 
 // Whether the entry names a ray.
+#[tactic(auto, unfolding(log_model::specs::Logs::names_some_ray))]
 fn named(g: DexelGrid, e: Entry) -> bool
     requires { ray_count g < 2 ^ 64 }
     ensures { result ≡ names_some_ray g e }
 {
-    if !is_whole(e.axis) {
-        return false;
-    }
     let a = doubles::to_u64(e.axis);
-    if a >= 3 {
-        return false;
-    }
-    if !is_whole(e.index) {
-        return false;
-    }
-    doubles::to_u64(e.index) < grid_rays::rays(g, WorldAxis(a as u8))
+    is_whole(e.axis)
+        && a < 3
+        && is_whole(e.index)
+        && doubles::to_u64(e.index) < grid_rays::rays(g, WorldAxis(a as u8))
 }
 
 // The whole number that x is. One from 1 up and below 2^32 is cast, which the machine does at once.
@@ -70,10 +65,8 @@ fn whole_number(x: f64) -> u64
     requires { is_whole x ≡ true }
     ensures { result ≡ whole_of x }
 {
-    if 1.0 <= x {
-        if x < 4294967296.0 {
-            return (x as u32) as u64;
-        }
+    if 1.0 <= x && x < 4294967296.0 {
+        return (x as u32) as u64;
     }
     doubles::to_u64(x)
 }
@@ -111,13 +104,10 @@ pub fn names_all(g: DexelGrid, log: &[f64]) -> bool
     requires { ray_count g < 2 ^ 64 }
     ensures { NamesAll g log.now result }
 {
-    let n = entry_count(log);
-    let mut i: usize = 0;
-    while i < n {
+    for i in 0..entry_count(log) {
         if !named(g, entry_at(log, i)) {
             return false;
         }
-        i += 1;
     }
     true
 }

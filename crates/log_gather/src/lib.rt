@@ -12,7 +12,7 @@ use log_model::Entry;
 
 // The hits of a stretch as they are gathered: the cells in use, where the stretch ends, and how far the hits that begin at or before
 // its start reach.
-#[derive(Clone, Copy)]
+#[derive(Clone, Copy, Debug, PartialEq)]
 pub struct HeldHits {
     pub count: usize,
     pub end: f64,
@@ -23,10 +23,7 @@ pub struct HeldHits {
 fn lower(x: f64, y: f64) -> f64
     ensures { result ≡ lower_of x y }
 {
-    if y < x {
-        return y;
-    }
-    x
+    if y < x { y } else { x }
 }
 
 // Room for a pair more: where the buffer is full its pairs are joined, and where that leaves it too full the stretch ends earlier, so that
@@ -42,17 +39,13 @@ fn make_room(cells: &mut [f64], h: HeldHits) -> HeldHits
     let m = span_normalize::normalize_front(cells, h.count);
     let half = size / 4 * 2;
     if m <= half + half / 2 {
-        return HeldHits {
-            count: m,
-            end: h.end,
-            front: h.front,
-        };
+        return HeldHits { count: m, ..h };
     }
     let middle = cells[half];
     HeldHits {
         count: half,
         end: lower(h.end, middle),
-        front: h.front,
+        ..h
     }
 }
 
@@ -61,18 +54,11 @@ fn put(cells: &mut [f64], h: HeldHits, b: f64, lo: f64, hi: f64) -> HeldHits
     requires { Shaped cells.old × WholePairs cells.old h.count }
     ensures { PutPost b lo hi cells.old h cells.new result }
 {
-    if !(lo < hi) {
-        return h;
-    }
-    if hi <= h.front {
+    if !(lo < hi) || hi <= h.front {
         return h;
     }
     if !(b < lo) {
-        return HeldHits {
-            count: h.count,
-            end: h.end,
-            front: hi,
-        };
+        return HeldHits { front: hi, ..h };
     }
     if !(lo < h.end) {
         return h;
@@ -81,11 +67,7 @@ fn put(cells: &mut [f64], h: HeldHits, b: f64, lo: f64, hi: f64) -> HeldHits
     let at = w.count;
     cells[at] = lo;
     cells[at + 1] = hi;
-    HeldHits {
-        count: at + 2,
-        end: w.end,
-        front: w.front,
-    }
+    HeldHits { count: at + 2, ..w }
 }
 
 // The hits of an entry that the list loses: certain loses the outer one too.
@@ -120,11 +102,9 @@ pub fn gather(
         end: u,
         front,
     };
-    let mut i: usize = 0;
-    while i < keys.len() {
-        let e = log_entries::entry_at(log, (keys[i] % n) as usize);
+    for key in keys {
+        let e = log_entries::entry_at(log, (*key % n) as usize);
         h = put_entry(e, certain, cells, h, b);
-        i += 1;
     }
     h
 }

@@ -73,7 +73,8 @@ module _ (g : DexelGrid) (log before w : List Float) (room : ray_count g + entry
     after = set moved ray₀ (number_cell (j + 1))
 
     other : (q : ℕ) → (q ≡ ray_count g + j → ⊥) → (q ≡ ray₀ → ⊥) → get_or after q nan ≡ get_or w q nan
-    other q a b = get_or-set_other moved ray₀ q (number_cell (j + 1)) nan b ∙ get_or-set_other w (ray_count g + j) q (get_or w ray₀ nan) nan a
+    other q a b = get_or-set_other moved ray₀ q (number_cell (j + 1)) nan b
+        ∙ get_or-set_other w (ray_count g + j) q (get_or w ray₀ nan) nan a
 
     next-cell : get_or after (ray_count g + j) nan ≡ get_or w ray₀ nan
     next-cell =
@@ -81,7 +82,8 @@ module _ (g : DexelGrid) (log before w : List Float) (room : ray_count g + entry
         ∙ get_or-set_same w (ray_count g + j) (get_or w ray₀ nan) nan (omega (arith, s.size))
 
     first_cell : j + 1 ≤ largest_number → number_at after ray₀ ≡ suc j
-    first_cell h = number_put moved ray₀ (j + 1) (omega (arith, s.size, length-set w (ray_count g + j) (get_or w ray₀ nan))) h ∙ omega arith
+    first_cell h = number_put moved ray₀ (j + 1) (omega (arith, s.size, length-set w (ray_count g + j) (get_or w ray₀ nan))) h
+        ∙ omega arith
 
     kept : (q : ℕ) → suc j ≤ q → q < entry_count log → number_at after (ray_count g + q) ≡ number_at w (ray_count g + q)
     kept q a b =
@@ -139,7 +141,8 @@ module _ (g : DexelGrid) (log before w : List Float) (room : ray_count g + entry
       named = named;
       room = omega (arith, s.size);
       chains = λ ray h.
-          subst (λ (n : ℕ). PlaceChain w (ray_count g) 0 (entry_count log) (number_at w ray) (named_from g log ray 0 n)) (all (entry_count log))
+          subst (λ (n : ℕ). PlaceChain w (ray_count g) 0 (entry_count log) (number_at w ray) (named_from g log ray 0 n))
+          (all (entry_count log))
           (subst (λ (k : ℕ). PlaceChain w (ray_count g) k (entry_count log) (number_at w ray)
           (named_from g log ray k (entry_count log - k))) (zero_of i none) (s.chains ray h));
     };
@@ -166,9 +169,9 @@ grouped-kept g log w v size same s = record {
 
 -- ---- the first cells cleared
 module _ (rays : ℕ) (before ys : List Float) (fit : rays ≤ length before)
-    (is : ys ≡ take 0 (take rays before) ++ replicate (length (take rays before) - 0) plus_zero) where
+    (is : ys ≡ replicate (length (take rays before)) plus_zero) where
   long : length ys ≡ rays
-  long = ap length is ∙ length-replicate (length (take rays before) - 0) plus_zero ∙ omega (arith, length-take-le rays before fit)
+  long = ap length is ∙ length-replicate (length (take rays before)) plus_zero ∙ length-take-le rays before fit
 
   pub cleared-size : length (ys ++ drop rays before) ≡ length before
   cleared-size = length-append ys (drop rays before) ∙ omega (arith, long, length-drop rays before)
@@ -178,8 +181,8 @@ module _ (rays : ℕ) (before ys : List Float) (fit : rays ≤ length before)
       (get_or-append ys (drop rays before) nan q (omega (arith, long)) ∙ ap (λ (l : List Float). get_or l q nan) is
       ∙ zero-at) ∙ number-zero
     where
-      zero-at : get_or (replicate (length (take rays before) - 0) plus_zero) q nan ≡ plus_zero
-      zero-at = get_or-replicate (length (take rays before) - 0) q plus_zero nan (omega (arith, length-take-le rays before fit))
+      zero-at : get_or (replicate (length (take rays before)) plus_zero) q nan ≡ plus_zero
+      zero-at = get_or-replicate (length (take rays before)) q plus_zero nan (omega (arith, length-take-le rays before fit))
 
   pub cleared-past : (q : ℕ) → rays ≤ q → get_or (ys ++ drop rays before) q nan ≡ get_or before q nan
   cleared-past q h =

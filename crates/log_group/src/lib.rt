@@ -30,10 +30,9 @@ pub fn group(g: DexelGrid, log: &[f64], work: &mut [f64])
     ensures { GroupPost g log.now work.old work.new }
 {
     let rays = grid_rays::total_rays(g) as usize;
-    spans::clear_from(&mut work[..rays], 0);
-    let mut i = log_entries::entry_count(log);
-    while 0 < i {
-        i -= 1;
+    work[..rays].fill(0.0);
+    let entries = log_entries::entry_count(log);
+    for i in (0..entries).rev() {
         let ray = log_entries::ray_at(g, log, i);
         link(work, rays, ray, i);
     }

@@ -91,7 +91,9 @@ module _ (log : List Float) (keys : List ℕ) (certain : Bool) (x : Float) where
   struck-hits zero t a s = absurd (omega arith)
   struck-hits (suc m) t a s = elim (dec_lt t m) [
     | yes h ↦ with-more (entry_of_key log (get_or keys m 0)) (hits_to log keys certain m) x certain (struck-hits m t h s)
-    | no h ↦ let e : t ≡ m = omega arith in with-struck (entry_of_key log (get_or keys m 0)) (hits_to log keys certain m) x certain (rw e at s)
+    | no h ↦
+        let e : t ≡ m = omega arith in
+        with-struck (entry_of_key log (get_or keys m 0)) (hits_to log keys certain m) x certain (rw e at s)
   ]
 
 -- ---- a pair of a list

@@ -1,5 +1,5 @@
 -- The loop that moves the keys that pass a test to the front.
-use mathlib.Core.Path.{◌≡◌, refl, sym, ap, ◌∙◌}
+use mathlib.Core.Path.{◌≡◌, sym, ap, ◌∙◌}
 use mathlib.Core.Bool.{Bool, true, false, true≢false}
 use mathlib.Core.List.{List}
 use Prim.Native.Nat.{ℕ, ◌+◌, ◌<◌}
@@ -8,16 +8,6 @@ use native.Mathlib.Decide.{dec_lt}
 use lib.ListN.{length, get_or, set, length-set}
 use lib.Seq.{get_or-set_same, get_or-set_other}
 use Rattle.log_keys.specs.KeysKept.{KeepPost, KeysKept}
-
-pub kept-start : (test : ℕ → Bool) (keys : List ℕ) → KeysKept test keys 0 keys 0
-kept-start test keys = record {
-  size = refl;
-  most = omega arith;
-  each = λ t h. absurd (omega arith);
-  all = λ s h e. absurd (omega arith);
-  fewer = λ s h e. absurd (omega arith);
-  rest = λ q h. refl;
-}
 
 -- one key more is looked at
 module _ (test : ℕ → Bool) (before now : List ℕ) (i k : ℕ) (s : KeysKept test before i now k) (fit : i < length before) where
@@ -32,7 +22,8 @@ module _ (test : ℕ → Bool) (before now : List ℕ) (i k : ℕ) (s : KeysKept
     each = λ t h. elim (dec_lt t k) [
       | yes l ↦
           let (q, a, b, d) = s.each t l in
-          let kept : get_or (set now k (get_or now i 0)) t 0 ≡ get_or now t 0 = get_or-set_other now k t (get_or now i 0) 0 (λ x. omega (arith, x)) in
+          let kept : get_or (set now k (get_or now i 0)) t 0 ≡ get_or now t 0 =
+          get_or-set_other now k t (get_or now i 0) 0 (λ x. omega (arith, x)) in
           (q, omega (arith, a), kept ∙ b, ap test kept ∙ d)
       | no l ↦
           let last : t ≡ k = omega arith in

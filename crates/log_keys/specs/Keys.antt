@@ -1,6 +1,6 @@
 -- The entries of a log that keys stand for, their hits, and what of these counts in a stretch of numbers.
 use Rattle.std.specs.Prelude.{◌≡◌, Bool, true, false, cond, List, [], ◌∷◌, ◌++◌, ◌⊎◌, ℕ, zero, suc, ◌%◌, get_or, Float}
-use Rattle.std.specs.Float.Ieee.{lt, div, of_bits}
+use Rattle.std.specs.Float.Ieee.{lt, of_bits}
 use Rattle.std.specs.Float.{binary64}
 use Rattle.grid.specs.declared.DexelGrid.{DexelGrid}
 use Rattle.spans.specs.Spans.{within, holds}
@@ -31,7 +31,7 @@ loses_of g log ray false = hits_on_ray g (entries log) ray inner
 
 -- plus infinity, which no hit reaches past
 abbrev pub top : Float
-top = div binary64 (of_bits binary64 0x3ff0_0000_0000_0000) (of_bits binary64 0)
+top = of_bits binary64 0x7ff0_0000_0000_0000
 
 -- the pairs that begin past b
 unfoldable pub pairs_past : Float → List Float → List Float

@@ -1,5 +1,5 @@
 -- The loops over all rays: what holds before each turn.
-use mathlib.Core.Path.{◌≡◌, refl, sym, ap, ap₂, ◌∙◌, subst}
+use mathlib.Core.Path.{◌≡◌, sym, ap, ap₂, ◌∙◌, subst}
 use mathlib.Core.List.{List, [], ◌∷◌, ◌++◌}
 use Prim.Native.Nat.{ℕ, ◌+◌, ◌-◌, ◌*◌, ◌≤◌, ◌<◌}
 use native.Mathlib.Nat.{zero-add}
@@ -8,10 +8,10 @@ use native.Mathlib.Omega.{arith}
 use lib.ListN.{length}
 use lib.Ieee.{Float}
 use Rattle.store.specs.Store.{places_of, Cells, ChainsSound}
-use Rattle.store.specs.Updates.{Update, CellsPastKept, freed_list, freed_all, laid_list, laid_all}
+use Rattle.store.specs.Updates.{Update, freed_list, freed_all, laid_list, laid_all}
 use Rattle.store.proofs.Replacing.{Replaced}
 use Rattle.store.proofs.Freeing.{freed-list, freed-kept}
-use Rattle.store.proofs.Updating.{kept-none, kept_then, kept-room, freed-append, laid-append}
+use Rattle.store.proofs.Updating.{kept-room, freed-append, laid-append}
 use Rattle.log_lay.specs.Updates.{first_size, updates_from, lists_end}
 use Rattle.log_lay.specs.Steps.{FreeIfChangedPre, FreeRaysPre, EachLayable, LayRaysPre, LayRaysPost}
 use Rattle.log_lay.specs.declared.LayPlace.{LayPlace}
@@ -25,7 +25,6 @@ pub record FreedTo (n : ℕ) (c : Cells) (w : List Float) (sizes rays ray : ℕ)
   pub most : ray ≤ rays
   pub still : FreeRaysPre n d w sizes rays
   pub done : (q : ℕ) → d ≡ freed_all n c (updates_from w sizes q 0 ray)
-  pub kept : CellsPastKept n (2 * rays) c d
 
 module _ (n : ℕ) (c : Cells) (w : List Float) (sizes rays : ℕ) where
   pub freed-start : FreeRaysPre n c w sizes rays → FreedTo n c w sizes rays 0 c
@@ -33,7 +32,6 @@ module _ (n : ℕ) (c : Cells) (w : List Float) (sizes rays : ℕ) where
     most = omega arith;
     still = a;
     done = λ q. sym (ap (freed_all n c) (updates-none w sizes q 0) ∙ freed-none n c);
-    kept = kept-none n (2 * rays) c;
   }
 
 -- a store with one list freed
@@ -78,7 +76,7 @@ module _ (n : ℕ) (c : Cells) (w : List Float) (sizes rays ray : ℕ) (a : Free
 
   -- the store after the turn
   turn-freed : (d : Cells) → ((q : ℕ) → d ≡ freed_all n c (updates_from w sizes q ray 1))
-      → FreeRaysPre n d w sizes rays × CellsPastKept n (2 * rays) c d
+      → FreeRaysPre n d w sizes rays
   turn-freed d f = at (ℕ_discrete (first_size w sizes ray) 0)
     where
       r₁ : Room n (2 * rays) (freed_list n c (2 * ray))
@@ -87,36 +85,30 @@ module _ (n : ℕ) (c : Cells) (w : List Float) (sizes rays ray : ℕ) (a : Free
       s₁ : ChainsSound n (2 * rays) (one-total n (2 * rays) a.total c a.store a.room (2 * ray) in-first) (freed_list n c (2 * ray))
       s₁ = one-sound n (2 * rays) a.total c a.store a.room (2 * ray) in-first
 
-      at : Dec (first_size w sizes ray ≡ 0) → FreeRaysPre n d w sizes rays × CellsPastKept n (2 * rays) c d
-      at (yes z) = subst (λ (d : Cells). FreeRaysPre n d w sizes rays × CellsPastKept n (2 * rays) c d)
-          (sym (f 0 ∙ ap (freed_all n c) (no-update w sizes ray z 0) ∙ freed-none n c)) (a, kept-none n (2 * rays) c)
-      at (no nz) = subst (λ (d : Cells). FreeRaysPre n d w sizes rays × CellsPastKept n (2 * rays) c d)
-          (sym (f 0 ∙ freed-ray-new n c w sizes ray nz 0)) (
-            record {
-              in_sizes = a.in_sizes;
-              room = one-room n (2 * rays) _ (freed_list n c (2 * ray)) s₁ r₁ (2 * ray + 1) in-second;
-              total = one-total n (2 * rays) _ (freed_list n c (2 * ray)) s₁ r₁ (2 * ray + 1) in-second;
-              store = one-sound n (2 * rays) _ (freed_list n c (2 * ray)) s₁ r₁ (2 * ray + 1) in-second;
-            },
-            kept_then (freed-kept n (2 * rays) a.total c a.store a.room (2 * ray) in-first)
-                (freed-kept n (2 * rays) _ (freed_list n c (2 * ray)) s₁ r₁ (2 * ray + 1) in-second),
-          )
+      at : Dec (first_size w sizes ray ≡ 0) → FreeRaysPre n d w sizes rays
+      at (yes z) = subst (λ (d : Cells). FreeRaysPre n d w sizes rays)
+          (sym (f 0 ∙ ap (freed_all n c) (no-update w sizes ray z 0) ∙ freed-none n c)) a
+      at (no nz) = subst (λ (d : Cells). FreeRaysPre n d w sizes rays) (sym (f 0 ∙ freed-ray-new n c w sizes ray nz 0)) (record {
+        in_sizes = a.in_sizes;
+        room = one-room n (2 * rays) _ (freed_list n c (2 * ray)) s₁ r₁ (2 * ray + 1) in-second;
+        total = one-total n (2 * rays) _ (freed_list n c (2 * ray)) s₁ r₁ (2 * ray + 1) in-second;
+        store = one-sound n (2 * rays) _ (freed_list n c (2 * ray)) s₁ r₁ (2 * ray + 1) in-second;
+      })
 
 pub freed-next : (n : ℕ) (c : Cells) (w : List Float) (sizes rays ray : ℕ) (d : Cells)
     → FreedTo n c w sizes rays ray d → ray < rays → (e : Cells)
     → ((q : ℕ) → e ≡ freed_all n d (updates_from w sizes q ray 1)) → FreedTo n c w sizes rays (ray + 1) e
 freed-next n c w sizes rays ray d t h e f =
-    let r = turn-freed n d w sizes rays ray t.still h e f in
     record {
       most = omega arith;
-      still = r.0;
+      still = turn-freed n d w sizes rays ray t.still h e f;
       done = λ q.
-          f (lists_end w sizes q 0 ray) ∙ ap (λ (x : Cells). freed_all n x (updates_from w sizes (lists_end w sizes q 0 ray) ray 1)) (t.done q)
+          f (lists_end w sizes q 0 ray)
+          ∙ ap (λ (x : Cells). freed_all n x (updates_from w sizes (lists_end w sizes q 0 ray) ray 1)) (t.done q)
           ∙ sym (ap (freed_all n c) (updates-more w sizes ray 1 q 0
           ∙ ap (λ (x : ℕ). updates_from w sizes q 0 ray ++ updates_from w sizes (lists_end w sizes q 0 ray) x 1)
           (zero-add ray)) ∙ freed-append n (updates_from w sizes q 0 ray)
           (updates_from w sizes (lists_end w sizes q 0 ray) ray 1) c);
-      kept = kept_then t.kept r.1;
     }
 
 pub freed-end : (n : ℕ) (c : Cells) (w : List Float) (sizes rays ray : ℕ) (d : Cells) → FreedTo n c w sizes rays ray d
@@ -176,13 +168,10 @@ laid_more n c w sizes ray a b p d q e r l m = record {
   cursor = m.cursor;
 }
 
--- the lists of the first rays are laid, and the sizes of the store are as before
+-- the lists of the first rays are laid
 pub record LaidTo (n : ℕ) (c : Cells) (w : List Float) (sizes at rays ray : ℕ) (d : Cells) (p : LayPlace) : Type 0 where
   pub most : ray ≤ rays
   pub done : LayRaysPost n c w sizes 0 ray (record { from = 0; at = at }) d p
-  pub spans_size : length d.spans ≡ length c.spans
-  pub links_size : length d.links ≡ length c.links
-  pub heads_size : length d.heads ≡ length c.heads
 
 module _ (n : ℕ) (c : Cells) (w : List Float) (sizes at rays : ℕ)
     (ready : LayRaysPre n c w sizes 0 rays (record { from = 0; at = at })) where
@@ -194,9 +183,6 @@ module _ (n : ℕ) (c : Cells) (w : List Float) (sizes at rays : ℕ)
       at = sym (end_none w sizes at 0);
       cursor = ready.cursor;
     };
-    spans_size = refl;
-    links_size = refl;
-    heads_size = refl;
   }
 
   module _ (ray : ℕ) (d : Cells) (p : LayPlace) (t : LaidTo n c w sizes at rays ray d p) where
@@ -212,15 +198,11 @@ module _ (n : ℕ) (c : Cells) (w : List Float) (sizes at rays : ℕ)
         (subst (λ (k : ℕ). LayRaysPre n d w sizes k (rays - ray) p) (zero-add ray) left))
 
     pub laid_next : ray < rays → (e : Cells) (q : LayPlace) → LayRaysPost n d w sizes ray 1 p e q
-        → length e.spans ≡ length d.spans → length e.links ≡ length d.links
-        → length e.heads ≡ length d.heads → LaidTo n c w sizes at rays (ray + 1) e q
-    laid_next h e q l ss ls hs = record {
+        → LaidTo n c w sizes at rays (ray + 1) e q
+    laid_next h e q l = record {
       most = omega arith;
       done = laid_more n c w sizes 0 ray 1 (record { from = 0; at = at }) d p e q t.done
           (subst (λ (k : ℕ). LayRaysPost n d w sizes k 1 p e q) (sym (zero-add ray)) l);
-      spans_size = ss ∙ t.spans_size;
-      links_size = ls ∙ t.links_size;
-      heads_size = hs ∙ t.heads_size;
     }
 
     pub laid_end : rays ≤ ray → d ≡ laid_all n c (updates_from w sizes at 0 rays)

@@ -35,7 +35,8 @@ each-layable {n} {m} {total} {c = c} s room (next {u = u} {us = us} lo hi whole 
         whole = whole;
         enough = omega arith;
       },
-      each-layable {total = total + length u.ends / 2} (laid-sound n m total c s room u hi gone (omega arith)) (kept-room kept₁ room) a still (omega arith),
+      each-layable {total = total + length u.ends / 2} (laid-sound n m total c s room u hi gone (omega arith))
+          (kept-room kept₁ room) a still (omega arith),
     )
 
 -- before place 0 there is no record

@@ -43,15 +43,13 @@ pub fn free_all(
         ≡ freed_all n (cells spans.old links.old heads.old)
         (updates_from work.now sizes q 0 rays) }
 {
-    let mut ray: usize = 0;
-    while ray < rays {
+    for ray in 0..rays {
         free_if_changed(spans, links, heads, n, work, sizes, ray);
-        ray += 1;
     }
 }
 
 // Where laying stands: no record before place `from` is free, and the next new list stands at cell `at` of the work buffer.
-#[derive(Clone, Copy)]
+#[derive(Clone, Copy, Debug, PartialEq, Eq)]
 pub struct LayPlace {
     pub from: usize,
     pub at: usize,
@@ -107,9 +105,7 @@ pub fn lay_all(
         (updates_from work.now sizes at 0 rays) }
 {
     let mut place = LayPlace { from: 0, at };
-    let mut ray: usize = 0;
-    while ray < rays {
+    for ray in 0..rays {
         place = lay_if_changed(spans, links, heads, n, work, sizes, ray, place);
-        ray += 1;
     }
 }

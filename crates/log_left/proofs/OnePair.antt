@@ -1,6 +1,7 @@
 -- A hit is taken from one pair of a sound list. What stands in front of the pair ends at or below the hit's start, so what is left of the
 -- pair goes between that and the pairs behind it.
-use Rattle.std.proofs.Common.{◌≡◌, ◌%◌, Bool, true, false, not, ◌&&◌, ◌||◌, List, ◌∷◌, ◌++◌, length, sym, refl, ap, ◌∙◌, ap₂, inl, inr, true≢false, arith, length-append}
+use Rattle.std.proofs.Common.{◌≡◌, ◌%◌, Bool, true, false, not, ◌&&◌, ◌||◌, List, ◌∷◌, ◌++◌, length, sym, refl, ap, ◌∙◌, ap₂, inl, inr}
+use Rattle.std.proofs.Common.{true≢false, arith, length-append}
 use mathlib.Core.Bool.{false≢true}
 use lib.Ieee.{Float, lt, le}
 use Rattle.doubles.specs.Doubles.{Number}

@@ -32,7 +32,8 @@ pub record PassPost (n : ℕ) (spans : List Float) (links : List ℕ) (lo : Floa
   pub walked : (l : List Float) (s : Float → Bool) (last : Float) → le last lo ≡ true → ListWalked n spans links l s last r
       → ListWalked n spans links l s lo t
 
--- a hit is taken from what is undecided of one pair: what lies in front of it is decided, and the walk stands at its end or behind the pair
+-- a hit is taken from what is undecided of one pair: what lies in front of it is decided, and the walk stands at its end
+-- or behind the pair
 pub record CutPairPost (n : ℕ) (spans : List Float) (links : List ℕ) (lo hi : Float) (r t : Rest) : Type 0 where
   pub moved_is : t.moved ≡ true
   pub left_is : t.left ≡ cond (lt r.from lo) ((r.left + 1) % 2 ^ 64) r.left

@@ -7,7 +7,7 @@ ghost use Rattle.log_left.specs.Steps.{StartPost, BeginPost, ClosePairPost, CutP
 
 // A list that is being walked. What comes before `from` is decided: whether a point of it was taken, and how many pairs are left of it.
 // Undecided are the pair of the record from `from` on, and the pairs of the records behind it; with record 0 there is nothing more.
-#[derive(Clone, Copy)]
+#[derive(Clone, Copy, Debug, PartialEq)]
 pub struct Rest {
     pub at: u64,
     pub from: f64,
@@ -16,7 +16,7 @@ pub struct Rest {
 }
 
 // What became of a list: whether it changed, and how many pairs it has.
-#[derive(Clone, Copy)]
+#[derive(Clone, Copy, Debug, PartialEq, Eq)]
 pub struct ListLeft {
     pub moved: bool,
     pub pairs: u64,

@@ -1,5 +1,6 @@
 -- Keys of the entries of one stretch: what is gathered stays so when the stretch ends earlier, and when an entry is passed.
-use Rattle.std.proofs.Common.{◌≡◌, ℕ, ◌+◌, ◌*◌, ◌/◌, ◌<◌, ◌≤◌, true, false, not, List, length, get_or, set, ◌∙◌, inl, inr, mul-le-mul_right, arith, length-set, get_or-set_other, get_or-set_same}
+use Rattle.std.proofs.Common.{◌≡◌, ℕ, ◌+◌, ◌<◌, true, false, not, List, length, get_or, set, ◌∙◌, inl, inr, arith, length-set}
+use Rattle.std.proofs.Common.{get_or-set_other, get_or-set_same}
 use native.Mathlib.Decide.{dec_lt}
 use lib.Ieee.{Float, lt}
 use Rattle.logic.proofs.Bools.{not-true, not-false, clash}
@@ -44,14 +45,6 @@ module _ (b : Float) (log : List Float) (before after : List ℕ) (w : HeldKeys)
     room = let (q, a, e) = begins in omega (arith, kept.fewer q a (rw (← e) (lt_irrefl u)), kept.size, s.room);
     long_keys = kept-long_keys;
   }
-
--- ---- the keys that are looked at
-
-pub place-below : (i at step m : ℕ) → i < 55 → at + 54 * step < m → at + i * step < m
-place-below i at step m h l = let most : i * step ≤ 54 * step = mul-le-mul_right step (omega arith) in omega arith
-
-pub group-below : (i m : ℕ) → i < 55 → 0 < m → i * (m / 55) + 54 * (m / 55 / 55) < m
-group-below i m h l = let most : i * (m / 55) ≤ 54 * (m / 55) = mul-le-mul_right (m / 55) (omega arith) in omega arith
 
 -- ---- an entry is passed
 

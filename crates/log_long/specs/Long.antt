@@ -62,7 +62,8 @@ pub record LongRoomPost (b : Float) (log : List Float) (before : List ℕ) (w : 
   pub long_keys : (rays : ℕ → ℕ) (ray passed : ℕ) → LongKeys rays log ray b passed before w → LongKeys rays log ray b passed after r
 
 -- the entry at place i is gathered too
-pub record AddKeyPost (b : Float) (i : ℕ) (log : List Float) (before : List ℕ) (w : HeldKeys) (after : List ℕ) (r : HeldKeys) : Type 0 where
+pub record AddKeyPost (b : Float) (i : ℕ) (log : List Float) (before : List ℕ) (w : HeldKeys) (after : List ℕ) (r : HeldKeys)
+    : Type 0 where
   pub size : length after ≡ length before
   pub in_log : InLog log after r.count
   pub long_keys : (rays : ℕ → ℕ) (ray : ℕ) → rays i ≡ ray → LongKeys rays log ray b i before w → LongKeys rays log ray b (i + 1) after r

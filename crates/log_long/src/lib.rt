@@ -19,14 +19,14 @@ const GROUP: usize = 55;
 const CELLS: usize = 110;
 
 // How many keys there are, and where the stretch ends.
-#[derive(Clone, Copy)]
+#[derive(Clone, Copy, Debug, PartialEq)]
 pub struct HeldKeys {
     pub count: usize,
     pub end: f64,
 }
 
 // The keys, and how far the outer and the inner hits reach that begin at or before the start of the stretch.
-#[derive(Clone, Copy)]
+#[derive(Clone, Copy, Debug, PartialEq)]
 pub struct LongPart {
     pub keys: HeldKeys,
     pub outer: f64,
@@ -37,13 +37,7 @@ pub struct LongPart {
 fn begin_past(b: f64, lo: f64, hi: f64) -> f64
     ensures { result ≡ begin_past b lo hi }
 {
-    let top = 1.0 / 0.0;
-    if lo < hi {
-        if b < lo {
-            return lo;
-        }
-    }
-    top
+    if lo < hi && b < lo { lo } else { f64::INFINITY }
 }
 
 // Where the first of the entry's hits begins that begins past b, or plus infinity where none does.
@@ -52,24 +46,18 @@ fn least_past(b: f64, e: Entry) -> f64
 {
     let x = begin_past(b, e.outer_lo, e.outer_hi);
     let y = begin_past(b, e.inner_lo, e.inner_hi);
-    if y < x {
-        return y;
-    }
-    x
+    if y < x { y } else { x }
 }
 
 // How far the hits that begin at or before b reach, with one hit more.
 fn further(front: f64, b: f64, lo: f64, hi: f64) -> f64
     ensures { result ≡ further_of front b lo hi }
 {
-    if lo < hi {
-        if !(b < lo) {
-            if front < hi {
-                return hi;
-            }
-        }
+    if lo < hi && !(b < lo) && front < hi {
+        hi
+    } else {
+        front
     }
-    front
 }
 
 // Keeps those of the first m keys whose entries have a hit that begins between b and u.
@@ -79,12 +67,10 @@ fn keep_below(b: f64, log: &[f64], keys: &mut [u64], m: usize, u: f64) -> usize
         keys.new result }
 {
     let mut k: usize = 0;
-    let mut i: usize = 0;
-    while i < m {
+    for i in 0..m {
         let e = log_entries::entry_at(log, keys[i] as usize);
         let kept = least_past(b, e) < u;
         k = log_keys::keep(keys, k, i, kept);
-        i += 1;
     }
     k
 }
@@ -105,10 +91,7 @@ fn middle_place(cells: &mut [f64], m: usize) -> usize
 {
     pair_sort::sort_pairs(cells);
     let q = doubles::to_u64(cells[GROUP]) as usize;
-    if q < m {
-        return q;
-    }
-    0
+    if q < m { q } else { 0 }
 }
 
 // The place of the middle one of a group of keys, by where their entries begin: the key at place `at`, and every `step`-th from there.
@@ -117,10 +100,8 @@ fn group_middle(b: f64, log: &[f64], keys: &[u64], m: usize, at: usize, step: us
     ensures { result < m }
 {
     let mut cells = [0.0; CELLS];
-    let mut i: usize = 0;
-    while i < GROUP {
+    for i in 0..GROUP {
         put_place(b, log, keys, at + i * step, &mut cells, i);
-        i += 1;
     }
     middle_place(&mut cells, m)
 }
@@ -132,11 +113,9 @@ fn middle_of_groups(b: f64, log: &[f64], keys: &[u64], m: usize) -> usize
 {
     let size = m / GROUP;
     let mut cells = [0.0; CELLS];
-    let mut i: usize = 0;
-    while i < GROUP {
+    for i in 0..GROUP {
         let q = group_middle(b, log, keys, m, i * size, size / GROUP);
         put_place(b, log, keys, q, &mut cells, i);
-        i += 1;
     }
     middle_place(&mut cells, m)
 }
@@ -146,11 +125,9 @@ fn count_below(b: f64, log: &[f64], keys: &[u64], m: usize, u: f64) -> usize
     requires { InLog log.now keys.now m }
 {
     let mut k: usize = 0;
-    let mut i: usize = 0;
-    while i < m {
-        let e = log_entries::entry_at(log, keys[i] as usize);
+    for key in &keys[..m] {
+        let e = log_entries::entry_at(log, *key as usize);
         k += (least_past(b, e) < u) as usize;
-        i += 1;
     }
     k
 }
@@ -165,10 +142,8 @@ fn near_middle(b: f64, log: &[f64], keys: &[u64], m: usize) -> usize
     let q = group_middle(b, log, keys, m, 0, m / GROUP);
     let e = log_entries::entry_at(log, keys[q] as usize);
     let k = count_below(b, log, keys, m, least_past(b, e));
-    if m / 4 <= k {
-        if k <= m - m / 4 {
-            return q;
-        }
+    if m / 4 <= k && k <= m - m / 4 {
+        return q;
     }
     middle_of_groups(b, log, keys, m)
 }
@@ -259,17 +234,17 @@ pub fn gather_ray(g: DexelGrid, log: &[f64], ray: usize, b: f64, keys: &mut [u64
         × GathersTo g log.now ray b (entry_count log.now) keys.new result }
 {
     let n = log_entries::entry_count(log);
-    let top = 1.0 / 0.0;
-    let held = HeldKeys { count: 0, end: top };
+    let held = HeldKeys {
+        count: 0,
+        end: f64::INFINITY,
+    };
     let mut w = LongPart {
         keys: held,
-        outer: -top,
-        inner: -top,
+        outer: f64::NEG_INFINITY,
+        inner: f64::NEG_INFINITY,
     };
-    let mut i: usize = 0;
-    while i < n {
+    for i in 0..n {
         w = add_entry(g, log, ray, b, keys, w, i);
-        i += 1;
     }
     w
 }

@@ -1,6 +1,7 @@
 -- The rays one after the other: what stands in the buffer for those that are merged holds in every later buffer that keeps it.
-use mathlib.Core.Path.{◌≡◌, refl, sym, ap, ap₂, ◌∙◌, subst}
-use mathlib.Core.Bool.{Bool, true, false, cond}
+use mathlib.Core.Path.{◌≡◌, refl, sym, ap, ap₂, ◌∙◌, subst, subst₂}
+use mathlib.Core.Bool.{true, false}
+use Rattle.std.specs.Prelude.{Option, None, Some}
 use mathlib.Core.List.{List, ◌∷◌}
 use Prim.Native.Nat.{ℕ, zero, suc, ◌+◌, ◌-◌, ◌*◌, ◌^◌, ◌≤◌, ◌<◌}
 use native.Mathlib.Nat.{le_refl, le_of_lt}
@@ -32,9 +33,10 @@ use Rattle.log_group.proofs.Chains.{grouped-kept}
 use Rattle.ray_subtract.specs.Steps.{cells_from}
 use Rattle.ray_subtract.proofs.Places.{part_same}
 use Rattle.log_merge.specs.Rays.{LoadPre, MergeRayPost, limit_of}
-use Rattle.log_merge.specs.All.{first_size_of, one_if_changed, sizes_at, lists_from, MergeAllPre, MergeAllPost}
+use Rattle.log_merge.specs.All.{first_size_of, second_size_of, one_if_changed, sizes_at, lists_from, MergeAllPre, MergeAllPost}
 use Rattle.log_merge.specs.declared.RayUpdate.{RayUpdate}
-use Rattle.log_merge.proofs.MergedRay.{changes, changes-not, new-exact, pairs-most}
+use Rattle.log_merge.proofs.MergedRay.{changes, changes-not, new-exact, cells-left}
+use Rattle.log_merge.proofs.Cutting.{new_cells_of, cells-most}
 use Rattle.store.specs.Store.{Cells}
 
 -- the stock of the cells; its small record does not count here
@@ -111,9 +113,9 @@ module _ (spec : DexelStockSpec) (g : DexelGrid) (c : Cells) (log before : List 
   -- ---- one more ray
   module _ (total : ℕ) (snd : SoundCells spec g c total) (w w₁ w₂ : List Float) (ray q changed : ℕ)
       (x : Merging spec g c log before w ray q changed) (h : ray < ray_count g)
-      (r : RayUpdate) (m : MergeRayPost spec g c log ray q w w₁ r)
+      (r : Option RayUpdate) (m : MergeRayPost spec g c log ray q w w₁ r)
       (put : w₂ ≡ set (set w₁ (sizes_at g log + 2 * ray) (number_cell (first_size_of r))) (sizes_at g log + 2 * ray + 1)
-      (number_cell r.certain))
+      (number_cell (second_size_of r)))
       (fit : q + limit_of spec log ≤ length w) (small : limit_of spec log ≤ largest_number)
       (d : Doubles g (ray_lists spec g (stock_of c).cells) (entries log)) where
     abbrev at : ℕ
@@ -123,37 +125,39 @@ module _ (spec : DexelStockSpec) (g : DexelGrid) (c : Cells) (log before : List 
     mid = set w₁ at (number_cell (first_size_of r))
 
     size₂ : length w₂ ≡ length w
-    size₂ = ap length put ∙ length-set mid (at + 1) (number_cell r.certain) ∙ length-set w₁ at (number_cell (first_size_of r)) ∙ m.cut.size
+    size₂ = ap length put ∙ length-set mid (at + 1) (number_cell (second_size_of r))
+        ∙ length-set w₁ at (number_cell (first_size_of r)) ∙ m.cut.size
 
     other : (k : ℕ) → (k ≡ at → ⊥) → (k ≡ at + 1 → ⊥) → get_or w₂ k nan ≡ get_or w₁ k nan
     other k a b =
-        ap (λ (l : List Float). get_or l k nan) put ∙ get_or-set_other mid (at + 1) k (number_cell r.certain) nan b
+        ap (λ (l : List Float). get_or l k nan) put ∙ get_or-set_other mid (at + 1) k (number_cell (second_size_of r)) nan b
         ∙ get_or-set_other w₁ at k (number_cell (first_size_of r)) nan a
 
     kept-front : (k : ℕ) → k < q → (k ≡ at → ⊥) → (k ≡ at + 1 → ⊥) → get_or w₂ k nan ≡ get_or w k nan
     kept-front k l a b = other k a b ∙ m.cut.front k l
 
-    first-most : first_size_of r ≤ largest_number
-    first-most = go r.changed
+    sizes-most : (first_size_of r ≤ largest_number) × (second_size_of r ≤ largest_number)
+    sizes-most = go r (cells-most m.cut)
       where
-        go : (b : Bool) → cond b (r.possible + 1) 0 ≤ largest_number
-        go true = omega (arith, m.cut.most)
-        go false = omega arith
+        go : (o : Option RayUpdate) → new_cells_of o ≤ limit_of spec log
+            → (first_size_of o ≤ largest_number) × (second_size_of o ≤ largest_number)
+        go None e = (omega arith, omega arith)
+        go (Some u) e = (omega arith, omega arith)
 
     first-is : number_at w₂ at ≡ first_size_of r
     first-is =
         number_same w₂ mid at (ap (λ (l : List Float). get_or l at nan) put
-        ∙ get_or-set_other mid (at + 1) at (number_cell r.certain) nan (λ (e : at ≡ at + 1). omega arith))
-        ∙ number_put w₁ at (first_size_of r) (omega (arith, m.cut.size, x.low)) first-most
+        ∙ get_or-set_other mid (at + 1) at (number_cell (second_size_of r)) nan (λ (e : at ≡ at + 1). omega arith))
+        ∙ number_put w₁ at (first_size_of r) (omega (arith, m.cut.size, x.low)) sizes-most.0
 
-    second_is : number_at w₂ (at + 1) ≡ r.certain
+    second_is : number_at w₂ (at + 1) ≡ second_size_of r
     second_is =
         ap (λ (l : List Float). number_at l (at + 1)) put
-        ∙ number_put mid (at + 1) r.certain (omega (arith, m.cut.size, x.low, length-set w₁ at (number_cell (first_size_of r))))
-        (omega (arith, m.cut.most))
+        ∙ number_put mid (at + 1) (second_size_of r) (omega (arith, m.cut.size, x.low, length-set w₁ at (number_cell (first_size_of r))))
+        sizes-most.1
 
     abbrev next : ℕ
-    next = q + (2 * r.possible + 2 * r.certain)
+    next = q + new_cells_of r
 
     module _ (v : List Float) (k : Keeps g log w₂ v (ray + 1) next) where
       before-it : Keeps g log w v ray q
@@ -167,13 +171,13 @@ module _ (spec : DexelStockSpec) (g : DexelGrid) (c : Cells) (log before : List 
       first-in : first_size v (sizes_at g log) ray ≡ first_size_of r
       first-in = number_same v w₂ at (k.sizes at (omega arith) (omega arith)) ∙ first-is
 
-      second-in : number_at v (at + 1) ≡ r.certain
+      second-in : number_at v (at + 1) ≡ second_size_of r
       second-in = number_same v w₂ (at + 1) (k.sizes (at + 1) (omega arith) (omega arith)) ∙ second_is
 
       -- a new list in v
       list-in : (i n : ℕ) → q ≤ i → i + n ≤ next → cells_from i n v ≡ cells_from i n w₁
       list-in i n a b =
-          part_same i n w₁ v (omega (arith, m.cut.most, m.cut.size)) (k.size ∙ size₂ ∙ sym m.cut.size)
+          part_same i n w₁ v (omega (arith, cells-most m.cut, m.cut.size)) (k.size ∙ size₂ ∙ sym m.cut.size)
           (λ j d e. k.lists j (omega (arith, x.low)) (omega arith)
           ∙ other j (λ (f : j ≡ at). omega (arith, x.low)) (λ (f : j ≡ at + 1). omega (arith, x.low)))
 
@@ -190,12 +194,12 @@ module _ (spec : DexelStockSpec) (g : DexelGrid) (c : Cells) (log before : List 
       up_one = omega arith
 
       -- the ray does not change
-      module _ (e : r.changed ≡ false) where
+      module _ (e : r ≡ None) where
         same_place : q ≡ next
-        same_place = let z = m.cut.none e in omega (arith, z.0, z.1)
+        same_place = omega (arith, ap new_cells_of e)
 
         no_size : eqb (first_size v (sizes_at g log) ray) 0 ≡ true
-        no_size = eq-eqb (first_size v (sizes_at g log) ray) 0 (first-in ∙ ap (λ (b : Bool). cond b (r.possible + 1) 0) e)
+        no_size = eq-eqb (first_size v (sizes_at g log) ray) 0 (first-in ∙ ap first_size_of e)
 
         same-updates : updates_from v (sizes_at g log) q ray (ray_count g - ray) ≡ updates_from v (sizes_at g log) next (ray + 1) left
         same-updates =
@@ -207,36 +211,38 @@ module _ (spec : DexelStockSpec) (g : DexelGrid) (c : Cells) (log before : List 
         stays n y =
             subst (λ (us : List Update). MergeUpdates g lists (entries log) ray us n) (sym same-updates)
             (same h (changes-not spec g (stock_of c) total snd log ray h q w w₁ r m d e)
-            (subst (λ (i : ℕ). MergeUpdates g lists (entries log) i (updates_from v (sizes_at g log) next (ray + 1) left) n) (sym up_one) y))
+            (subst (λ (i : ℕ). MergeUpdates g lists (entries log) i (updates_from v (sizes_at g log) next (ray + 1) left) n)
+            (sym up_one) y))
 
       -- the ray changes
-      module _ (e : r.changed ≡ true) where
-        first-size : first_size v (sizes_at g log) ray ≡ r.possible + 1
-        first-size = first-in ∙ ap (λ (b : Bool). cond b (r.possible + 1) 0) e
+      module _ (u : RayUpdate) (e : r ≡ Some u) where
+        first-size : first_size v (sizes_at g log) ray ≡ u.possible + 1
+        first-size = first-in ∙ ap first_size_of e
 
         a-size : eqb (first_size v (sizes_at g log) ray) 0 ≡ false
         a-size = ne_eqb (first_size v (sizes_at g log) ray) 0 (λ (z : first_size v (sizes_at g log) ray ≡ 0). omega (arith, first-size))
 
-        possible-cells : possible_cells v (sizes_at g log) ray ≡ 2 * r.possible
+        possible-cells : possible_cells v (sizes_at g log) ray ≡ 2 * u.possible
         possible-cells = omega (arith, first-size)
 
-        certain-cells : certain_cells v (sizes_at g log) ray ≡ 2 * r.certain
-        certain-cells = ap (λ (n : ℕ). 2 * n) second-in
+        certain-cells : certain_cells v (sizes_at g log) ray ≡ 2 * u.certain
+        certain-cells = ap (λ (n : ℕ). 2 * n) (second-in ∙ ap second_size_of e)
 
         past-it : q + possible_cells v (sizes_at g log) ray + certain_cells v (sizes_at g log) ray ≡ next
-        past-it = omega (arith, possible-cells, certain-cells)
+        past-it = omega (arith, possible-cells, certain-cells, ap new_cells_of e)
 
-        possible-in : take (possible_cells v (sizes_at g log) ray) (drop q v) ≡ cells_from q (2 * r.possible) w₁
-        possible-in = ap (λ (n : ℕ). take n (drop q v)) possible-cells ∙ list-in q (2 * r.possible) (omega arith) (omega arith)
+        possible-in : take (possible_cells v (sizes_at g log) ray) (drop q v) ≡ cells_from q (2 * u.possible) w₁
+        possible-in = ap (λ (n : ℕ). take n (drop q v)) possible-cells
+            ∙ list-in q (2 * u.possible) (omega arith) (omega (arith, ap new_cells_of e))
 
         certain-in : take (certain_cells v (sizes_at g log) ray) (drop (q + possible_cells v (sizes_at g log) ray) v)
-            ≡ cells_from (q + 2 * r.possible) (2 * r.certain) w₁
+            ≡ cells_from (q + 2 * u.possible) (2 * u.certain) w₁
         certain-in = ap₂ (λ (n o : ℕ). take n (drop (q + o) v)) certain-cells possible-cells
-            ∙ list-in (q + 2 * r.possible) (2 * r.certain) (omega arith) (omega arith)
+            ∙ list-in (q + 2 * u.possible) (2 * u.certain) (omega arith) (omega (arith, ap new_cells_of e))
 
         new-updates : updates_from v (sizes_at g log) q ray (ray_count g - ray)
-            ≡ update (2 * ray) (cells_from q (2 * r.possible) w₁)
-            ∷ update (2 * ray + 1) (cells_from (q + 2 * r.possible) (2 * r.certain) w₁)
+            ≡ update (2 * ray) (cells_from q (2 * u.possible) w₁)
+            ∷ update (2 * ray + 1) (cells_from (q + 2 * u.possible) (2 * u.certain) w₁)
             ∷ updates_from v (sizes_at g log) next (ray + 1) left
         new-updates =
             ap (updates_from v (sizes_at g log) q ray) one_less ∙ updates-new v (sizes_at g log) q ray left a-size
@@ -244,8 +250,8 @@ module _ (spec : DexelStockSpec) (g : DexelGrid) (c : Cells) (log before : List 
             ∷ updates_from v (sizes_at g log)
             (q + possible_cells v (sizes_at g log) ray + certain_cells v (sizes_at g log) ray) (suc ray) left)
             possible-in certain-in
-            ∙ ap₂ (λ (o i : ℕ). update (2 * ray) (cells_from q (2 * r.possible) w₁)
-            ∷ update (2 * ray + 1) (cells_from (q + 2 * r.possible) (2 * r.certain) w₁)
+            ∙ ap₂ (λ (o i : ℕ). update (2 * ray) (cells_from q (2 * u.possible) w₁)
+            ∷ update (2 * ray + 1) (cells_from (q + 2 * u.possible) (2 * u.certain) w₁)
             ∷ updates_from v (sizes_at g log) o i left) past-it up_one
 
         moves : (n : ℕ) → MergeUpdates g lists (entries log) (ray + 1) (updates_from v (sizes_at g log) next (ray + 1) left) n
@@ -253,22 +259,24 @@ module _ (spec : DexelStockSpec) (g : DexelGrid) (c : Cells) (log before : List 
         moves n y =
             subst (λ (us : List Update). MergeUpdates g lists (entries log) ray us (suc n)) (sym new-updates)
             (new h (changes spec g (stock_of c) total snd log ray h q w w₁ r m d e)
-            (new-exact spec g (stock_of c) total snd log ray h q w w₁ r m e)
-            (subst (λ (i : ℕ). MergeUpdates g lists (entries log) i (updates_from v (sizes_at g log) next (ray + 1) left) n) (sym up_one) y))
+            (new-exact spec g (stock_of c) total snd log ray h q w w₁ r m u e)
+            (subst (λ (i : ℕ). MergeUpdates g lists (entries log) i (updates_from v (sizes_at g log) next (ray + 1) left) n)
+            (sym up_one) y))
 
       next-ends : lists_end v (sizes_at g log) q ray (ray_count g - ray) ≡ lists_end v (sizes_at g log) next (ray + 1) left
-      next-ends = ap (lists_end v (sizes_at g log) q ray) one_less ∙ go r.changed refl
+      next-ends = ap (lists_end v (sizes_at g log) q ray) one_less ∙ go r refl
         where
-          go : (b : Bool) → r.changed ≡ b → lists_end v (sizes_at g log) q ray (suc left) ≡ lists_end v (sizes_at g log) next (ray + 1) left
-          go true e = end-new v (sizes_at g log) q ray left (a-size e)
-              ∙ ap₂ (λ (o i : ℕ). lists_end v (sizes_at g log) o i left) (past-it e) up_one
-          go false e = end_same v (sizes_at g log) q ray left (no_size e)
+          go : (o : Option RayUpdate) → r ≡ o
+              → lists_end v (sizes_at g log) q ray (suc left) ≡ lists_end v (sizes_at g log) next (ray + 1) left
+          go (Some u) e = end-new v (sizes_at g log) q ray left (a-size u e)
+              ∙ ap₂ (λ (o i : ℕ). lists_end v (sizes_at g log) o i left) (past-it u e) up_one
+          go None e = end_same v (sizes_at g log) q ray left (no_size e)
               ∙ ap₂ (λ (o i : ℕ). lists_end v (sizes_at g log) o i left) (same_place e) up_one
 
       next-rest : (n : ℕ) → MergeUpdates g lists (entries log) (ray + 1) (updates_from v (sizes_at g log) next (ray + 1) left) n
           → MergeUpdates g lists (entries log) 0 (updates_from v (sizes_at g log) (lists_from g log) 0 (ray_count g))
           (changed + one_if_changed r + n)
-      next-rest n y = go r.changed refl
+      next-rest n y = go r refl
         where
           one_more : (a n : ℕ) → a + suc n ≡ a + 1 + n
           one_more a n = omega arith
@@ -276,14 +284,14 @@ module _ (spec : DexelStockSpec) (g : DexelGrid) (c : Cells) (log before : List 
           none_more : (a n : ℕ) → a + n ≡ a + 0 + n
           none_more a n = omega arith
 
-          go : (b : Bool) → r.changed ≡ b
+          go : (o : Option RayUpdate) → r ≡ o
               → MergeUpdates g lists (entries log) 0 (updates_from v (sizes_at g log) (lists_from g log) 0 (ray_count g))
-              (changed + cond b 1 0 + n)
-          go true e =
+              (changed + one_if_changed o + n)
+          go (Some u) e =
               subst (MergeUpdates g lists (entries log) 0
               (updates_from v (sizes_at g log) (lists_from g log) 0 (ray_count g))) (one_more changed n)
-              (x.rest v before-it (suc n) (moves e n y))
-          go false e =
+              (x.rest v before-it (suc n) (moves u e n y))
+          go None e =
               subst (MergeUpdates g lists (entries log) 0
               (updates_from v (sizes_at g log) (lists_from g log) 0 (ray_count g))) (none_more changed n)
               (x.rest v before-it n (stays e n y))
@@ -304,16 +312,16 @@ module _ (spec : DexelStockSpec) (g : DexelGrid) (c : Cells) (log before : List 
             sum-at g f (suc ray) (ray + 1) h (omega arith) l,
             sum-next g f ray
                 (le_of_lt h) h,
-            pairs-most spec g (stock_of c) total snd log ray h q w w₁ r m (omega (arith, m.cut.size)),
+            cells-left spec g (stock_of c) total snd log ray h q w w₁ r m (omega (arith, m.cut.size)),
           );
-      few = count_most r.changed;
+      few = count_most r;
       ends = λ v k. x.ends v (before-it v k) ∙ next-ends v k;
       rest = next-rest;
     }
       where
-        count_most : (b : Bool) → changed + cond b 1 0 ≤ ray + 1
-        count_most true = omega (arith, x.few)
-        count_most false = omega (arith, x.few)
+        count_most : (o : Option RayUpdate) → changed + one_if_changed o ≤ ray + 1
+        count_most None = omega (arith, x.few)
+        count_most (Some u) = omega (arith, x.few)
 
   -- ---- the end
   module _ (total : ℕ) (snd : SoundCells spec g c total) (w : List Float) (ray q changed : ℕ)
@@ -416,16 +424,17 @@ module _ {spec : DexelStockSpec} {g : DexelGrid} {c : Cells} {log before : List 
     )
 
     pub steps : DoubleCells c.spans → DoubleCells log → ray < rays → length before < 2 ^ 64
-        → {w₁ w₂ : List Float} {r : RayUpdate} {k : ℕ}
+        → {w₁ w₂ : List Float} {r : Option RayUpdate} {next_q next_changed : ℕ}
         → MergeRayPost spec g c log ray q w w₁ r
         → w₂ ≡ set (set w₁ (rays + entry_count log + 2 * ray) (number_cell (first_size_of r)))
-        (rays + entry_count log + 2 * ray + 1) (number_cell r.certain) → k ≡ one_if_changed r
-        → Merging spec g c log before w₂ (ray + 1) (q + (2 * r.possible + 2 * r.certain)) (changed + k)
-    steps ds dl below addressed {w₁} {w₂} {r} m put count =
-        subst (λ (n : ℕ). Merging spec g c log before w₂ (ray + 1) (q + (2 * r.possible + 2 * r.certain)) (changed + n)) (sym count)
+        (rays + entry_count log + 2 * ray + 1) (number_cell (second_size_of r)) → next_q ≡ q + new_cells_of r
+        → next_changed ≡ changed + one_if_changed r
+        → Merging spec g c log before w₂ (ray + 1) next_q next_changed
+    steps ds dl below addressed {w₁} {w₂} {r} m put end count =
+        subst₂ (λ (n k : ℕ). Merging spec g c log before w₂ (ray + 1) n k) (sym end) (sym count)
         (merging-step spec g c log before total store w w₁ w₂ ray q changed x (omega arith) r m
         (put ∙ ap (λ (n : ℕ). set (set w₁ (n + entry_count log + 2 * ray) (number_cell (first_size_of r)))
-        (n + entry_count log + 2 * ray + 1) (number_cell r.certain)) is)
+        (n + entry_count log + 2 * ray + 1) (number_cell (second_size_of r))) is)
         (omega (arith, fits.high, fits.all, fits.long)) (omega (arith, pre.pairs)) (all-doubles spec g (stock_of c) log ds dl))
 
     pub done : rays ≤ ray → MergeAllPost spec g c log before w changed

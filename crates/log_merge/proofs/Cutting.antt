@@ -1,6 +1,7 @@
 -- Both lists of a ray less their hits, one after the other at the start of a buffer.
 use mathlib.Core.Path.{◌≡◌, refl, sym, ◌∙◌, ap, ap₂, subst}
-use mathlib.Core.Bool.{Bool, true, false, not, ◌&&◌, true≢false, false≢true}
+use mathlib.Core.Bool.{true, false}
+use Rattle.std.specs.Prelude.{Option, None, Some, MatchOption}
 use mathlib.Core.List.{List}
 use Prim.Native.Nat.{ℕ, ◌+◌, ◌*◌, ◌/◌, ◌%◌, ◌≤◌}
 use native.Mathlib.Omega.{arith}
@@ -13,28 +14,51 @@ use Rattle.span_overlay.proofs.Less.{less-list}
 use Rattle.ray_subtract.specs.Steps.{cells_from, SoundListAt, WrittenAt, less_hits, MergeWithinPre}
 use Rattle.ray_subtract.proofs.Places.{part_length, part-front, part-past, lies-past}
 use Rattle.ray_subtract.proofs.Sparing.{less-both-list}
-use Rattle.log_merge.specs.Rays.{ray_moves, RayCutPost}
+use Rattle.log_merge.specs.Rays.{ray_moves, NewLists, RayCutPost}
+use Rattle.log_merge.specs.declared.RayUpdate.{RayUpdate}
 
--- ---- whether the ray changes: x and y say that possible and certain stay
-pub moves-first : (x y r : Bool) → r ≡ not x → r ≡ true → true ≡ not (x && y)
-moves-first true y r e h = absurd (true≢false (sym h ∙ e))
-moves-first false y r e h = refl
-
-pub moves-second : (x y r : Bool) → r ≡ not x → r ≡ false → (s : Bool) → s ≡ not y → s ≡ not (x && y)
-moves-second true y r e h s f = f
-moves-second false y r e h s f = absurd (false≢true (sym h ∙ e))
-
+-- ---- no boundary moves
 pub untouched : (possible certain outer inner : List Float) (from limit : ℕ) (w : List Float)
-    → ray_moves possible certain outer inner ≡ false
-    → RayCutPost possible certain outer inner from limit w w (record { changed = false; possible = 0; certain = 0 })
-untouched possible certain outer inner from limit w h = record {
-  size = refl;
-  front = λ q e. refl;
-  moved = sym h;
-  most = omega arith;
-  lists = λ e. absurd (false≢true e);
-  none = λ e. (refl, refl);
+    → ray_moves possible certain outer inner ≡ false → RayCutPost possible certain outer inner from limit w w None
+untouched possible certain outer inner from limit w h = record { size = refl; front = λ q e. refl; update = h }
+
+-- ---- what is known of an update
+-- the cells that the new lists of a ray have
+abbrev pub new_cells_of : Option RayUpdate → ℕ
+new_cells_of None = 0
+new_cells_of (Some u) = 2 * u.possible + 2 * u.certain
+
+-- in a higher limit
+pub wider : (possible certain outer inner : List Float) (at : ℕ) {limit most : ℕ} (w : List Float) → limit ≤ most → (r : Option RayUpdate)
+    → MatchOption r (ray_moves possible certain outer inner ≡ false) (NewLists possible certain outer inner at limit w)
+    → MatchOption r (ray_moves possible certain outer inner ≡ false) (NewLists possible certain outer inner at most w)
+wider possible certain outer inner at w h None n = n
+wider possible certain outer inner at w h (Some u) n = record {
+  moved = n.moved;
+  most = omega (arith, n.most);
+  possible_is = n.possible_is;
+  certain_is = n.certain_is;
 }
+
+module _ {possible certain outer inner : List Float} {from limit : ℕ} {before after : List Float} where
+  pub cells-most : {r : Option RayUpdate} → RayCutPost possible certain outer inner from limit before after r → new_cells_of r ≤ limit
+  cells-most {r} x = go r x.update
+    where
+      go : (r : Option RayUpdate)
+          → MatchOption r (ray_moves possible certain outer inner ≡ false) (NewLists possible certain outer inner from limit after)
+          → new_cells_of r ≤ limit
+      go None n = omega arith
+      go (Some u) n = n.most
+
+  pub new-lists : {r : Option RayUpdate} {u : RayUpdate} → RayCutPost possible certain outer inner from limit before after r
+      → r ≡ Some u → NewLists possible certain outer inner from limit after u
+  new-lists x e = subst (λ (o : Option RayUpdate). MatchOption o (ray_moves possible certain outer inner ≡ false)
+      (NewLists possible certain outer inner from limit after)) e x.update
+
+  pub unmoved : {r : Option RayUpdate} → RayCutPost possible certain outer inner from limit before after r → r ≡ None
+      → ray_moves possible certain outer inner ≡ false
+  unmoved x e = subst (λ (o : Option RayUpdate). MatchOption o (ray_moves possible certain outer inner ≡ false)
+      (NewLists possible certain outer inner from limit after)) e x.update
 
 -- a sound list of r cells has r / 2 pairs
 two-halves : (l : List Float) (at r : ℕ) (w : List Float) → at + r ≤ length w → cells_from at r w ≡ l → sound l ≡ true → 2 * (r / 2) ≡ r
@@ -67,9 +91,10 @@ module _ (at np nc no ni : ℕ) (w w₁ w₂ : List Float) (p r : ℕ) (ready : 
   pub both-cut : true ≡ ray_moves (cells_from at np w) (cells_from (at + np) nc w) (cells_from (at + np + nc) no w)
       (cells_from (at + np + nc + no) ni w)
       → WrittenAt (less_hits (at + np) nc no ni w₁) p (np + 2 * ni + nc + no) (nc + no + ni) w₁ w₂ r
-      → RayCutPost (cells_from at np w) (cells_from (at + np) nc w) (cells_from (at + np + nc) no w) (cells_from (at + np + nc + no) ni w) 0
+      → RayCutPost (cells_from at np w) (cells_from (at + np) nc w) (cells_from (at + np + nc) no w)
+      (cells_from (at + np + nc + no) ni w) 0
       (np + nc + no + 2 * ni) w w₂
-      (record { changed = true; possible = p / 2; certain = r / 2 })
+      (Some (record { possible = p / 2; certain = r / 2 }))
   both-cut h second =
       let size₁ : length w₁ ≡ length w = first.between.size in
       let size₂ : length w₂ ≡ length w₁ = second.between.size in
@@ -84,14 +109,13 @@ module _ (at np nc no ni : ℕ) (w w₁ w₂ : List Float) (p r : ℕ) (ready : 
       record {
         size = size₂ ∙ size₁;
         front = λ q e. absurd (omega arith);
-        moved = h;
-        most = omega (arith, first.most, second.most);
-        lists = λ e. record {
+        update = record {
+          moved = sym h;
+          most = omega (arith, first.most, second.most);
           possible_is = ap (λ (n : ℕ). cells_from 0 n w₂) two-p ∙ part-front p (np + 2 * ni + nc + no) w₁ w₂ second.between 0 p fit₁
               (omega arith) ∙ first.ends;
           certain_is = ap₂ (λ (m n : ℕ). cells_from m n w₂) (none (2 * (p / 2)) ∙ two-p) two-r ∙ certain_is;
         };
-        none = λ e. absurd (true≢false e);
       }
     where
       none : (p : ℕ) → 0 + p ≡ p

@@ -143,7 +143,8 @@ module _ {spec : DexelStockSpec} {g : DexelGrid} {c : Cells} {log w : List Float
       placed₂ : PlacedAt (ray_list spec c ray Certain) r₁ w₁ w₂
       placed₂ = copied_placed (ray_list spec c ray Certain) w₁ r₁ w₂ r₂ certain-ready.1 q
 
-      pub outer-ready : Grouped g log w₂ × (ray < ray_count g) × (ray_count g + entry_count log ≤ r₂) × (r₂ + length (hits outer) ≤ length w₂)
+      pub outer-ready : Grouped g log w₂ × (ray < ray_count g) × (ray_count g + entry_count log ≤ r₂) ×
+          (r₂ + length (hits outer) ≤ length w₂)
       outer-ready = (
         grouped-kept g log w w₂ (placed₂.size ∙ placed₁.size)
             (λ k h. placed₂.front k (omega (arith, p.past, b.past)) ∙ placed₁.front k (omega (arith, b.past)))

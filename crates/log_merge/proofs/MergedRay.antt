@@ -1,20 +1,21 @@
 -- What the merge of one ray says of the log. The lists that stand in the buffer are the old ones less what
 -- normalising makes of the hits, and that has the points of the hits; so they are the lists after the log, and the
 -- ray changes exactly when one of them moves.
-use mathlib.Core.Path.{◌≡◌, refl, sym, ap, ◌∙◌, subst}
-use mathlib.Core.Bool.{Bool, true, false}
+use mathlib.Core.Path.{◌≡◌, refl, sym, ap, ◌∙◌}
+use mathlib.Core.Bool.{Bool}
 use mathlib.Core.List.{List}
+use Rattle.std.specs.Prelude.{Option, None, Some}
 use Prim.Native.Nat.{ℕ, ◌+◌, ◌*◌, ◌/◌, ◌≤◌, ◌<◌}
 use native.Mathlib.Omega.{arith}
 use lib.ListN.{length}
 use lib.Ieee.{Float}
-use Rattle.spans.specs.Spans.{holds, ListOf, NormalOf}
+use Rattle.spans.specs.Spans.{holds, ListOf}
 use Rattle.spans.specs.Overlay.{less_of}
 use Rattle.grid.specs.Rays.{ray_count, Ray}
 use Rattle.grid.specs.declared.DexelStockSpec.{DexelStockSpec}
 use Rattle.grid.specs.declared.DexelGrid.{DexelGrid}
 use Rattle.stock.specs.Stock.{Stock, SoundCells, Kind, Possible, Certain, ray_list, ray_lists}
-use Rattle.log_model.specs.Logs.{entries, outer, inner}
+use Rattle.log_model.specs.Logs.{entries}
 use Rattle.log_model.specs.Model.{RayChanges}
 use Rattle.log_model.specs.Counts.{is_ray_changed, starts_left, hits_on_list}
 use Rattle.log_model.proofs.Decided.{changes-by}
@@ -24,7 +25,8 @@ use Rattle.log_model.proofs.Updates.{exact-possible, exact-certain, exact-change
 use Rattle.log_model.proofs.Totals.{each, one-pairs}
 use Rattle.ray_subtract.specs.Steps.{cells_from}
 use Rattle.ray_subtract.proofs.Places.{part_length}
-use Rattle.log_merge.specs.Rays.{MergeRayPost, limit_of}
+use Rattle.log_merge.specs.Rays.{ray_moves, MergeRayPost, limit_of}
+use Rattle.log_merge.proofs.Cutting.{new_cells_of, new-lists, unmoved}
 use Rattle.log_merge.specs.declared.RayUpdate.{RayUpdate}
 
 -- ---- over a sound store
@@ -39,7 +41,7 @@ module _ (spec : DexelStockSpec) (g : DexelGrid) (s : Stock) (total : ℕ) (snd 
   listed : (r : Ray g) (k : Kind) → ListOf (sets r k) (ray_lists spec g s.cells r k)
   listed r k = each spec g counted snd (entries log) r k
 
-  module _ (ray : ℕ) (h : ray < ray_count g) (q : ℕ) (before after : List Float) (r : RayUpdate)
+  module _ (ray : ℕ) (h : ray < ray_count g) (q : ℕ) (before after : List Float) (r : Option RayUpdate)
       (m : MergeRayPost spec g s.cells log ray q before after r) where
     -- both lists less what normalising makes of the hits
     exact : (p c : List Float) → p ≡ less_of (ray_list spec s.cells ray Possible) m.inner_normal
@@ -54,47 +56,51 @@ module _ (spec : DexelStockSpec) (g : DexelGrid) (s : Stock) (total : ℕ) (snd 
       certain_is = b;
     }
 
-    pub new-exact : r.changed ≡ true
-        → MergedByLog g (ray_lists spec g s.cells) (entries log) (ray, h) (cells_from q (2 * r.possible) after)
-        (cells_from (q + 2 * r.possible) (2 * r.certain) after)
-    new-exact e = exact (cells_from q (2 * r.possible) after) (cells_from (q + 2 * r.possible) (2 * r.certain) after)
-        (m.cut.lists e).possible_is (m.cut.lists e).certain_is
+    pub new-exact : (u : RayUpdate) → r ≡ Some u
+        → MergedByLog g (ray_lists spec g s.cells) (entries log) (ray, h) (cells_from q (2 * u.possible) after)
+        (cells_from (q + 2 * u.possible) (2 * u.certain) after)
+    new-exact u e =
+        let n = new-lists m.cut e in
+        exact (cells_from q (2 * u.possible) after) (cells_from (q + 2 * u.possible) (2 * u.certain) after) n.possible_is n.certain_is
 
     -- the ray changes where a boundary moves
-    changed-by : r.changed ≡ is_ray_changed g (ray_lists spec g s.cells) (entries log) (ray, h)
-    changed-by =
-        m.cut.moved
-        ∙ exact-changes g (ray_lists spec g s.cells) (entries log) (ray, h)
+    moves-by : ray_moves (ray_list spec s.cells ray Possible) (ray_list spec s.cells ray Certain) m.outer_normal m.inner_normal
+        ≡ is_ray_changed g (ray_lists spec g s.cells) (entries log) (ray, h)
+    moves-by =
+        exact-changes g (ray_lists spec g s.cells) (entries log) (ray, h)
         (less_of (ray_list spec s.cells ray Possible) m.inner_normal)
         (less_of (less_of (ray_list spec s.cells ray Certain) m.outer_normal) m.inner_normal) (exact _ _ refl refl)
         (listed (ray, h) Possible).is_sound (listed (ray, h) Certain).is_sound
 
-    pub changes : Doubles g (ray_lists spec g s.cells) (entries log) → r.changed ≡ true → RayChanges g sets (entries log) (ray, h)
-    changes d e = (changes-by g sets (ray_lists spec g s.cells) listed (entries log) d (ray, h)).0 (sym changed-by ∙ e)
+    pub changes : Doubles g (ray_lists spec g s.cells) (entries log) → {u : RayUpdate} → r ≡ Some u
+        → RayChanges g sets (entries log) (ray, h)
+    changes d e = (changes-by g sets (ray_lists spec g s.cells) listed (entries log) d (ray, h)).0
+        (sym moves-by ∙ (new-lists m.cut e).moved)
 
-    pub changes-not : Doubles g (ray_lists spec g s.cells) (entries log) → r.changed ≡ false → ¬ RayChanges g sets (entries log) (ray, h)
-    changes-not d e = (changes-by g sets (ray_lists spec g s.cells) listed (entries log) d (ray, h)).1 (sym changed-by ∙ e)
+    pub changes-not : Doubles g (ray_lists spec g s.cells) (entries log) → r ≡ None → ¬ RayChanges g sets (entries log) (ray, h)
+    changes-not d e = (changes-by g sets (ray_lists spec g s.cells) listed (entries log) d (ray, h)).1 (sym moves-by ∙ unmoved m.cut e)
 
-    -- how many pairs both new lists have
-    pub pairs-most : q + limit_of spec log ≤ length after
-        → r.possible + r.certain ≤ starts_left (ray_lists spec g s.cells (ray, h) Possible)
+    -- how many cells both new lists have
+    pub cells-left : q + limit_of spec log ≤ length after
+        → new_cells_of r ≤ 2 * (starts_left (ray_lists spec g s.cells (ray, h) Possible)
         (hits_on_list g (entries log) (ray, h) Possible)
-        + starts_left (ray_lists spec g s.cells (ray, h) Certain) (hits_on_list g (entries log) (ray, h) Certain)
-    pairs-most fit = go r.changed refl
+        + starts_left (ray_lists spec g s.cells (ray, h) Certain) (hits_on_list g (entries log) (ray, h) Certain))
+    cells-left fit = go r refl
       where
         half : (k : ℕ) → 2 * k / 2 ≡ k
         half k = omega arith
 
-        go : (b : Bool) → r.changed ≡ b
-            → r.possible + r.certain ≤ starts_left (ray_lists spec g s.cells (ray, h) Possible)
+        go : (o : Option RayUpdate) → r ≡ o
+            → new_cells_of o ≤ 2 * (starts_left (ray_lists spec g s.cells (ray, h) Possible)
             (hits_on_list g (entries log) (ray, h) Possible)
-            + starts_left (ray_lists spec g s.cells (ray, h) Certain) (hits_on_list g (entries log) (ray, h) Certain)
-        go true e =
-            let p = one-pairs spec g counted snd (entries log) (ray, h) Possible (cells_from q (2 * r.possible) after)
-            (exact-possible g (ray_lists spec g s.cells) (entries log) (ray, h) _ _ (new-exact e) (listed (ray, h) Possible).is_sound) in
-            let c = one-pairs spec g counted snd (entries log) (ray, h) Certain (cells_from (q + 2 * r.possible) (2 * r.certain) after)
-            (exact-certain g (ray_lists spec g s.cells) (entries log) (ray, h) _ _ (new-exact e) (listed (ray, h) Certain).is_sound) in
-            let lp = part_length q (2 * r.possible) after (omega (arith, m.cut.most)) in
-            let lc = part_length (q + 2 * r.possible) (2 * r.certain) after (omega (arith, m.cut.most)) in
-            omega (arith, sym p ∙ ap (λ (n : ℕ). n / 2) lp ∙ half r.possible, sym c ∙ ap (λ (n : ℕ). n / 2) lc ∙ half r.certain)
-        go false e = let z = m.cut.none e in omega (arith, z.0, z.1)
+            + starts_left (ray_lists spec g s.cells (ray, h) Certain) (hits_on_list g (entries log) (ray, h) Certain))
+        go None e = omega arith
+        go (Some u) e =
+            let n = new-lists m.cut e in
+            let p = one-pairs spec g counted snd (entries log) (ray, h) Possible (cells_from q (2 * u.possible) after)
+            (exact-possible g (ray_lists spec g s.cells) (entries log) (ray, h) _ _ (new-exact u e) (listed (ray, h) Possible).is_sound) in
+            let c = one-pairs spec g counted snd (entries log) (ray, h) Certain (cells_from (q + 2 * u.possible) (2 * u.certain) after)
+            (exact-certain g (ray_lists spec g s.cells) (entries log) (ray, h) _ _ (new-exact u e) (listed (ray, h) Certain).is_sound) in
+            let lp = part_length q (2 * u.possible) after (omega (arith, n.most)) in
+            let lc = part_length (q + 2 * u.possible) (2 * u.certain) after (omega (arith, n.most)) in
+            omega (arith, sym p ∙ ap (λ (n : ℕ). n / 2) lp ∙ half u.possible, sym c ∙ ap (λ (n : ℕ). n / 2) lc ∙ half u.certain)

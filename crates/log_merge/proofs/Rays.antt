@@ -2,6 +2,7 @@
 use mathlib.Core.Path.{◌≡◌, refl, sym, ap, ◌∙◌, subst₂}
 use mathlib.Core.Bool.{true, false, not}
 use mathlib.Core.List.{List, []}
+use Rattle.std.specs.Prelude.{Option, None, Some, MatchOption}
 use Prim.Native.Nat.{ℕ, ◌+◌, ◌-◌, ◌*◌, ◌≤◌}
 use native.Mathlib.Omega.{arith}
 use borrow.Rule.Slice.PartMut.{put_mid}
@@ -9,7 +10,7 @@ use lib.ListN.{length, take, drop, length-drop}
 use lib.Seq.{take_all, drop-drop}
 use lib.Ieee.{Float}
 use Rattle.logic.proofs.Bools.{both}
-use Rattle.spans.specs.Spans.{holds, sound, rising, equal, NormalOf, Apart}
+use Rattle.spans.specs.Spans.{holds, sound, equal, NormalOf, Apart}
 use Rattle.spans.proofs.Sets.{same_set}
 use Rattle.spans.specs.Overlay.{less_of}
 use Rattle.span_overlay.proofs.Less.{less-apart}
@@ -21,10 +22,10 @@ use Rattle.log_numbers.specs.Numbers.{number_at}
 use Rattle.log_group.proofs.Gathering.{none_named}
 use Rattle.ray_subtract.specs.Steps.{cells_from, SoundListAt, MergeWithinPre}
 use Rattle.ray_subtract.proofs.Places.{part-drop, tail-size, tail-front, tail-drop}
-use Rattle.log_merge.specs.Rays.{RayCutPost, LoadPre, LoadPost, limit_of, MergeRayPost}
+use Rattle.log_merge.specs.Rays.{ray_moves, NewLists, RayCutPost, LoadPre, LoadPost, limit_of, MergeRayPost}
 use Rattle.log_merge.specs.declared.RayUpdate.{RayUpdate}
 use Rattle.log_merge.specs.declared.Sizes.{Sizes}
-use Rattle.log_merge.proofs.Cutting.{untouched}
+use Rattle.log_merge.proofs.Cutting.{untouched, wider}
 use Rattle.log_merge.proofs.Loading.{list-most, hits-most}
 use Rattle.store.specs.Store.{Cells}
 
@@ -41,7 +42,8 @@ less_none : (l : List Float) → sound l ≡ true → less_of l [] ≡ l
 less_none l h = less-apart l [] h none-sound (none_apart l)
 
 -- what is cut may be said by equal lists
-pub cut-same : {a b c d o u i v : List Float} {from limit : ℕ} {before after : List Float} {r : RayUpdate} → a ≡ b → c ≡ d → o ≡ u → i ≡ v
+pub cut-same : {a b c d o u i v : List Float} {from limit : ℕ} {before after : List Float} {r : Option RayUpdate} → a ≡ b
+    → c ≡ d → o ≡ u → i ≡ v
     → RayCutPost a c o i from limit before after r → RayCutPost b d u v from limit before after r
 cut-same {a} {b} {c} {d} {o} {u} {i} {v} {from} {limit} {before} {after} {r} p q s t x =
     subst₂ (λ (k l : List Float). RayCutPost b d k l from limit before after r) s t
@@ -58,7 +60,8 @@ module _ (q : ℕ) (w : List Float) where
 
   lies_at : (p n at : ℕ) → q ≤ p → at ≡ p - q → p + n ≤ length w → sound (cells_from p n w) ≡ true
       → SoundListAt at n (take (length w - q) (drop q w))
-  lies_at p n at h e room ok = record { room = omega (arith, ap length there, length-drop q w); is_sound = ap sound (seen p n at h e) ∙ ok }
+  lies_at p n at h e room ok = record
+      { room = omega (arith, ap length there, length-drop q w); is_sound = ap sound (seen p n at h e) ∙ ok }
 
 -- ---- the ray cut there, seen from the whole buffer
 module _ (q : ℕ) (w ys : List Float) (fit : q ≤ length w) (size : length ys ≡ length (take (length w - q) (drop q w))) where
@@ -71,21 +74,13 @@ module _ (q : ℕ) (w ys : List Float) (fit : q ≤ length w) (size : length ys 
       none : (k : ℕ) → 0 + k ≡ k
       none k = omega arith
 
-  pub cut-back : {a c o i : List Float} {limit : ℕ} {r : RayUpdate} → RayCutPost a c o i 0 limit (take (length w - q) (drop q w)) ys r
+  pub cut-back : {a c o i : List Float} {limit : ℕ} {r : Option RayUpdate}
+      → RayCutPost a c o i 0 limit (take (length w - q) (drop q w)) ys r
       → RayCutPost a c o i q limit w (put_mid q (length w - q) w ys) r
   cut-back {a} {c} {o} {i} {limit} {r} x = record {
     size = tail-size q w ys fit size;
     front = tail-front q w ys fit size;
-    moved = x.moved;
-    most = x.most;
-    lists = λ h.
-        let n = x.lists h in
-        record {
-          possible_is = sym (ap (λ (k : ℕ). cells_from k (2 * r.possible) ys) (zero_left 0) ∙ back-part 0 (2 * r.possible)
-              ∙ ap (λ (k : ℕ). cells_from k (2 * r.possible) (put_mid q (length w - q) w ys)) (zero_right q)) ∙ n.possible_is;
-          certain_is = sym (back-part (2 * r.possible) (2 * r.certain)) ∙ n.certain_is;
-        };
-    none = x.none;
+    update = back r x.update;
   }
     where
       zero_left : (k : ℕ) → k ≡ 0 + k
@@ -93,6 +88,17 @@ module _ (q : ℕ) (w ys : List Float) (fit : q ≤ length w) (size : length ys 
 
       zero_right : (k : ℕ) → k + 0 ≡ k
       zero_right k = omega arith
+
+      back : (r : Option RayUpdate) → MatchOption r (ray_moves a c o i ≡ false) (NewLists a c o i 0 limit ys)
+          → MatchOption r (ray_moves a c o i ≡ false) (NewLists a c o i q limit (put_mid q (length w - q) w ys))
+      back None n = n
+      back (Some u) n = record {
+        moved = n.moved;
+        most = n.most;
+        possible_is = sym (ap (λ (k : ℕ). cells_from k (2 * u.possible) ys) (zero_left 0) ∙ back-part 0 (2 * u.possible)
+            ∙ ap (λ (k : ℕ). cells_from k (2 * u.possible) (put_mid q (length w - q) w ys)) (zero_right q)) ∙ n.possible_is;
+        certain_is = sym (back-part (2 * u.possible) (2 * u.certain)) ∙ n.certain_is;
+      }
 
 -- ---- from what `merge_ray` is given
 module _ {spec : DexelStockSpec} {g : DexelGrid} {c : Cells} {log w : List Float} {ray s : ℕ}
@@ -104,7 +110,7 @@ module _ {spec : DexelStockSpec} {g : DexelGrid} {c : Cells} {log w : List Float
   valid = b.valid ray b.below
 
   -- no entry names the ray
-  pub ray-same : number_at w ray ≡ 0 → MergeRayPost spec g c log ray q w w (record { changed = false; possible = 0; certain = 0 })
+  pub ray-same : number_at w ray ≡ 0 → MergeRayPost spec g c log ray q w w None
   ray-same e = record {
     outer_normal = [];
     inner_normal = [];
@@ -162,7 +168,7 @@ module _ {spec : DexelStockSpec} {g : DexelGrid} {c : Cells} {log w : List Float
     abbrev lent : List Float
     lent = take (length w₁ - q) (drop q w₁)
 
-    pub ray-merged : {ys : List Float} {r : RayUpdate} → length ys ≡ length lent
+    pub ray-merged : {ys : List Float} {r : Option RayUpdate} → length ys ≡ length lent
         → RayCutPost (cells_from (s - q) z.possible lent) (cells_from (s - q + z.possible) z.certain lent)
         (cells_from (s - q + z.possible + z.certain) z.outer lent)
         (cells_from (s - q + z.possible + z.certain + z.outer) z.inner lent) 0
@@ -183,9 +189,6 @@ module _ {spec : DexelStockSpec} {g : DexelGrid} {c : Cells} {log w : List Float
           cut = record {
             size = k.size ∙ x.size;
             front = λ p h. k.front p h ∙ x.front p (omega arith);
-            moved = k.moved;
-            most = omega (arith, k.most, few);
-            lists = λ e. record { possible_is = (k.lists e).possible_is; certain_is = (k.lists e).certain_is };
-            none = k.none;
+            update = wider _ _ _ _ _ _ few r k.update;
           };
         }

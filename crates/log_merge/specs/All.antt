@@ -15,7 +15,7 @@
 -- pairs of its new certain list. The new lists stand end to end. Before each ray they have at most 2 N cells, by the
 -- budget; its own two have at most 4 N + 6 E (`limit_of`). The scratch holds the ray's lists and what normalising
 -- makes of its hits, and is written anew for each ray.
-use Rattle.std.specs.Prelude.{◌≡◌, cond, List, ℕ, ◌+◌, ◌*◌, ◌≤◌, length, Float}
+use Rattle.std.specs.Prelude.{◌≡◌, List, ℕ, ◌+◌, ◌*◌, ◌≤◌, length, Float, Option, None, Some}
 use Rattle.grid.specs.Rays.{ray_count}
 use Rattle.grid.specs.declared.DexelStockSpec.{DexelStockSpec}
 use Rattle.grid.specs.declared.DexelGrid.{DexelGrid}
@@ -31,12 +31,19 @@ use Rattle.stock.specs.Steps.{StockRoom}
 use Rattle.store.specs.Store.{Cells}
 
 -- the first size of a ray: 0 where it does not change, else one more than the pairs of its new possible list
-abbrev pub first_size_of : RayUpdate → ℕ
-first_size_of m = cond m.changed (m.possible + 1) 0
+abbrev pub first_size_of : Option RayUpdate → ℕ
+first_size_of None = 0
+first_size_of (Some u) = u.possible + 1
+
+-- the second size: the pairs of its new certain list
+abbrev pub second_size_of : Option RayUpdate → ℕ
+second_size_of None = 0
+second_size_of (Some u) = u.certain
 
 -- what the ray adds to the number of those that change
-abbrev pub one_if_changed : RayUpdate → ℕ
-one_if_changed m = cond m.changed 1 0
+abbrev pub one_if_changed : Option RayUpdate → ℕ
+one_if_changed None = 0
+one_if_changed (Some u) = 1
 
 -- where the sizes stand, and the lists
 abbrev pub sizes_at : DexelGrid → (log : List Float) → ℕ

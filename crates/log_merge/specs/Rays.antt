@@ -1,5 +1,5 @@
 -- What a merge leaves of one ray.
-use Rattle.std.specs.Prelude.{◌≡◌, Bool, true, false, not, ◌&&◌, List, ℕ, ◌+◌, ◌*◌, ◌≤◌, ◌<◌, length, get_or, Float}
+use Rattle.std.specs.Prelude.{◌≡◌, Bool, true, false, not, ◌&&◌, List, ℕ, ◌+◌, ◌*◌, ◌≤◌, ◌<◌, length, get_or, Float, Option, MatchOption}
 use Rattle.std.specs.Float.{nan}
 use Rattle.spans.specs.Spans.{equal, NormalOf}
 use Rattle.spans.specs.Overlay.{less_of}
@@ -20,20 +20,19 @@ abbrev pub ray_moves : (possible certain outers inners : List Float) → Bool
 ray_moves possible certain outers inners =
     not (equal possible (less_of possible inners) && equal certain (less_of (less_of certain outers) inners))
 
--- what the hits leave of both lists stands from cell `at` on, possible's before certain's
-pub record NewLists (possible certain outers inners : List Float) (at : ℕ) (w : List Float) (r : RayUpdate) : Type 0 where
+-- a boundary moves, and what the hits leave of both lists stands from cell `at` on, possible's before certain's, in at most `limit` cells
+pub record NewLists (possible certain outers inners : List Float) (at limit : ℕ) (w : List Float) (r : RayUpdate) : Type 0 where
+  pub moved : ray_moves possible certain outers inners ≡ true
+  pub most : 2 * r.possible + 2 * r.certain ≤ limit
   pub possible_is : cells_from at (2 * r.possible) w ≡ less_of possible inners
   pub certain_is : cells_from (at + 2 * r.possible) (2 * r.certain) w ≡ less_of (less_of certain outers) inners
 
--- the new lists of a ray that changes stand from cell `from` on and have at most `limit` cells; the cells in front are as before
+-- where no boundary moves there is no update; else the new lists stand from cell `from` on. The cells in front are as before
 pub record RayCutPost (possible certain outers inners : List Float) (from limit : ℕ) (before after : List Float)
-    (r : RayUpdate) : Type 0 where
+    (r : Option RayUpdate) : Type 0 where
   pub size : length after ≡ length before
   pub front : (q : ℕ) → q < from → get_or after q nan ≡ get_or before q nan
-  pub moved : r.changed ≡ ray_moves possible certain outers inners
-  pub most : 2 * r.possible + 2 * r.certain ≤ limit
-  pub lists : r.changed ≡ true → NewLists possible certain outers inners from after r
-  pub none : r.changed ≡ false → (r.possible ≡ 0) × (r.certain ≡ 0)
+  pub update : MatchOption r (ray_moves possible certain outers inners ≡ false) (NewLists possible certain outers inners from limit after)
 
 -- the store can be read, the log is grouped in the buffer, and there is room for a ray's lists and hits from cell s on
 pub record LoadPre (spec : DexelStockSpec) (g : DexelGrid) (c : Cells) (log work : List Float) (ray s : ℕ) : Type 0 where
@@ -64,7 +63,7 @@ limit_of spec log = 4 * spec.max_intervals + 6 * entry_count log
 
 -- a ray of the store less what normalising makes of the hits of the log on it
 pub record MergeRayPost (spec : DexelStockSpec) (g : DexelGrid) (c : Cells) (log : List Float) (ray q : ℕ) (before after : List Float)
-    (r : RayUpdate) : Type 0 where
+    (r : Option RayUpdate) : Type 0 where
   pub outer_normal : List Float
   pub inner_normal : List Float
   pub outer_is : NormalOf (hits_on_ray g (entries log) ray outer) outer_normal

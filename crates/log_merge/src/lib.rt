@@ -9,22 +9,21 @@ ghost use Rattle.log_group.specs.Groups.{Grouped};
 ghost use Rattle.log_model.specs.Steps.{hit_kind_of};
 ghost use Rattle.ray_subtract.specs.Steps.{cells_from, MergeWithinPre, NormalizedAt};
 ghost use Rattle.log_merge.specs.Rays.{ray_moves, RayCutPost, LoadPre, LoadPost, limit_of, MergeRayPost};
-ghost use Rattle.log_merge.specs.All.{first_size_of, one_if_changed, MergeAllPre, MergeAllPost};
+ghost use Rattle.log_merge.specs.All.{first_size_of, second_size_of, MergeAllPre, MergeAllPost};
 ghost use Rattle.stock.specs.Stock.{ray_list, Possible, Certain};
 ghost use Rattle.store.specs.Store.{cells};
 
 use grid::{DexelGrid, DexelStockSpec};
 
-// Whether a ray changes, and if so how many pairs its new lists have.
-#[derive(Clone, Copy)]
+// How many pairs the new lists of a ray that changes have.
+#[derive(Clone, Copy, Debug, PartialEq, Eq)]
 pub struct RayUpdate {
-    pub changed: bool,
     pub possible: usize,
     pub certain: usize,
 }
 
 // The cells that a ray's lists and the lists that normalising makes of its hits have.
-#[derive(Clone, Copy)]
+#[derive(Clone, Copy, Debug, PartialEq, Eq)]
 pub struct Sizes {
     pub possible: usize,
     pub certain: usize,
@@ -40,35 +39,34 @@ fn is_changed(w: &[f64], at: usize, np: usize, nc: usize, no: usize, ni: usize) 
         (cells_from (at + np + nc + no) ni w.now) }
 {
     let c = at + np;
-    if ray_subtract::share_point(w, at, np, c + nc + no, ni) {
-        return true;
-    }
-    ray_subtract::is_hit(w, c, nc, no, ni)
+    ray_subtract::share_point(w, at, np, c + nc + no, ni) || ray_subtract::is_hit(w, c, nc, no, ni)
 }
 
 // Where the ray changes, writes both its lists less the hits to the start of w, possible's before certain's: the one
 // that no hit touches as well, since both are laid again.
-fn cut_ray(w: &mut [f64], at: usize, np: usize, nc: usize, no: usize, ni: usize) -> RayUpdate
+fn cut_ray(
+    w: &mut [f64],
+    at: usize,
+    np: usize,
+    nc: usize,
+    no: usize,
+    ni: usize,
+) -> Option<RayUpdate>
     requires { MergeWithinPre at np nc no ni w.old }
     ensures { RayCutPost (cells_from at np w.old) (cells_from (at + np) nc w.old)
         (cells_from (at + np + nc) no w.old)
         (cells_from (at + np + nc + no) ni w.old) 0 (np + nc + no + 2 * ni) w.old w.new result }
 {
     if !is_changed(w, at, np, nc, no, ni) {
-        return RayUpdate {
-            changed: false,
-            possible: 0,
-            certain: 0,
-        };
+        return None;
     }
     let c = at + np;
     let p = ray_subtract::subtract_at(w, at, np, c + nc + no, ni);
     let r = ray_subtract::subtract_both(w, p, np + 2 * ni, c, nc, no, ni);
-    RayUpdate {
-        changed: true,
+    Some(RayUpdate {
         possible: p / 2,
         certain: r / 2,
-    }
+    })
 }
 
 // Loads the list that normalising makes of the outer or the inner hits on a ray at cell `at`, and says how many cells it has.
@@ -133,18 +131,14 @@ fn merge_ray(
     ray: usize,
     q: usize,
     s: usize,
-) -> RayUpdate
+) -> Option<RayUpdate>
     requires { LoadPre spec g (cells spans.now links.now heads.now) log.now work.old ray s
         × (q + limit_of spec log.now ≤ s) }
     ensures { MergeRayPost spec g (cells spans.now links.now heads.now) log.now ray q
         work.old work.new result }
 {
     if log_numbers::number_at(work, ray) == 0 {
-        return RayUpdate {
-            changed: false,
-            possible: 0,
-            certain: 0,
-        };
+        return None;
     }
     let b = load_ray(spec, g, spans, links, heads, log, work, ray, s);
     let np = b.possible;
@@ -154,36 +148,18 @@ fn merge_ray(
     cut_ray(&mut work[q..], s - q, np, nc, no, ni)
 }
 
-// The first size of a ray.
-fn first_size(m: RayUpdate) -> u64
-    requires { m.possible + 1 < 2 ^ 64 }
-    ensures { result ≡ first_size_of m }
-{
-    if m.changed {
-        return (m.possible + 1) as u64;
-    }
-    0
-}
-
 // Writes both sizes of a ray.
-fn put_sizes(work: &mut [f64], at: usize, m: RayUpdate)
-    requires { (at + 1 < length work.old) × (m.possible + 1 < 2 ^ 64) }
-    ensures { work.new ≡ set (set work.old at (number_cell (first_size_of m))) (at + 1) (number_cell m.certain) }
+fn put_sizes(work: &mut [f64], at: usize, m: Option<RayUpdate>)
+    requires { (at + 1 < length work.old) × (first_size_of m < 2 ^ 64) }
+    ensures { work.new ≡ set (set work.old at (number_cell (first_size_of m)))
+        (at + 1) (number_cell (second_size_of m)) }
 {
-    let first = first_size(m);
-    let second = m.certain;
-    log_numbers::put_number(work, at, first);
+    let (first, second) = match m {
+        Some(u) => (u.possible + 1, u.certain),
+        None => (0, 0),
+    };
+    log_numbers::put_number(work, at, first as u64);
     log_numbers::put_number(work, at + 1, second as u64);
-}
-
-// What a ray adds to the number of those that change.
-fn one_if_changed(m: RayUpdate) -> u64
-    ensures { result ≡ one_if_changed m }
-{
-    if m.changed {
-        return 1;
-    }
-    0
 }
 
 // Merges the hits of a grouped log into all rays, and says how many change. The sizes of the new lists stand behind
@@ -208,13 +184,13 @@ pub fn merge_all(
     let mut q = sizes + 2 * rays;
     let s = q + 6 * n + 6 * e;
     let mut changed: u64 = 0;
-    let mut ray = 0;
-    while ray < rays {
+    for ray in 0..rays {
         let m = merge_ray(spec, g, spans, links, heads, log, work, ray, q, s);
         put_sizes(work, sizes + 2 * ray, m);
-        q += 2 * m.possible + 2 * m.certain;
-        changed += one_if_changed(m);
-        ray += 1;
+        if let Some(u) = m {
+            q += 2 * u.possible + 2 * u.certain;
+            changed += 1;
+        }
     }
     changed
 }

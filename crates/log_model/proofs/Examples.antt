@@ -17,9 +17,9 @@ use Rattle.doubles.proofs.Order.{lt-number, eq_refl}
 use Rattle.spans.proofs.Pieces.{agree, by-ends, of-list, in_left, in_right, both_of}
 use Rattle.grid.specs.Axes.{by_digit}
 use Rattle.grid.specs.Grid.{all_between, is_between, whole}
+use Rattle.std.specs.Prelude.{Ok}
 use Rattle.grid.specs.FromSpec.{grid_of, is_mm, misdescribed, any_below, grid_over, any_above, cell_count}
 use Rattle.grid.specs.Rays.{ray_count, rays_along, offset, ray_axis, bounds_of, Ray}
-use Rattle.grid.specs.declared.GridAnswer.TheVariants.{Accepted}
 use Rattle.store.specs.Store.{used_at, places, RecordChain, ends, more, places_of, chained, ends_at, cells}
 use Rattle.spans.specs.Rays.{bounded, ValidRay}
 use Rattle.log_model.specs.Logs.{entries, names_some_ray, hit_lo, hit_hi, Commit}
@@ -40,7 +40,7 @@ use Rattle.log_model.proofs.Plain.{Plain, Valid, answers, final}
 use Rattle.doubles.specs.Rounding.{ratio}
 use Rattle.log_model.specs.RunCorrect.{HitsIncluded, Alike, StoresAgree}
 
-accepted-box : grid_of (example_box 8) (109 ∷ 109 ∷ []) ≡ Accepted example_grid
+accepted-box : grid_of (example_box 8) (109 ∷ 109 ∷ []) ≡ Ok example_grid
 unfolding grid_of is_mm misdescribed all_between is_between any_below grid_over any_above cell_count
     larger_of ceil_of le lt neg of_bits of_int to_unsigned is_nan sub add mul div
 accepted-box = refl

@@ -16,7 +16,7 @@ use Rattle.log_model.specs.Counts.{hits_on_list, changed_ray_count}
 use Rattle.log_model.specs.Runs.{StoreView, point_sets, AcceptedEffect, CommitEffect, CommitStep, Run, done, next}
 use Rattle.log_model.proofs.Unique.{answer-due-unsound}
 use Rattle.log_model.proofs.Less.{less}
-use Rattle.log_model.proofs.Doubles.{DoubleCells, Doubles, hits-doubles, less-doubles}
+use Rattle.log_model.proofs.Doubles.{DoubleCells, hits-doubles, less-doubles}
 use Rattle.log_model.proofs.Decided.{tests, answer_of_tests, answer-due, sets-after-list}
 use Rattle.log_model.specs.RunCorrect.{SoundView}
 use Rattle.grid.specs.Rays.{Ray}

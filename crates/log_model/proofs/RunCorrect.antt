@@ -10,7 +10,7 @@ use native.Mathlib.Nat.{add-zero, add-suc, suc-add}
 use lib.ListN.{length}
 use lib.Ieee.{Float}
 use Rattle.logic.proofs.Bools.{and_left, and_right, both, not-true, clash, by_cases}
-use Rattle.spans.specs.Spans.{holds, equal, ListOf}
+use Rattle.spans.specs.Spans.{holds, equal}
 use Rattle.spans.proofs.Sets.{same_points}
 use Rattle.grid.specs.declared.DexelStockSpec.{DexelStockSpec}
 use Rattle.grid.specs.declared.DexelGrid.{DexelGrid}

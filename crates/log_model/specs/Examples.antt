@@ -2,13 +2,12 @@
 -- that `RunRight` says. The blank is the box from 0 to 10 in one cell, so with one ray along each axis, and has room
 -- for eight records. On its uncut store come three logs: one that cuts the ray along axis 1, one with no ray allowed
 -- where it would change one, and one whose inner hit sticks out of its outer hit.
-use Rattle.std.specs.Prelude.{◌≡◌, true, List, [], ◌∷◌, ℕ, zero, suc, replicate, Float}
+use Rattle.std.specs.Prelude.{◌≡◌, true, List, [], ◌∷◌, ℕ, zero, suc, replicate, Float, Ok}
 use Rattle.spans.specs.Spans.{equal}
 use Rattle.grid.specs.Grid.{whole}
 use Rattle.grid.specs.FromSpec.{grid_of}
 use Rattle.grid.specs.declared.DexelStockSpec.{DexelStockSpec}
 use Rattle.grid.specs.declared.DexelGrid.{DexelGrid}
-use Rattle.grid.specs.declared.GridAnswer.TheVariants.{Accepted}
 use Rattle.stock.specs.Stock.{Stock, Kind, Possible, Certain, ray_list}
 use Rattle.stock_fill.specs.Uncut.{uncut, uncut_tally}
 use Rattle.log_model.specs.Logs.{Commit}
@@ -82,7 +81,7 @@ pub record AtEnd (t : Stock) : Type 0 where
 
 -- THE WORKED RUN
 pub record RunRight : Type 0 where
-  pub accepted : grid_of (example_box 8) (109 ∷ 109 ∷ []) ≡ Accepted example_grid
+  pub accepted : grid_of (example_box 8) (109 ∷ 109 ∷ []) ≡ Ok example_grid
   -- the fill lays the first stock in cells that held 7
   pub fills : uncut (example_box 8) example_grid (cells (replicate 16 (whole 7)) (replicate 16 7) (replicate 6 7)) ≡ example_stock.cells
   pub fills_record : uncut_tally example_grid ≡ record { generation = example_stock.generation; intervals = example_stock.intervals }

@@ -1,9 +1,9 @@
 -- How a run reads a stock: the lent store and its small record, as crate `stock` defines them.
-use Rattle.std.specs.Prelude.{◌≡◌, ◌/◌, min, length}
+use Rattle.std.specs.Prelude.{◌≡◌, ◌/◌, min, length, Result, Ok, Err}
 use Rattle.grid.specs.declared.DexelStockSpec.{DexelStockSpec}
 use Rattle.grid.specs.declared.DexelGrid.{DexelGrid}
-use Rattle.grid.specs.declared.GridAnswer.{GridAnswer}
-use Rattle.grid.specs.declared.GridAnswer.TheVariants.{Accepted, Refused}
+use Rattle.refusal.specs.declared.Refusal.{Refusal}
+use Rattle.refusal.specs.Refusal.{number_of}
 use Rattle.stock.specs.Stock.{Stock, SoundStock, ray_list}
 use Rattle.log_model.specs.Logs.{Commit}
 use Rattle.log_model.specs.Model.{LogAnswer, refused}
@@ -21,6 +21,6 @@ lent_store spec g = record {
 }
 
 -- A log commit on the lent store, whatever the description is. The answer of `grid` stands first: its causes 1 to 3 come before all others.
-unfoldable pub CommitOnAnyGrid : GridAnswer → DexelStockSpec → Stock → Commit → LogAnswer → Stock → Type 0
-CommitOnAnyGrid (Refused k) spec s c a t = (a ≡ refused k) × (t ≡ s)
-CommitOnAnyGrid (Accepted g) spec s c a t = CommitStep spec g (lent_store spec g) s c a t
+unfoldable pub CommitOnAnyGrid : Result DexelGrid Refusal → DexelStockSpec → Stock → Commit → LogAnswer → Stock → Type 0
+CommitOnAnyGrid (Err e) spec s c a t = (a ≡ refused (number_of e)) × (t ≡ s)
+CommitOnAnyGrid (Ok g) spec s c a t = CommitStep spec g (lent_store spec g) s c a t

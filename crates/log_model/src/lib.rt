@@ -3,7 +3,7 @@
 #![tactic(auto)]
 
 // Document 01's log entry: the axis and the index of a ray, the ends of an outer hit on it and those of an inner one.
-#[derive(Clone, Copy)]
+#[derive(Clone, Copy, Debug, PartialEq)]
 pub struct Entry {
     pub axis: f64,
     pub index: f64,

@@ -1,4 +1,5 @@
--- The hits are taken stretch by stretch: what is gathered for a stretch is what its taking asks for, and the next one begins where it ends.
+-- The hits are taken stretch by stretch: what is gathered for a stretch is what its taking asks for, and the next one
+-- begins where it ends.
 use mathlib.Core.Path.{◌≡◌, refl, sym, subst, ◌∙◌}
 use mathlib.Core.Logic.{◌⊎◌, inl, inr}
 use mathlib.Core.Bool.{Bool, true, false}

@@ -77,7 +77,8 @@ split false false x y h = h
 module _ {n : ℕ} {spans : List Float} {links : List ℕ} where
   -- ---- one hit
   module _ {l : List Float} {f must : Float → Bool} where
-    gone-take : (lo hi last : Float) (r t : Rest) → le last lo ≡ true → lt lo hi ≡ true → ((p : Float) → within lo hi p ≡ true → f p ≡ true)
+    gone-take : (lo hi last : Float) (r t : Rest) → le last lo ≡ true → lt lo hi ≡ true
+        → ((p : Float) → within lo hi p ≡ true → f p ≡ true)
         → TakePost n spans links lo hi r t → Gone n spans links l f must last r
         → Gone n spans links l f (λ p. must p || within lo hi p) lo t
     gone-take lo hi last r t later up mine k g = record {

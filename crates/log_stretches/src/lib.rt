@@ -31,13 +31,12 @@ fn take_held(
     if b < front {
         t = log_left::take(spans, links, n, t, b, front);
     }
-    let mut i: usize = 0;
-    while i < m {
-        if !(cells[i] < end) {
+    for i in 0..m / 2 {
+        let at = 2 * i;
+        if !(cells[at] < end) {
             break;
         }
-        t = log_left::take(spans, links, n, t, cells[i], cells[i + 1]);
-        i += 2;
+        t = log_left::take(spans, links, n, t, cells[at], cells[at + 1]);
     }
     t
 }

@@ -4,7 +4,8 @@
 ghost use Rattle.std.specs.Prelude.{◌+◌, ◌*◌, ◌≤◌, length};
 ghost use Rattle.pair_moves.specs.Pairs.{SamePairs};
 
-// Exchanges the pairs i and j.
+// Exchanges the pairs i and j. All four numbers are read before one is written, so that there is no branch, also where i is j; the
+// slice's own `swap` has two.
 pub fn swap_pairs(s: &mut [f64], i: usize, j: usize)
     requires { (i ≤ j) × (2 * j + 2 ≤ length s.old) }
     ensures { SamePairs s.old s.new }

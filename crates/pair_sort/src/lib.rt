@@ -1,7 +1,8 @@
 // Pairs of doubles sorted in place by their first number. The contracts say that the pairs stay the same; the order
 // is for speed only, since what reads the pairs afterwards is right for every order. With a NaN among the first
-// numbers any order comes out.
-#![tactic(auto)]
+// numbers any order comes out. The sort is written out since `as_chunks_mut`, by which the slice's own sort could take
+// pairs, does not say what the slice ends as.
+#![tactic(auto, using(pair_moves::proofs::Laws::unchanged, pair_moves::proofs::Laws::after))]
 
 ghost use Rattle.std.specs.Prelude.{◌+◌, ◌*◌, ◌/◌, ◌≤◌, ◌<◌, length};
 ghost use Rattle.pair_moves.specs.Pairs.{SamePairs};
@@ -14,10 +15,8 @@ fn insertion(s: &mut [f64], l: usize, r: usize)
     requires { 2 * r ≤ length s.old }
     ensures { SamePairs s.old s.new }
 {
-    let mut k = l;
-    while k < r {
+    for k in l..r {
         pair_moves::place_pair(s, l, k);
-        k += 1;
     }
 }
 
@@ -27,10 +26,8 @@ fn larger_child(s: &[f64], l: usize, n: usize, i: usize) -> usize
     ensures { (i < result) × (result < n) }
 {
     let c = 2 * i + 1;
-    if c + 1 < n {
-        if s[2 * (l + c)] < s[2 * (l + c + 1)] {
-            return c + 1;
-        }
+    if c + 1 < n && s[2 * (l + c)] < s[2 * (l + c + 1)] {
+        return c + 1;
     }
     c
 }
@@ -55,9 +52,7 @@ fn make_heap(s: &mut [f64], l: usize, n: usize)
     requires { 2 * (l + n) ≤ length s.old }
     ensures { SamePairs s.old s.new }
 {
-    let mut k = n / 2;
-    while 0 < k {
-        k -= 1;
+    for k in (0..n / 2).rev() {
         sift(s, l, n, k);
     }
 }
@@ -68,9 +63,7 @@ fn heapsort(s: &mut [f64], l: usize, n: usize)
     ensures { SamePairs s.old s.new }
 {
     make_heap(s, l, n);
-    let mut e = n;
-    while 1 < e {
-        e -= 1;
+    for e in (1..n).rev() {
         pair_moves::swap_pairs(s, l, l + e);
         sift(s, l, e, 0);
     }
@@ -121,10 +114,7 @@ fn pivot(s: &[f64], l: usize, r: usize) -> usize
 
 // Whether y goes to the front: below x, or not above it.
 fn goes_front(y: f64, x: f64, equal: bool) -> bool {
-    if equal {
-        return !(x < y);
-    }
-    y < x
+    if equal { !(x < y) } else { y < x }
 }
 
 // Brings the pairs from l to r that go to the front there, and answers the place past them. Each turn exchanges, so that no branch
@@ -134,14 +124,12 @@ fn partition(s: &mut [f64], l: usize, r: usize, x: f64, equal: bool) -> usize
     ensures { SamePairs s.old s.new × (l ≤ result) × (result ≤ r) }
 {
     let mut i = l;
-    let mut k = l;
-    while k < r {
+    for k in l..r {
         let y = s[2 * k];
         pair_moves::swap_pairs(s, i, k);
         if goes_front(y, x, equal) {
             i += 1;
         }
-        k += 1;
     }
     i
 }
@@ -197,12 +185,10 @@ fn quicksort(s: &mut [f64], l: usize, r: usize, budget: usize)
 fn never_below(s: &[f64], n: usize, i: usize, j: usize) -> bool
     requires { (2 * n ≤ length s.now) × (i ≤ 2) × (j ≤ 2) }
 {
-    let mut k = 1;
-    while k < n {
+    for k in 1..n {
         if s[2 * k - i] < s[2 * k - j] {
             return false;
         }
-        k += 1;
     }
     true
 }
@@ -211,10 +197,8 @@ fn reverse(s: &mut [f64], n: usize)
     requires { 2 * n ≤ length s.old }
     ensures { SamePairs s.old s.new }
 {
-    let mut k = 0;
-    while k < n / 2 {
+    for k in 0..n / 2 {
         pair_moves::swap_pairs(s, k, n - 1 - k);
-        k += 1;
     }
 }
 

@@ -1,38 +1,37 @@
--- The loop of `is_bounded`: the whole list is bounded where the rest of it is.
-use mathlib.Core.Path.{◌≡◌, refl, sym, ap, ◌∙◌}
-use mathlib.Core.Bool.{Bool, true, false, not, ◌&&◌}
-use mathlib.Core.List.{List}
-use Prim.Native.Nat.{ℕ, ◌+◌, ◌≤◌, ◌<◌}
-use native.Mathlib.Numerals.{add-one}
-use lib.Ieee.{Float, nan, le}
-use lib.ListN.{length, get_or, drop, drop_of_length-le}
-use lib.Seq.{drop-cons}
-use Rattle.logic.proofs.Bools.{and-false, not-true, not-false}
+-- The test of `is_bounded`: a list is bounded where each of its elements is, and not where one is not.
+use Rattle.std.specs.Prelude.{◌≡◌, Bool, true, false, ◌&&◌, List, [], ◌∷◌, ℕ, zero, suc, ◌<◌, length, slice_index_or, Float, MatchBool}
+use Rattle.std.specs.Float.Ieee.{nan, le}
+use Rattle.std.specs.List.{AllWithin, HoldsAt}
+use Rattle.std.proofs.Common.{refl, sym, ap, arith}
+use Rattle.logic.proofs.Bools.{both, and_left, and_right, and-false}
 use Rattle.spans.specs.Rays.{bounded}
 
-module _ (lo hi : Float) (l : List Float) (k : ℕ) where
-  bounded_at : k < length l → bounded lo hi (drop k l) ≡ (le lo (get_or l k nan) && (le (get_or l k nan) hi && bounded lo hi (drop (k + 1) l)))
+-- `a && b` fails, and so does what asks it and more
+and_then : (a b r : Bool) → (a && b) ≡ false → (a && (b && r)) ≡ false
+and_then true b r h = ap (λ (t : Bool). t && r) h
+and_then false b r h = refl
+
+module _ (lo hi : Float) where
+  abbrev pub Inside : Bool → Float → Type 0
+  Inside b x = (le lo x && le x hi) ≡ b
+
+  all_inside : (l : List Float) → ((k : ℕ) (d : Float) → k < length l → Inside true (slice_index_or l k d)) → bounded lo hi l ≡ true
   unfolding bounded
-  bounded_at h = ap (bounded lo hi) (drop-cons l k nan h)
-      ∙ ap (λ (i : ℕ). le lo (get_or l k nan) && (le (get_or l k nan) hi && bounded lo hi (drop i l))) (sym (add-one k))
+  all_inside [] f = refl
+  all_inside (x ∷ l) f =
+      let h : (le lo x && le x hi) ≡ true = f 0 nan (omega arith) in
+      both _ _ (and_left _ _ h) (both _ _ (and_right _ _ h) (all_inside l (λ k d g. f (suc k) d (omega arith))))
 
-  pub low-out : k < length l → not (le lo (get_or l k nan)) ≡ true → bounded lo hi l ≡ bounded lo hi (drop k l) → false ≡ bounded lo hi l
-  low-out h n s = sym (s ∙ bounded_at h
-      ∙ ap (λ (t : Bool). t && (le (get_or l k nan) hi && bounded lo hi (drop (k + 1) l))) (not-true (le lo (get_or l k nan)) n))
-
-  pub high-out : k < length l → not (le (get_or l k nan) hi) ≡ true → bounded lo hi l ≡ bounded lo hi (drop k l) → false ≡ bounded lo hi l
-  high-out h n s =
-      sym (s ∙ bounded_at h ∙ ap (λ (t : Bool). le lo (get_or l k nan) && (t && bounded lo hi (drop (k + 1) l)))
-      (not-true (le (get_or l k nan) hi) n)
-      ∙ and-false (le lo (get_or l k nan)) false refl)
-
-  pub end-in : k < length l → not (le lo (get_or l k nan)) ≡ false → not (le (get_or l k nan) hi) ≡ false
-      → bounded lo hi l ≡ bounded lo hi (drop k l) → bounded lo hi l ≡ bounded lo hi (drop (k + 1) l)
-  end-in h m n s =
-      s ∙ bounded_at h
-      ∙ ap (λ (t : Bool). t && (le (get_or l k nan) hi && bounded lo hi (drop (k + 1) l))) (not-false (le lo (get_or l k nan)) m)
-      ∙ ap (λ (t : Bool). t && bounded lo hi (drop (k + 1) l)) (not-false (le (get_or l k nan) hi) n)
-
-  pub all_in : length l ≤ k → bounded lo hi l ≡ bounded lo hi (drop k l) → true ≡ bounded lo hi l
+  one_outside : (l : List Float) (k : ℕ) → k < length l → HoldsAt (Inside false) l k → bounded lo hi l ≡ false
   unfolding bounded
-  all_in h s = sym (s ∙ ap (bounded lo hi) (drop_of_length-le l h))
+  one_outside (x ∷ l) zero h f = and_then (le lo x) (le x hi) (bounded lo hi l) (f nan)
+  one_outside (x ∷ l) (suc k) h f =
+      let t : bounded lo hi l ≡ false = one_outside l k (omega arith) (λ d. f d) in
+      and-false (le lo x) _ (and-false (le x hi) _ t)
+  one_outside [] k h f = absurd (omega arith)
+
+  pub bounded-tells : (l : List Float) (r : Bool)
+      → MatchBool r (AllWithin (Inside true) l 0 (length l)) ((k : ℕ) × (k < length l) × HoldsAt (Inside false) l k)
+      → r ≡ bounded lo hi l
+  bounded-tells l true f = sym (all_inside l (λ k d h. f k d (omega arith) h))
+  bounded-tells l false f = sym (one_outside l f.0 f.1 f.2)

@@ -8,18 +8,7 @@ ghost use Rattle.spans.specs.Rays.{bounded, ValidRay};
 fn is_bounded(s: &[f64], lo: f64, hi: f64) -> bool
     ensures { result ≡ bounded lo hi s.now }
 {
-    let mut k = 0;
-    while k < s.len() {
-        let x = s[k];
-        if !(lo <= x) {
-            return false;
-        }
-        if !(x <= hi) {
-            return false;
-        }
-        k += 1;
-    }
-    true
+    s.iter().all(|x| lo <= *x && *x <= hi)
 }
 
 // Whether two lists make a ray that is valid within its bounds.
@@ -27,14 +16,8 @@ pub fn valid_ray(possible: &[f64], certain: &[f64], lo: f64, hi: f64) -> bool
     ensures { (result ≡ true → ValidRay lo hi possible.now certain.now)
         × (ValidRay lo hi possible.now certain.now → result ≡ true) }
 {
-    if !spans::both_sound(possible, certain) {
-        return false;
-    }
-    if !is_bounded(possible, lo, hi) {
-        return false;
-    }
-    if !is_bounded(certain, lo, hi) {
-        return false;
-    }
-    span_cover::covers(possible, certain)
+    spans::both_sound(possible, certain)
+        && is_bounded(possible, lo, hi)
+        && is_bounded(certain, lo, hi)
+        && span_cover::covers(possible, certain)
 }

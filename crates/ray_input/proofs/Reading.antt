@@ -2,18 +2,17 @@
 use mathlib.Core.Path.{◌≡◌, refl, ◌∙◌, ap, subst}
 use mathlib.Core.Bool.{Bool, true, false, cond, ◌&&◌}
 use mathlib.Core.List.{List, [], ◌∷◌, ◌++◌}
-use Prim.Native.Nat.{ℕ, zero, suc, ◌+◌, ◌*◌, ◌%◌, ◌≤◌, ◌<◌}
+use Prim.Native.Nat.{ℕ, zero, suc, ◌+◌, ◌*◌, ◌≤◌, ◌<◌}
 use native.Mathlib.Omega.{arith}
 use native.Mathlib.Numerals.{add-one}
 use native.Mathlib.Decide.{dec_lt}
-use borrow.Author.Tests.{lt-leb, le-leb, eq-eqb, ne_eqb, eqb-false}
-use lib.Dec.{leb, eqb}
+use borrow.Author.Tests.{eq-eqb, ne_eqb}
+use lib.Dec.{eqb}
 use lib.ListN.{length, get_or, length-append}
 use lib.Ieee.{Float, binary64, of_bits}
 use Rattle.logic.proofs.Bools.{and-false, both}
-use Rattle.ray_input.specs.Format.{space, newline, letter_b, letter_p, letter_c, letter_o, letter_i, is_letter, each_below}
-use Rattle.ray_input.specs.Format.{is_number, bits_at, is_line, lines, letter_of, count, pair_at, text_pairs, few, total}
-use Rattle.ray_input.specs.Format.{readable}
+use Rattle.ray_input.specs.Format.{each_below}
+use Rattle.ray_input.specs.Format.{bits_at, letter_of, count, pair_at, text_pairs}
 
 module _ (test : ℕ → Bool) where
   pub each_none : each_below test 0 ≡ true
@@ -91,36 +90,8 @@ pairs-length c s (suc k) =
     two true x y = refl
     two false x y = refl
 
--- ---- the tests of a line, one after the other
+-- ---- the pair of a line
 module _ (s : List ℕ) (at : ℕ) where
-  pub no-letter : is_letter (get_or s at 0) ≡ false → false ≡ is_line s at
-  unfolding is_line
-  no-letter h = rw h
-
-  module _ (l : is_letter (get_or s at 0) ≡ true) where
-    pub no-space : eqb (get_or s (at + 1) 0) space ≡ false → false ≡ is_line s at
-    unfolding is_line
-    no-space h = rw (l, h)
-
-    module _ (x : eqb (get_or s (at + 1) 0) space ≡ true) where
-      pub no-lo : is_number s (at + 2) ≡ false → false ≡ is_line s at
-      unfolding is_line
-      no-lo h = rw (l, x, h)
-
-      module _ (d : is_number s (at + 2) ≡ true) where
-        pub no_second : eqb (get_or s (at + 18) 0) space ≡ false → false ≡ is_line s at
-        unfolding is_line
-        no_second h = rw (l, x, d, h)
-
-        module _ (y : eqb (get_or s (at + 18) 0) space ≡ true) where
-          pub no-hi : is_number s (at + 19) ≡ false → false ≡ is_line s at
-          unfolding is_line
-          no-hi h = rw (l, x, d, y, h)
-
-          pub last_byte : is_number s (at + 19) ≡ true → eqb (get_or s (at + 35) 0) newline ≡ is_line s at
-          unfolding is_line
-          last_byte h = rw (l, x, d, y, h)
-
   pub pair-miss : (c : ℕ) → (get_or s at 0 ≡ c → ⊥) → [] ≡ pair_at c s at
   pair-miss c h = rw (ne_eqb _ _ h)
 
@@ -128,51 +99,3 @@ module _ (s : List ℕ) (at : ℕ) where
       → hi ≡ of_bits binary64 (bits_at s (at + 19))
       → lo ∷ hi ∷ [] ≡ pair_at c s at
   pair-hit c lo hi h e f = rw (eq-eqb _ _ h, e, f)
-
--- ---- the tests of a text
-module _ (s : List ℕ) (n : ℕ) where
-  pub many-p : 64 < count letter_p s n → false ≡ few s n
-  unfolding few
-  many-p h = rw (lt-leb _ _ h)
-
-  module _ (p : count letter_p s n ≤ 64) where
-    pub many-c : 64 < count letter_c s n → false ≡ few s n
-    unfolding few
-    many-c h = rw (le-leb _ _ p, lt-leb _ _ h)
-
-    module _ (c : count letter_c s n ≤ 64) where
-      pub many-o : 64 < count letter_o s n → false ≡ few s n
-      unfolding few
-      many-o h = rw (le-leb _ _ p, le-leb _ _ c, lt-leb _ _ h)
-
-      pub last-count : count letter_o s n ≤ 64 → leb (count letter_i s n) 64 ≡ few s n
-      unfolding few
-      last-count h = rw (le-leb _ _ p, le-leb _ _ c, le-leb _ _ h)
-
-module _ (s : List ℕ) where
-  pub no-whole-lines : (length s % 36 ≡ 0 → ⊥) → false ≡ readable s
-  unfolding readable
-  no-whole-lines h = rw (ne_eqb _ _ h)
-
-  module _ (w : length s % 36 ≡ 0) where
-    pub bad-line : lines s (total s) ≡ false → false ≡ readable s
-    unfolding readable
-    bad-line h = rw (eq-eqb _ _ w, h)
-
-    module _ (l : lines s (total s) ≡ true) where
-      pub no-first : (letter_of s 0 ≡ letter_b → ⊥) → false ≡ readable s
-      unfolding readable
-      no-first h = rw (eq-eqb _ _ w, l, ne_eqb _ _ h)
-
-      module _ (b : letter_of s 0 ≡ letter_b) where
-        pub not-once : (count letter_b s (total s) ≡ 1 → ⊥) → false ≡ readable s
-        unfolding readable
-        not-once h = rw (eq-eqb _ _ w, l, eq-eqb _ _ b, ne_eqb _ _ h)
-
-        pub last-test : count letter_b s (total s) ≡ 1 → few s (total s) ≡ readable s
-        unfolding readable
-        last-test h = rw (eq-eqb _ _ w, l, eq-eqb _ _ b, eq-eqb _ _ h)
-
-pub empty-first : (s : List ℕ) → length s ≡ 0 → letter_of s 0 ≡ letter_b → ⊥
-empty-first [] e h = eqb-false 0 letter_b refl h
-empty-first (x ∷ s) e h = absurd (omega arith)

@@ -1,11 +1,10 @@
 -- The program's input, as document 01 defines it. A line is a letter, twice a space and 16 small hex digits, and a newline: 36 bytes.
 -- So line k of a text of such lines starts at byte 36 * k.
-use Rattle.std.specs.Prelude.{Bool, true, false, cond, ◌&&◌, ◌||◌, List, [], ◌∷◌, ◌++◌, ℕ, zero, suc, ◌+◌, ◌*◌, ◌/◌, ◌%◌, eqb, leb, length, get_or, Float}
+use Rattle.std.specs.Prelude.{Bool, true, cond, ◌&&◌, ◌||◌, List, [], ◌∷◌, ◌++◌, ℕ, zero, suc, ◌+◌, ◌*◌, ◌/◌, ◌%◌, eqb, leb}
+use Rattle.std.specs.Prelude.{length, get_or, Float, is_some, unwrap_or}
 use Rattle.std.specs.Float.{binary64}
 use Rattle.std.specs.Float.Ieee.{of_bits}
 use Rattle.hex_text.specs.Hex.{hex_at}
-use Rattle.hex_text.specs.declared.Word.{Word}
-use Rattle.hex_text.specs.declared.Word.TheVariants.{Value, Missing}
 
 -- the letters: B bounds, P and C the ray's lists, O and I the hits
 abbrev pub letter_b : ℕ
@@ -38,19 +37,11 @@ each_below test zero = true
 each_below test (suc k) = each_below test k && test k
 
 -- whether 16 small hex digits stand at place `at`, and the bits that they spell
-abbrev pub is_spelled : Word → Bool
-is_spelled (Value v) = true
-is_spelled Missing = false
-
-abbrev pub value_of : Word → ℕ
-value_of (Value v) = v
-value_of Missing = 0
-
 abbrev pub is_number : List ℕ → ℕ → Bool
-is_number s at = is_spelled (hex_at s at 16)
+is_number s at = is_some (hex_at s at 16)
 
 abbrev pub bits_at : List ℕ → ℕ → ℕ
-bits_at s at = value_of (hex_at s at 16)
+bits_at s at = unwrap_or (hex_at s at 16) 0
 
 -- document 01's line, from place `at` on
 unfoldable pub is_line : List ℕ → ℕ → Bool

@@ -7,68 +7,39 @@ ghost use Rattle.std.specs.Float.Ieee.{of_bits};
 ghost use Rattle.ray_input.specs.Format.{is_number, bits_at, is_letter, is_line, lines, count, pair_at, text_pairs, few, readable};
 ghost use Rattle.ray_input.specs.Steps.{Appended};
 
-use hex_text::Word;
-
 // Whether 16 small hex digits stand at `at`.
 fn is_number(s: &[u8], at: usize) -> bool
     ensures { result ≡ is_number s.now at }
 {
-    match hex_text::word_at(s, at) {
-        Word::Value(_) => true,
-        Word::Missing => false,
-    }
+    hex_text::word_at(s, at).is_some()
 }
 
 // The double whose bits the 16 digits at `at` spell.
 pub fn double_at(s: &[u8], at: usize) -> f64
     ensures { result ≡ of_bits binary64 (bits_at s.now at) }
 {
-    match hex_text::word_at(s, at) {
-        Word::Value(v) => doubles_bits::of_bits(v),
-        Word::Missing => doubles_bits::of_bits(0),
-    }
+    doubles_bits::of_bits(hex_text::word_at(s, at).unwrap_or(0))
 }
 
 // Whether a line may begin with this byte.
 fn is_letter(b: u8) -> bool
     ensures { result ≡ is_letter b }
 {
-    if b == b'B' {
-        return true;
-    }
-    if b == b'P' {
-        return true;
-    }
-    if b == b'C' {
-        return true;
-    }
-    if b == b'O' {
-        return true;
-    }
-    b == b'I'
+    matches!(b, b'B' | b'P' | b'C' | b'O' | b'I')
 }
 
 // Whether a line stands at `at`.
+#[tactic(auto, unfolding(crate::specs::Format::is_line))]
 fn is_line(s: &[u8], at: usize) -> bool
     requires { at + 36 ≤ length s.now }
     ensures { result ≡ is_line s.now at }
 {
-    if !is_letter(s[at]) {
-        return false;
-    }
-    if s[at + 1] != b' ' {
-        return false;
-    }
-    if !is_number(s, at + 2) {
-        return false;
-    }
-    if s[at + 18] != b' ' {
-        return false;
-    }
-    if !is_number(s, at + 19) {
-        return false;
-    }
-    s[at + 35] == b'\n'
+    is_letter(s[at])
+        && s[at + 1] == b' '
+        && is_number(s, at + 2)
+        && s[at + 18] == b' '
+        && is_number(s, at + 19)
+        && s[at + 35] == b'\n'
 }
 
 // Whether the first n lines are lines.
@@ -76,11 +47,8 @@ fn are_lines(s: &[u8], n: usize) -> bool
     requires { 36 * n ≤ length s.now }
     ensures { result ≡ lines s.now n }
 {
-    let mut k = 0;
-    while k < n {
-        if is_line(s, 36 * k) {
-            k += 1;
-        } else {
+    for k in 0..n {
+        if !is_line(s, 36 * k) {
             return false;
         }
     }
@@ -93,54 +61,38 @@ fn count_of(s: &[u8], n: usize, c: u8) -> usize
     ensures { result ≡ count c s.now n }
 {
     let mut m = 0;
-    let mut k = 0;
-    while k < n {
+    for k in 0..n {
         if s[36 * k] == c {
             m += 1;
         }
-        k += 1;
     }
     m
 }
 
 // Whether the text can be read.
+#[tactic(auto, unfolding(crate::specs::Format::readable))]
 pub fn is_readable(s: &[u8]) -> bool
     ensures { result ≡ readable s.now }
 {
-    if s.len() % 36 != 0 {
-        return false;
-    }
     let n = s.len() / 36;
-    if !are_lines(s, n) {
-        return false;
-    }
-    if n == 0 {
-        return false;
-    }
-    if s[0] != b'B' {
-        return false;
-    }
-    if count_of(s, n, b'B') != 1 {
-        return false;
-    }
-    few_lines(s, n)
+    s.len() % 36 == 0
+        && are_lines(s, n)
+        && n > 0
+        && s[0] == b'B'
+        && count_of(s, n, b'B') == 1
+        && few_lines(s, n)
 }
 
 // Whether each letter but B has at most 64 of the first n lines.
+#[tactic(auto, unfolding(crate::specs::Format::few))]
 fn few_lines(s: &[u8], n: usize) -> bool
     requires { 36 * n ≤ length s.now }
     ensures { result ≡ few s.now n }
 {
-    if 64 < count_of(s, n, b'P') {
-        return false;
-    }
-    if 64 < count_of(s, n, b'C') {
-        return false;
-    }
-    if 64 < count_of(s, n, b'O') {
-        return false;
-    }
-    count_of(s, n, b'I') <= 64
+    count_of(s, n, b'P') <= 64
+        && count_of(s, n, b'C') <= 64
+        && count_of(s, n, b'O') <= 64
+        && count_of(s, n, b'I') <= 64
 }
 
 // Puts a pair at place m.
@@ -172,10 +124,8 @@ pub fn collect(s: &[u8], n: usize, c: u8, out: &mut [f64]) -> usize
     ensures { Appended out.old 0 (text_pairs c s.now n) out.new result }
 {
     let mut m = 0;
-    let mut k = 0;
-    while k < n {
+    for k in 0..n {
         m = put_line_of(s, 36 * k, c, out, m);
-        k += 1;
     }
     m
 }

@@ -21,7 +21,8 @@ use Rattle.spans.specs.Overlay.{less_of}
 use Rattle.span_overlay.proofs.Less.{less-list}
 use Rattle.ray_subtract.specs.declared.MergedList.{MergedList}
 use Rattle.ray_subtract.specs.declared.MergedLists.{MergedLists}
-use Rattle.ray_merge.specs.declared.MergeAnswer.TheVariants.{Refused, Lists as Answered}
+use Rattle.refusal.specs.declared.Refusal.TheVariants.{ShortBuffer, Unsound}
+use Rattle.std.specs.Prelude.{Ok, Err}
 use Rattle.ray_merge.proofs.Rays.{bounded-within}
 use Rattle.ray_subtract.proofs.Places.{part-kept, handed-still, handed-new}
 use Rattle.ray_subtract.proofs.Sparing.{becomes-spared, less-both-list}
@@ -162,12 +163,12 @@ module _ (lo hi : Float) (possible certain outer inner p' c' : List Float) (p c 
 -- ---- the answers
 module _ (lo hi : Float) (possible certain outer inner before : List Float) where
   pub refuse-short : length before / 2 < work_pairs possible certain outer inner
-      → MergePost lo hi possible certain outer inner before before (Refused 12)
+      → MergePost lo hi possible certain outer inner before before (Err ShortBuffer)
   unfolding Due
   refuse-short h = (inl (h, refl), refl)
 
   pub refuse-bad : ¬ (length before / 2 < work_pairs possible certain outer inner) → ¬ MergePre lo hi possible certain outer inner
-      → MergePost lo hi possible certain outer inner before before (Refused 11)
+      → MergePost lo hi possible certain outer inner before before (Err Unsound)
   unfolding Due
   refuse-bad h k = (inr (h, inl (k, refl)), refl)
 
@@ -175,7 +176,7 @@ module _ (lo hi : Float) (possible certain outer inner before : List Float) wher
       → ¬ (length before / 2 < work_pairs possible certain outer inner) → MergePre lo hi possible certain outer inner
       → MergeListsPost possible certain outer inner before w r → n ≡ new_cells r.possible + new_cells r.certain
       → after ≡ take n w ++ replicate (length w - n) plus_zero
-      → MergePost lo hi possible certain outer inner before after (Answered r.possible r.certain)
+      → MergePost lo hi possible certain outer inner before after (Ok r)
   unfolding NoneDue
   accept w after r n h m l e cleared =
       let fit : n ≤ length w = omega (arith, l.room, l.size) in

@@ -1,4 +1,3 @@
 -- Laws that belong to no one function.
 pub mod Rays
 pub mod Answers
-pub mod Lists

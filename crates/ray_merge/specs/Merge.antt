@@ -1,13 +1,13 @@
 -- What a merge answers and leaves in the work buffer.
-use Rattle.std.specs.Prelude.{◌≡◌, List, [], ◌∷◌, ℕ, ◌+◌, ◌*◌, ◌-◌, ◌/◌, ◌%◌, ◌≤◌, ◌<◌, length, drop, replicate, Float}
+use Rattle.std.specs.Prelude.{◌≡◌, List, [], ◌∷◌, ℕ, ◌+◌, ◌*◌, ◌-◌, ◌/◌, ◌%◌, ◌≤◌, ◌<◌, length, drop, replicate, Float, Result, Ok, Err}
 use Rattle.doubles.specs.Constants.{plus_zero}
-use Rattle.refusal.specs.Refusal.{Cause, cause, Due, NoneDue}
+use Rattle.refusal.specs.Refusal.{Cause, cause, Due, NoneDue, number_of}
+use Rattle.refusal.specs.declared.Refusal.{Refusal}
 use Rattle.spans.specs.Spans.{holds}
 use Rattle.spans.specs.Rays.{ValidRay, MergedExactly}
 use Rattle.ray_subtract.specs.Subtract.{either_hit, new_cells, handed_back, ListAfterHits}
 use Rattle.ray_subtract.specs.declared.MergedList.{MergedList}
-use Rattle.ray_merge.specs.declared.MergeAnswer.{MergeAnswer}
-use Rattle.ray_merge.specs.declared.MergeAnswer.TheVariants.{Lists, Refused}
+use Rattle.ray_subtract.specs.declared.MergedLists.{MergedLists}
 
 -- Both lists after the merge. New lists stand at the start of the work buffer, possible's before certain's, and the
 -- rest of it is plus zero.
@@ -35,8 +35,9 @@ merge_causes lo hi possible certain outer inner room =
     cause 12 (room / 2 < work_pairs possible certain outer inner) ∷ cause 11 (¬ MergePre lo hi possible certain outer inner) ∷ []
 
 -- a refused call gives the number that is due and leaves the work buffer as it was
-abbrev pub MergePost : Float → Float → List Float → List Float → List Float → List Float → List Float → List Float → MergeAnswer → Type 0
-MergePost lo hi possible certain outer inner before after (Lists p c) =
-    NoneDue (merge_causes lo hi possible certain outer inner (length before)) × MergeEffect lo hi possible certain outer inner p c after
-MergePost lo hi possible certain outer inner before after (Refused k) =
-    Due (merge_causes lo hi possible certain outer inner (length before)) k × (after ≡ before)
+abbrev pub MergePost : (lo hi : Float) → (possible certain outer inner before after : List Float) → Result MergedLists Refusal → Type 0
+MergePost lo hi possible certain outer inner before after (Ok l) =
+    NoneDue (merge_causes lo hi possible certain outer inner (length before))
+    × MergeEffect lo hi possible certain outer inner l.possible l.certain after
+MergePost lo hi possible certain outer inner before after (Err e) =
+    Due (merge_causes lo hi possible certain outer inner (length before)) (number_of e) × (after ≡ before)

@@ -9,13 +9,7 @@ ghost use Rattle.ray_merge.specs.Handed.{possible_handed, certain_handed, Possib
 ghost use Rattle.ray_merge.specs.Handed.{ListMoved, PossibleMoved, CertainMoved};
 
 use ray_subtract::{MergedList, MergedLists};
-
-// Possible and certain, or why the call is refused.
-#[derive(Clone, Copy)]
-pub enum MergeAnswer {
-    Lists(MergedList, MergedList),
-    Refused(u32),
-}
+use refusal::Refusal;
 
 // Copies a list to cell `at`.
 fn place(s: &[f64], w: &mut [f64], at: usize)
@@ -70,29 +64,27 @@ pub fn merge(
     outer: &[f64],
     inner: &[f64],
     work: &mut [f64],
-) -> MergeAnswer
+) -> Result<MergedLists, Refusal>
     ensures { MergePost lo hi possible.now certain.now outer.now inner.now
         work.old work.new result }
 {
     if work.len() / 2
         < 4 * (possible.len() / 2 + certain.len() / 2) + 8 * (outer.len() / 2 + inner.len() / 2)
     {
-        return MergeAnswer::Refused(12);
+        return Err(Refusal::ShortBuffer);
     }
-    if outer.len() % 2 != 0 {
-        return MergeAnswer::Refused(11);
+    if outer.len() % 2 != 0
+        || inner.len() % 2 != 0
+        || !ray_check::valid_ray(possible, certain, lo, hi)
+    {
+        return Err(Refusal::Unsound);
     }
-    if inner.len() % 2 != 0 {
-        return MergeAnswer::Refused(11);
-    }
-    if !ray_check::valid_ray(possible, certain, lo, hi) {
-        return MergeAnswer::Refused(11);
-    }
-    let parts = merge_lists(possible, certain, outer, inner, work);
-    let p = parts.possible;
-    let c = parts.certain;
-    spans::clear_from(work, ray_subtract::cells(p) + ray_subtract::cells(c));
-    MergeAnswer::Lists(p, c)
+    let lists = merge_lists(possible, certain, outer, inner, work);
+    spans::clear_from(
+        work,
+        ray_subtract::cells(lists.possible) + ray_subtract::cells(lists.certain),
+    );
+    Ok(lists)
 }
 
 // The new list at cell `at` of the work buffer, or the list from before where it did not move or the buffer ends too early.
@@ -100,47 +92,45 @@ fn handed_back<'a>(before: &'a [f64], work: &'a [f64], p: MergedList, at: usize)
     ensures { (result.now ≡ handed_back p before.now work.now at) × (p.moved ≡ false → result ≡ before.entry)
         × ListMoved p work.entry at result }
 {
-    if !p.moved {
+    if !p.moved || work.len() < at || (work.len() - at) / 2 < p.pairs {
         return before;
     }
-    if work.len() < at {
-        return before;
-    }
-    let pairs = p.pairs;
-    if (work.len() - at) / 2 < pairs {
-        return before;
-    }
-    let end = at + 2 * pairs;
-    &work[at..end]
+    &work[at..at + 2 * p.pairs]
 }
 
 // The ray's possible list after a merge, with this answer, of the list `before`.
-pub fn possible_of<'a>(before: &'a [f64], work: &'a [f64], answer: MergeAnswer) -> &'a [f64]
+pub fn possible_of<'a, E: Drop>(
+    before: &'a [f64],
+    work: &'a [f64],
+    answer: Result<MergedLists, E>,
+) -> &'a [f64]
     ensures { (result.now ≡ possible_handed answer before.now work.now) × (PossibleStays answer → result ≡ before.entry)
         × PossibleMoved answer work.entry result }
 {
     match answer {
-        MergeAnswer::Lists(p, _) => handed_back(before, work, p, 0),
-        MergeAnswer::Refused(_) => before,
+        Ok(lists) => handed_back(before, work, lists.possible, 0),
+        Err(_) => before,
     }
 }
 
 // The ray's certain list after a merge, with this answer, of the list `before`.
-pub fn certain_of<'a>(before: &'a [f64], work: &'a [f64], answer: MergeAnswer) -> &'a [f64]
+pub fn certain_of<'a, E: Drop>(
+    before: &'a [f64],
+    work: &'a [f64],
+    answer: Result<MergedLists, E>,
+) -> &'a [f64]
     ensures { (result.now ≡ certain_handed answer before.now work.now) × (CertainStays answer → result ≡ before.entry)
         × CertainMoved answer work.entry result }
 {
     match answer {
-        MergeAnswer::Lists(p, c) => {
-            if p.moved {
-                let pairs = p.pairs;
-                if work.len() / 2 < pairs {
-                    return before;
-                }
-                return handed_back(before, work, c, 2 * pairs);
+        Ok(lists) => {
+            // No list stands past the work buffer, and twice the pairs may not fit.
+            if lists.possible.moved && work.len() / 2 < lists.possible.pairs {
+                return before;
             }
-            handed_back(before, work, c, 0)
+            let at = ray_subtract::cells(lists.possible);
+            handed_back(before, work, lists.certain, at)
         }
-        MergeAnswer::Refused(_) => before,
+        Err(_) => before,
     }
 }

@@ -20,9 +20,10 @@ fn glyph_of(d: u64) -> u8
     ensures { result ≡ glyph d }
 {
     if d < 10 {
-        return 48 + (d as u8);
+        b'0' + d as u8
+    } else {
+        b'a' + (d as u8 - 10)
     }
-    87 + (d as u8)
 }
 
 // Puts the 16 hex digits of v, from the last to the first.
@@ -31,11 +32,9 @@ fn put_hex(out: &mut [u8], at: usize, v: u64) -> usize
     ensures { Appended out.old at (hex 16 v) out.new result }
 {
     let mut rest = v;
-    let mut k = 16;
-    while 0 < k {
-        k -= 1;
+    for k in (0..16).rev() {
         out[at + k] = glyph_of(rest % 16);
-        rest = rest / 16;
+        rest /= 16;
     }
     at + 16
 }
@@ -67,10 +66,8 @@ pub fn put_lines(out: &mut [u8], at: usize, c: u8, list: &[f64]) -> usize
     ensures { Appended out.old at (lines_text c list.now) out.new result }
 {
     let mut n = at;
-    let mut k = 0;
-    while k < list.len() {
+    for k in (0..list.len()).step_by(2) {
         n = put_line(out, n, c, list[k], list[k + 1]);
-        k += 2;
     }
     n
 }
@@ -80,24 +77,18 @@ fn put_text(out: &mut [u8], at: usize, text: &[u8]) -> usize
     requires { at + length text.now ≤ length out.old }
     ensures { Appended out.old at text.now out.new result }
 {
-    let mut n = at;
-    let mut k = 0;
-    while k < text.len() {
-        n = put_byte(out, n, text[k]);
-        k += 1;
-    }
-    n
+    let end = at + text.len();
+    out[at..end].copy_from_slice(text);
+    end
 }
 
 // Puts `changed` where a list moved, else `same`.
+#[tactic(auto, unfolding(crate::specs::Output::end_text))]
 pub fn put_end(out: &mut [u8], at: usize, p: bool, c: bool) -> usize
     requires { at + 8 ≤ length out.old }
     ensures { Appended out.old at (end_text (p || c)) out.new result }
 {
-    if p {
-        return put_text(out, at, b"changed\n");
-    }
-    if c {
+    if p || c {
         return put_text(out, at, b"changed\n");
     }
     put_text(out, at, b"same\n")
@@ -109,7 +100,7 @@ pub fn put_refused(out: &mut [u8], k: u32) -> usize
     ensures { Appended out.old 0 (refused_text k) out.new result }
 {
     let n1 = put_text(out, 0, b"refused ");
-    let n2 = put_byte(out, n1, 48 + ((k / 10) as u8));
-    let n3 = put_byte(out, n2, 48 + ((k % 10) as u8));
+    let n2 = put_byte(out, n1, b'0' + (k / 10) as u8);
+    let n3 = put_byte(out, n2, b'0' + (k % 10) as u8);
     put_byte(out, n3, b'\n')
 }

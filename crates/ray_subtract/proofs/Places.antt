@@ -11,9 +11,8 @@ use lib.Seq.{length-take-le, get_or-take, get_or-drop, drop-drop, drop_at, take_
 use lib.Ieee.{Float, nan}
 use Rattle.spans.specs.Spans.{NormalOf}
 use Rattle.spans.specs.Steps.{CopyPost, FilledFront}
-use Rattle.spans.specs.Overlay.{less_of}
 use Rattle.ray_subtract.specs.Subtract.{handed_back}
-use Rattle.ray_subtract.specs.Steps.{cells_from, SoundListAt, ChangedBetween, WrittenAt, PlacedAt, NormalizedAt}
+use Rattle.ray_subtract.specs.Steps.{cells_from, SoundListAt, ChangedBetween, PlacedAt, NormalizedAt}
 use Rattle.ray_subtract.specs.declared.MergedList.{MergedList}
 
 pub part_length : (at n : ℕ) (w : List Float) → at + n ≤ length w → length (cells_from at n w) ≡ n
@@ -139,22 +138,6 @@ module _ (at : ℕ) (w ys : List Float) (fit : at ≤ length w) (size : length y
     list = rw tail-drop f.list;
   }
 
-  pub written_back : (a n b m r : ℕ) → at ≤ a → at ≤ b
-      → WrittenAt (less_of (cells_from (a - at) n (take (length w - at) (drop at w)))
-      (cells_from (b - at) m (take (length w - at) (drop at w)))) 0 (n + m) (n + m)
-      (take (length w - at) (drop at w)) ys r
-      → WrittenAt (less_of (cells_from a n w) (cells_from b m w)) at (at + n + m) (n + m) w back r
-  written_back a n b m r ha hb s = record {
-    between = record {
-      size = tail-size;
-      front = tail-front;
-      past = λ q h. tail-past (n + m)
-          (λ k g. s.between.past k (omega arith) ∙ ap (λ (l : List Float). get_or l k nan) lent) q (omega arith);
-    };
-    most = s.most;
-    ends = rw (tail-drop, ← part-drop at a n w ha, ← part-drop at b m w hb, ← lent) s.ends;
-  }
-
 -- ---- the list that is handed back
 module _ (p : MergedList) (before work : List Float) (at : ℕ) where
   pub handed-still : p.moved ≡ false → before ≡ handed_back p before work at
@@ -162,12 +145,3 @@ module _ (p : MergedList) (before work : List Float) (at : ℕ) where
 
   pub handed-new : p.moved ≡ true → at + 2 * p.pairs ≤ length work → cells_from at (2 * p.pairs) work ≡ handed_back p before work at
   handed-new h k = rw (h, le-leb (at + 2 * p.pairs) (length work) k)
-
--- a list in the part from cell `to` on
-pub lies-tail : (to at n : ℕ) (w : List Float) → to ≤ at → SoundListAt at n w → SoundListAt (at - to) n (take (length w - to) (drop to w))
-lies-tail to at n w h l =
-    let whole : take (length w - to) (drop to w) ≡ drop to w = take_all (length w - to) (drop to w) (omega (arith, length-drop to w)) in
-    record {
-      room = rw whole (omega (arith, length-drop to w, l.room));
-      is_sound = rw (whole, part-drop to at n w h) l.is_sound;
-    }

@@ -7,7 +7,7 @@ use Prim.Native.Nat.{ℕ, ◌+◌, ◌*◌, ◌/◌, ◌%◌, ◌≤◌}
 use native.Mathlib.Omega.{arith}
 use lib.ListN.{length}
 use lib.Ieee.{Float}
-use Rattle.logic.proofs.Bools.{and_right, and-not-or, or-neither, not-true, not-false, found-not, by_cases, clash}
+use Rattle.logic.proofs.Bools.{and_right, and-not-or, or-neither, not-true, not-false, by_cases, clash}
 use Rattle.spans.specs.Spans.{holds, sound, equal, ListOf, set_minus}
 use Rattle.spans.proofs.Sets.{sound-mod, equal-holds, same_set}
 use Rattle.spans.specs.Overlay.{less_of}
@@ -66,7 +66,8 @@ module _ (a o i : List Float) (sa : sound a ≡ true) (so : sound o ≡ true) (s
   both-outer r e h = elim (by_cases (equal a (less_of (less_of a o) i))) [
     | inr f ↦ sym (ap not f)
     | inl t ↦
-        absurd (clash (equal a (less_of a o)) (ap (equal a) (outer-apart t) ∙ equal-self a sa) (not-true (equal a (less_of a o)) (sym e ∙ h)))
+        absurd (clash (equal a (less_of a o)) (ap (equal a) (outer-apart t) ∙ equal-self a sa)
+        (not-true (equal a (less_of a o)) (sym e ∙ h)))
   ]
 
   pub both-inner : (r : Bool) → r ≡ not (equal a (less_of a o)) → r ≡ false → (s : Bool) → s ≡ not (equal a (less_of a i))
@@ -76,20 +77,19 @@ module _ (a o i : List Float) (sa : sound a ≡ true) (so : sound o ≡ true) (s
       f ∙ ap (λ (l : List Float). not (equal a (less_of l i))) (sym kept)
 
 -- ---- one list, by a test t whether a boundary of it moves
-module _ {a list : List Float} (sa : sound a ≡ true) (sl : sound list ≡ true) {to end limit : ℕ}
-    (t : Bool) (test-is : t ≡ not (equal a list)) where
-  pub reduced-still : {w : List Float} {n : ℕ} → not t ≡ true → length a ≡ n → (equal a list ≡ true → list ≡ a)
+module _ {a list : List Float} (sa : sound a ≡ true) (sl : sound list ≡ true) {to end limit : ℕ} where
+  pub reduced-still : {w : List Float} {n : ℕ} → false ≡ not (equal a list) → length a ≡ n → (equal a list ≡ true → list ≡ a)
       → ReducePost a list to end limit w w (record { moved = false; pairs = n / 2 })
   reduced-still {w} h e stays =
-      let x : list ≡ a = stays (not-false (equal a list) (found-not t (not (equal a list)) test-is h)) in
+      let x : list ≡ a = stays (not-false (equal a list) (sym h)) in
       record {
         between = between-same to end w;
         most = omega arith;
         is = sym x;
-        becomes = record { moves = sym (not-true t h) ∙ test-is; pairs = ap length x ∙ omega (arith, sound-mod a sa) };
+        becomes = record { moves = h; pairs = ap length x ∙ omega (arith, sound-mod a sa) };
       }
 
-  pub reduced-moved : {before after : List Float} {r : ℕ} → not t ≡ false → to + limit ≤ length before
+  pub reduced-moved : {before after : List Float} {r : ℕ} → true ≡ not (equal a list) → to + limit ≤ length before
       → WrittenAt list to end limit before after r → ReducePost a list to end limit before after (record { moved = true; pairs = r / 2 })
   reduced-moved {before} {after} {r} h f x =
       let long : length list ≡ r = ap length (sym x.ends) ∙ part_length to r after (omega (arith, x.most, x.between.size)) in
@@ -99,7 +99,7 @@ module _ {a list : List Float} (sa : sound a ≡ true) (sl : sound list ≡ true
         between = x.between;
         most = omega (arith, x.most);
         is = ap (λ (k : ℕ). cells_from to k after) twice ∙ x.ends;
-        becomes = record { moves = sym (not-false t h) ∙ test-is; pairs = long ∙ sym twice };
+        becomes = record { moves = h; pairs = long ∙ sym twice };
       }
 
 -- what becomes of a list, by the points that are hit

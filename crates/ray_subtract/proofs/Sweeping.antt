@@ -1,5 +1,5 @@
 -- The loops of `cut_at` and `subtract_at`: those of crate `span_overlay`, with all lists in one buffer.
-use mathlib.Core.Path.{◌≡◌, refl, sym, ◌∙◌, ap, subst}
+use mathlib.Core.Path.{◌≡◌, sym, ◌∙◌, ap, subst}
 use mathlib.Core.Bool.{true, false}
 use mathlib.Core.List.{List}
 use Prim.Native.Nat.{ℕ, ◌+◌, ◌-◌, ◌≤◌, ◌<◌}
@@ -12,7 +12,7 @@ use Rattle.spans.specs.declared.Place.{Place}
 use Rattle.spans.proofs.Sets.{sound-mod}
 use Rattle.spans.specs.Overlay.{higher_of, less_of}
 use Rattle.span_overlay.specs.Steps.{OverlayCutPre as CutReady}
-use Rattle.span_overlay.proofs.Cutting.{Cutting, cut-start, cut-last, cut-end, cut_step, Lessening, less-start, less-ready}
+use Rattle.span_overlay.proofs.Cutting.{Cutting, cut-last, cut-end, cut_step, Lessening, less-ready}
 use Rattle.span_overlay.proofs.Cutting.{less-step, less_done}
 use Rattle.ray_subtract.specs.Steps.{cells_from, SoundListAt, CutAt, WrittenAt}
 use Rattle.ray_subtract.proofs.Places.{part_length, part-cell}
@@ -27,13 +27,7 @@ module _ {at m : ℕ} {from hi : Float} {w₀ : List Float} {n : ℕ} (fit : at 
   size : length (cells_from at m w₀) ≡ m
   size = part_length at m w₀ fit
 
-  pub cutting-start : CuttingAt at m from hi w₀ n from 0 n w₀
-  cutting-start = record { cutting = cut-start (cells_from at m w₀) from hi w₀ n ready; past = λ q h. refl }
-
   module _ {lo : Float} {j end : ℕ} {w : List Float} (s : CuttingAt at m from hi w₀ n lo j end w) where
-    pub cutting-room : end + 2 ≤ length w
-    cutting-room = omega (arith, s.cutting.most, s.cutting.j_most, s.cutting.size, ready.room, size)
-
     pub cutting-size : length w ≡ length w₀
     cutting-size = s.cutting.size
 
@@ -85,10 +79,6 @@ module _ {at m : ℕ} {from hi : Float} {w₀ : List Float} {n : ℕ} (fit : at 
           past = λ q k. later (get_or w (at + j) nan) p q (omega arith);
         }
 
-pub passed-most : {at m : ℕ} {from hi : Float} {w : List Float} {n : ℕ} {w' : List Float} {r : Place} → at + m ≤ length w
-    → CutAt at m from hi w n w' r → r.passed ≤ m
-passed-most {at} {m} {w = w} h c = omega (arith, c.cut.passed_most, part_length at m w h)
-
 -- ---- the loop of `subtract_at`
 pub record Subtracting (w₀ : List Float) (a n b m i j r : ℕ) (w : List Float) : Type 0 where
   pub less : Lessening (cells_from a n w₀) (cells_from b m w₀) w₀ i j r w
@@ -104,14 +94,11 @@ module _ {w₀ : List Float} {a n b m : ℕ} (la : SoundListAt a n w₀) (lb : S
   both-fit : length (cells_from a n w₀) + length (cells_from b m w₀) ≤ length w₀
   both-fit = omega (arith, first-size, second-size, la.room)
 
-  pub subtracting-start : Subtracting w₀ a n b m 0 0 0 w₀
-  subtracting-start = record { less = less-start (cells_from a n w₀) (cells_from b m w₀) w₀; past = λ q h. refl }
-
   module _ {i j r : ℕ} {w : List Float} (s : Subtracting w₀ a n b m i j r w) where
-    pub subtracting-size : length w ≡ length w₀
+    subtracting-size : length w ≡ length w₀
     subtracting-size = s.less.places.size
 
-    pub subtracting-most : j ≤ m
+    subtracting-most : j ≤ m
     subtracting-most = omega (arith, s.less.places.j_most, second-size)
 
     pub subtracting-done : n ≤ i → WrittenAt (less_of (cells_from a n w₀) (cells_from b m w₀)) 0 (n + m) (n + m) w₀ w r
@@ -128,7 +115,7 @@ module _ {w₀ : List Float} {a n b m : ℕ} (la : SoundListAt a n w₀) (lb : S
         }
 
     module _ (more : i < n) where
-      pub two-more : i + 2 ≤ n
+      two-more : i + 2 ≤ n
       two-more = omega (arith, sound-mod (cells_from a n w₀) la.is_sound, first-size, s.less.places.i_whole)
 
       in-first : i < length (cells_from a n w₀)
@@ -170,7 +157,8 @@ module _ {w₀ : List Float} {a n b m : ℕ} (la : SoundListAt a n w₀) (lb : S
             (less-ready (cells_from a n w₀) (cells_from b m w₀) w₀ i j r w la.is_sound lb.is_sound both-fit s.less in-first),
       )
 
-      pub subtracting-step : (w' : List Float) (p : Place) → CutAt (b + j) (m - j) (get_or w (a + i) nan) (get_or w (a + i + 1) nan) w r w' p
+      pub subtracting-step : (w' : List Float) (p : Place)
+          → CutAt (b + j) (m - j) (get_or w (a + i) nan) (get_or w (a + i + 1) nan) w r w' p
           → Subtracting w₀ a n b m (i + 2) (j + p.passed) p.end w'
       subtracting-step w' p c = record {
         less = less-step (cells_from a n w₀) (cells_from b m w₀) w₀ i j r w la.is_sound lb.is_sound both-fit s.less in-first w' p

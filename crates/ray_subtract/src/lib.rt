@@ -12,13 +12,14 @@ ghost use Rattle.ray_subtract.specs.Steps.{MergeWithinPost};
 use spans::Place;
 
 // One list after a merge: whether it moved, and how many pairs it has.
-#[derive(Clone, Copy)]
+#[derive(Clone, Copy, Debug, PartialEq, Eq)]
 pub struct MergedList {
     pub moved: bool,
     pub pairs: usize,
 }
 
-#[derive(Clone, Copy)]
+// Both lists after a merge.
+#[derive(Clone, Copy, Debug, PartialEq, Eq)]
 pub struct MergedLists {
     pub possible: MergedList,
     pub certain: MergedList,
@@ -30,9 +31,7 @@ pub fn share_point(w: &[f64], a: usize, n: usize, b: usize, m: usize) -> bool
     ensures { result ≡ not (equal (cells_from a n w.now)
         (less_of (cells_from a n w.now) (cells_from b m w.now))) }
 {
-    let e = a + n;
-    let f = b + m;
-    span_cover::meets(&w[a..e], &w[b..f])
+    span_cover::meets(&w[a..a + n], &w[b..b + m])
 }
 
 // Puts what the list of m cells at `at` leaves of the pair [from, hi] past the first n cells. Nothing is written that is still to be read.
@@ -42,6 +41,7 @@ fn cut_at(w: &mut [f64], at: usize, m: usize, n: usize, from: f64, hi: f64) -> P
 {
     let mut lo = from;
     let mut end = n;
+    // The place where it stops is part of the answer.
     let mut j = 0;
     while j < m {
         let x = w[at + j];
@@ -66,16 +66,15 @@ pub fn subtract_at(w: &mut [f64], a: usize, n: usize, b: usize, m: usize) -> usi
     ensures { WrittenAt (less_of (cells_from a n w.old) (cells_from b m w.old)) 0 (n + m) (n + m)
         w.old w.new result }
 {
-    let mut i = 0;
     let mut j = 0;
     let mut r = 0;
-    while i < n {
-        let lo = w[a + i];
-        let hi = w[a + i + 1];
+    for k in 0..n / 2 {
+        let i = a + 2 * k;
+        let lo = w[i];
+        let hi = w[i + 1];
         let place = cut_at(w, b + j, m - j, r, lo, hi);
         r = place.end;
         j += place.passed;
-        i += 2;
     }
     r
 }
@@ -94,10 +93,7 @@ pub fn cells(p: MergedList) -> usize
     requires { new_cells p < 2 ^ 64 }
     ensures { result ≡ new_cells p }
 {
-    if p.moved {
-        return 2 * p.pairs;
-    }
-    0
+    if p.moved { 2 * p.pairs } else { 0 }
 }
 
 // Possible less the inner hits.
@@ -126,10 +122,7 @@ pub fn is_hit(w: &[f64], c: usize, nc: usize, no: usize, ni: usize) -> bool
     ensures { result ≡ not (equal (cells_from c nc w.now) (less_hits c nc no ni w.now)) }
 {
     let o = c + nc;
-    if share_point(w, c, nc, o, no) {
-        return true;
-    }
-    share_point(w, c, nc, o + no, ni)
+    share_point(w, c, nc, o, no) || share_point(w, c, nc, o + no, ni)
 }
 
 // Writes certain, nc cells at c, less the outer and the inner hits behind it to cell `to`; certain less the outer

@@ -14,7 +14,8 @@ use Rattle.spans.specs.Spans.{holds}
 use Rattle.ray_subtract.specs.Subtract.{either_hit, new_cells, handed_back, ListAfterHits}
 use Rattle.ray_merge.specs.Merge.{MergeEffect, merge_causes}
 use Rattle.ray_subtract.specs.declared.MergedList.{MergedList}
-use Rattle.ray_input.specs.Format.{letter_b, letter_p, letter_c, letter_o, letter_i, lines, letter_of, count, text_pairs, few, total, readable}
+use Rattle.ray_input.specs.Format.{letter_b, letter_p, letter_c, letter_o, letter_i, lines, letter_of}
+use Rattle.ray_input.specs.Format.{count, text_pairs, few, total, readable}
 use Rattle.ray_output.specs.Output.{lines_text, end_text, refused_text}
 use Rattle.ray_text.specs.Run.{bound_lo, bound_hi, text_possible, text_certain, text_outer, text_inner, ray_causes, run_causes}
 use Rattle.ray_text.specs.Run.{Result, refused, written, Printed, ProgramRan, Small}
@@ -86,7 +87,8 @@ kept q a w k e = ap (λ (b : Bool). cond (b && leb (k + 2 * q.pairs) (length w))
 
 -- ---- the answer of the merge
 module _ (lo hi : Float) (possible certain outer inner : List Float) (few· : Small possible certain outer inner) where
-  pub due-ray : (k : ℕ) → Due (merge_causes lo hi possible certain outer inner 3072) k → (k < 100) × Due (ray_causes lo hi possible certain) k
+  pub due-ray : (k : ℕ) → Due (merge_causes lo hi possible certain outer inner 3072) k
+      → (k < 100) × Due (ray_causes lo hi possible certain) k
   unfolding Due
   due-ray k (inl d) = absurd (omega (arith, d.0, few·.possible_most, few·.certain_most, few·.outer_most, few·.inner_most))
   due-ray k (inr (n, inl d)) =
@@ -144,7 +146,8 @@ module _ (lo hi : Float) (possible certain outer inner : List Float) (few· : Sm
         valid = left.valid;
         printed = refl;
       };
-      put = put_then out 0 (lines_text letter_p possible_new) out₁ n a (lines_text letter_c certain_new ++ end_text (p.moved || c.moved)) out₃ r
+      put = put_then out 0 (lines_text letter_p possible_new) out₁ n a
+          (lines_text letter_c certain_new ++ end_text (p.moved || c.moved)) out₃ r
           (put_then out₁ n (lines_text letter_c certain_new) out₂ m b (end_text (p.moved || c.moved)) out₃ r e);
     }
 

@@ -5,7 +5,7 @@ ghost use Rattle.std.specs.Prelude.{◌≡◌, true, ◌≤◌, length};
 ghost use Rattle.ray_input.specs.Format.{readable};
 ghost use Rattle.ray_text.specs.Run.{ProgramRan, Printed, ray_causes, Small};
 
-use ray_merge::MergeAnswer;
+use refusal::Refusal;
 
 // Merges the hits into a ray, and prints both lists or the refusal.
 fn print_merged(
@@ -25,8 +25,8 @@ fn print_merged(
     let mut work = [0.0; 3072];
     let answer = ray_merge::merge(possible, certain, lo, hi, outer, inner, &mut work);
     match answer {
-        MergeAnswer::Refused(k) => ray_output::put_refused(out, k),
-        MergeAnswer::Lists(p, c) => {
+        Err(e) => ray_output::put_refused(out, u32::from(e)),
+        Ok(lists) => {
             let n = ray_output::put_lines(
                 out,
                 0,
@@ -39,7 +39,7 @@ fn print_merged(
                 b'C',
                 ray_merge::certain_of(certain, &work, answer),
             );
-            ray_output::put_end(out, m, p.moved, c.moved)
+            ray_output::put_end(out, m, lists.possible.moved, lists.certain.moved)
         }
     }
 }
@@ -74,7 +74,7 @@ pub fn run(s: &[u8], out: &mut [u8; 65536]) -> usize
     ensures { ProgramRan s.now out.old out.new result }
 {
     if !ray_input::is_readable(s) {
-        return ray_output::put_refused(out, 18);
+        return ray_output::put_refused(out, u32::from(Refusal::Text));
     }
     run_readable(s, out)
 }

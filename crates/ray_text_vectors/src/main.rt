@@ -15,12 +15,12 @@ const MOST: usize = 16384;
 
 // Reads n bytes to the front of a buffer, and answers whether they were there.
 fn read_text<R: Read>(input: &mut InputBytes<R>, buf: &mut [u8], n: usize) -> bool {
-    input.read_full(vector_rows::first_bytes_mut(buf, n)) == n
+    input.read_full(vector_rows::first_mut(buf, n)) == n
 }
 
 // Whether the first n bytes of the buffer are these.
 fn wrote(out: &[u8; 65536], n: usize, wanted: &[u8]) -> bool {
-    vector_rows::first_bytes(out, n) == wanted
+    vector_rows::first(out, n) == wanted
 }
 
 // Whether an input gives this output.
@@ -40,23 +40,22 @@ fn ran<R: Read>(input: &mut InputBytes<R>, n: usize, m: usize) -> RowOutcome {
     if !read_text(input, &mut wanted, m) {
         return RowOutcome::Unread;
     }
-    let s = vector_rows::first_bytes(&given, n);
-    vector_rows::row_outcome(0, 1, gives(s, vector_rows::first_bytes(&wanted, m)))
+    let s = vector_rows::first(&given, n);
+    vector_rows::row_outcome(0, 1, gives(s, vector_rows::first(&wanted, m)))
 }
 
 // Where the head can't be read, a length is more than the most.
 fn compared<R: Read>(input: &mut InputBytes<R>, head: &[u8]) -> RowOutcome {
-    let n = vector_rows::value_or(hex_text::hex_at(head, 0, 4), 65536);
-    let m = vector_rows::value_or(hex_text::hex_at(head, 5, 4), 65536);
+    let n = hex_text::hex_at(head, 0, 4).unwrap_or(65536);
+    let m = hex_text::hex_at(head, 5, 4).unwrap_or(65536);
     ran(input, n as usize, m as usize)
 }
 
 // What follows a case that can't be read is not looked at.
-// The turns are counted down, since a proved loop has to end and nothing says that the input does.
+// The turns are counted, since a proved loop has to end and nothing says that the input does.
 fn counted<R: Read>(input: &mut InputBytes<R>) -> RowCounts {
     let mut t = vector_rows::start();
-    let mut turns = u64::MAX;
-    while turns > 0 {
+    for _ in 0..u64::MAX {
         let mut head = [0u8; 10];
         if input.read_full(&mut head) == 0 {
             break;
@@ -65,7 +64,6 @@ fn counted<R: Read>(input: &mut InputBytes<R>) -> RowCounts {
         if t.unread > 0 {
             break;
         }
-        turns -= 1;
     }
     t
 }

@@ -11,7 +11,8 @@ use Rattle.log_model.specs.Logs.{HitKind, inner, outer}
 use Rattle.log_model.specs.declared.Entry.{Entry}
 use Rattle.ray_trace.specs.Reasons.{hit_pairs, hit_holds, FirstHolding, first_entry, later_entry}
 use Rattle.ray_trace.specs.Sets.{OneReason}
-use Rattle.ray_trace.specs.Reasons.{Reason, not_possible, removed_by, uncertain_by, not_certain, still_certain}
+use Rattle.ray_trace.specs.declared.Reason.{Reason}
+use Rattle.ray_trace.specs.declared.Reason.TheVariants.{NotPossible, RemovedBy, UncertainBy, NotCertain, StillCertain}
 use Rattle.ray_trace.specs.Reasons.{TrueReason, not_held, cut_away, made_uncertain, never_certain, untouched}
 
 module _ (w : HitKind) (p : Float) where
@@ -42,11 +43,11 @@ module _ (w : HitKind) (p : Float) where
 
 -- the reason by the four tests and the two numbers
 abbrev reason_by : (possible certain in_inner in_outer : Bool) (inner_number outer_number : ℕ) → Reason
-reason_by false c i o j k = not_possible
-reason_by true c true o j k = removed_by j
-reason_by true true false true j k = uncertain_by k
-reason_by true false false o j k = not_certain
-reason_by true true false false j k = still_certain
+reason_by false c i o j k = NotPossible
+reason_by true c true o j k = RemovedBy j
+reason_by true true false true j k = UncertainBy k
+reason_by true false false o j k = NotCertain
+reason_by true true false false j k = StillCertain
 
 module _ (possible certain : List Float) (es : List Entry) (p : Float) (inside : holds certain p ≡ true → holds possible p ≡ true) where
   abbrev decided : Reason
@@ -63,7 +64,8 @@ module _ (possible certain : List Float) (es : List Entry) (p : Float) (inside :
   decided-true : TrueReason possible certain es p decided
   decided-true = go (holds possible p) (holds certain p) (holds (hit_pairs inner es) p) (holds (hit_pairs outer es) p) refl refl refl refl
     where
-      go : (a c i o : Bool) → holds possible p ≡ a → holds certain p ≡ c → holds (hit_pairs inner es) p ≡ i → holds (hit_pairs outer es) p ≡ o
+      go : (a c i o : Bool) → holds possible p ≡ a → holds certain p ≡ c → holds (hit_pairs inner es) p ≡ i
+          → holds (hit_pairs outer es) p ≡ o
           → TrueReason possible certain es p (reason_by a c i o (first_number inner p es) (first_number outer p es))
       go false c i o s t u v = not_held s
       go true c true o s t u v = cut_away s (number-first inner p es u)

@@ -2,16 +2,16 @@
 use mathlib.Core.Path.{◌≡◌, refl, sym, ap, ◌∙◌}
 use mathlib.Core.Bool.{Bool, true, false, ◌||◌}
 use mathlib.Core.Logic.{◌⊎◌, inl, inr}
-use mathlib.Core.List.{List, [], ◌∷◌}
+use mathlib.Core.List.{List, [], ◌∷◌, ◌++◌}
 use Prim.Native.Nat.{ℕ, zero, suc, ◌+◌, ◌≤◌, ◌<◌}
 use native.Mathlib.Omega.{arith}
 use native.Mathlib.Nat.{zero-add, add-zero}
 use native.Mathlib.Numerals.{add-one}
 use lib.Ieee.{Float, nan, le, lt}
-use lib.ListN.{length, get_or, drop, length-drop}
+use Rattle.std.specs.Prelude.{None, Some}
+use lib.ListN.{length, get_or}
 use Rattle.logic.proofs.Bools.{and-false}
 use Rattle.spans.specs.Spans.{within, holds}
-use Rattle.spans.proofs.Points.{drop-pair}
 use Rattle.log_model.specs.Logs.{entry_at, entries_from, entry_count, entries, HitKind}
 use Rattle.log_entries.proofs.Places.{AllFrom, all_first, all_rest}
 use Rattle.ray_trace.specs.Reasons.{hit_pairs, hit_holds, FirstHolding, first_entry, later_entry}
@@ -27,22 +27,29 @@ no-pair (x ∷ y ∷ l) p h = absurd (long l h)
     long : (l : List Float) → length (x ∷ y ∷ l) ≤ 1 → ⊥
     long l h = omega arith
 
-module _ (s : List Float) (p : Float) (k : ℕ) (same : holds s p ≡ holds (drop k s) p) where
-  -- the pair at place k decides, or the rest does
-  pair-or-rest : k + 2 ≤ length s → holds s p ≡ (within (get_or s k nan) (get_or s (k + 1) nan) p || holds (drop (k + 2) s) p)
-  unfolding holds
-  pair-or-rest h = same ∙ ap (λ (l : List Float). holds l p) (drop-pair s k h)
+-- the pair in front decides, or the rest does
+pair-or-rest : (pair rest : List Float) (p : Float) → length pair ≡ 2
+    → holds (pair ++ rest) p ≡ (within (get_or pair 0 nan) (get_or pair 1 nan) p || holds rest p)
+unfolding holds
+pair-or-rest (lo ∷ hi ∷ []) rest p h = refl
+pair-or-rest [] rest p h = absurd (omega arith)
+pair-or-rest (x ∷ []) rest p h = absurd (omega arith)
+pair-or-rest (x ∷ y ∷ z ∷ l) rest p h = absurd (omega arith)
 
-  pub pair-holds : k + 2 ≤ length s → within (get_or s k nan) (get_or s (k + 1) nan) p ≡ true → true ≡ holds s p
-  pair-holds h t = sym (pair-or-rest h ∙ ap (λ (b : Bool). b || holds (drop (k + 2) s) p) t)
+module _ (s left : List Float) (p : Float) (same : holds s p ≡ holds left p) where
+  module _ (pair rest : List Float) (cut : left ≡ pair ++ rest) (two : length pair ≡ 2) where
+    front : holds s p ≡ (within (get_or pair 0 nan) (get_or pair 1 nan) p || holds rest p)
+    front = same ∙ rw cut (pair-or-rest pair rest p two)
 
-  pub pair-passed : k + 2 ≤ length s → (le (get_or s k nan) p ≡ false) ⊎ (lt p (get_or s (k + 1) nan) ≡ false)
-      → holds s p ≡ holds (drop (k + 2) s) p
-  pair-passed h (inl t) = pair-or-rest h ∙ rw t
-  pair-passed h (inr t) = pair-or-rest h ∙ rw (and-false (le (get_or s k nan) p) (lt p (get_or s (k + 1) nan)) t)
+    pub pair-holds : within (get_or pair 0 nan) (get_or pair 1 nan) p ≡ true → true ≡ holds s p
+    pair-holds t = sym (front ∙ ap (λ (b : Bool). b || holds rest p) t)
 
-  pub pairs-passed : length s ≤ k + 1 → false ≡ holds s p
-  pairs-passed h = sym (same ∙ no-pair (drop k s) p (simp length-drop (omega arith)))
+    pub pair-passed : (le (get_or pair 0 nan) p ≡ false) ⊎ (lt p (get_or pair 1 nan) ≡ false) → holds s p ≡ holds rest p
+    pair-passed (inl t) = front ∙ rw t
+    pair-passed (inr t) = front ∙ rw (and-false (le (get_or pair 0 nan) p) (lt p (get_or pair 1 nan)) t)
+
+  pub pairs-passed : length left < 2 → false ≡ holds s p
+  pairs-passed h = sym (same ∙ no-pair left p (omega arith))
 
 -- ---- through the entries of a log
 module _ (w : HitKind) (log : List Float) (p : Float) where
@@ -70,10 +77,10 @@ module _ (w : HitKind) (log : List Float) (p : Float) where
 
   -- the entry at place i is the first that holds p, or none does
   pub entry_found : (i : ℕ) → i < entry_count log → ((j : ℕ) → j < i → Passed j) → hit_holds w (entry_at log i) p ≡ true
-      → FoundAt w (entries log) p (i + 1)
+      → FoundAt w (entries log) p (Some (i + 1))
   unfolding entries
   entry_found i h f t = rw (add-one i) (first-from 0 (entry_count log) i h (λ j _ k. f j (omega arith)) (rw (zero-add i) t))
 
-  pub entries-passed : ((j : ℕ) → j < entry_count log → Passed j) → FoundAt w (entries log) p 0
+  pub entries-passed : ((j : ℕ) → j < entry_count log → Passed j) → FoundAt w (entries log) p None
   unfolding entries
   entries-passed f = none_from 0 (entry_count log) (λ j _ k. f j (omega arith))

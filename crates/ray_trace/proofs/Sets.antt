@@ -12,7 +12,8 @@ use Rattle.spans.specs.Spans.{within, holds}
 use Rattle.spans.specs.Rays.{ValidRay}
 use Rattle.log_model.specs.Logs.{HitKind, inner, outer, entries}
 use Rattle.log_model.specs.declared.Entry.{Entry}
-use Rattle.ray_trace.specs.Reasons.{hit_pairs, hit_holds, FirstHolding, first_entry, later_entry, Reason}
+use Rattle.ray_trace.specs.Reasons.{hit_pairs, hit_holds, FirstHolding, first_entry, later_entry}
+use Rattle.ray_trace.specs.declared.Reason.{Reason}
 use Rattle.ray_trace.specs.Reasons.{TrueReason, not_held, cut_away, made_uncertain, never_certain, untouched}
 use Rattle.ray_trace.specs.Trace.{Traced}
 use Rattle.ray_trace.specs.Sets.{membership_of, SetsOfReason, TakenBy}

@@ -6,7 +6,9 @@ use Rattle.std.specs.Float.Ieee.{neg}
 use Rattle.doubles.specs.Rounding.{ratio}
 use Rattle.grid.specs.Grid.{whole}
 use Rattle.log_model.specs.Logs.{entries}
-use Rattle.ray_trace.specs.Reasons.{TrueReason, Reason, not_possible, removed_by, uncertain_by, not_certain, still_certain}
+use Rattle.ray_trace.specs.Reasons.{TrueReason}
+use Rattle.ray_trace.specs.declared.Reason.{Reason}
+use Rattle.ray_trace.specs.declared.Reason.TheVariants.{NotPossible, RemovedBy, UncertainBy, NotCertain, StillCertain}
 
 -- what is asked, and last what it must come to
 pub record TraceExample : Type 0 where
@@ -37,17 +39,17 @@ TracedRight (e ∷ es) = TrueReason e.possible e.certain (entries e.log) e.place
 unfoldable pub trace_examples : List TraceExample
 unfolding ratio neg
 trace_examples =
-    traced 10 (one_entry 1 4 2 3) (ratio 5 2) (removed_by 1)
-    ∷ traced 10 (one_entry 1 4 2 3) (ratio 3 2) (uncertain_by 1)
-    ∷ traced 10 (one_entry 1 4 2 3) (whole 4) still_certain
-    ∷ traced 10 (one_entry 1 4 2 3) (whole 3) (uncertain_by 1)
-    ∷ traced 10 (one_entry 1 4 2 3) (neg (whole 1)) not_possible
-    ∷ traced 10 (one_entry 1 4 2 3) (whole 10) not_possible
-    ∷ traced 5 (one_entry 1 4 2 3) (whole 7) not_certain
+    traced 10 (one_entry 1 4 2 3) (ratio 5 2) (RemovedBy 1)
+    ∷ traced 10 (one_entry 1 4 2 3) (ratio 3 2) (UncertainBy 1)
+    ∷ traced 10 (one_entry 1 4 2 3) (whole 4) StillCertain
+    ∷ traced 10 (one_entry 1 4 2 3) (whole 3) (UncertainBy 1)
+    ∷ traced 10 (one_entry 1 4 2 3) (neg (whole 1)) NotPossible
+    ∷ traced 10 (one_entry 1 4 2 3) (whole 10) NotPossible
+    ∷ traced 5 (one_entry 1 4 2 3) (whole 7) NotCertain
     -- the second entry is wider: of those that hold the place the first counts, and an inner pair before an outer one
-    ∷ traced 10 (one_entry 1 4 2 3 ++ one_entry 0 9 1 6) (ratio 5 2) (removed_by 1)
-    ∷ traced 10 (one_entry 1 4 2 3 ++ one_entry 0 9 1 6) (ratio 3 2) (removed_by 2)
-    ∷ traced 10 (one_entry 1 4 2 3 ++ one_entry 0 9 1 6) (whole 7) (uncertain_by 2)
+    ∷ traced 10 (one_entry 1 4 2 3 ++ one_entry 0 9 1 6) (ratio 5 2) (RemovedBy 1)
+    ∷ traced 10 (one_entry 1 4 2 3 ++ one_entry 0 9 1 6) (ratio 3 2) (RemovedBy 2)
+    ∷ traced 10 (one_entry 1 4 2 3 ++ one_entry 0 9 1 6) (whole 7) (UncertainBy 2)
     -- the inner pair lies outside the outer one
-    ∷ traced 10 (one_entry 1 2 4 6) (whole 5) (removed_by 1)
+    ∷ traced 10 (one_entry 1 2 4 6) (whole 5) (RemovedBy 1)
     ∷ []

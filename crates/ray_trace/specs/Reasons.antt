@@ -4,6 +4,8 @@ use Rattle.std.specs.Prelude.{◌≡◌, Bool, true, false, List, [], ◌∷◌,
 use Rattle.spans.specs.Spans.{within, holds}
 use Rattle.log_model.specs.Logs.{HitKind, outer, inner, hit_lo, hit_hi}
 use Rattle.log_model.specs.declared.Entry.{Entry}
+use Rattle.ray_trace.specs.declared.Reason.{Reason}
+use Rattle.ray_trace.specs.declared.Reason.TheVariants.{NotPossible, RemovedBy, UncertainBy, NotCertain, StillCertain}
 
 -- the outer or the inner pairs of entries, in their order, as a flat list; axis and index do not count
 unfoldable pub hit_pairs : HitKind → List Entry → List Float
@@ -19,26 +21,18 @@ pub data FirstHolding (w : HitKind) (p : Float) : List Entry → ℕ → Type 0 
   first_entry : {e : Entry} {es : List Entry} → hit_holds w e p ≡ true → FirstHolding w p (e ∷ es) 1
   later_entry : {e : Entry} {es : List Entry} {k : ℕ} → hit_holds w e p ≡ false → FirstHolding w p es k → FirstHolding w p (e ∷ es) (suc k)
 
--- the five reasons, two of them with the number of an entry
-pub data Reason : Type 0 where
-  not_possible : Reason
-  removed_by : ℕ → Reason
-  uncertain_by : ℕ → Reason
-  not_certain : Reason
-  still_certain : Reason
-
--- a reason is the true one of the place p
+-- a reason is the true one of the place p; two of the five name an entry by its number
 pub data TrueReason (possible certain : List Float) (es : List Entry) (p : Float) : Reason → Type 0 where
   -- not possible before
-  not_held : holds possible p ≡ false → TrueReason possible certain es p not_possible
+  not_held : holds possible p ≡ false → TrueReason possible certain es p NotPossible
   -- possible before and removed, by entry k, the first whose inner pair holds it
-  cut_away : {k : ℕ} → holds possible p ≡ true → FirstHolding inner p es k → TrueReason possible certain es p (removed_by k)
+  cut_away : {k : ℕ} → holds possible p ≡ true → FirstHolding inner p es k → TrueReason possible certain es p (RemovedBy k)
   -- certain before and no longer, in no inner pair, through entry k, the first whose outer pair holds it
   made_uncertain : {k : ℕ} → holds certain p ≡ true → holds (hit_pairs inner es) p ≡ false → FirstHolding outer p es k
-      → TrueReason possible certain es p (uncertain_by k)
+      → TrueReason possible certain es p (UncertainBy k)
   -- possible but not certain before, and in no inner pair
   never_certain : holds possible p ≡ true → holds certain p ≡ false → holds (hit_pairs inner es) p ≡ false
-      → TrueReason possible certain es p not_certain
+      → TrueReason possible certain es p NotCertain
   -- still certain
   untouched : holds certain p ≡ true → holds (hit_pairs inner es) p ≡ false → holds (hit_pairs outer es) p ≡ false
-      → TrueReason possible certain es p still_certain
+      → TrueReason possible certain es p StillCertain

@@ -3,9 +3,11 @@ use Rattle.std.specs.Prelude.{◌≡◌, Bool, true, false, cond, List, [], ◌�
 use Rattle.spans.specs.Spans.{holds, set_minus}
 use Rattle.ray_subtract.specs.Subtract.{either_hit}
 use Rattle.grid.specs.declared.DexelGrid.{DexelGrid}
-use Rattle.log_model.specs.Logs.{HitKind, outer, inner, names_ray}
+use Rattle.log_model.specs.Logs.{outer, inner, names_ray}
 use Rattle.log_model.specs.declared.Entry.{Entry}
-use Rattle.ray_trace.specs.Reasons.{hit_pairs, Reason, not_possible, removed_by, uncertain_by, not_certain, still_certain, TrueReason}
+use Rattle.ray_trace.specs.Reasons.{hit_pairs, TrueReason}
+use Rattle.ray_trace.specs.declared.Reason.{Reason}
+use Rattle.ray_trace.specs.declared.Reason.TheVariants.{NotPossible, RemovedBy, UncertainBy, NotCertain, StillCertain}
 
 -- exactly one reason is true of the place, its entry's number included
 pub record OneReason (possible certain : List Float) (es : List Entry) (p : Float) : Type 0 where
@@ -31,26 +33,26 @@ membership_of possible certain es p =
 
 -- the four memberships that go with each reason; what is removed may have been certain or not
 abbrev pub SetsOfReason : Reason → Membership → Type 0
-SetsOfReason not_possible m = m ≡ membership false false false false
-SetsOfReason (removed_by k) m = (certain : Bool) × (m ≡ membership true false certain false)
-SetsOfReason (uncertain_by k) m = m ≡ membership true true true false
-SetsOfReason not_certain m = m ≡ membership true true false false
-SetsOfReason still_certain m = m ≡ membership true true true true
+SetsOfReason NotPossible m = m ≡ membership false false false false
+SetsOfReason (RemovedBy k) m = (certain : Bool) × (m ≡ membership true false certain false)
+SetsOfReason (UncertainBy k) m = m ≡ membership true true true false
+SetsOfReason NotCertain m = m ≡ membership true true false false
+SetsOfReason StillCertain m = m ≡ membership true true true true
 
 -- The entry that a reason names, counted from 1, is the one that took the place: the place is there after the entries before it, and no
 -- longer after it.
 abbrev pub TakenBy : Reason → (possible certain : List Float) → List Entry → Float → Type 0
-TakenBy not_possible possible certain es p = Unit {0}
-TakenBy (removed_by zero) possible certain es p = ⊥
-TakenBy (removed_by (suc k)) possible certain es p =
+TakenBy NotPossible possible certain es p = Unit {0}
+TakenBy (RemovedBy zero) possible certain es p = ⊥
+TakenBy (RemovedBy (suc k)) possible certain es p =
     ((membership_of possible certain (take k es) p).possible_after ≡ true)
     × ((membership_of possible certain (take (suc k) es) p).possible_after ≡ false)
-TakenBy (uncertain_by zero) possible certain es p = ⊥
-TakenBy (uncertain_by (suc k)) possible certain es p =
+TakenBy (UncertainBy zero) possible certain es p = ⊥
+TakenBy (UncertainBy (suc k)) possible certain es p =
     ((membership_of possible certain (take k es) p).certain_after ≡ true)
     × ((membership_of possible certain (take (suc k) es) p).certain_after ≡ false)
-TakenBy not_certain possible certain es p = Unit {0}
-TakenBy still_certain possible certain es p = Unit {0}
+TakenBy NotCertain possible certain es p = Unit {0}
+TakenBy StillCertain possible certain es p = Unit {0}
 
 -- two point sets are those of possible and certain after the entries are merged, as `membership_of` has them
 pub record PointsLeft (possible certain : List Float) (es : List Entry) (possible-left certain-left : Float → Bool) : Type 0 where

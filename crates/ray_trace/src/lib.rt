@@ -1,19 +1,20 @@
 // Why a place on a ray shows as it does: which log entry removed it or made it uncertain, or that none did.
 #![tactic(auto)]
 
-ghost use Rattle.std.specs.Prelude.{◌≡◌, []};
+ghost use Rattle.std.specs.Prelude.{◌≡◌};
 ghost use Rattle.spans.specs.Spans.{holds};
 ghost use Rattle.log_model.specs.Logs.{entries};
 ghost use Rattle.log_model.specs.Steps.{hit_kind_of};
 ghost use Rattle.ray_trace.specs.Reasons.{hit_holds, TrueReason};
-ghost use Rattle.ray_trace.specs.Trace.{AnsweredReason, TracePost};
+ghost use Rattle.ray_trace.specs.Trace.{TracePost};
 ghost use Rattle.ray_trace.specs.Steps.{FoundAt};
 
 use log_model::Entry;
+use refusal::Refusal;
 
-// The reason, entries counted from 1, or why the call is refused.
-#[derive(Clone, Copy)]
-pub enum TraceAnswer {
+// Why a place shows as it does, entries counted from 1.
+#[derive(Clone, Copy, Debug, PartialEq, Eq)]
+pub enum Reason {
     // Not possible before.
     NotPossible,
     // Possible before and removed, by this entry, the first whose inner pair holds the place.
@@ -24,69 +25,61 @@ pub enum TraceAnswer {
     NotCertain,
     // Still certain.
     StillCertain,
-    Refused(u32),
 }
 
 // Whether some pair of the list holds p.
 fn holds_at(s: &[f64], p: f64) -> bool
     ensures { result ≡ holds s.now p }
 {
-    let mut k: usize = 0;
-    while 2 <= s.len() - k {
-        if s[k] <= p {
-            if p < s[k + 1] {
-                return true;
-            }
+    for pair in s.chunks_exact(2) {
+        if pair[0] <= p && p < pair[1] {
+            return true;
         }
-        k += 2;
     }
     false
 }
 
 // Whether the entry's inner or outer pair holds p.
+#[tactic(auto, unfolding(log_model::specs::Logs::hit_lo, log_model::specs::Logs::hit_hi))]
 fn hit_holds(e: Entry, inner: bool, p: f64) -> bool
     ensures { result ≡ hit_holds (hit_kind_of inner) e p }
 {
     if inner {
-        return e.inner_lo <= p && p < e.inner_hi;
+        e.inner_lo <= p && p < e.inner_hi
+    } else {
+        e.outer_lo <= p && p < e.outer_hi
     }
-    e.outer_lo <= p && p < e.outer_hi
 }
 
-// The number of the first entry whose inner or outer pair holds p, counted from 1, or 0 where none does.
-fn first_holding(log: &[f64], inner: bool, p: f64) -> usize
+// The number of the first entry whose inner or outer pair holds p, counted from 1.
+fn first_holding(log: &[f64], inner: bool, p: f64) -> Option<usize>
     ensures { FoundAt (hit_kind_of inner) (entries log.now) p result }
 {
-    let n = log_entries::entry_count(log);
-    let mut i: usize = 0;
-    while i < n {
+    for i in 0..log_entries::entry_count(log) {
         if hit_holds(log_entries::entry_at(log, i), inner, p) {
-            return i + 1;
+            return Some(i + 1);
         }
-        i += 1;
     }
-    0
+    None
 }
 
 // The true reason of a place.
-fn reason_of(possible: &[f64], certain: &[f64], log: &[f64], place: f64) -> TraceAnswer
-    ensures { AnsweredReason [] (TrueReason possible.now certain.now (entries log.now) place) result }
+fn reason_of(possible: &[f64], certain: &[f64], log: &[f64], place: f64) -> Reason
+    ensures { TrueReason possible.now certain.now (entries log.now) place result }
 {
     if !holds_at(possible, place) {
-        return TraceAnswer::NotPossible;
+        return Reason::NotPossible;
     }
-    let k = first_holding(log, true, place);
-    if k != 0 {
-        return TraceAnswer::RemovedBy(k);
+    if let Some(k) = first_holding(log, true, place) {
+        return Reason::RemovedBy(k);
     }
     if !holds_at(certain, place) {
-        return TraceAnswer::NotCertain;
+        return Reason::NotCertain;
     }
-    let j = first_holding(log, false, place);
-    if j != 0 {
-        return TraceAnswer::UncertainBy(j);
+    match first_holding(log, false, place) {
+        Some(k) => Reason::UncertainBy(k),
+        None => Reason::StillCertain,
     }
-    TraceAnswer::StillCertain
 }
 
 // Why the place shows as it does on the ray that had these lists before the entries of the log were merged into it. Every entry counts as
@@ -99,17 +92,14 @@ pub fn trace(
     hi: f64,
     log: &[f64],
     place: f64,
-) -> TraceAnswer
+) -> Result<Reason, Refusal>
     ensures { TracePost lo hi possible.now certain.now log.now place result }
 {
-    if !log_entries::is_whole_log(log) {
-        return TraceAnswer::Refused(11);
+    if !log_entries::is_whole_log(log) || !ray_check::valid_ray(possible, certain, lo, hi) {
+        return Err(Refusal::Unsound);
     }
-    if !ray_check::valid_ray(possible, certain, lo, hi) {
-        return TraceAnswer::Refused(11);
+    if place.is_nan() {
+        return Err(Refusal::Place);
     }
-    if place != place {
-        return TraceAnswer::Refused(19);
-    }
-    reason_of(possible, certain, log, place)
+    Ok(reason_of(possible, certain, log, place))
 }

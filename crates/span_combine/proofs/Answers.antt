@@ -12,7 +12,8 @@ use Rattle.refusal.specs.Refusal.{Due, NoneDue}
 use Rattle.spans.specs.Spans.{sound, ListOf}
 use Rattle.spans.specs.Results.{ListPost, list_causes}
 use Rattle.spans.specs.Steps.{FilledFront}
-use Rattle.spans.specs.declared.ListAnswer.TheVariants.{Pairs, Refused}
+use Rattle.std.specs.Prelude.{Ok, Err}
+use Rattle.refusal.specs.declared.Refusal.TheVariants.{Unsound, ShortBuffer}
 use Rattle.span_combine.specs.Combine.{combine_causes, ExactListOf}
 use Rattle.logic.proofs.Bools.{and-false, by_cases}
 use Rattle.spans.proofs.Answers.{laid}
@@ -29,40 +30,36 @@ good-lists a b room h =
     let fit : room / 2 < length a / 2 + length b / 2 → ⊥ = h.0 in
     (sa, sb, omega (arith, sound-mod a sa, sound-mod b sb))
 
--- with the number k that was found before anything is written
-module _ (a b before : List Float) (k : ℕ) (c : CombineCheckPost (combine_causes a b (length before)) k) where
-  pub refuse-checked : (P : List Float → Type 0) → (k ≡ 0 → ⊥) → ListPost P (combine_causes a b (length before)) before before (Refused k)
-  refuse-checked P h = (c.1 h, refl)
+-- where the check found no cause
+module _ (a b before : List Float) (c : NoneDue (combine_causes a b (length before))) where
+  pub checked-lists : (sound a ≡ true) × (sound b ≡ true) × (length a + length b ≤ length before)
+  checked-lists = good-lists a b (length before) c
 
-  module _ (e : k ≡ 0) where
-    pub checked-lists : (sound a ≡ true) × (sound b ≡ true) × (length a + length b ≤ length before)
-    checked-lists = good-lists a b (length before) (c.0 e)
+  -- the list that was filled in, and zero past it
+  module _ (list mid : List Float) (n : ℕ) (f : FilledFront (λ l. l ≡ list) before (length a + length b) mid n) where
+    pub filled-fits : n ≤ length mid
+    filled-fits = omega (arith, checked-lists.2, f.most, f.size)
 
-    -- the list that was filled in, and zero past it
-    module _ (list mid : List Float) (n : ℕ) (f : FilledFront (λ l. l ≡ list) before (length a + length b) mid n) where
-      pub filled-fits : n ≤ length mid
-      filled-fits = omega (arith, checked-lists.2, f.most, f.size)
+    pub accept-filled : (s : Float → Bool) → (sound a ≡ true → sound b ≡ true → ListOf s list) → (after : List Float)
+        → after ≡ take n mid ++ replicate (length mid - n) plus_zero
+        → ListPost (ExactListOf s list) (combine_causes a b (length before)) before after (Ok (n / 2))
+    accept-filled s law after z =
+        let l = law checked-lists.0 checked-lists.1 in (
+          c,
+          laid (ExactListOf s list) mid after n filled-fits (rw f.list l.is_sound)
+              (rw f.list (record { list = l; ends = refl })) z,
+        )
 
-      pub accept-filled : (s : Float → Bool) → (sound a ≡ true → sound b ≡ true → ListOf s list) → (after : List Float)
-          → after ≡ take n mid ++ replicate (length mid - n) plus_zero
-          → ListPost (ExactListOf s list) (combine_causes a b (length before)) before after (Pairs (n / 2))
-      accept-filled s law after z =
-          let l = law checked-lists.0 checked-lists.1 in (
-            c.0 e,
-            laid (ExactListOf s list) mid after n filled-fits (rw f.list l.is_sound)
-                (rw f.list (record { list = l; ends = refl })) z,
-          )
-
--- the number of a refusal, found before anything is written
+-- what the check finds, before anything is written
 module _ (short bad : Type 0) where
-  pub checked-short : short → CombineCheckPost (list_causes short bad) 12
+  pub checked-short : short → CombineCheckPost (list_causes short bad) (Err ShortBuffer)
   unfolding Due
-  checked-short h = (λ e. absurd (omega arith), λ _. inl (h, refl))
+  checked-short h = inl (h, refl)
 
-  pub checked-bad : ¬ short → bad → CombineCheckPost (list_causes short bad) 11
+  pub checked-bad : ¬ short → bad → CombineCheckPost (list_causes short bad) (Err Unsound)
   unfolding Due
-  checked-bad h k = (λ e. absurd (omega arith), λ _. inr (h, inl (k, refl)))
+  checked-bad h k = inr (h, inl (k, refl))
 
-  pub checked-none : ¬ short → ¬ bad → CombineCheckPost (list_causes short bad) 0
+  pub checked-none : ¬ short → ¬ bad → CombineCheckPost (list_causes short bad) (Ok tt)
   unfolding NoneDue
-  checked-none h k = (λ _. (h, (k, tt)), λ e. absurd (e refl))
+  checked-none h k = (h, (k, tt))

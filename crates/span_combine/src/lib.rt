@@ -6,45 +6,39 @@ ghost use Rattle.spans.specs.Results.{ListPost};
 ghost use Rattle.span_combine.specs.Combine.{combine_causes, LessOf, CommonOf};
 ghost use Rattle.span_combine.specs.Steps.{CombineCheckPost};
 
-use spans::ListAnswer;
+use refusal::Refusal;
 
-// The number of a refusal of two lists and a buffer of `room` cells, 0 for none.
-fn checked(a: &[f64], b: &[f64], room: usize) -> u32
+// Why two lists and a buffer of `room` cells are refused.
+fn checked(a: &[f64], b: &[f64], room: usize) -> Result<(), Refusal>
     ensures { CombineCheckPost (combine_causes a.now b.now room) result }
 {
     if room / 2 < a.len() / 2 + b.len() / 2 {
-        return 12;
+        return Err(Refusal::ShortBuffer);
     }
     if !spans::both_sound(a, b) {
-        return 11;
+        return Err(Refusal::Unsound);
     }
-    0
+    Ok(())
 }
 
 // The sound list of a less b. 12: `out` has fewer pairs than a and b together. 11: a or b is not sound.
-pub fn subtract(a: &[f64], b: &[f64], out: &mut [f64]) -> ListAnswer
+pub fn subtract(a: &[f64], b: &[f64], out: &mut [f64]) -> Result<usize, Refusal>
     ensures { ListPost (LessOf a.now b.now)
         (combine_causes a.now b.now (length out.old)) out.old out.new result }
 {
-    let refused = checked(a, b, out.len());
-    if refused != 0 {
-        return ListAnswer::Refused(refused);
-    }
+    checked(a, b, out.len())?;
     let n = span_overlay::subtract_into(a, b, out);
     spans::clear_from(out, n);
-    ListAnswer::Pairs(n / 2)
+    Ok(n / 2)
 }
 
 // The sound list of the points in both a and b. Refusals as for `subtract`.
-pub fn intersect(a: &[f64], b: &[f64], out: &mut [f64]) -> ListAnswer
+pub fn intersect(a: &[f64], b: &[f64], out: &mut [f64]) -> Result<usize, Refusal>
     ensures { ListPost (CommonOf a.now b.now)
         (combine_causes a.now b.now (length out.old)) out.old out.new result }
 {
-    let refused = checked(a, b, out.len());
-    if refused != 0 {
-        return ListAnswer::Refused(refused);
-    }
+    checked(a, b, out.len())?;
     let n = span_overlay::intersect_into(a, b, out);
     spans::clear_from(out, n);
-    ListAnswer::Pairs(n / 2)
+    Ok(n / 2)
 }

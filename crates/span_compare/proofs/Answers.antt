@@ -1,12 +1,14 @@
 -- How each case of an answer is shown.
-use mathlib.Core.Path.{◌≡◌, refl, subst}
+use mathlib.Core.Path.{◌≡◌, refl}
 use mathlib.Core.Bool.{Bool, true, false, not, ◌&&◌}
 use mathlib.Core.List.{List}
 use Prim.Native.Nat.{ℕ}
 use lib.ListN.{get_or}
 use mathlib.Core.Logic.{inl, inr}
 use lib.Ieee.{Float, nan}
+use Rattle.std.specs.Prelude.{Ok, Err}
 use Rattle.refusal.specs.Refusal.{Due, NoneDue}
+use Rattle.refusal.specs.declared.Refusal.TheVariants.{Unsound}
 use Rattle.logic.proofs.Bools.{found, found-not, clash}
 use Rattle.spans.specs.Spans.{Double, sound}
 use Rattle.span_cover.specs.Cover.{Covers, Meets}
@@ -14,18 +16,11 @@ use Rattle.spans.proofs.Ends.{all-by-place}
 use Rattle.spans.proofs.Normal.{all_of}
 use Rattle.spans.proofs.Points.{held_number}
 use Rattle.span_compare.specs.Verdicts.{ComparePost, compare_causes, Contains, Overlaps}
-use Rattle.span_compare.specs.declared.BoolAnswer.{BoolAnswer}
-use Rattle.span_compare.specs.declared.BoolAnswer.TheVariants.{Yes, No, Refused}
 use Rattle.spans.specs.Steps.{EndOfEither}
-
--- the answer of a test
-abbrev pub yes_if : Bool → BoolAnswer
-yes_if true = Yes
-yes_if false = No
 
 -- r is the test of both lists
 module _ (a b : List Float) (tells : Bool → Type 0) (r : Bool) (er : r ≡ (sound a && sound b)) where
-  pub refuse-unsound : not r ≡ true → ComparePost (compare_causes a b) tells (Refused 11)
+  pub refuse-unsound : not r ≡ true → ComparePost (compare_causes a b) tells (Err Unsound)
   unfolding Due
   refuse-unsound h = inl (found-not r (sound a && sound b) er h, refl)
 
@@ -33,9 +28,8 @@ module _ (a b : List Float) (tells : Bool → Type 0) (r : Bool) (er : r ≡ (so
   unfolding NoneDue
   none h = (clash (sound a && sound b) (found r (sound a && sound b) er h), tt)
 
-  pub say : not r ≡ false → (t is : Bool) → t ≡ is → tells t → ComparePost (compare_causes a b) tells (yes_if is)
-  say h t true e f = (none h, subst tells e f)
-  say h t false e f = (none h, subst tells e f)
+  pub say : not r ≡ false → (t : Bool) → tells t → ComparePost (compare_causes a b) tells (Ok t)
+  say h t f = (none h, f)
 
 -- an end of a list of doubles that one of the lists holds is a point
 module _ (a b : List Float) (da : (i : ℕ) → Double (get_or a i nan)) (db : (i : ℕ) → Double (get_or b i nan)) where

@@ -41,10 +41,7 @@ pub fn meets(a: &[f64], b: &[f64]) -> bool
 {
     let mut i = 0;
     let mut j = 0;
-    while i < a.len() {
-        if b.len() <= j {
-            return false;
-        }
+    while i < a.len() && j < b.len() {
         if a[i + 1] <= b[j] {
             i += 2;
         } else {

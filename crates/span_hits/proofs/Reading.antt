@@ -7,28 +7,34 @@ use Prim.Native.Nat.{ℕ, zero, suc, ◌+◌, ◌-◌, ◌≤◌, ◌<◌}
 use native.Mathlib.Omega.{arith}
 use lib.ListN.{length, drop, length-drop}
 use lib.Seq.{drop-drop}
-use lib.Ieee.{Float, lt}
+use lib.Ieee.{Float, nan, lt}
 use Rattle.spans.specs.Spans.{holds, retained}
 use Rattle.spans.proofs.Points.{retained-holds}
 use Rattle.logic.proofs.Bools.{by_cases}
 use Rattle.span_hits.specs.declared.Found.{Found}
-use Rattle.span_hits.specs.declared.NextHit.{NextHit}
-use Rattle.span_hits.specs.declared.NextHit.TheVariants.{Pair, End}
-use Rattle.span_hits.specs.Hits.{next_hit, found_as, HitsHanded, none, more}
+use Rattle.span_hits.specs.declared.Hit.{Hit}
+use Rattle.span_hits.specs.declared.HitReader.{HitReader}
+use Rattle.std.specs.Prelude.{Option, Some, None, ⊤}
+use Rattle.std.specs.Iterator.{MakesProgress, at_most}
+use Rattle.span_hits.specs.Hits.{next_hit, found_as, pair, HitsHanded, none, more}
 
 -- a pair is no end
-differ : (n m : ℕ) (lo hi : Float) → found_as End n ≡ found_as (Pair lo hi) m → ⊥
+differ : (n m : ℕ) (lo hi : Float) → found_as None n ≡ found_as (pair lo hi) m → ⊥
 differ n m lo hi h =
-    let e : End ≡ Pair lo hi = ap (λ (f : Found). f.hit) h in
+    let e : None ≡ pair lo hi = ap (λ (f : Found). f.hit) h in
     let z : ◌≡◌ {A = ℕ} 0 1 = cc in
     omega arith
 
-first-pair : (n m : ℕ) (x y lo hi : Float) → found_as (Pair x y) n ≡ found_as (Pair lo hi) m → (x ≡ lo) × (y ≡ hi) × (n ≡ m)
-first-pair n m x y lo hi h =
-    let e : Pair x y ≡ Pair lo hi = ap (λ (f : Found). f.hit) h in
-    let a : x ≡ lo = cc in
-    let b : y ≡ hi = cc in
-    (a, b, ap (λ (f : Found). f.at) h)
+first-pair : (n m : ℕ) (x y lo hi : Float) → found_as (pair x y) n ≡ found_as (pair lo hi) m → (x ≡ lo) × (y ≡ hi) × (n ≡ m)
+first-pair n m x y lo hi h = (ap (λ (f : Found). low f.hit) h, ap (λ (f : Found). high f.hit) h, ap (λ (f : Found). f.at) h)
+  where
+    low : Option Hit → Float
+    low None = nan
+    low (Some f) = f.lo
+
+    high : Option Hit → Float
+    high None = nan
+    high (Some f) = f.hi
 
 -- a hit: what is retained starts with it, and goes on past its place
 record Hits (r : List Float) (n m : ℕ) (lo hi : Float) : Type 0 where
@@ -37,7 +43,7 @@ record Hits (r : List Float) (n m : ℕ) (lo hi : Float) : Type 0 where
   inside : m ≤ n + length r
   goes : retained r ≡ lo ∷ hi ∷ retained (drop (m - n) r)
 
-hit : (r : List Float) (n m : ℕ) (lo hi : Float) → next_hit n r ≡ found_as (Pair lo hi) m → Hits r n m lo hi
+hit : (r : List Float) (n m : ℕ) (lo hi : Float) → next_hit n r ≡ found_as (pair lo hi) m → Hits r n m lo hi
 unfolding next_hit retained
 hit [] n m lo hi h = absurd (differ n m lo hi h)
 hit (x ∷ []) n m lo hi h = absurd (differ n m lo hi h)
@@ -53,7 +59,7 @@ hit (x ∷ y ∷ r) n m lo hi h = elim (by_cases (lt x y)) [
 ]
 
 -- none left: nothing is retained
-ended : (r : List Float) (n m : ℕ) → next_hit n r ≡ found_as End m → retained r ≡ []
+ended : (r : List Float) (n m : ℕ) → next_hit n r ≡ found_as None m → retained r ≡ []
 unfolding next_hit retained
 ended [] n m h = refl
 ended (x ∷ []) n m h = refl
@@ -69,7 +75,7 @@ pub record HitAt (l : List Float) (n m : ℕ) (lo hi : Float) : Type 0 where
   pub inside : m ≤ n + (length l - n)
   pub goes : retained (drop n l) ≡ lo ∷ hi ∷ retained (drop m l)
 
-hit-at : (l : List Float) (n m : ℕ) (lo hi : Float) → next_hit n (drop n l) ≡ found_as (Pair lo hi) m → HitAt l n m lo hi
+hit-at : (l : List Float) (n m : ℕ) (lo hi : Float) → next_hit n (drop n l) ≡ found_as (pair lo hi) m → HitAt l n m lo hi
 hit-at l n m lo hi h =
     let s = hit (drop n l) n m lo hi h in
     record {
@@ -83,13 +89,21 @@ hit-at l n m lo hi h =
     back : (n m : ℕ) → n + 2 ≤ m → n + (m - n) ≡ m
     back n m h = omega arith
 
--- what `hit_from` answers, by its case
-module _ (l : List Float) (n : ℕ) (f : Found) (e : f ≡ next_hit n (drop n l)) where
-  pub found-pair : (lo hi : Float) → f.hit ≡ Pair lo hi → HitAt l n f.at lo hi
-  found-pair lo hi h = hit-at l n f.at lo hi (sym e ∙ ap (λ (x : NextHit). found_as x f.at) h)
+-- what the reader r hands out, by its case, and the reader s that it is then
+module _ (r s : HitReader) (hit : Option Hit) (e : (s.hits ≡ r.hits) × (found_as hit s.at ≡ next_hit r.at (drop r.at r.hits.now))) where
+  pub read-hit : (f : Hit) → hit ≡ Some f → HitAt r.hits.now r.at s.at f.lo f.hi
+  read-hit f h = hit-at r.hits.now r.at s.at f.lo f.hi (sym e.1 ∙ ap (λ (x : Option Hit). found_as x s.at) h)
 
-  pub found-end : f.hit ≡ End → retained (drop n l) ≡ []
-  found-end h = ended (drop n l) n f.at (sym e ∙ ap (λ (x : NextHit). found_as x f.at) h)
+  pub read-end : hit ≡ None → retained (drop r.at r.hits.now) ≡ []
+  read-end h = ended (drop r.at r.hits.now) r.at s.at (sym e.1 ∙ ap (λ (x : Option Hit). found_as x s.at) h)
+
+-- a hit leaves fewer cells to read
+pub goes : (r s : HitReader) (hit : Option Hit) → (s.hits ≡ r.hits) × (found_as hit s.at ≡ next_hit r.at (drop r.at r.hits.now))
+    → MakesProgress (λ _. ⊤) (λ (r : HitReader). at_most (length r.hits.now - r.at)) r hit s
+goes r s None e = record { on = λ _. tt; keeps = tt; rests = λ _. tt }
+goes r s (Some f) e =
+    let a = read-hit r s (Some f) e f refl in
+    record { on = λ _. (tt, tt, rw e.0 (omega (arith, a.past, a.inside))); keeps = tt; rests = λ _. tt }
 
 pub handed-retained : {l : List Float} {n : ℕ} {out : List Float} → HitsHanded l n out → out ≡ retained (drop n l)
 handed-retained {l} (none {n} {m} e) = sym (ended (drop n l) n m e)
@@ -106,10 +120,10 @@ handed-holds {l} h p = ap (λ (k : List Float). holds k p) (handed-all h) ∙ re
 
 -- and it comes to an end
 all-next : (l : List Float) (k n : ℕ) → length l - n < suc k → ((m : ℕ) → length l - m < k → HitsHanded l m (retained (drop m l)))
-    → (x : NextHit) (m : ℕ) → next_hit n (drop n l) ≡ found_as x m → HitsHanded l n (retained (drop n l))
-all-next l k n h again End m e = subst (HitsHanded l n) (sym (ended (drop n l) n m e)) (none e)
-all-next l k n h again (Pair lo hi) m e =
-    let s = hit-at l n m lo hi e in
+    → (x : Option Hit) (m : ℕ) → next_hit n (drop n l) ≡ found_as x m → HitsHanded l n (retained (drop n l))
+all-next l k n h again None m e = subst (HitsHanded l n) (sym (ended (drop n l) n m e)) (none e)
+all-next l k n h again (Some f) m e =
+    let s = hit-at l n m f.lo f.hi e in
     subst (HitsHanded l n) (sym s.goes) (more e (again m (omega (arith, s.past, s.inside))))
 
 all_from : (l : List Float) (k n : ℕ) → length l - n < k → HitsHanded l n (retained (drop n l))

@@ -1,17 +1,15 @@
--- The invariants of the small loops, and that a turn keeps them.
+-- A search from the high end, and a run of ends in front of cells that were moved.
 use mathlib.Core.Path.{◌≡◌, refl, sym, ◌∙◌, ap, subst}
 use mathlib.Core.Bool.{Bool, true, false}
 use mathlib.Core.List.{List, [], ◌∷◌, ◌++◌, append_assoc}
 use Prim.Native.Nat.{ℕ, suc, ◌+◌, ◌-◌, ◌%◌, ◌≤◌, ◌<◌}
 use native.Mathlib.Omega.{arith}
 use native.Mathlib.Decide.{dec_lt}
-use mathlib.Core.Logic.{◌⊎◌, inl, inr}
 use lib.Dec.{eqb}
-use lib.ListN.{length, get_or, take, drop, set, length-set, length-append, length-drop}
-use lib.Seq.{get_or-set_same, get_or-set_other, get_or-take, get_or-drop, ext_get_or, length-take-le, take-take, take-add, take_at, drop_at}
+use lib.ListN.{length, get_or, take, drop, set, length-append, length-drop}
+use lib.Seq.{get_or-set_other, get_or-take, get_or-drop, ext_get_or, length-take-le, take-take, take-add, take_at, drop_at}
 use lib.Seq.{sets, sets-eq, length-sets}
 use lib.Ieee.{Float, nan}
-use Rattle.spans.specs.Steps.{SameFrom}
 use Rattle.span_insert.specs.Steps.{EndsCounted, CellsMoved, SplicePost, end_if}
 
 -- ---- a search from the high end
@@ -39,44 +37,6 @@ searched-turn test l n i s t = record {
 pub searched-found : (test : Float → Bool) (l : List Float) (n i : ℕ) → Searched test l n i → (0 < i → test (get_or l (i - 1) nan) ≡ true)
     → EndsCounted test l n i
 searched-found test l n i s t = record { most = s.most; past = s.past; last = t }
-
--- ---- moves
--- of the cells to be moved, those from lo to hi are done; every place but theirs is as it was
-pub record Moving (b₀ : List Float) (from to lo hi : ℕ) (b : List Float) : Type 0 where
-  pub size : length b ≡ length b₀
-  pub cells : (q : ℕ) → lo ≤ q → q < hi → get_or b (to + q) nan ≡ get_or b₀ (from + q) nan
-  pub front : (q : ℕ) → q < to + lo → get_or b q nan ≡ get_or b₀ q nan
-  pub rest : SameFrom (to + hi) b₀ b
-
-pub moving-start : (b : List Float) (from to k : ℕ) → Moving b from to k k b
-moving-start b from to k = record { size = refl; cells = λ q h g. absurd (omega arith); front = λ q h. refl; rest = λ q h. refl }
-
--- the cell j, next to those that are done, is not written over yet
-pub moving-turn : (b₀ : List Float) (from to lo hi j lo' hi' : ℕ) (b : List Float) → Moving b₀ from to lo hi b → to + j < length b₀
-    → get_or b (from + j) nan ≡ get_or b₀ (from + j) nan → lo' ≤ lo → hi ≤ hi' → lo' ≤ j → j < hi'
-    → ((q : ℕ) → lo' ≤ q → q < hi' → (j ≡ q) ⊎ ((j ≡ q → ⊥) × (lo ≤ q) × (q < hi)))
-    → Moving b₀ from to lo' hi' (set b (to + j) (get_or b (from + j) nan))
-moving-turn b₀ from to lo hi j lo' hi' b s fit unread below above least most among =
-    let v = get_or b (from + j) nan in
-    record {
-      size = length-set b (to + j) v ∙ s.size;
-      cells = λ q g f. elim (among q g f) [
-        | inl e ↦ subst (λ (m : ℕ). get_or (set b (to + j) v) (to + m) nan ≡ get_or b₀ (from + m) nan) e
-            (get_or-set_same b (to + j) v nan (omega (arith, s.size)) ∙ unread)
-        | inr e ↦ get_or-set_other b (to + j) (to + q) v nan (λ d. e.0 (omega arith)) ∙ s.cells q e.1 e.2
-      ];
-      front = λ q g. get_or-set_other b (to + j) q v nan (λ e. omega arith) ∙ s.front q (omega arith);
-      rest = λ q g. get_or-set_other b (to + j) q v nan (λ e. omega arith) ∙ s.rest q (omega arith);
-    }
-
-pub moving-done : (b₀ : List Float) (from to lo hi count : ℕ) (b : List Float) → lo ≤ 0 → count ≤ hi → hi ≤ count
-    → Moving b₀ from to lo hi b → CellsMoved b₀ from to count b
-moving-done b₀ from to lo hi count b l h g s = record {
-  size = s.size;
-  front = λ q a c. s.front q (omega arith);
-  cells = λ q a. s.cells q (omega arith) (omega arith);
-  rest = λ q a. s.rest q (omega arith);
-}
 
 -- ---- a run of ends in front of cells that were moved
 pub spliced : (b b₁ : List Float) (n i j w : ℕ) (mid : List Float) → i ≤ j → j ≤ n → n ≤ length b → w ≡ i + length mid

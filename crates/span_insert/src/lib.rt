@@ -1,73 +1,30 @@
 // A pair worked into a sound list, in a lent slice of doubles.
 #![tactic(auto)]
 
-ghost use Rattle.std.specs.Prelude.{◌≡◌, ◌+◌, ◌≤◌, length, take, true};
-ghost use Rattle.std.specs.Float.Ieee.{lt, le};
+ghost use Rattle.std.specs.Prelude.{◌≡◌, ◌+◌, ◌≤◌, length, take, true, Bool, Float};
 ghost use Rattle.spans.specs.Spans.{sound};
 ghost use Rattle.span_insert.specs.Steps.{EndsCounted, CellsMoved, SplicePost, InsertPost};
-// How many of the first n ends are at most x, in a rising list. Searched from the high end.
-fn count_up_to(s: &[f64], n: usize, x: f64) -> usize
-    requires { n ≤ length s.now }
-    ensures { EndsCounted (λ e. le e x) s.now n result }
+
+// How many of the first n ends pass a test, in a list where those that pass stand in front. Searched from the high end.
+fn count_ends<F: Fn(f64) -> bool>(s: &[f64], n: usize, passes: F) -> usize
+    requires in_bounds { n ≤ length s.now }
+    requires callable { F.IsAlwaysCallable passes }
+    ensures { (test : Float → Bool) → ((e : Float) (r : Bool) → F.post passes e r → r ≡ test e) → EndsCounted test s.now n result }
 {
-    let mut i = n;
-    while 0 < i {
-        if s[i - 1] <= x {
-            return i;
+    for i in (0..n).rev() {
+        if passes(s[i]) {
+            return i + 1;
         }
-        i -= 1;
     }
-    i
+    0
 }
 
-// How many of the first n ends are below x, in a rising list. Searched from the high end.
-fn count_below(s: &[f64], n: usize, x: f64) -> usize
-    requires { n ≤ length s.now }
-    ensures { EndsCounted (λ e. lt e x) s.now n result }
-{
-    let mut i = n;
-    while 0 < i {
-        if s[i - 1] < x {
-            return i;
-        }
-        i -= 1;
-    }
-    i
-}
-
-// Moves count cells down, from `from` to `to`.
-fn move_down(b: &mut [f64], from: usize, to: usize, count: usize)
-    requires { (to ≤ from) × (from + count ≤ length b.old) }
-    ensures { CellsMoved b.old from to count b.new }
-{
-    let mut k = 0;
-    while k < count {
-        b[to + k] = b[from + k];
-        k += 1;
-    }
-}
-
-// Moves count cells up, from `from` to `to`.
-fn move_up(b: &mut [f64], from: usize, to: usize, count: usize)
-    requires { (from ≤ to) × (to + count ≤ length b.old) }
-    ensures { CellsMoved b.old from to count b.new }
-{
-    let mut k = count;
-    while 0 < k {
-        k -= 1;
-        b[to + k] = b[from + k];
-    }
-}
-
+// Moves count cells, from `from` to `to`.
 fn relocate(b: &mut [f64], from: usize, to: usize, count: usize)
     requires { (from + count ≤ length b.old) × (to + count ≤ length b.old) }
     ensures { CellsMoved b.old from to count b.new }
 {
-    if to <= from {
-        move_down(b, from, to, count);
-    } else {
-        move_up(b, from, to, count);
-    }
+    b.copy_within(from..from + count, to);
 }
 
 // Replaces the ends from place i to place j by lo and hi, each where an even number of ends stands in front of its place.
@@ -110,16 +67,15 @@ pub fn insert(b: &mut [f64], n: usize, lo: f64, hi: f64) -> usize
         return spans::put_pair(b, n, lo, hi);
     }
     if b[n - 2] <= lo {
-        if !(last < hi) {
-            return n;
+        if last < hi {
+            b[n - 1] = hi;
         }
-        b[n - 1] = hi;
         return n;
     }
     if !(lo < hi) {
         return n;
     }
-    let i = count_below(b, n, lo);
-    let j = count_up_to(b, n, hi);
+    let i = count_ends(b, n, |e| e < lo);
+    let j = count_ends(b, n, |e| e <= hi);
     splice(b, n, i, j, lo, hi)
 }

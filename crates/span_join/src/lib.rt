@@ -6,7 +6,7 @@ ghost use Rattle.spans.specs.Spans.{retained, NormalOf};
 ghost use Rattle.spans.specs.Steps.{FilledFront};
 ghost use Rattle.span_join.specs.Steps.{JoinedFromFront, JoinedFromBack, ListInFront};
 
-use span_hits::NextHit;
+use span_hits::HitReader;
 use spans::Place;
 
 // Copies the pairs with lo < hi past the first n cells of `out`, in order.
@@ -15,19 +15,8 @@ pub fn gather(spans: &[f64], out: &mut [f64], n: usize) -> usize
     ensures { ListInFront (take n out.old ++ retained spans.now) out.old out.new result }
 {
     let mut m = n;
-    let mut k = 0;
-    while k < spans.len() {
-        let found = span_hits::hit_from(spans, k);
-        let hit = found.hit;
-        match hit {
-            NextHit::Pair(lo, hi) => {
-                m = spans::put_pair(out, m, lo, hi);
-                k = found.at;
-            }
-            NextHit::End => {
-                return m;
-            }
-        }
+    for hit in HitReader::new(spans) {
+        m = spans::put_pair(out, m, hit.lo, hit.hi);
     }
     m
 }
@@ -38,12 +27,10 @@ pub fn join_all(b: &mut [f64], m: usize) -> usize
     ensures { FilledFront (NormalOf (take m b.old)) b.old m b.new result }
 {
     let mut n = 0;
-    let mut k = 0;
-    while k < m {
-        let lo = b[k];
-        let hi = b[k + 1];
+    for i in 0..m / 2 {
+        let lo = b[2 * i];
+        let hi = b[2 * i + 1];
         n = span_insert::insert(b, n, lo, hi);
-        k += 2;
     }
     n
 }
@@ -52,13 +39,7 @@ pub fn join_all(b: &mut [f64], m: usize) -> usize
 fn falls(b: &[f64], n: usize, lo: f64, hi: f64) -> bool
     requires { (n % 2 ≡ 0) × (n ≤ length b.now) }
 {
-    if n == 0 {
-        return false;
-    }
-    if b[n - 2] <= lo {
-        return false;
-    }
-    lo < hi
+    n != 0 && !(b[n - 2] <= lo) && lo < hi
 }
 
 // Joins the pairs in their order until one begins below the last pair so far. `passed` is the place of that pair.
@@ -67,17 +48,19 @@ pub fn join_rising(spans: &[f64], out: &mut [f64]) -> Place
     ensures { JoinedFromFront spans.now out.old out.new result }
 {
     let mut n = 0;
-    let mut k = 0;
-    while k < spans.len() {
+    for i in 0..spans.len() / 2 {
+        let k = 2 * i;
         let lo = spans[k];
         let hi = spans[k + 1];
         if falls(out, n, lo, hi) {
-            break;
+            return Place { passed: k, end: n };
         }
         n = span_insert::insert(out, n, lo, hi);
-        k += 2;
     }
-    Place { passed: k, end: n }
+    Place {
+        passed: spans.len(),
+        end: n,
+    }
 }
 
 // The same from the last pair back. `passed` is the place past that pair.
@@ -86,15 +69,14 @@ pub fn join_falling(spans: &[f64], out: &mut [f64]) -> Place
     ensures { JoinedFromBack spans.now out.old out.new result }
 {
     let mut n = 0;
-    let mut k = spans.len();
-    while 0 < k {
+    for i in (0..spans.len() / 2).rev() {
+        let k = 2 * i + 2;
         let lo = spans[k - 2];
         let hi = spans[k - 1];
         if falls(out, n, lo, hi) {
-            break;
+            return Place { passed: k, end: n };
         }
         n = span_insert::insert(out, n, lo, hi);
-        k -= 2;
     }
-    Place { passed: k, end: n }
+    Place { passed: 0, end: n }
 }

@@ -8,7 +8,7 @@ ghost use Rattle.spans.specs.Steps.{FilledFront};
 ghost use Rattle.span_normalize.specs.Causes.{normalize_causes};
 
 use pair_sort::sort_pairs;
-use spans::ListAnswer;
+use refusal::Refusal;
 
 // Makes the first m cells, arbitrary pairs, their sound list. Every order of the pairs gives the same set: they are sorted so that each is
 // worked in at the high end.
@@ -53,17 +53,17 @@ pub fn normalize_into(spans: &[f64], out: &mut [f64]) -> usize
 
 // The sound list of arbitrary pairs: those without lo < hi are dropped, touching ones joined.
 // 12: `out` has fewer pairs than `spans`. 11: `spans` has a part of a pair over.
-pub fn normalize(spans: &[f64], out: &mut [f64]) -> ListAnswer
+pub fn normalize(spans: &[f64], out: &mut [f64]) -> Result<usize, Refusal>
     ensures { ListPost (NormalOf spans.now) (normalize_causes spans.now (length out.old))
         out.old out.new result }
 {
     if out.len() / 2 < spans.len() / 2 {
-        return ListAnswer::Refused(12);
+        return Err(Refusal::ShortBuffer);
     }
     if spans.len() % 2 != 0 {
-        return ListAnswer::Refused(11);
+        return Err(Refusal::Unsound);
     }
     let n = normalize_into(spans, out);
     spans::clear_from(out, n);
-    ListAnswer::Pairs(n / 2)
+    Ok(n / 2)
 }

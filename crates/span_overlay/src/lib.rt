@@ -13,10 +13,7 @@ use spans::Place;
 pub fn higher(x: f64, y: f64) -> f64
     ensures { result ≡ higher_of x y }
 {
-    if x < y {
-        return y;
-    }
-    x
+    if x < y { y } else { x }
 }
 
 // Puts what the sound list `rest` leaves of the pair [from, hi] past the first n ends.
@@ -50,14 +47,12 @@ pub fn subtract_into(a: &[f64], b: &[f64], out: &mut [f64]) -> usize
     ensures { FilledFront (λ l. l ≡ less_of a.now b.now) out.old
         (length a.now + length b.now) out.new result }
 {
-    let mut i = 0;
     let mut j = 0;
     let mut n = 0;
-    while i < a.len() {
-        let place = cut_pair(&b[j..], out, n, a[i], a[i + 1]);
+    for i in 0..a.len() / 2 {
+        let place = cut_pair(&b[j..], out, n, a[2 * i], a[2 * i + 1]);
         n = place.end;
         j += place.passed;
-        i += 2;
     }
     n
 }
@@ -71,10 +66,7 @@ pub fn intersect_into(a: &[f64], b: &[f64], out: &mut [f64]) -> usize
     let mut i = 0;
     let mut j = 0;
     let mut n = 0;
-    while i < a.len() {
-        if b.len() <= j {
-            break;
-        }
+    while i < a.len() && j < b.len() {
         let lo = doubles_minmax::larger(a[i], b[j]);
         let x = a[i + 1];
         let y = b[j + 1];

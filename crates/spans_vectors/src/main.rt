@@ -8,66 +8,22 @@
 #![tactic(auto)]
 
 use input_bytes::InputBytes;
-use span_compare::BoolAnswer;
-use spans::ListAnswer;
+use refusal::Refusal;
 use std::io;
 
-// A refusal's number or 0, and the number of pairs, or 1 for yes.
-#[derive(Clone, Copy)]
-struct Reply {
-    refused: u64,
-    count: u64,
-}
-
-fn list_reply(l: ListAnswer) -> Reply {
-    match l {
-        ListAnswer::Pairs(n) => Reply {
-            refused: 0,
-            count: n as u64,
-        },
-        ListAnswer::Refused(k) => Reply {
-            refused: k as u64,
-            count: 0,
-        },
+// The function of this number: the number of pairs, or 1 for yes.
+fn reply_of(op: u64, a: &[f64], b: &[f64], out: &mut [f64]) -> Result<u64, Refusal> {
+    match op {
+        0 => Ok(span_normalize::normalize(a, out)? as u64),
+        1 => Ok(span_combine::subtract(a, b, out)? as u64),
+        2 => Ok(span_combine::intersect(a, b, out)? as u64),
+        3 => Ok(u64::from(span_compare::contains(a, b)?)),
+        _ => Ok(u64::from(span_compare::overlaps(a, b)?)),
     }
-}
-
-fn bool_reply(t: BoolAnswer) -> Reply {
-    match t {
-        BoolAnswer::Yes => Reply {
-            refused: 0,
-            count: 1,
-        },
-        BoolAnswer::No => Reply {
-            refused: 0,
-            count: 0,
-        },
-        BoolAnswer::Refused(k) => Reply {
-            refused: k as u64,
-            count: 0,
-        },
-    }
-}
-
-// The function of this number.
-fn reply_of(op: u64, a: &[f64], b: &[f64], out: &mut [f64]) -> Reply {
-    if op == 0 {
-        return list_reply(span_normalize::normalize(a, out));
-    }
-    if op == 1 {
-        return list_reply(span_combine::subtract(a, b, out));
-    }
-    if op == 2 {
-        return list_reply(span_combine::intersect(a, b, out));
-    }
-    if op == 3 {
-        return bool_reply(span_compare::contains(a, b));
-    }
-    bool_reply(span_compare::overlaps(a, b))
 }
 
 // Words 1 to 3: the cells of the two lists, which stand from 4 and 11 on, and of the buffer.
-fn reply_to(w: &[u64; 35], out: &mut [f64]) -> Reply {
+fn reply_to(w: &[u64; 35], out: &mut [f64]) -> Result<u64, Refusal> {
     let mut a = [0.0; 7];
     vector_rows::doubles_at(w, 4, &mut a);
     let mut b = [0.0; 7];
@@ -81,26 +37,27 @@ fn reply_to(w: &[u64; 35], out: &mut [f64]) -> Reply {
 }
 
 // How many cells of the buffer are ends of a normalised list.
-fn ends_of(op: u64, r: Reply) -> usize {
-    if op == 0 {
-        if r.count < 8 {
-            return (2 * r.count) as usize;
-        }
+fn ends_of(op: u64, count: u64) -> usize {
+    if op == 0 && count < 8 {
+        return (2 * count) as usize;
     }
     0
 }
 
-// Words 18, 19: the refusal and the count; the buffer from 20 on.
+// Words 18, 19: the refusal or 0, and the count; the buffer from 20 on.
 fn agrees(w: &[u64; 35]) -> bool {
     let mut out = [7.0; 15];
     let r = reply_to(w, &mut out);
-    if r.refused != w[18] {
-        return false;
+    match r {
+        Ok(n) => {
+            w[18] == 0 && n == w[19] && vector_rows::cells_agree(&out, w, 20, ends_of(w[0], n), 15)
+        }
+        Err(e) => {
+            u32::from(e) as u64 == w[18]
+                && w[19] == 0
+                && vector_rows::cells_agree(&out, w, 20, 0, 15)
+        }
     }
-    if r.count != w[19] {
-        return false;
-    }
-    vector_rows::cells_agree(&out, w, 20, ends_of(w[0], r), 15)
 }
 
 fn main(rt: HostRuntime) -> io::Result<()> {

@@ -1,15 +1,15 @@
 -- Causes of two lists, one after the other, and the cause that is common to all calls on a stock.
-use mathlib.Core.Path.{◌≡◌, sym, ap, ◌∙◌}
-use mathlib.Core.Bool.{Bool, true, false, ◌||◌}
+use mathlib.Core.Path.{◌≡◌}
+use mathlib.Core.Bool.{false, ◌||◌}
 use mathlib.Core.List.{List, [], ◌∷◌, ◌++◌}
 use mathlib.Core.Logic.{inl, inr}
-use Prim.Native.Nat.{ℕ, ◌*◌, ◌/◌, ◌≤◌, ◌<◌}
+use Prim.Native.Nat.{ℕ, ◌*◌, ◌/◌}
 use native.Mathlib.Omega.{arith}
 use lib.Dec.{ltb}
 use lib.ListN.{length}
-use borrow.Author.Tests.{ltb-false, lt-ltb, le-ltb}
+use borrow.Author.Tests.{ltb-false}
 use Rattle.refusal.specs.Refusal.{Cause, Due, NoneDue}
-use Rattle.logic.proofs.Bools.{or_left, or_right, or-neither}
+use Rattle.logic.proofs.Bools.{or-neither}
 use Rattle.grid.specs.Rays.{ray_count}
 use Rattle.grid.specs.declared.DexelStockSpec.{DexelStockSpec}
 use Rattle.grid.specs.declared.DexelGrid.{DexelGrid}
@@ -43,34 +43,8 @@ unfolding NoneDue
 none-second [] ds n = n
 none-second (c ∷ cs) ds n = none-second cs ds n.1
 
-or-here : (a b : Bool) → a ≡ false → (a || b) ≡ b
-or-here a b h = ap (λ (x : Bool). x || b) h
-
 -- ---- 12
 module _ (spec : DexelStockSpec) (g : DexelGrid) (c : Cells) where
-  pub short-spans : length c.spans / 2 < spec.max_intervals → true ≡ is_short spec g c
-  unfolding is_short
-  short-spans h = sym (or_left _ _ (lt-ltb (length c.spans / 2) spec.max_intervals h))
-
-  pub short-links : length c.links / 2 < spec.max_intervals → true ≡ is_short spec g c
-  unfolding is_short
-  short-links h =
-      sym (or_right (ltb (length c.spans / 2) spec.max_intervals)
-      (ltb (length c.links / 2) spec.max_intervals || ltb (length c.heads) (2 * ray_count g))
-      (or_left (ltb (length c.links / 2) spec.max_intervals) (ltb (length c.heads) (2 * ray_count g))
-      (lt-ltb (length c.links / 2) spec.max_intervals h)))
-
-  pub short-heads : spec.max_intervals ≤ length c.spans / 2 → spec.max_intervals ≤ length c.links / 2
-      → (rays : ℕ) → rays ≡ ray_count g → ltb (length c.heads) (2 * rays) ≡ is_short spec g c
-  unfolding is_short
-  short-heads hs hl rays e =
-      ap (λ (r : ℕ). ltb (length c.heads) (2 * r)) e
-      ∙ sym (or-here (ltb (length c.links / 2) spec.max_intervals) (ltb (length c.heads) (2 * ray_count g))
-      (le-ltb (length c.links / 2) spec.max_intervals hl))
-      ∙ sym (or-here (ltb (length c.spans / 2) spec.max_intervals)
-      (ltb (length c.links / 2) spec.max_intervals || ltb (length c.heads) (2 * ray_count g))
-      (le-ltb (length c.spans / 2) spec.max_intervals hs))
-
   pub room_of : is_short spec g c ≡ false → StockRoom spec g c
   unfolding is_short
   room_of h =

@@ -1,4 +1,3 @@
 pub mod Rays
 pub mod Causes
 pub mod Answers
-pub mod Outcomes

@@ -10,25 +10,20 @@ ghost use Rattle.stock.specs.Steps.{ChainsInRoom, StockRoom};
 ghost use Rattle.store.specs.Store.{cells, ChainsSound};
 
 use grid::{DexelGrid, DexelStockSpec};
+use refusal::Refusal;
 
 // Document 01's small record of a stock.
-#[derive(Clone, Copy)]
+#[derive(Clone, Copy, Debug, PartialEq, Eq)]
 pub struct Tally {
     pub generation: u64,
     pub intervals: u64,
 }
 
-// The answer of both commits: how many rays changed, or why the call is refused.
-#[derive(Clone, Copy)]
-pub enum CommitAnswer {
-    Changed(u64),
-    Refused(u32),
-}
-
-// A commit's answer, and what the small record is to hold after it: its old values where the commit is refused.
-#[derive(Clone, Copy)]
+// A commit's answer, how many rays changed or why the call is refused, and what the small record is to hold after it: its old values where
+// the commit is refused.
+#[derive(Clone, Copy, Debug, PartialEq, Eq)]
 pub struct Outcome {
-    pub answer: CommitAnswer,
+    pub answer: Result<u64, Refusal>,
     pub generation: u64,
     pub intervals: u64,
 }
@@ -71,12 +66,10 @@ fn check_rays(
     ensures { Decides (ValidTo spec g (cells spans.now links.now heads.now) (ray_count g)) result }
 {
     let rays = grid_rays::total_rays(g);
-    let mut ray: u64 = 0;
-    while ray < rays {
+    for ray in 0..rays {
         if !check_ray(spec, g, spans, links, heads, ray) {
             return false;
         }
-        ray += 1;
     }
     true
 }
@@ -111,13 +104,11 @@ pub fn check_stock(
     requires { StockRoom spec g (cells spans.now links.now heads.now) }
     ensures { Decides (SoundCells spec g (cells spans.now links.now heads.now) intervals) result }
 {
-    if !is_chained(spec, g, spans, links, heads, intervals) {
-        return false;
-    }
-    check_rays(spec, g, spans, links, heads)
+    is_chained(spec, g, spans, links, heads, intervals) && check_rays(spec, g, spans, links, heads)
 }
 
 // Refusal 12: too few whole records or heads.
+#[tactic(auto, unfolding(crate::specs::Stock::is_short))]
 pub fn is_short(
     spec: DexelStockSpec,
     g: DexelGrid,
@@ -129,11 +120,7 @@ pub fn is_short(
     ensures { result ≡ is_short spec g (cells spans.now links.now heads.now) }
 {
     let n = spec.max_intervals as usize;
-    if spans.len() / 2 < n {
-        return true;
-    }
-    if links.len() / 2 < n {
-        return true;
-    }
-    (heads.len() as u64) < 2 * grid_rays::total_rays(g)
+    spans.len() / 2 < n
+        || links.len() / 2 < n
+        || (heads.len() as u64) < 2 * grid_rays::total_rays(g)
 }

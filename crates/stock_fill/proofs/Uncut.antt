@@ -79,21 +79,6 @@ module _ (spec : DexelStockSpec) (g : DexelGrid) where
       length-set (set (uncut_links spec g i links) (2 * i) 0) (2 * i + 1) (record_at spec g i).owner
       ∙ length-set (uncut_links spec g i links) (2 * i) 0 ∙ links-length i links
 
-  pub spans_size : (i : ℕ) (before spans : List Float) → spans ≡ uncut_spans spec g i before → length spans ≡ length before
-  spans_size i before spans s = ap length s ∙ spans-length i before
-
-  pub links_size : (i : ℕ) (before links : List ℕ) → links ≡ uncut_links spec g i before → length links ≡ length before
-  links_size i before links s = ap length s ∙ links-length i before
-
-  pub spans-end : (i n : ℕ) (before spans : List Float) → i ≡ n → spans ≡ uncut_spans spec g i before → spans ≡ uncut_spans spec g n before
-  spans-end i n before spans e s = s ∙ ap (λ (k : ℕ). uncut_spans spec g k before) e
-
-  pub links_end : (i n : ℕ) (before links : List ℕ) → i ≡ n → links ≡ uncut_links spec g i before → links ≡ uncut_links spec g n before
-  links_end i n before links e s = s ∙ ap (λ (k : ℕ). uncut_links spec g k before) e
-
-pub heads-end : (j m : ℕ) (before heads : List ℕ) → j ≡ m → heads ≡ uncut_heads j before → heads ≡ uncut_heads m before
-heads-end j m before heads e s = s ∙ ap (λ (k : ℕ). uncut_heads k before) e
-
 pub heads-first : (heads : List ℕ) → heads ≡ uncut_heads 0 heads
 unfolding uncut_heads
 heads-first heads = refl
@@ -106,9 +91,6 @@ pub heads-length : (j : ℕ) (heads : List ℕ) → length (uncut_heads j heads)
 unfolding uncut_heads
 heads-length zero heads = refl
 heads-length (suc j) heads = length-set (uncut_heads j heads) j (j + 1) ∙ heads-length j heads
-
-pub heads_size : (j : ℕ) (before heads : List ℕ) → heads ≡ uncut_heads j before → length heads ≡ length before
-heads_size j before heads s = ap length s ∙ heads-length j before
 
 -- the three parts make the cells
 pub same-cells : (s s' : List Float) (l l' h h' : List ℕ) → s ≡ s' → l ≡ l' → h ≡ h' → cells s l h ≡ cells s' l' h'

@@ -22,7 +22,7 @@ use Rattle.grid.specs.Rays.{ray_count, ray_axis, bounds_of}
 use Rattle.grid.specs.declared.DexelStockSpec.{DexelStockSpec}
 use Rattle.grid.specs.declared.DexelGrid.{DexelGrid}
 use Rattle.store.specs.Store.{lo_at, hi_at, owner_at, used_at, RecordChain, ends, more, places_of, chained, ends_at, ChainsSound, Cells}
-use Rattle.store.specs.Store.{store_list, cells}
+use Rattle.store.specs.Store.{store_list}
 use Rattle.store.specs.Updates.{CellsPastKept}
 use Rattle.store.proofs.Records.{Written, written_same, put_other, put-here, Within, within_none, within-then, within-put, free-used}
 use Rattle.store.proofs.Chains.{chain-places}

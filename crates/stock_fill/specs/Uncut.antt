@@ -1,8 +1,9 @@
 -- The uncut store, which the fill lays: one full pair in each list, records from 1 up in ray order, possible first,
 -- and all other records free.
-use Rattle.std.specs.Prelude.{◌≡◌, true, cond, List, [], ◌∷◌, ◌++◌, ℕ, zero, suc, ◌+◌, ◌*◌, ◌/◌, ltb, Float, set}
+use Rattle.std.specs.Prelude.{◌≡◌, true, cond, List, [], ◌∷◌, ◌++◌, ℕ, zero, suc, ◌+◌, ◌*◌, ◌/◌, ltb, Float, set, Result, Ok, Err}
 use Rattle.doubles.specs.Constants.{plus_zero}
-use Rattle.refusal.specs.Refusal.{Cause, cause, Due, NoneDue}
+use Rattle.refusal.specs.Refusal.{Cause, cause, Due, NoneDue, number_of}
+use Rattle.refusal.specs.declared.Refusal.{Refusal}
 use Rattle.grid.specs.Rays.{ray_count, bounds_of}
 use Rattle.grid.specs.Causes.{grid_causes, grid_in}
 use Rattle.grid.specs.declared.DexelStockSpec.{DexelStockSpec}
@@ -11,8 +12,6 @@ use Rattle.store.specs.Store.{put_span, put_link, Cells, cells}
 use Rattle.stock.specs.Stock.{is_short}
 use Rattle.stock.specs.declared.Tally.{Tally}
 use Rattle.stock_fill.specs.declared.UncutRecord.{UncutRecord}
-use Rattle.stock_fill.specs.declared.FillAnswer.{FillAnswer}
-use Rattle.stock_fill.specs.declared.FillAnswer.TheVariants.{Accepted, Refused}
 
 -- the record at place i: list i has it alone, with the ends of the box along the ray, and no next; past the lists records are free
 unfoldable pub record_at : DexelStockSpec → DexelGrid → ℕ → UncutRecord
@@ -51,9 +50,9 @@ room_causes spec g c = cause 12 (is_short spec g c ≡ true) ∷ []
 
 -- a refused call gives the number that is due and leaves the cells as they were; an accepted one, with no cause, lays
 -- the uncut store of the grid
-abbrev pub FillPost : List Cause → DexelStockSpec → DexelGrid → Cells → Cells → FillAnswer → Type 0
-FillPost causes spec g before after (Refused k) = Due causes k × (after ≡ before)
-FillPost causes spec g before after (Accepted t) = NoneDue causes × (t ≡ uncut_tally g) × (after ≡ uncut spec g before)
+abbrev pub FillPost : List Cause → DexelStockSpec → DexelGrid → Cells → Cells → Result Tally Refusal → Type 0
+FillPost causes spec g before after (Err e) = Due causes (number_of e) × (after ≡ before)
+FillPost causes spec g before after (Ok t) = NoneDue causes × (t ≡ uncut_tally g) × (after ≡ uncut spec g before)
 
 -- document 01's order for the fill: 1, 2, 3, 12
 abbrev pub fill_causes : DexelStockSpec → (units : List ℕ) → Cells → List Cause

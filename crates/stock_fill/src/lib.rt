@@ -8,11 +8,12 @@ ghost use Rattle.stock_fill.specs.Uncut.{record_at, uncut_spans, uncut_links, un
 ghost use Rattle.grid.specs.Facts.{GridFacts};
 ghost use Rattle.store.specs.Store.{cells};
 
-use grid::{DexelGrid, DexelStockSpec, GridAnswer};
+use grid::{DexelGrid, DexelStockSpec};
+use refusal::Refusal;
 use stock::Tally;
 
 // A record of the uncut store. None has a next.
-#[derive(Clone, Copy)]
+#[derive(Clone, Copy, Debug, PartialEq)]
 pub struct UncutRecord {
     pub lo: f64,
     pub hi: f64,
@@ -52,11 +53,9 @@ fn fill_records(
     ensures { (spans.new ≡ uncut_spans spec g n spans.old)
         × (links.new ≡ uncut_links spec g n links.old) }
 {
-    let mut i: usize = 0;
-    while i < n {
+    for i in 0..n {
         let record = uncut_record(spec, g, m, i);
         store_write::put_record(spans, links, i, record.lo, record.hi, 0, record.owner);
-        i += 1;
     }
 }
 
@@ -65,18 +64,9 @@ fn fill_heads(heads: &mut [u64], m: usize)
     requires { m ≤ length heads.old }
     ensures { heads.new ≡ uncut_heads m heads.old }
 {
-    let mut j: usize = 0;
-    while j < m {
+    for j in 0..m {
         heads[j] = (j as u64) + 1;
-        j += 1;
     }
-}
-
-// The small record of the stock that is laid, or why the call is refused.
-#[derive(Clone, Copy)]
-pub enum FillAnswer {
-    Accepted(Tally),
-    Refused(u32),
 }
 
 // The fill, over a grid that is accepted.
@@ -86,40 +76,38 @@ fn fill_grid(
     spans: &mut [f64],
     links: &mut [u64],
     heads: &mut [u64],
-) -> FillAnswer
+) -> Result<Tally, Refusal>
     requires { GridFacts spec g }
     ensures { FillPost (room_causes spec g (cells spans.old links.old heads.old)) spec g
         (cells spans.old links.old heads.old)
         (cells spans.new links.new heads.new) result }
 {
     if stock::is_short(spec, g, spans, links, heads) {
-        return FillAnswer::Refused(12);
+        return Err(Refusal::ShortBuffer);
     }
     let n = spec.max_intervals as usize;
     let m = 2 * (grid_rays::total_rays(g) as usize);
     fill_records(spec, g, spans, links, n, m);
     fill_heads(heads, m);
-    FillAnswer::Accepted(Tally {
+    Ok(Tally {
         generation: 0,
         intervals: m as u64,
     })
 }
 
-// Lays the uncut store of a blank. Refusals: 1, 2, 3, 12.
+// Lays the uncut store of a blank, and gives the small record of the stock that is laid. Refusals: 1, 2, 3, 12.
 pub fn fill(
     spec: DexelStockSpec,
     units: &[u8],
     spans: &mut [f64],
     links: &mut [u64],
     heads: &mut [u64],
-) -> FillAnswer
+) -> Result<Tally, Refusal>
     ensures { FillPost (fill_causes spec units.now
         (cells spans.old links.old heads.old)) spec (grid_in spec)
         (cells spans.old links.old heads.old)
         (cells spans.new links.new heads.new) result }
 {
-    match grid_from_spec::grid(spec, units) {
-        GridAnswer::Accepted(g) => fill_grid(spec, g, spans, links, heads),
-        GridAnswer::Refused(k) => FillAnswer::Refused(k),
-    }
+    let g = grid_from_spec::grid(spec, units)?;
+    fill_grid(spec, g, spans, links, heads)
 }

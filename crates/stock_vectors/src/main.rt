@@ -8,14 +8,13 @@
 #![tactic(auto)]
 
 use input_bytes::InputBytes;
-use ray_merge::MergeAnswer;
-use ray_subtract::MergedList;
+use ray_subtract::{MergedList, MergedLists};
+use refusal::Refusal;
 use std::io;
-use stock_fill::FillAnswer;
-use stock_volume::{DexelVolume, VolumeAnswer};
+use stock_volume::DexelVolume;
 
 // Words 1 to 5: the cells of possible, certain, outer, inner and the work buffer; 6, 7: the bounds; the lists from 8, 14, 20 and 26 on.
-fn merge_on(w: &[u64; 87], work: &mut [f64]) -> MergeAnswer {
+fn merge_on(w: &[u64; 87], work: &mut [f64]) -> Result<MergedLists, Refusal> {
     let mut p = [0.0; 6];
     vector_rows::doubles_at(w, 8, &mut p);
     let mut c = [0.0; 6];
@@ -36,13 +35,7 @@ fn merge_on(w: &[u64; 87], work: &mut [f64]) -> MergeAnswer {
 }
 
 fn part_agrees(p: MergedList, moved: u64, pairs: u64) -> bool {
-    if p.pairs as u64 != pairs {
-        return false;
-    }
-    if p.moved {
-        return moved == 1;
-    }
-    moved == 0
+    p.pairs as u64 == pairs && u64::from(p.moved) == moved
 }
 
 // Words 32 to 36: the refusal, then for possible and certain 1 where the list moved, and their pairs; the work buffer from 37 on.
@@ -50,24 +43,13 @@ fn merge_agrees(w: &[u64; 87]) -> bool {
     let mut work = [7.0; 160];
     let m = merge_on(w, &mut work);
     match m {
-        MergeAnswer::Lists(p, c) => {
-            if w[32] != 0 {
-                return false;
-            }
-            if !part_agrees(p, w[33], w[35]) {
-                return false;
-            }
-            if !part_agrees(c, w[34], w[36]) {
-                return false;
-            }
-            vector_rows::cells_agree(&work, w, 37, 24, w[5] as usize)
+        Ok(l) => {
+            w[32] == 0
+                && part_agrees(l.possible, w[33], w[35])
+                && part_agrees(l.certain, w[34], w[36])
+                && vector_rows::cells_agree(&work, w, 37, 24, w[5] as usize)
         }
-        MergeAnswer::Refused(k) => {
-            if k as u64 != w[32] {
-                return false;
-            }
-            vector_rows::cells_agree(&work, w, 37, 0, 0)
-        }
+        Err(e) => { u32::from(e) as u64 == w[32] && vector_rows::cells_agree(&work, w, 37, 0, 0) }
     }
 }
 
@@ -81,13 +63,9 @@ fn store_agrees(
     m: usize,
     h: usize,
 ) -> bool {
-    if !vector_rows::cells_agree(spans, w, 29, 0, n) {
-        return false;
-    }
-    if !vector_rows::numbers_agree(links, w, 53, m) {
-        return false;
-    }
-    vector_rows::numbers_agree(heads, w, 77, h)
+    vector_rows::cells_agree(spans, w, 29, 0, n)
+        && vector_rows::numbers_agree(links, w, 53, m)
+        && vector_rows::numbers_agree(heads, w, 77, h)
 }
 
 // Words 1, 3 to 11: the description; 2: the units; 12 to 14: the cells of the spans, the links and the heads; 16 to 18: the
@@ -101,41 +79,32 @@ fn fill_agrees(w: &[u64; 87]) -> bool {
         vector_rows::spec_at(w, 1, 3),
         &units,
         vector_rows::first_mut(&mut spans, w[12] as usize),
-        vector_rows::first_numbers_mut(&mut links, w[13] as usize),
-        vector_rows::first_numbers_mut(&mut heads, w[14] as usize),
+        vector_rows::first_mut(&mut links, w[13] as usize),
+        vector_rows::first_mut(&mut heads, w[14] as usize),
     );
     match f {
-        FillAnswer::Accepted(t) => {
-            if w[16] != 0 {
-                return false;
-            }
-            if t.generation != w[17] {
-                return false;
-            }
-            if t.intervals != w[18] {
-                return false;
-            }
-            store_agrees(
-                w,
-                &spans,
-                &links,
-                &heads,
-                w[12] as usize,
-                w[13] as usize,
-                w[14] as usize,
-            )
+        Ok(t) => {
+            w[16] == 0
+                && t.generation == w[17]
+                && t.intervals == w[18]
+                && store_agrees(
+                    w,
+                    &spans,
+                    &links,
+                    &heads,
+                    w[12] as usize,
+                    w[13] as usize,
+                    w[14] as usize,
+                )
         }
-        FillAnswer::Refused(k) => {
-            if k as u64 != w[16] {
-                return false;
-            }
-            store_agrees(w, &spans, &links, &heads, 0, 0, 0)
+        Err(e) => {
+            u32::from(e) as u64 == w[16] && store_agrees(w, &spans, &links, &heads, 0, 0, 0)
         }
     }
 }
 
 // Word 15: the interval total that goes in.
-fn measured(w: &[u64; 87]) -> VolumeAnswer {
+fn measured(w: &[u64; 87]) -> Result<DexelVolume, Refusal> {
     let mut spans = [0.0; 24];
     vector_rows::doubles_at(w, 29, &mut spans);
     let mut links = [0; 24];
@@ -147,8 +116,8 @@ fn measured(w: &[u64; 87]) -> VolumeAnswer {
         vector_rows::spec_at(w, 1, 3),
         &units,
         vector_rows::first(&spans, w[12] as usize),
-        vector_rows::first_numbers(&links, w[13] as usize),
-        vector_rows::first_numbers(&heads, w[14] as usize),
+        vector_rows::first(&links, w[13] as usize),
+        vector_rows::first(&heads, w[14] as usize),
         w[15],
     )
 }
@@ -173,25 +142,18 @@ fn ten_agree(w: &[u64; 87], v: DexelVolume) -> bool {
 fn volume_agrees(w: &[u64; 87]) -> bool {
     let m = measured(w);
     match m {
-        VolumeAnswer::Accepted(v) => {
-            if w[16] != 0 {
-                return false;
-            }
-            ten_agree(w, v)
-        }
-        VolumeAnswer::Refused(k) => k as u64 == w[16],
+        Ok(v) => w[16] == 0 && ten_agree(w, v),
+        Err(e) => u32::from(e) as u64 == w[16],
     }
 }
 
 // Word 0: the function.
 fn agrees(w: &[u64; 87]) -> bool {
-    if w[0] == 0 {
-        return merge_agrees(w);
+    match w[0] {
+        0 => merge_agrees(w),
+        1 => fill_agrees(w),
+        _ => volume_agrees(w),
     }
-    if w[0] == 1 {
-        return fill_agrees(w);
-    }
-    volume_agrees(w)
 }
 
 fn main(rt: HostRuntime) -> io::Result<()> {

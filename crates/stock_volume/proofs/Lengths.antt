@@ -1,12 +1,12 @@
 -- Steps of the functions that measure a stock.
-use mathlib.Core.Path.{◌≡◌, refl, sym, ap, ◌∙◌}
-use mathlib.Core.Bool.{true, false, not}
-use Prim.Native.Nat.{ℕ, ◌+◌, ◌<◌}
+use mathlib.Core.Path.{◌≡◌, refl, sym, ap, ◌∙◌, subst}
+use mathlib.Core.Bool.{false}
+use Rattle.std.specs.Prelude.{Some}
+use Prim.Native.Nat.{ℕ, ◌+◌}
 use native.Mathlib.Numerals.{add-one}
 use native.Mathlib.Omega.{arith}
-use lib.Ieee.{Float, binary64, of_bits, inf, add, mul, div}
-use Rattle.doubles.specs.Constants.{one, plus_zero}
-use Rattle.logic.proofs.Bools.{not-true, clash}
+use lib.Ieee.{Float, binary64, of_bits, inf, add, mul}
+use Rattle.doubles.specs.Constants.{plus_zero}
 use Rattle.grid.specs.Axes.{by_digit, world_axis, step_along, cross_of}
 use Rattle.grid.specs.Rays.{ray_count, rays_along, offset, bounds_of}
 use Rattle.grid.specs.declared.WorldAxis.{WorldAxis}
@@ -18,15 +18,13 @@ use Rattle.store_read.specs.Lengths.{length_from}
 use Rattle.store_read.specs.declared.RaySums.{RaySums}
 use Rattle.stock.specs.Stock.{ValidTo, ray_list, Possible, Certain}
 use Rattle.stock_volume.specs.Volume.{area_of, add_ray, volume_to, volume_along}
-use Rattle.stock_volume.specs.declared.AxisSums.{AxisSums}
-use Rattle.stock.proofs.Rays.{valid-within, ray-good}
 use Rattle.stock_volume.specs.declared.AxisVolume.{AxisVolume}
 use Rattle.stock_volume.specs.Steps.{AddVolumePost, AxisVolumePost}
 use Rattle.store_read.specs.Steps.{RaySumsPost as RayMeasures}
 use Rattle.store.specs.Store.{Cells}
 
-pub infinity-is : div binary64 one plus_zero ≡ inf false
-unfolding div of_bits
+pub infinity-is : of_bits binary64 9218868437227405312 ≡ inf false
+unfolding of_bits
 infinity-is = refl
 
 abbrev vol : Float → Float → AxisVolume
@@ -70,42 +68,21 @@ volume-end spec g c a area first count k v p q r s e =
 -- ---- the answers of `add_ray` and `axis_volume`
 module _ (spec : DexelStockSpec) (g : DexelGrid) (c : Cells) where
   pub ray-added : (area : Float) (ray : ℕ) (v : AxisVolume) (b : RayBounds) (m : RaySums) → b ≡ bounds_of spec g ray
-      → RayMeasures b.lo b.hi (ray_list spec c ray Possible) (ray_list spec c ray Certain) m
+      → RayMeasures b.lo b.hi (ray_list spec c ray Possible) (ray_list spec c ray Certain) (Some m)
       → AddVolumePost spec g c area ray v
-      (record {
-        valid = m.valid;
-        volume =
-            vol (add binary64 v.certain (mul binary64 m.certain area))
-            (add binary64 v.possible (mul binary64 m.possible area));
-      })
-  ray-added area ray v b m e t = record {
-    validity = valid-within spec g c ray b m.valid e (t.is_valid, t.if_valid);
-    added = λ z. added spec c area ray v m.certain m.possible (t.certain_length z) (t.possible_length z);
-  }
-
-  pub along-bad : (a : WorldAxis) (area : Float) (ray : ℕ) (v : AxisVolume) (r : AxisSums) (x : AxisVolume)
-      → ray < ray_count g → AddVolumePost spec g c area ray v r → not r.valid ≡ true
-      → AxisVolumePost spec g c a (record { valid = false; volume = x })
-  along-bad a area ray v r x h t bad = record {
-    is_valid = λ z. absurd (clash false z refl);
-    if_valid = λ all. absurd (clash r.valid (t.validity.1 (all ray h)) (not-true r.valid bad));
-    summed = λ z. absurd (clash false z refl);
-  }
-
-  pub along-more : (area : Float) (first k : ℕ) (v : AxisVolume) (r : AxisSums)
-      → AddVolumePost spec g c area (first + k) v r → not r.valid ≡ false → ValidTo spec g c (first + k)
-      → ValidTo spec g c (first + (k + 1))
-  along-more area first k v r t good all ray h = ray-good spec g c (first + k) r.valid t.validity good all ray (omega arith)
+      (Some (vol (add binary64 v.certain (mul binary64 m.certain area))
+      (add binary64 v.possible (mul binary64 m.possible area))))
+  ray-added area ray v b m e t = (
+    (subst (λ (x : RayBounds). RayMeasures x.lo x.hi (ray_list spec c ray Possible) (ray_list spec c ray Certain) (Some m)) e t).0,
+    added spec c area ray v m.certain m.possible t.2 t.1,
+  )
 
   pub along-good : (a : WorldAxis) (area : Float) (first count k : ℕ) (v : AxisVolume) → area ≡ area_of g a
       → first ≡ offset g a → count ≡ rays_along g a → k ≡ count → v ≡ volume_to spec c area first k
       → ValidTo spec g c (first + k)
-      → AxisVolumePost spec g c a (record { valid = true; volume = v })
-  along-good a area first count k v p q r s e all = record {
-    is_valid = λ z ray h. all ray (omega arith);
-    if_valid = λ z. refl;
-    summed = λ z. volume-end spec g c a area first count k v p q r s e;
-  }
+      → AxisVolumePost spec g c a (Some v)
+  along-good a area first count k v p q r s e all =
+      ((λ ray h. all ray (omega arith)), volume-end spec g c a area first count k v p q r s e)
 
   -- ---- the axes one after the other
   pub before-x : (n : ℕ) → n ≡ offset g (world_axis 0) → ValidTo spec g c n

@@ -1,10 +1,11 @@
 -- The volume of a stock, as the Rust works it out: each operation is rounded, in ray order.
-use Rattle.std.specs.Prelude.{◌≡◌, true, false, List, [], ◌∷◌, ◌++◌, ℕ, zero, suc, ◌+◌, Float}
+use Rattle.std.specs.Prelude.{◌≡◌, true, false, List, [], ◌∷◌, ◌++◌, ℕ, zero, suc, ◌+◌, Float, Result, Ok, Err}
 use Rattle.std.specs.Float.{binary64, inf}
 use Rattle.std.specs.Float.Ieee.{add, sub, mul}
 use Rattle.doubles.specs.Constants.{one, plus_zero}
 use Rattle.doubles.specs.Doubles.{larger_of, smaller_of}
-use Rattle.refusal.specs.Refusal.{Cause, cause, Due, NoneDue}
+use Rattle.refusal.specs.Refusal.{Cause, cause, Due, NoneDue, number_of}
+use Rattle.refusal.specs.declared.Refusal.{Refusal}
 use Rattle.grid.specs.Axes.{world_axis, step_along, cross_of}
 use Rattle.grid.specs.FromSpec.{extents_of}
 use Rattle.grid.specs.Rays.{rays_along, offset}
@@ -16,8 +17,6 @@ use Rattle.store_read.specs.Lengths.{length_from}
 use Rattle.stock.specs.Stock.{SoundCells, is_short, ray_list, Possible, Certain}
 use Rattle.stock_volume.specs.declared.AxisVolume.{AxisVolume}
 use Rattle.stock_volume.specs.declared.DexelVolume.{DexelVolume}
-use Rattle.stock_volume.specs.declared.VolumeAnswer.{VolumeAnswer}
-use Rattle.stock_volume.specs.declared.VolumeAnswer.TheVariants.{Accepted, Refused}
 use Rattle.store.specs.Store.{Cells}
 
 -- the area of a ray's cell: the product of the steps on the two axes across it
@@ -75,9 +74,9 @@ abbrev pub store_causes : DexelStockSpec → DexelGrid → Cells → ℕ → Lis
 store_causes spec g c intervals = cause 12 (is_short spec g c ≡ true) ∷ cause 11 (SoundCells spec g c intervals → ⊥) ∷ []
 
 -- a refused call gives the number that is due; an accepted one, with no cause, has a sound store and gives its volume
-abbrev pub VolumePost : List Cause → DexelStockSpec → DexelGrid → Cells → (intervals : ℕ) → VolumeAnswer → Type 0
-VolumePost causes spec g c intervals (Refused k) = Due causes k
-VolumePost causes spec g c intervals (Accepted w) = NoneDue causes × SoundCells spec g c intervals × (w ≡ volume_of spec g c)
+abbrev pub VolumePost : List Cause → DexelStockSpec → DexelGrid → Cells → (intervals : ℕ) → Result DexelVolume Refusal → Type 0
+VolumePost causes spec g c intervals (Err e) = Due causes (number_of e)
+VolumePost causes spec g c intervals (Ok w) = NoneDue causes × SoundCells spec g c intervals × (w ≡ volume_of spec g c)
 
 -- document 01's order for `volume`: 1, 2, 3, 12, 11
 abbrev pub volume_causes : DexelStockSpec → (units : List ℕ) → Cells → ℕ → List Cause

@@ -11,17 +11,18 @@ ghost use Rattle.stock.specs.Steps.{ChainsInRoom};
 ghost use Rattle.stock_volume.specs.Steps.{AddVolumePost, AxisVolumePost, VolumeRaysPost};
 ghost use Rattle.store.specs.Store.{cells};
 
-use grid::{DexelGrid, DexelStockSpec, GridAnswer, WorldAxis};
+use grid::{DexelGrid, DexelStockSpec, WorldAxis};
+use refusal::Refusal;
 
 // What one grid says of the remaining material.
-#[derive(Clone, Copy)]
+#[derive(Clone, Copy, Debug, PartialEq)]
 pub struct AxisVolume {
     pub certain: f64,
     pub possible: f64,
 }
 
 // The Rust's `DexelVolume`: for each grid the certain and the possible remaining material, and what the three say together.
-#[derive(Clone, Copy)]
+#[derive(Clone, Copy, Debug, PartialEq)]
 pub struct DexelVolume {
     pub x_certain_mm3: f64,
     pub x_possible_mm3: f64,
@@ -35,21 +36,7 @@ pub struct DexelVolume {
     pub removed_upper_mm3: f64,
 }
 
-// The volume, or why the call is refused.
-#[derive(Clone, Copy)]
-pub enum VolumeAnswer {
-    Accepted(DexelVolume),
-    Refused(u32),
-}
-
-// Whether the rays that were looked at are valid, and if so the sums over them.
-#[derive(Clone, Copy)]
-pub struct AxisSums {
-    pub valid: bool,
-    pub volume: AxisVolume,
-}
-
-// Tests a ray and adds its lengths, times its cell's area.
+// The sums with a ray's lengths, times its cell's area, added, where the ray is valid.
 fn add_ray(
     spec: DexelStockSpec,
     g: DexelGrid,
@@ -59,7 +46,7 @@ fn add_ray(
     area: f64,
     ray: u64,
     v: AxisVolume,
-) -> AxisSums
+) -> Option<AxisVolume>
     requires { ChainsInRoom spec g (cells spans.now links.now heads.now) × (ray < ray_count g) }
     ensures { AddVolumePost spec g (cells spans.now links.now heads.now) area ray v result }
 {
@@ -74,17 +61,14 @@ fn add_ray(
         head.certain,
         bounds.lo,
         bounds.hi,
-    );
-    AxisSums {
-        valid: r.valid,
-        volume: AxisVolume {
-            certain: v.certain + r.certain * area,
-            possible: v.possible + r.possible * area,
-        },
-    }
+    )?;
+    Some(AxisVolume {
+        certain: v.certain + r.certain * area,
+        possible: v.possible + r.possible * area,
+    })
 }
 
-// Tests the rays along an axis and sums over them, in order. The rays before them are valid.
+// The sums over the rays along an axis, in order, where all of them are valid. The rays before them are valid.
 fn axis_volume(
     spec: DexelStockSpec,
     g: DexelGrid,
@@ -92,7 +76,7 @@ fn axis_volume(
     links: &[u64],
     heads: &[u64],
     axis: WorldAxis,
-) -> AxisSums
+) -> Option<AxisVolume>
     requires { ChainsInRoom spec g (cells spans.now links.now heads.now)
         × ValidTo spec g (cells spans.now links.now heads.now) (offset g axis) }
     ensures { AxisVolumePost spec g (cells spans.now links.now heads.now) axis result }
@@ -105,22 +89,10 @@ fn axis_volume(
         certain: 0.0,
         possible: 0.0,
     };
-    let mut k: u64 = 0;
-    while k < count {
-        let r = add_ray(spec, g, spans, links, heads, area, first + k, v);
-        if !r.valid {
-            return AxisSums {
-                valid: false,
-                volume: v,
-            };
-        }
-        v = r.volume;
-        k += 1;
+    for k in 0..count {
+        v = add_ray(spec, g, spans, links, heads, area, first + k, v)?;
     }
-    AxisSums {
-        valid: true,
-        volume: v,
-    }
+    Some(v)
 }
 
 // The volume of the box.
@@ -141,7 +113,10 @@ fn bounds_by(total: f64, x: AxisVolume, y: AxisVolume, z: AxisVolume) -> DexelVo
         z.certain,
     );
     let upper = doubles_minmax::smaller(
-        doubles_minmax::smaller(doubles_minmax::smaller(1.0 / 0.0, x.possible), y.possible),
+        doubles_minmax::smaller(
+            doubles_minmax::smaller(f64::INFINITY, x.possible),
+            y.possible,
+        ),
         z.possible,
     );
     DexelVolume {
@@ -165,24 +140,14 @@ fn measure_rays(
     spans: &[f64],
     links: &[u64],
     heads: &[u64],
-) -> VolumeAnswer
+) -> Result<DexelVolume, Refusal>
     requires { ChainsInRoom spec g (cells spans.now links.now heads.now) }
     ensures { VolumeRaysPost spec g (cells spans.now links.now heads.now) result }
 {
-    let x = axis_volume(spec, g, spans, links, heads, WorldAxis(0));
-    if !x.valid {
-        return VolumeAnswer::Refused(11);
-    }
-    let y = axis_volume(spec, g, spans, links, heads, WorldAxis(1));
-    if !y.valid {
-        return VolumeAnswer::Refused(11);
-    }
-    let z = axis_volume(spec, g, spans, links, heads, WorldAxis(2));
-    if !z.valid {
-        return VolumeAnswer::Refused(11);
-    }
-    let total = box_volume(spec);
-    VolumeAnswer::Accepted(bounds_by(total, x.volume, y.volume, z.volume))
+    let x = axis_volume(spec, g, spans, links, heads, WorldAxis(0)).ok_or(Refusal::Unsound)?;
+    let y = axis_volume(spec, g, spans, links, heads, WorldAxis(1)).ok_or(Refusal::Unsound)?;
+    let z = axis_volume(spec, g, spans, links, heads, WorldAxis(2)).ok_or(Refusal::Unsound)?;
+    Ok(bounds_by(box_volume(spec), x, y, z))
 }
 
 // The volume, over a grid that is accepted. The rays are tested and summed in one pass.
@@ -193,16 +158,16 @@ fn measure(
     links: &[u64],
     heads: &[u64],
     intervals: u64,
-) -> VolumeAnswer
+) -> Result<DexelVolume, Refusal>
     requires { GridFacts spec g }
     ensures { VolumePost (store_causes spec g (cells spans.now links.now heads.now) intervals)
         spec g (cells spans.now links.now heads.now) intervals result }
 {
     if stock::is_short(spec, g, spans, links, heads) {
-        return VolumeAnswer::Refused(12);
+        return Err(Refusal::ShortBuffer);
     }
     if !stock::is_chained(spec, g, spans, links, heads, intervals) {
-        return VolumeAnswer::Refused(11);
+        return Err(Refusal::Unsound);
     }
     measure_rays(spec, g, spans, links, heads)
 }
@@ -215,13 +180,11 @@ pub fn volume(
     links: &[u64],
     heads: &[u64],
     intervals: u64,
-) -> VolumeAnswer
+) -> Result<DexelVolume, Refusal>
     ensures { VolumePost (volume_causes spec units.now
         (cells spans.now links.now heads.now) intervals)
         spec (grid_in spec) (cells spans.now links.now heads.now) intervals result }
 {
-    match grid_from_spec::grid(spec, units) {
-        GridAnswer::Accepted(g) => measure(spec, g, spans, links, heads, intervals),
-        GridAnswer::Refused(k) => VolumeAnswer::Refused(k),
-    }
+    let g = grid_from_spec::grid(spec, units)?;
+    measure(spec, g, spans, links, heads, intervals)
 }

@@ -1,6 +1,6 @@
 -- A store is sound exactly where as many records are in use as the total says, and the walk of all lists ends at that count.
 use mathlib.Core.Path.{◌≡◌, sym, ap, ◌∙◌}
-use mathlib.Core.Bool.{true, false, false≢true}
+use mathlib.Core.Bool.{false, false≢true}
 use mathlib.Core.List.{List}
 use lib.Dec.{eqb}
 use borrow.Author.Tests.{eq-eqb, eqb-true}
@@ -8,16 +8,18 @@ use Prim.Native.Nat.{ℕ, ◌+◌, ◌≤◌}
 use native.Mathlib.Omega.{arith}
 use lib.Ieee.{Float}
 use lib.ListN.{length}
-use Rattle.store.specs.declared.ChainWalk.TheVariants.{Ends, Broken}
+use Rattle.std.specs.Prelude.{Option, Some, None}
+use Rattle.std.specs.Option.{option_eq}
+use Rattle.std.proofs.lemmas.Option.{none-some, same_Some}
 use Rattle.store.specs.Store.{used_at, chained, ChainsSound, cells}
 use Rattle.store.specs.Walks.{walk_all}
 use Rattle.store.proofs.Counting.{distinct-le, distinct-full, covers-le, count-max}
 use Rattle.store.proofs.Chains.{Run, chained-distinct, chained-pass}
-use Rattle.store.proofs.Walking.{AllWalked, all_of, all-to, ends-eq, never}
-use Rattle.logic.specs.Logic.{count_to}
+use Rattle.store.proofs.Walking.{AllWalked, all_of, all-to}
+use Rattle.logic.specs.Logic.{Decides, count_to}
 
 module _ (n m total : ℕ) (spans : List Float) (links heads : List ℕ) where
-  pub sound-of : count_to (used_at spans links) n ≡ total → walk_all links heads n total m 0 0 ≡ Ends total
+  pub sound-of : count_to (used_at spans links) n ≡ total → walk_all links heads n total m 0 0 ≡ Some total
       → ChainsSound n m total (cells spans links heads)
   sound-of same w =
       let all : AllWalked spans links heads n total m 0 0 total =
@@ -42,30 +44,24 @@ module _ (n m total : ℕ) (spans : List Float) (links heads : List ℕ) where
       covers-le (used_at spans links) n (chained n links heads 0 m) s.others in
       omega (arith, s.counts)
 
-  pub walk_of-sound : ChainsSound n m total (cells spans links heads) → walk_all links heads n total m 0 0 ≡ Ends total
+  pub walk_of-sound : ChainsSound n m total (cells spans links heads) → walk_all links heads n total m 0 0 ≡ Some total
   walk_of-sound s =
       let sum : 0 + length (chained n links heads 0 m) ≡ total = omega (arith, s.counts) in
-      all-to spans links heads n total m 0 0 (run_of s) (omega arith) ∙ ap Ends sum
+      all-to spans links heads n total m 0 0 (run_of s) (omega arith) ∙ ap Some sum
 
-  -- the three answers of the check: the count u of records in use differs from the total; or the walk ends at a count e; or it breaks off
+  -- the answers of the check: the count u of records in use differs from the total; or the walk tells
   pub differs : (u : ℕ) → u ≡ count_to (used_at spans links) n → (u ≡ total → ⊥)
-      → (false ≡ true → ChainsSound n m total (cells spans links heads))
-      × (ChainsSound n m total (cells spans links heads) → false ≡ true)
+      → Decides (ChainsSound n m total (cells spans links heads)) false
   differs u e ne = ((λ z. absurd (false≢true z)), λ s. absurd (ne (e ∙ count_of s)))
 
-  pub ended : (u e : ℕ) → u ≡ count_to (used_at spans links) n → u ≡ total → walk_all links heads n u m 0 0 ≡ Ends e
-      → (eqb e u ≡ true → ChainsSound n m total (cells spans links heads))
-      × (ChainsSound n m total (cells spans links heads) → eqb e u ≡ true)
-  ended u e eu et w = (
+  pub told : (u : ℕ) (w : Option ℕ) → u ≡ count_to (used_at spans links) n → u ≡ total → w ≡ walk_all links heads n u m 0 0
+      → Decides (ChainsSound n m total (cells spans links heads)) (option_eq eqb w (Some u))
+  told u (Some e) eu et w = (
     (λ t. let same : e ≡ u = eqb-true e u t in
-        sound-of (sym eu ∙ et) (ap (λ (l : ℕ). walk_all links heads n l m 0 0) (sym et) ∙ w ∙ ap Ends (same ∙ et))),
-    λ s. eq-eqb e u (ends-eq (sym w ∙ ap (λ (l : ℕ). walk_all links heads n l m 0 0) et ∙ walk_of-sound s) ∙ sym et),
+        sound-of (sym eu ∙ et) (ap (λ (l : ℕ). walk_all links heads n l m 0 0) (sym et) ∙ sym w ∙ ap Some (same ∙ et))),
+    λ s. eq-eqb e u (same_Some _ _ (w ∙ ap (λ (l : ℕ). walk_all links heads n l m 0 0) et ∙ walk_of-sound s) ∙ sym et),
   )
-
-  pub broke : (u : ℕ) → u ≡ total → walk_all links heads n u m 0 0 ≡ Broken
-      → (false ≡ true → ChainsSound n m total (cells spans links heads))
-      × (ChainsSound n m total (cells spans links heads) → false ≡ true)
-  broke u et w = (
+  told u None eu et w = (
     (λ z. absurd (false≢true z)),
-    λ s. absurd (never (sym w ∙ ap (λ (l : ℕ). walk_all links heads n l m 0 0) et ∙ walk_of-sound s)),
+    λ s. absurd (none-some _ (w ∙ ap (λ (l : ℕ). walk_all links heads n l m 0 0) et ∙ walk_of-sound s)),
   )

@@ -87,7 +87,8 @@ pub free-records : (n m total : ℕ) (spans : List Float) (links heads : List �
     → ChainsSound n m total (cells spans links heads) → length (free_from spans links 0 n) + total ≡ n
 unfolding count_to
 free-records n m total spans links heads s =
-    let all : count_to (used_at spans links) (0 + n) ≡ count_to (used_at spans links) n = ap (count_to (used_at spans links)) (zero-add n) in
+    let all : count_to (used_at spans links) (0 + n) ≡ count_to (used_at spans links) n =
+    ap (count_to (used_at spans links)) (zero-add n) in
     omega (arith, free-length spans links n 0, count_of n m total spans links heads s)
 
 -- ---- the lowest k of them

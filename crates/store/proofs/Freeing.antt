@@ -5,7 +5,6 @@ use mathlib.Core.Logic.{⊎_elim}
 use mathlib.Core.List.Memᴰ
 use mathlib.Core.List.{List, [], ◌∷◌, Memᴰ}
 use Prim.Native.Nat.{ℕ, zero, suc, ◌+◌, ◌-◌, ◌*◌, ◌<◌}
-use native.Mathlib.Numerals.{add-one}
 use native.Mathlib.Omega.{arith}
 use lib.Ieee.{Float}
 use lib.ListN.{length, get_or, set, length-set}
@@ -19,7 +18,7 @@ use Rattle.store.proofs.Records.{Same, same_refl, same-trans, written_same, put_
 use Rattle.store.proofs.Records.{Within, within_none, within-put, within-then}
 use Rattle.store.proofs.Chains.{chain-owner, chain-distinct, chain-places, chain-step}
 use Rattle.store.proofs.Replacing.{Replaces, Replaced, replaced, chain-kept}
-use Rattle.store.specs.Steps.{Room, FreeListPre}
+use Rattle.store.specs.Steps.{Room}
 
 -- ---- the records at the places
 pub freed-other : (ps : List ℕ) (spans : List Float) (links : List ℕ) (x : ℕ) → (Memᴰ x ps → ⊥)
@@ -58,7 +57,8 @@ freed-within n (i ∷ ps) spans links all =
 
 -- ---- one turn of `free_chain`: the record that the chain comes to is freed, and the chain goes on at its next
 pub record Turn (spans : List Float) (links : List ℕ) (n o k : ℕ) : Type 0 where
-  pub chain : RecordChain (free_link links (k - 1)) n o (next_at links (k - 1)) (places (free_link links (k - 1)) n (next_at links (k - 1)))
+  pub chain : RecordChain (free_link links (k - 1)) n o (next_at links (k - 1))
+      (places (free_link links (k - 1)) n (next_at links (k - 1)))
   pub spans_left : freed_spans spans (places links n k)
       ≡ freed_spans (free_span spans (k - 1)) (places (free_link links (k - 1)) n (next_at links (k - 1)))
   pub links_left : freed_links links (places links n k)
@@ -130,12 +130,6 @@ module _ (n m total : ℕ) (c : Cells) (s : ChainsSound n m total c) (room : Roo
       }
 
 -- ---- in the terms of `free_list`
-pub free-chain-of : {n : ℕ} {c : Cells} {j : ℕ} → FreeListPre n c j
-    → RecordChain c.links n (j + 1) (get_or c.heads j 0) (places_of n c.links c.heads j)
-free-chain-of {n} {c} {j} f = subst
-    (λ (o : ℕ). RecordChain c.links n o (get_or c.heads j 0) (places_of n c.links c.heads j))
-    (sym (add-one j)) f.chain
-
 pub freed-cells : (n : ℕ) (spans spans' : List Float) (links links' heads : List ℕ) (j : ℕ)
     → spans' ≡ freed_spans spans (places_of n links heads j) → links' ≡ freed_links links (places_of n links heads j)
     → cells spans' links' (set heads j 0) ≡ freed_list n (cells spans links heads) j

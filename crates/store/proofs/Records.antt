@@ -56,7 +56,8 @@ module _ {A : Type 0} (l : List A) (i : ℕ) (a b d : A) where
       ∙ get_or-set_other l (2 * i) (2 * x + 1) a d (λ e. omega arith)
 
   pub first-here : 2 * i + 1 < length l → get_or (set (set l (2 * i) a) (2 * i + 1) b) (2 * i) d ≡ a
-  first-here h = get_or-set_other (set l (2 * i) a) (2 * i + 1) (2 * i) b d (λ e. omega arith) ∙ get_or-set_same l (2 * i) a d (omega arith)
+  first-here h = get_or-set_other (set l (2 * i) a) (2 * i + 1) (2 * i) b d (λ e. omega arith)
+      ∙ get_or-set_same l (2 * i) a d (omega arith)
 
   pub second-here : 2 * i + 1 < length l → get_or (set (set l (2 * i) a) (2 * i + 1) b) (2 * i + 1) d ≡ b
   second-here h = get_or-set_same (set l (2 * i) a) (2 * i + 1) b d (simp length-set h)

@@ -30,7 +30,8 @@ unfolding ends_at
 ends-kept spans spans' links links' [] same = refl
 ends-kept spans spans' links links' (i ∷ ps) same =
     let s = same i (mathlib.Core.List.Memᴰ.head refl) in
-    let rest : ends_at spans' ps ≡ ends_at spans ps = ends-kept spans spans' links links' ps (λ x m. same x (mathlib.Core.List.Memᴰ.tail m)) in
+    let rest : ends_at spans' ps ≡ ends_at spans ps =
+    ends-kept spans spans' links links' ps (λ x m. same x (mathlib.Core.List.Memᴰ.tail m)) in
     simp (s.lo, s.hi, rest)
 
 -- ---- the places of all lists
@@ -52,7 +53,8 @@ module _ (n : ℕ) (links heads : List ℕ) where
     where
       at : (suc a ≤ i → Memᴰ x (chained n links heads (suc a) r)) → Dec (i ≡ a)
           → Memᴰ x (places_of n links heads a ++ chained n links heads (suc a) r)
-      at rec (yes e) = mathlib.Core.List.Memᴰ.append_left (chained n links heads (suc a) r) (subst (λ (y : ℕ). Memᴰ x (places_of n links heads y)) e m)
+      at rec (yes e) = mathlib.Core.List.Memᴰ.append_left (chained n links heads (suc a) r)
+          (subst (λ (y : ℕ). Memᴰ x (places_of n links heads y)) e m)
       at rec (no ne) = mathlib.Core.List.Memᴰ.append_right (places_of n links heads a) (rec (omega (arith, ne)))
 
 -- list j gets the places qs: its records are written, and those that it had and has no longer are free

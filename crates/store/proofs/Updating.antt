@@ -115,7 +115,8 @@ after-twice (u ∷ us) j l = at (ℕ_discrete j u.list) (after-twice us j l)
         → list_after (u ∷ us) j (list_after (emptied (u ∷ us)) j l) ≡ list_after (u ∷ us) j l
     at (yes e) rec = after-here u us j (list_after (emptied (u ∷ us)) j l) e ∙ sym (after-here u us j l e)
     at (no ne) rec = after-other u us j (list_after (emptied (u ∷ us)) j l) ne
-        ∙ ap (list_after us j) (after-other (record { list = u.list; ends = [] }) (emptied us) j l ne) ∙ rec ∙ sym (after-other u us j l ne)
+        ∙ ap (list_after us j) (after-other (record { list = u.list; ends = [] }) (emptied us) j l ne)
+        ∙ rec ∙ sym (after-other u us j l ne)
 
 no-ends : (spans : List Float) (ps : List ℕ) → ends_at spans ps ≡ [] → ps ≡ []
 unfolding ends_at
@@ -214,7 +215,8 @@ laid-all {n} {m} {total} {c = c} s room (next {u = u} {us = us} lo hi whole a) e
     let still : Empty n d us = λ v mv. one.places_kept v.list (ascending-at a v mv).1
     (λ (e : v.list ≡ u.list). omega (arith, (ascending-at a v mv).0)) ∙ empty v (Memᴰ.tail mv) in
     let rest : LaidAll n m (total + count) d us (laid_all n d us) =
-    laid-all {total = total + count} (laid-sound n m total c s room u hi gone (omega arith)) (kept-room kept₁ room) a still (omega arith) in
+    laid-all {total = total + count} (laid-sound n m total c s room u hi gone (omega arith))
+    (kept-room kept₁ room) a still (omega arith) in
     let sum : total + count + pairs_laid us ≡ total + (count + pairs_laid us) = omega arith in
     record {
       is_sound = subst (λ (t : ℕ). ChainsSound n m t (laid_all n d us)) sum rest.is_sound;

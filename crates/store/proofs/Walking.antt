@@ -11,14 +11,11 @@ use lib.Ieee.{Float}
 use lib.ListN.{length, get_or, length-append}
 use borrow.Author.Tests.{ltb-true, lt-ltb, eqb-true, eq-eqb}
 use Rattle.logic.proofs.Bools.{and_left, and_right}
-use Rattle.store.specs.declared.ChainWalk.{ChainWalk}
-use Rattle.store.specs.declared.ChainWalk.TheVariants.{Ends, Broken}
+use Rattle.std.specs.Prelude.{Option, Some, None, option_and_then}
+use Rattle.std.proofs.lemmas.Option.{none-some, same_Some}
 use Rattle.store.specs.Store.{next_at, owner_at, RecordChain, ends, more, places_of, chained}
-use Rattle.store.specs.Walks.{walk_from, and_then, walk_all}
+use Rattle.store.specs.Walks.{walk_from, walk_all}
 use Rattle.store.proofs.Chains.{places-of, Run, run-head, run-tail}
-
-pub never : {c : ℕ} → Broken ≡ Ends c → ⊥
-never {c} e = let z : ◌≡◌ {A = ℕ} 0 1 = cc in omega arith
 
 -- a chain, with its length within the fuel and the count at its end
 pub record Walked (links : List ℕ) (n o f c k e : ℕ) : Type 0 where
@@ -27,31 +24,31 @@ pub record Walked (links : List ℕ) (n o f c k e : ℕ) : Type 0 where
   pub within : length slots ≤ f
   pub counted : e ≡ c + length slots
 
-pub ends-eq : {a b : ℕ} → Ends a ≡ Ends b → a ≡ b
-ends-eq {a} {b} h = cc
-
 module _ (links : List ℕ) (n o : ℕ) where
   pub walk-to : {k : ℕ} {ps : List ℕ} (f c : ℕ) → RecordChain links n o k ps → length ps ≤ f
-      → walk_from links n o f c k ≡ Ends (c + length ps)
+      → walk_from links n o f c k ≡ Some (c + length ps)
   unfolding walk_from
-  walk-to zero c ends h = ap Ends (sym (add-zero c))
-  walk-to (suc f) c ends h = ap Ends (sym (add-zero c))
+  walk-to zero c ends h = ap Some (sym (add-zero c))
+  walk-to (suc f) c ends h = ap Some (sym (add-zero c))
   walk-to zero c (more i<n own d) h = absurd (omega arith)
   walk-to (suc f) c (more {i} {ps} i<n own d) h =
       let sum : suc c + length ps ≡ c + suc (length ps) = omega arith in
-      simp (lt-ltb i n i<n, eq-eqb (owner_at links i) o own) (walk-to {k = next_at links i} f (suc c) d (omega arith) ∙ ap Ends sum)
+      simp (lt-ltb i n i<n, eq-eqb (owner_at links i) o own) (walk-to {k = next_at links i} f (suc c) d (omega arith) ∙ ap Some sum)
 
-  pub walk_of : (f c k e : ℕ) → walk_from links n o f c k ≡ Ends e → Walked links n o f c k e
+  pub walk_of : (f c k e : ℕ) → walk_from links n o f c k ≡ Some e → Walked links n o f c k e
   unfolding walk_from
-  walk_of zero c zero e h = record { slots = []; chain = ends; within = omega arith; counted = sym (ends-eq h) ∙ sym (add-zero c) }
-  walk_of zero c (suc i) e h = absurd (never h)
-  walk_of (suc f) c zero e h = record { slots = []; chain = ends; within = omega arith; counted = sym (ends-eq h) ∙ sym (add-zero c) }
+  walk_of zero c zero e h =
+      record { slots = []; chain = ends; within = omega arith; counted = sym (same_Some _ _ h) ∙ sym (add-zero c) }
+  walk_of zero c (suc i) e h = absurd (none-some _ h)
+  walk_of (suc f) c zero e h =
+      record { slots = []; chain = ends; within = omega arith; counted = sym (same_Some _ _ h) ∙ sym (add-zero c) }
   walk_of (suc f) c (suc i) e h =
       by-test (ltb i n && eqb (owner_at links i) o) refl h
-      (λ (w : walk_from links n o f (suc c) (next_at links i) ≡ Ends e). walk_of f (suc c) (next_at links i) e w)
+      (λ (w : walk_from links n o f (suc c) (next_at links i) ≡ Some e). walk_of f (suc c) (next_at links i) e w)
     where
-      by-test : (t : Bool) → ltb i n && eqb (owner_at links i) o ≡ t → cond t (walk_from links n o f (suc c) (next_at links i)) Broken ≡ Ends e
-          → (walk_from links n o f (suc c) (next_at links i) ≡ Ends e → Walked links n o f (suc c) (next_at links i) e)
+      by-test : (t : Bool) → ltb i n && eqb (owner_at links i) o ≡ t
+          → cond t (walk_from links n o f (suc c) (next_at links i)) None ≡ Some e
+          → (walk_from links n o f (suc c) (next_at links i) ≡ Some e → Walked links n o f (suc c) (next_at links i) e)
           → Walked links n o (suc f) c (suc i) e
       by-test true t w rec =
           let r = rec w in
@@ -62,11 +59,11 @@ module _ (links : List ℕ) (n o : ℕ) where
             within = omega (arith, r.within);
             counted = omega (arith, r.counted);
           }
-      by-test false t w rec = absurd (never w)
+      by-test false t w rec = absurd (none-some _ w)
 
-then-of : (w : ChainWalk) (f : ℕ → ChainWalk) (e : ℕ) → and_then w f ≡ Ends e → (c : ℕ) × (w ≡ Ends c) × (f c ≡ Ends e)
-then-of (Ends c) f e h = (c, refl, h)
-then-of Broken f e h = absurd (never h)
+then-of : (w : Option ℕ) (f : ℕ → Option ℕ) (e : ℕ) → option_and_then f w ≡ Some e → (c : ℕ) × (w ≡ Some c) × (f c ≡ Some e)
+then-of (Some c) f e h = (c, refl, h)
+then-of None f e h = absurd (none-some _ h)
 
 module _ (spans : List Float) (links heads : List ℕ) (n limit : ℕ) where
   pub record AllWalked (r j c e : ℕ) : Type 0 where
@@ -83,10 +80,10 @@ module _ (spans : List Float) (links heads : List ℕ) (n limit : ℕ) where
       at (yes e) = subst (λ (x : ℕ). RecordChain links n (suc x) (get_or heads x 0) (places_of n links heads x)) (sym e) here
       at (no ne) = later i (omega (arith, ne)) (omega arith)
 
-  pub all_of : limit ≤ n → (r j c e : ℕ) → c ≤ limit → walk_all links heads n limit r j c ≡ Ends e → AllWalked r j c e
+  pub all_of : limit ≤ n → (r j c e : ℕ) → c ≤ limit → walk_all links heads n limit r j c ≡ Some e → AllWalked r j c e
   unfolding walk_all chained
   all_of small zero j c e h w =
-      let same : c ≡ e = ends-eq w in
+      let same : c ≡ e = same_Some _ _ w in
       record { run = λ i lo hi. absurd (omega arith); counted = omega arith; within = omega arith }
   all_of small (suc r) j c e h w =
       let t = then-of (walk_from links n (suc j) (limit - c) c (get_or heads j 0)) (walk_all links heads n limit r (suc j)) e w in
@@ -103,27 +100,27 @@ module _ (spans : List Float) (links heads : List ℕ) (n limit : ℕ) where
       }
 
   pub all-to : (r j c : ℕ) → Run spans links heads n j r → c + length (chained n links heads j r) ≤ limit
-      → walk_all links heads n limit r j c ≡ Ends (c + length (chained n links heads j r))
+      → walk_all links heads n limit r j c ≡ Some (c + length (chained n links heads j r))
   unfolding walk_all chained
-  all-to zero j c run h = ap Ends (sym (add-zero c))
+  all-to zero j c run h = ap Some (sym (add-zero c))
   all-to (suc r) j c run h =
       let s : List ℕ = places_of n links heads j in
       let t : List ℕ = chained n links heads (suc j) r in
       let sum : length (s ++ t) ≡ length s + length t = length-append s t in
       let total : c + length s + length t ≡ c + length (s ++ t) = omega arith in
-      ap (λ (w : ChainWalk). and_then w (walk_all links heads n limit r (suc j)))
+      ap (λ (w : Option ℕ). option_and_then (walk_all links heads n limit r (suc j)) w)
       (walk-to links n (suc j) (limit - c) c (run-head spans links heads n j r run) (omega arith))
       ∙ all-to r (suc j) (c + length s) (run-tail spans links heads n j r run) (omega arith)
-      ∙ ap Ends total
+      ∙ ap Some total
 
 -- ---- one step of a walk, in the code's terms
 module _ (links : List ℕ) (n o limit : ℕ) where
-  pub walk_end : (f c k : ℕ) → k ≡ 0 → walk_from links n o f c k ≡ Ends c
+  pub walk_end : (f c k : ℕ) → k ≡ 0 → walk_from links n o f c k ≡ Some c
   unfolding walk_from
   walk_end zero c k e = ap (walk_from links n o zero c) e
   walk_end (suc f) c k e = ap (walk_from links n o (suc f) c) e
 
-  pub walk-full : (c k : ℕ) → limit ≤ c → (k ≡ 0 → ⊥) → walk_from links n o (limit - c) c k ≡ Broken
+  pub walk-full : (c k : ℕ) → limit ≤ c → (k ≡ 0 → ⊥) → walk_from links n o (limit - c) c k ≡ None
   unfolding walk_from
   walk-full c zero h ne = absurd (ne refl)
   walk-full c (suc i) h ne = let none : limit - c ≡ 0 = omega arith in ap (λ (f : ℕ). walk_from links n o f c (suc i)) none
@@ -131,7 +128,7 @@ module _ (links : List ℕ) (n o limit : ℕ) where
   pub walk_step : (c k : ℕ) → c < limit → (k ≡ 0 → ⊥)
       → walk_from links n o (limit - c) c k
       ≡ cond (ltb (k - 1) n && eqb (owner_at links (k - 1)) o)
-      (walk_from links n o (limit - (c + 1)) (c + 1) (next_at links (k - 1))) Broken
+      (walk_from links n o (limit - (c + 1)) (c + 1) (next_at links (k - 1))) None
   unfolding walk_from
   walk_step c zero h ne = absurd (ne refl)
   walk_step c (suc i) h ne =
@@ -143,23 +140,26 @@ module _ (links : List ℕ) (n o limit : ℕ) where
 -- ---- one list of a walk of all, in the code's terms
 module _ (links heads : List ℕ) (n limit m : ℕ) where
   all-step : (j c : ℕ) → j < m → walk_all links heads n limit (m - j) j c
-      ≡ and_then (walk_from links n (j + 1) (limit - c) c (get_or heads j 0)) (walk_all links heads n limit (m - (j + 1)) (j + 1))
+      ≡ option_and_then (walk_all links heads n limit (m - (j + 1)) (j + 1))
+      (walk_from links n (j + 1) (limit - c) c (get_or heads j 0))
   unfolding walk_all
   all-step j c h =
       let left : m - j ≡ suc (m - (j + 1)) = omega arith in
       let next : suc j ≡ j + 1 = omega arith in
       ap (λ (r : ℕ). walk_all links heads n limit r j c) left
-      ∙ ap (λ (o : ℕ). and_then (walk_from links n o (limit - c) c (get_or heads j 0))
-      (walk_all links heads n limit (m - (j + 1)) o)) next
+      ∙ ap (λ (o : ℕ). option_and_then (walk_all links heads n limit (m - (j + 1)) o)
+      (walk_from links n o (limit - c) c (get_or heads j 0))) next
 
-  pub all-broken : (j c : ℕ) → j < m → walk_from links n (j + 1) (limit - c) c (get_or heads j 0) ≡ Broken
-      → walk_all links heads n limit (m - j) j c ≡ Broken
-  all-broken j c h e = all-step j c h ∙ ap (λ (w : ChainWalk). and_then w (walk_all links heads n limit (m - (j + 1)) (j + 1))) e
+  pub all-broken : (j c : ℕ) → j < m → walk_from links n (j + 1) (limit - c) c (get_or heads j 0) ≡ None
+      → walk_all links heads n limit (m - j) j c ≡ None
+  all-broken j c h e = all-step j c h
+      ∙ ap (λ (w : Option ℕ). option_and_then (walk_all links heads n limit (m - (j + 1)) (j + 1)) w) e
 
-  pub all-next : (j c e : ℕ) → j < m → walk_from links n (j + 1) (limit - c) c (get_or heads j 0) ≡ Ends e
+  pub all-next : (j c e : ℕ) → j < m → walk_from links n (j + 1) (limit - c) c (get_or heads j 0) ≡ Some e
       → walk_all links heads n limit (m - j) j c ≡ walk_all links heads n limit (m - (j + 1)) (j + 1) e
-  all-next j c e h w = all-step j c h ∙ ap (λ (x : ChainWalk). and_then x (walk_all links heads n limit (m - (j + 1)) (j + 1))) w
+  all-next j c e h w = all-step j c h
+      ∙ ap (λ (x : Option ℕ). option_and_then (walk_all links heads n limit (m - (j + 1)) (j + 1)) x) w
 
-  pub all_end : (j c : ℕ) → m ≤ j → walk_all links heads n limit (m - j) j c ≡ Ends c
+  pub all_end : (j c : ℕ) → m ≤ j → walk_all links heads n limit (m - j) j c ≡ Some c
   unfolding walk_all
   all_end j c h = let none : m - j ≡ 0 = omega arith in ap (λ (r : ℕ). walk_all links heads n limit r j c) none

@@ -5,7 +5,7 @@ use Prim.Native.Nat.{ℕ, zero, suc}
 use native.Mathlib.Omega.{arith}
 use lib.Dec.{T, eqb}
 use lib.IntN.{pos, negsuc}
-use lib.Ieee.{Float, nan, inf, fin, binary64, fits, to_bits, of_bits}
+use lib.Ieee.{Float, nan, inf, fin, binary64, fits, to_bits, of_bits, is_nan}
 use lib.Ieee.Bits.{of_bits-to_bits}
 use borrow.Author.Tests.{eq-eqb, ne_eqb}
 use Rattle.store.specs.Store.{is_plus_zero}
@@ -36,3 +36,9 @@ plus-bits x f = at (is_plus_zero x) refl
         let same : x ≡ fin false 0 (pos 0) = sym (of_bits-to_bits binary64 x f) ∙ ap (of_bits binary64) e ∙ bits-zero in
         let yes' : is_plus_zero x ≡ true = ap is_plus_zero same in
         let z : ◌≡◌ {A = ℕ} 0 1 = cc in omega arith) ∙ sym h
+
+pub plus-nan : (x : Float) → is_nan x ≡ true → false ≡ is_plus_zero x
+unfolding is_nan
+plus-nan nan h = refl
+plus-nan (inf s) h = absurd (let z : ◌≡◌ {A = ℕ} 0 1 = cc in omega arith)
+plus-nan (fin s m e) h = absurd (let z : ◌≡◌ {A = ℕ} 0 1 = cc in omega arith)

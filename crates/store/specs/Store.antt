@@ -1,7 +1,8 @@
 -- The lent store. A pool of n records, numbered from 1, holds m lists. Record i + 1 stands at place i: its ends lo
 -- and hi are cells 2i and 2i + 1 of the spans, its next and owner cells 2i and 2i + 1 of the links. List j has the
 -- head at cell j of the heads, and owner j + 1: ray r's possible list is 2r, its certain list 2r + 1.
-use Rattle.std.specs.Prelude.{◌≡◌, Bool, true, false, not, cond, ◌&&◌, ℕ, zero, suc, ◌+◌, ◌*◌, ◌<◌, eqb, pos, negsuc, Float, length, get_or, set, drop}
+use Rattle.std.specs.Prelude.{◌≡◌, Bool, true, false, not, cond, ◌&&◌, ℕ, zero, suc, ◌+◌, ◌*◌, ◌<◌, eqb, pos, negsuc, Float}
+use Rattle.std.specs.Prelude.{length, get_or, set, drop}
 use mathlib.Core.List.{List, [], ◌∷◌, ◌++◌, Memᴰ}
 use Rattle.std.specs.Float.{nan, inf, fin}
 use Rattle.doubles.specs.Constants.{plus_zero}
@@ -39,7 +40,8 @@ is_plus_zero (fin s zero (pos zero)) = not s
 
 -- a record is free where all its cells are zero, and in use otherwise
 unfoldable pub used_at : List Float → List ℕ → ℕ → Bool
-used_at spans links i = not (is_plus_zero (lo_at spans i) && (is_plus_zero (hi_at spans i) && (eqb (next_at links i) 0 && eqb (owner_at links i) 0)))
+used_at spans links i =
+    not (is_plus_zero (lo_at spans i) && (is_plus_zero (hi_at spans i) && (eqb (next_at links i) 0 && eqb (owner_at links i) 0)))
 
 -- ---- chains
 -- The places that are come to from record number k, one after the other: at most `fuel` of them.

@@ -1,5 +1,5 @@
 -- What a commit does to a store: the lists of all changed rays are freed, then laid again in order, each from the lowest free record.
-use Rattle.std.specs.Prelude.{◌≡◌, List, [], ◌∷◌, ℕ, suc, ◌+◌, ◌-◌, ◌*◌, ◌/◌, length, take, drop, set, Float}
+use Rattle.std.specs.Prelude.{◌≡◌, List, [], ◌∷◌, ℕ, suc, ◌+◌, ◌*◌, ◌/◌, length, take, drop, set, Float}
 use Rattle.store.specs.Store.{places_of, freed_spans, freed_links, free_from, filled_spans, filled_links, head_of, Cells}
 
 -- a list and the ends that it is to hold

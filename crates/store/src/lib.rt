@@ -8,7 +8,7 @@ ghost use Rattle.store.specs.Walks.{walk_from, walk_all};
 ghost use Rattle.logic.specs.Logic.{count_to};
 
 // The numbers of the first records of a ray's two lists, zero for an empty one.
-#[derive(Clone, Copy)]
+#[derive(Clone, Copy, Debug, PartialEq)]
 pub struct RayHeads {
     pub possible: u64,
     pub certain: u64,
@@ -33,7 +33,7 @@ pub fn possible_head(heads: &[u64], ray: usize) -> u64
 }
 
 // A record as a reader of its list sees it: its pair, and the number of the next record.
-#[derive(Clone, Copy)]
+#[derive(Clone, Copy, Debug, PartialEq)]
 pub struct Record {
     pub lo: f64,
     pub hi: f64,
@@ -54,10 +54,7 @@ pub fn record_at(spans: &[f64], links: &[u64], i: usize) -> Record
 fn plus_zero(x: f64) -> bool
     ensures { result ≡ is_plus_zero x }
 {
-    if x != x {
-        return false;
-    }
-    f64::to_bits(x) == 0
+    !x.is_nan() && x.to_bits() == 0
 }
 
 // Whether the record at place i is in use.
@@ -65,16 +62,10 @@ pub fn used(spans: &[f64], links: &[u64], i: usize) -> bool
     requires { (2 * i + 1 < length spans.now) × (2 * i + 1 < length links.now) }
     ensures { result ≡ used_at spans.now links.now i }
 {
-    if links[2 * i + 1] != 0 {
-        return true;
-    }
-    if links[2 * i] != 0 {
-        return true;
-    }
-    if !plus_zero(spans[2 * i]) {
-        return true;
-    }
-    !plus_zero(spans[2 * i + 1])
+    links[2 * i + 1] != 0
+        || links[2 * i] != 0
+        || !plus_zero(spans[2 * i])
+        || !plus_zero(spans[2 * i + 1])
 }
 
 // How many of the first n records are in use.
@@ -83,23 +74,16 @@ pub fn count_used(spans: &[f64], links: &[u64], n: usize) -> usize
     ensures { result ≡ count_to (used_at spans.now links.now) n }
 {
     let mut c: usize = 0;
-    let mut i: usize = 0;
-    while i < n {
+    for i in 0..n {
         if used(spans, links, i) {
             c += 1;
         }
-        i += 1;
     }
     c
 }
 
-#[derive(Clone, Copy)]
-pub enum ChainWalk {
-    Ends(usize),
-    Broken,
-}
-
-// Walks a chain of the owner, with `from` records counted before and at most `limit` in all.
+// Walks a chain of the owner, with `from` records counted before and at most `limit` in all: how many are counted at its
+// end, or none where it breaks off.
 fn walk_chain(
     links: &[u64],
     n: usize,
@@ -107,7 +91,7 @@ fn walk_chain(
     head: u64,
     from: usize,
     limit: usize,
-) -> ChainWalk
+) -> Option<usize>
     requires { 2 * n ≤ length links.now }
     ensures { result ≡ walk_from links.now n owner (limit - from) from head }
 {
@@ -115,38 +99,32 @@ fn walk_chain(
     let mut c = from;
     while k != 0 {
         if limit <= c {
-            return ChainWalk::Broken;
+            return None;
         }
         let i = (k - 1) as usize;
         if n <= i {
-            return ChainWalk::Broken;
+            return None;
         }
         if links[2 * i + 1] != owner {
-            return ChainWalk::Broken;
+            return None;
         }
         k = links[2 * i];
         c += 1;
     }
-    ChainWalk::Ends(c)
+    Some(c)
 }
 
 // Walks the chains of all m lists.
-fn walk_all(links: &[u64], heads: &[u64], n: usize, m: usize, limit: usize) -> ChainWalk
+fn walk_all(links: &[u64], heads: &[u64], n: usize, m: usize, limit: usize) -> Option<usize>
     requires { (2 * n ≤ length links.now) × (m ≤ length heads.now) }
     ensures { result ≡ walk_all links.now heads.now n limit m 0 0 }
 {
     let mut c: usize = 0;
-    let mut j: usize = 0;
-    while j < m {
+    for j in 0..m {
         let owner = (j as u64) + 1;
-        let head = heads[j];
-        let ChainWalk::Ends(e) = walk_chain(links, n, owner, head, c, limit) else {
-            return ChainWalk::Broken;
-        };
-        c = e;
-        j += 1;
+        c = walk_chain(links, n, owner, heads[j], c, limit)?;
     }
-    ChainWalk::Ends(c)
+    Some(c)
 }
 
 // Whether a store of n records and m lists is sound, but for the validity of its rays.
@@ -163,11 +141,5 @@ pub fn check_store(
         × (ChainsSound n m total (cells spans.now links.now heads.now) → result ≡ true) }
 {
     let u = count_used(spans, links, n);
-    if (u as u64) != total {
-        return false;
-    }
-    match walk_all(links, heads, n, m, u) {
-        ChainWalk::Ends(c) => c == u,
-        ChainWalk::Broken => false,
-    }
+    (u as u64) == total && walk_all(links, heads, n, m, u) == Some(u)
 }

@@ -7,22 +7,19 @@ use mathlib.Core.List.{List, [], ◌∷◌}
 use Prim.Native.Nat.{ℕ, ◌-◌, ◌%◌}
 use native.Mathlib.Omega.{arith}
 use lib.Dec.{eqb}
-use lib.Ieee.{Float, nan, binary64, is_nan, div, lt, le}
+use lib.Ieee.{Float, nan, binary64, is_nan, of_bits, lt, le}
 use lib.ListN.{length}
 use borrow.Author.Tests.{eq-eqb, eqb-true}
-use Rattle.logic.proofs.Bools.{and_left, and_right, and-false, both, same_if, clash, by_cases, not-true, not-false}
+use Rattle.logic.proofs.Bools.{and_left, and_right, and-false, both, same_if, clash, by_cases}
 use Rattle.doubles.specs.Doubles.{Number}
-use Rattle.doubles.proofs.Order.{lt-number, lt→le, le_trans, le-nan, lt_not_le, zero-over-zero}
+use Rattle.doubles.proofs.Order.{lt-number, lt→le, le_trans, le-nan, lt_not_le}
 use Rattle.spans.specs.Spans.{rising, sound}
-use Rattle.doubles.specs.Constants.{plus_zero}
 use Rattle.store.specs.Store.{lo_at, hi_at, next_at, list_from}
-use Rattle.spans.specs.Rays.{bounded}
+use Rattle.spans.specs.Rays.{ValidRay, bounded}
 use Rattle.spans.proofs.Containment.{from-skip, from-stop, valid-ray, ray-valid}
-use Rattle.store_read.specs.Lengths.{length_from}
-use Rattle.store_read.specs.declared.ListSum.{ListSum}
 use Rattle.store_read.proofs.Steps.{Step, no-ends}
 use Rattle.spans.specs.Containment.{from, covers, contained, valid}
-use Rattle.store_read.specs.Steps.{starts_in, ListSumPost, RaySumsPost}
+use Rattle.store_read.specs.Steps.{starts_in}
 
 cons-some : {x : Float} {l : List Float} → x ∷ l ≡ [] → ⊥
 cons-some {x} {l} e = let none : length (x ∷ l) ≡ 0 = ap length e in omega arith
@@ -167,10 +164,10 @@ module _ (low high : Float) where
       (λ q. let r = last-tells b l (lt-number a b p.pair).1 lb p.rest q in two-bounded a b l s p.pair r.1 r.0)
 
   -- a list that begins below low is not within the bounds
-  pub starts-bad : (r : Bool) (l : List Float) → r ≡ starts_in low l → not r ≡ true → (sound l && bounded low high l) ≡ false
+  pub starts-bad : (r : Bool) (l : List Float) → r ≡ starts_in low l → r ≡ false → (sound l && bounded low high l) ≡ false
   unfolding bounded
-  starts-bad r [] e h = absurd (clash r e (not-true r h))
-  starts-bad r (a ∷ l) e h = and-false (sound (a ∷ l)) _ (ap (λ (t : Bool). t && (le a high && bounded low high l)) (sym e ∙ not-true r h))
+  starts-bad r [] e h = absurd (clash r e h)
+  starts-bad r (a ∷ l) e h = and-false (sound (a ∷ l)) _ (ap (λ (t : Bool). t && (le a high && bounded low high l)) (sym e ∙ h))
 
   -- ---- lists within others
   from-bounded : (x : Float) (l : List Float) → bounded low high l ≡ true → bounded low high (from x l) ≡ true
@@ -219,18 +216,18 @@ module _ (n : ℕ) (spans : List Float) (links : List ℕ) where
   after-step x k s = ap (after x) s.read
 
   pub after-bad : (x : Float) (k : ℕ) (r : Bool) → Step n spans links k
-      → r ≡ (not (le (lo_at spans (k - 1)) x) && lt (lo_at spans (k - 1)) (hi_at spans (k - 1))) → not r ≡ true
+      → r ≡ (not (le (lo_at spans (k - 1)) x) && lt (lo_at spans (k - 1)) (hi_at spans (k - 1))) → r ≡ false
       → after x (list_from n spans links k) ≡ false
   after-bad x k r s e h = after-step x k s
       ∙ ap (λ (t : Bool). t && after (hi_at spans (k - 1)) (list_from n spans links (next_at links (k - 1))))
-      (sym e ∙ not-true r h)
+      (sym e ∙ h)
 
   pub after-good : (x : Float) (k : ℕ) (r : Bool) → Step n spans links k
-      → r ≡ (not (le (lo_at spans (k - 1)) x) && lt (lo_at spans (k - 1)) (hi_at spans (k - 1))) → not r ≡ false
+      → r ≡ (not (le (lo_at spans (k - 1)) x) && lt (lo_at spans (k - 1)) (hi_at spans (k - 1))) → r ≡ true
       → after x (list_from n spans links k) ≡ after (hi_at spans (k - 1)) (list_from n spans links (next_at links (k - 1)))
   after-good x k r s e h = after-step x k s
       ∙ ap (λ (t : Bool). t && after (hi_at spans (k - 1)) (list_from n spans links (next_at links (k - 1))))
-      (sym e ∙ not-false r h)
+      (sym e ∙ h)
 
   pub last_step : (x : Float) (k : ℕ) → Step n spans links k
       → last_end x (list_from n spans links k) ≡ last_end (hi_at spans (k - 1)) (list_from n spans links (next_at links (k - 1)))
@@ -248,21 +245,15 @@ module _ (n : ℕ) (spans : List Float) (links : List ℕ) where
   none_between low high k e = ap (λ (l : List Float). sound l && bounded low high l) (no-ends n spans links k e)
 
   pub all-between : (low high x : Float) (k : ℕ) (r : Bool) (e : Float) → is_nan x ≡ true → Step n spans links k
-      → r ≡ starts_in low (list_from n spans links k) → not r ≡ false
+      → r ≡ starts_in low (list_from n spans links k) → r ≡ true
       → after x (list_from n spans links k) ≡ true → last_end x (list_from n spans links k) ≡ e
       → (sound (list_from n spans links k) && bounded low high (list_from n spans links k)) ≡ le e high
   all-between low high x k r e nx s er h a z =
       ap (λ (t : Bool). t && bounded low high (list_from n spans links k)) (sound-after x (list_from n spans links k) nx ∙ a)
-      ∙ ends-tell low high x (list_from n spans links k) a (sym er ∙ not-false r h)
+      ∙ ends-tell low high x (list_from n spans links k) a (sym er ∙ h)
       (λ none. cons-some (sym s.read ∙ none)) ∙ ap (λ (y : Float). le y high) z
 
--- ---- the answers of `follows` and `starts_within`
-pub begins-before : (a b : Bool) → a ≡ true → false ≡ (not a && b)
-begins-before a b e = sym (ap (λ (t : Bool). not t && b) e)
-
-pub begins-past : (a b : Bool) → a ≡ false → b ≡ (not a && b)
-begins-past a b e = sym (ap (λ (t : Bool). not t && b) e)
-
+-- ---- the answers of `starts_within`
 module _ (n : ℕ) (spans : List Float) (links : List ℕ) (k : ℕ) (low : Float) where
   pub starts_none : k ≡ 0 → true ≡ starts_in low (list_from n spans links k)
   starts_none e = sym (ap (starts_in low) (no-ends n spans links k e))
@@ -275,16 +266,9 @@ nan_is : is_nan nan ≡ true
 unfolding is_nan
 nan_is = refl
 
-pub zero-nan : is_nan (div binary64 plus_zero plus_zero) ≡ true
-unfolding is_nan
-zero-nan = ap is_nan zero-over-zero
-
-pub sum-bad : (p : Bool) (l : List Float) (x : Float) → p ≡ false → ListSumPost p l (record { good = false; length = x })
-sum-bad p l x h = record { good_is = sym h; summed = λ z. absurd (clash false z refl) }
-
-pub sum-good : (p r : Bool) (l : List Float) (x : Float) → p ≡ r → length_from plus_zero l ≡ x
-    → ListSumPost p l (record { good = r; length = x })
-sum-good p r l x h e = record { good_is = sym h; summed = λ z. sym e }
+pub made-nan : is_nan (of_bits binary64 9221120237041090560) ≡ true
+unfolding is_nan of_bits
+made-nan = refl
 
 -- ---- two tests at once
 pub left-same : (a b c : Bool) → a ≡ b → (a && c) ≡ (b && c)
@@ -301,39 +285,26 @@ both-same a b c d e f = ap (λ (t : Bool). t && c) e ∙ ap (λ (t : Bool). b &&
 
 -- ---- the answers of `measure_ray`
 module _ (low high : Float) (possible certain : List Float) where
-  pub possible-bad : (p : ListSum) → ListSumPost (sound possible && bounded low high possible) possible p
-      → not p.good ≡ true → (x y : Float)
-      → RaySumsPost low high possible certain (record { valid = false; possible = x; certain = y })
-  possible-bad p s h x y = record {
-    is_valid = λ z. absurd (clash false z refl);
-    if_valid = λ v. absurd (clash (sound possible && bounded low high possible)
-        (both _ _ v.possible_sound v.possible_bounded) (sym s.good_is ∙ not-true p.good h));
-    possible_length = λ z. absurd (clash false z refl);
-    certain_length = λ z. absurd (clash false z refl);
-  }
+  pub possible-bad : (sound possible && bounded low high possible) ≡ false → ValidRay low high possible certain → ⊥
+  possible-bad h v = clash (sound possible && bounded low high possible) (both _ _ v.possible_sound v.possible_bounded) h
 
-  pub both-measured : (p c : ListSum) → ListSumPost (sound possible && bounded low high possible) possible p
-      → not p.good ≡ false → ListSumPost (sound certain && contained possible certain) certain c
-      → RaySumsPost low high possible certain (record { valid = c.good; possible = p.length; certain = c.length })
+  pub certain-bad : (sound certain && contained possible certain) ≡ false → ValidRay low high possible certain → ⊥
   unfolding valid
-  both-measured p c s h t =
-      let bp : (sound possible && bounded low high possible) ≡ true = sym s.good_is ∙ not-false p.good h in
-      record {
-        is_valid = λ (z : c.good ≡ true).
-            let all = sym t.good_is ∙ z in
-            let sc : sound certain ≡ true = and_left (sound certain) (contained possible certain) all in
-            let cc : contained possible certain ≡ true = and_right (sound certain) (contained possible certain) all in
-            let bp' : bounded low high possible ≡ true = and_right (sound possible) _ bp in
-            valid-ray low high possible certain
-            (both (sound possible) _ (and_left _ (bounded low high possible) bp)
-            (both (sound certain) _ sc (both (bounded low high possible) _ bp'
-            (both (bounded low high certain) _
-            (contained-bounded low high nan possible certain bp' (sym (sound-after nan certain nan_is) ∙ sc) cc) cc))));
-        if_valid = λ v. t.good_is
-            ∙ both (sound certain) _ v.certain_sound
-            (and_right (bounded low high certain) _
-            (and_right (bounded low high possible) _
-            (and_right (sound certain) _ (and_right (sound possible) _ (ray-valid low high possible certain v)))));
-        possible_length = λ z. s.summed (not-false p.good h);
-        certain_length = λ z. t.summed z;
-      }
+  certain-bad h v = clash (sound certain && contained possible certain)
+      (both (sound certain) _ v.certain_sound
+      (and_right (bounded low high certain) _
+      (and_right (bounded low high possible) _
+      (and_right (sound certain) _ (and_right (sound possible) _ (ray-valid low high possible certain v)))))) h
+
+  pub both-good : (sound possible && bounded low high possible) ≡ true → (sound certain && contained possible certain) ≡ true
+      → ValidRay low high possible certain
+  unfolding valid
+  both-good bp all =
+      let sc : sound certain ≡ true = and_left (sound certain) (contained possible certain) all in
+      let cc : contained possible certain ≡ true = and_right (sound certain) (contained possible certain) all in
+      let bp' : bounded low high possible ≡ true = and_right (sound possible) _ bp in
+      valid-ray low high possible certain
+      (both (sound possible) _ (and_left _ (bounded low high possible) bp)
+      (both (sound certain) _ sc (both (bounded low high possible) _ bp'
+      (both (bounded low high certain) _
+      (contained-bounded low high nan possible certain bp' (sym (sound-after nan certain nan_is) ∙ sc) cc) cc))))

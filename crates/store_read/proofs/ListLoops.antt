@@ -6,11 +6,11 @@ use Prim.Native.Nat.{ℕ, zero, suc, ◌+◌, ◌-◌, ◌≤◌, ◌<◌}
 use native.Mathlib.Numerals.{add-one}
 use native.Mathlib.Omega.{arith}
 use lib.Dec.{eqb}
-use lib.Ieee.{Float, nan, eq}
+use lib.Ieee.{Float, nan, eq, ne}
 use lib.ListN.{length, get_or, set, drop, length-drop}
 use lib.Seq.{sets, sets-eq, drop-cons}
 use borrow.Author.Tests.{eq-eqb, ne_eqb, eqb-true}
-use Rattle.logic.proofs.Bools.{same_if, and-false}
+use Rattle.logic.proofs.Bools.{same_if, and-false, not-true, not-false}
 use Rattle.spans.specs.Spans.{equal}
 use Rattle.store.specs.Store.{lo_at, hi_at, next_at, list_from}
 use Rattle.store_read.specs.Reading.{ReadListPost}
@@ -92,28 +92,31 @@ module _ {n : ℕ} {spans : List Float} {links : List ℕ} {k : ℕ} (pairs : Li
   is-two s h = ap (λ (l : List Float). equal l (drop t pairs)) s.read
       ∙ equal-two (lo_at spans (k - 1)) (hi_at spans (k - 1)) (list_from n spans links (next_at links (k - 1))) pairs t h
 
-  pub is-other-lo : Step n spans links k → 2 ≤ length pairs - t → eq (lo_at spans (k - 1)) (get_or pairs t nan) ≡ false
+  pub is-other-lo : Step n spans links k → 2 ≤ length pairs - t → ne (lo_at spans (k - 1)) (get_or pairs t nan) ≡ true
       → equal (list_from n spans links k) (drop t pairs) ≡ false
+  unfolding ne
   is-other-lo s h e = is-two s h
       ∙ ap (λ (b : Bool). b && (eq (hi_at spans (k - 1)) (get_or pairs (t + 1) nan)
-      && equal (list_from n spans links (next_at links (k - 1))) (drop (t + 2) pairs))) e
+      && equal (list_from n spans links (next_at links (k - 1))) (drop (t + 2) pairs))) (not-true _ e)
 
-  pub is-other-hi : Step n spans links k → 2 ≤ length pairs - t → eq (hi_at spans (k - 1)) (get_or pairs (t + 1) nan)
-      ≡ false → equal (list_from n spans links k) (drop t pairs) ≡ false
+  pub is-other-hi : Step n spans links k → 2 ≤ length pairs - t → ne (hi_at spans (k - 1)) (get_or pairs (t + 1) nan)
+      ≡ true → equal (list_from n spans links k) (drop t pairs) ≡ false
+  unfolding ne
   is-other-hi s h e =
       is-two s h ∙ and-false (eq (lo_at spans (k - 1)) (get_or pairs t nan))
       (eq (hi_at spans (k - 1)) (get_or pairs (t + 1) nan)
       && equal (list_from n spans links (next_at links (k - 1))) (drop (t + 2) pairs))
-      (ap (λ (b : Bool). b && equal (list_from n spans links (next_at links (k - 1))) (drop (t + 2) pairs)) e)
+      (ap (λ (b : Bool). b && equal (list_from n spans links (next_at links (k - 1))) (drop (t + 2) pairs)) (not-true _ e))
 
-  pub is_same : Step n spans links k → 2 ≤ length pairs - t → eq (lo_at spans (k - 1)) (get_or pairs t nan) ≡ true
-      → eq (hi_at spans (k - 1)) (get_or pairs (t + 1) nan) ≡ true
+  pub is_same : Step n spans links k → 2 ≤ length pairs - t → ne (lo_at spans (k - 1)) (get_or pairs t nan) ≡ false
+      → ne (hi_at spans (k - 1)) (get_or pairs (t + 1) nan) ≡ false
       → equal (list_from n spans links k) (drop t pairs) ≡ equal (list_from n spans links (next_at links (k - 1))) (drop (t + 2) pairs)
+  unfolding ne
   is_same s h e f =
       is-two s h ∙ ap (λ (b : Bool). b
       && (eq (hi_at spans (k - 1)) (get_or pairs (t + 1) nan)
-      && equal (list_from n spans links (next_at links (k - 1))) (drop (t + 2) pairs))) e
-      ∙ ap (λ (b : Bool). b && equal (list_from n spans links (next_at links (k - 1))) (drop (t + 2) pairs)) f
+      && equal (list_from n spans links (next_at links (k - 1))) (drop (t + 2) pairs))) (not-false _ e)
+      ∙ ap (λ (b : Bool). b && equal (list_from n spans links (next_at links (k - 1))) (drop (t + 2) pairs)) (not-false _ f)
 
 pub is-end : (n : ℕ) (spans : List Float) (links : List ℕ) (k : ℕ) (pairs : List Float) (t : ℕ) → k ≡ 0
     → t ≤ length pairs → equal (list_from n spans links k) (drop t pairs) ≡ eqb t (length pairs)

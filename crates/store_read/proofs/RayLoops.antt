@@ -1,10 +1,9 @@
 -- One turn and the end of each loop that tests a chain.
 use mathlib.Core.Path.{◌≡◌, refl, sym, ap, ◌∙◌}
-use mathlib.Core.Bool.{Bool, true, false, not, ◌&&◌}
+use mathlib.Core.Bool.{Bool, true, false, ◌&&◌}
 use mathlib.Core.List.{List, [], ◌∷◌}
 use Prim.Native.Nat.{ℕ, ◌-◌}
 use lib.Ieee.{Float, binary64, add, sub, lt, le}
-use Rattle.logic.proofs.Bools.{not-true, not-false}
 use Rattle.store.specs.Store.{lo_at, hi_at, next_at, list_from}
 use Rattle.spans.proofs.Containment.{from-skip, from-stop}
 use Rattle.store_read.proofs.Steps.{Step, no-ends}
@@ -34,7 +33,8 @@ length-end n spans links k sum e = ap (length_from sum) (no-ends n spans links k
 
 -- ---- `first_reaching`
 module _ {n : ℕ} {spans : List Float} {links : List ℕ} {k : ℕ} (x : Float) where
-  pub reach_here : Step n spans links k → lt (hi_at spans (k - 1)) x ≡ false → list_from n spans links k ≡ from x (list_from n spans links k)
+  pub reach_here : Step n spans links k → lt (hi_at spans (k - 1)) x ≡ false
+      → list_from n spans links k ≡ from x (list_from n spans links k)
   reach_here s h = s.read ∙ sym
       (from-stop x (lo_at spans (k - 1)) (hi_at spans (k - 1)) (list_from n spans links (next_at links (k - 1))) h)
       ∙ ap (from x) (sym s.read)
@@ -75,17 +75,17 @@ module _ {n : ℕ} {spans : List Float} {links : List ℕ} {o k r : ℕ}
       ∙ ap (λ (l : List Float). covers l (lo_at spans (k - 1)) (hi_at spans (k - 1))
       && contained l (list_from n spans links (next_at links (k - 1)))) (sym q.rest)
 
-  pub lies_out : c ≡ covers (list_from n spans links r) (lo_at spans (k - 1)) (hi_at spans (k - 1)) → not c ≡ true
+  pub lies_out : c ≡ covers (list_from n spans links r) (lo_at spans (k - 1)) (hi_at spans (k - 1)) → c ≡ false
       → contained (list_from n spans links o) (list_from n spans links k) ≡ false
   lies_out e h = inner-pair ∙ ap
       (λ (b : Bool). b && contained (list_from n spans links r) (list_from n spans links (next_at links (k - 1))))
-      (sym e ∙ not-true c h)
+      (sym e ∙ h)
 
-  pub lies_in : c ≡ covers (list_from n spans links r) (lo_at spans (k - 1)) (hi_at spans (k - 1)) → not c ≡ false
+  pub lies_in : c ≡ covers (list_from n spans links r) (lo_at spans (k - 1)) (hi_at spans (k - 1)) → c ≡ true
       → contained (list_from n spans links o) (list_from n spans links k)
       ≡ contained (list_from n spans links r) (list_from n spans links (next_at links (k - 1)))
   lies_in e h = inner-pair ∙ ap (λ (b : Bool). b
-      && contained (list_from n spans links r) (list_from n spans links (next_at links (k - 1)))) (sym e ∙ not-false c h)
+      && contained (list_from n spans links r) (list_from n spans links (next_at links (k - 1)))) (sym e ∙ h)
 
 pub all-contained : (n : ℕ) (spans : List Float) (links : List ℕ) (o k : ℕ) → k ≡ 0
     → contained (list_from n spans links o) (list_from n spans links k) ≡ true

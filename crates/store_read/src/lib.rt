@@ -63,10 +63,7 @@ pub fn list_is(spans: &[f64], links: &[u64], n: usize, head: u64, pairs: &[f64])
             return false;
         }
         let r = store::record_at(spans, links, (k - 1) as usize);
-        if !(r.lo == pairs[t]) {
-            return false;
-        }
-        if !(r.hi == pairs[t + 1]) {
+        if r.lo != pairs[t] || r.hi != pairs[t + 1] {
             return false;
         }
         k = r.next;
@@ -79,10 +76,7 @@ pub fn list_is(spans: &[f64], links: &[u64], n: usize, head: u64, pairs: &[f64])
 fn follows(pair: Record, x: f64) -> bool
     ensures { result ≡ (not (le pair.lo x) && lt pair.lo pair.hi) }
 {
-    if pair.lo <= x {
-        return false;
-    }
-    pair.lo < pair.hi
+    !(pair.lo <= x) && pair.lo < pair.hi
 }
 
 // Whether the list is empty or does not begin below `low`.
@@ -90,58 +84,43 @@ fn starts_within(spans: &[f64], links: &[u64], n: usize, head: u64, low: f64) ->
     requires { Readable n spans.now links.now head }
     ensures { result ≡ starts_in low (list_from n spans.now links.now head) }
 {
-    if head == 0 {
-        return true;
-    }
-    let first = store::record_at(spans, links, (head - 1) as usize);
-    low <= first.lo
+    head == 0 || low <= store::record_at(spans, links, (head - 1) as usize).lo
 }
 
-// Whether a list passes a test, and if so the sum of its pairs' lengths.
-#[derive(Clone, Copy)]
-pub struct ListSum {
-    pub good: bool,
-    pub length: f64,
-}
-
-// Whether the list is sound and within the bounds: as it rises, its first and its last end tell the bounds. No end is
-// at most the NaN that stands for the end before the first pair.
-fn sound_between(spans: &[f64], links: &[u64], n: usize, head: u64, low: f64, high: f64) -> ListSum
+// The length of the list, where it is sound and within the bounds: as it rises, its first and its last end tell the
+// bounds. No end is at most the NaN that stands for the end before the first pair.
+fn sound_between(
+    spans: &[f64],
+    links: &[u64],
+    n: usize,
+    head: u64,
+    low: f64,
+    high: f64,
+) -> Option<f64>
     requires { Readable n spans.now links.now head }
     ensures { ListSumPost (sound (list_from n spans.now links.now head)
         && bounded low high (list_from n spans.now links.now head))
         (list_from n spans.now links.now head) result }
 {
-    let mut sum = 0.0;
     if !starts_within(spans, links, n, head, low) {
-        return ListSum {
-            good: false,
-            length: sum,
-        };
+        return None;
     }
-    let mut last = 0.0 / 0.0;
+    let mut sum = 0.0;
+    let mut last = f64::NAN;
     let mut k = head;
     while k != 0 {
         let r = store::record_at(spans, links, (k - 1) as usize);
         if !follows(r, last) {
-            return ListSum {
-                good: false,
-                length: sum,
-            };
+            return None;
         }
         last = r.hi;
-        sum = sum + (r.hi - r.lo);
+        sum += r.hi - r.lo;
         k = r.next;
     }
-    if head == 0 {
-        return ListSum {
-            good: true,
-            length: sum,
-        };
-    }
-    ListSum {
-        good: last <= high,
-        length: sum,
+    if head == 0 || last <= high {
+        Some(sum)
+    } else {
+        None
     }
 }
 
@@ -170,14 +149,11 @@ fn reaches_over(spans: &[f64], links: &[u64], n: usize, outer: u64, pair: Record
         return false;
     }
     let over = store::record_at(spans, links, (outer - 1) as usize);
-    if over.lo <= pair.lo {
-        return pair.hi <= over.hi;
-    }
-    false
+    over.lo <= pair.lo && pair.hi <= over.hi
 }
 
-// Whether the inner list is sound and each of its pairs lies in one of the outer list's.
-fn sound_within(spans: &[f64], links: &[u64], n: usize, outer: u64, inner: u64) -> ListSum
+// The length of the inner list, where it is sound and each of its pairs lies in one of the outer list's.
+fn sound_within(spans: &[f64], links: &[u64], n: usize, outer: u64, inner: u64) -> Option<f64>
     requires { Readable n spans.now links.now outer × Readable n spans.now links.now inner }
     ensures { ListSumPost (sound (list_from n spans.now links.now inner)
         && contained (list_from n spans.now links.now outer)
@@ -185,43 +161,33 @@ fn sound_within(spans: &[f64], links: &[u64], n: usize, outer: u64, inner: u64) 
         (list_from n spans.now links.now inner) result }
 {
     let mut sum = 0.0;
-    let mut last = 0.0 / 0.0;
+    let mut last = f64::NAN;
     let mut o = outer;
     let mut k = inner;
     while k != 0 {
         let r = store::record_at(spans, links, (k - 1) as usize);
         if !follows(r, last) {
-            return ListSum {
-                good: false,
-                length: sum,
-            };
+            return None;
         }
         last = r.hi;
         o = first_reaching(spans, links, n, o, last);
         if !reaches_over(spans, links, n, o, r) {
-            return ListSum {
-                good: false,
-                length: sum,
-            };
+            return None;
         }
-        sum = sum + (r.hi - r.lo);
+        sum += r.hi - r.lo;
         k = r.next;
     }
-    ListSum {
-        good: true,
-        length: sum,
-    }
+    Some(sum)
 }
 
-// Whether a ray is valid, and if so the lengths of its two lists.
-#[derive(Clone, Copy)]
+// The lengths of a valid ray's two lists.
+#[derive(Clone, Copy, Debug, PartialEq)]
 pub struct RaySums {
-    pub valid: bool,
     pub possible: f64,
     pub certain: f64,
 }
 
-// Whether the ray of these two lists is valid within its bounds, and their lengths.
+// The lengths of the ray of these two lists, where it is valid within its bounds.
 pub fn measure_ray(
     spans: &[f64],
     links: &[u64],
@@ -230,25 +196,17 @@ pub fn measure_ray(
     certain: u64,
     low: f64,
     high: f64,
-) -> RaySums
+) -> Option<RaySums>
     requires { Readable n spans.now links.now possible × Readable n spans.now links.now certain }
     ensures { RaySumsPost low high (list_from n spans.now links.now possible)
         (list_from n spans.now links.now certain) result }
 {
-    let p = sound_between(spans, links, n, possible, low, high);
-    if !p.good {
-        return RaySums {
-            valid: false,
-            possible: 0.0,
-            certain: 0.0,
-        };
-    }
-    let c = sound_within(spans, links, n, possible, certain);
-    RaySums {
-        valid: c.good,
-        possible: p.length,
-        certain: c.length,
-    }
+    let p = sound_between(spans, links, n, possible, low, high)?;
+    let c = sound_within(spans, links, n, possible, certain)?;
+    Some(RaySums {
+        possible: p,
+        certain: c,
+    })
 }
 
 // Whether the ray of these two lists is valid within its bounds.
@@ -267,6 +225,5 @@ pub fn valid_ray_at(
         × (ValidRay low high (list_from n spans.now links.now possible)
         (list_from n spans.now links.now certain) → result ≡ true) }
 {
-    let r = measure_ray(spans, links, n, possible, certain, low, high);
-    r.valid
+    measure_ray(spans, links, n, possible, certain, low, high).is_some()
 }

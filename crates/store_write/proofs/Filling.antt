@@ -243,20 +243,22 @@ module _ (n o count : ℕ) (pairs spans₀ : List Float) (links₀ : List ℕ) w
             (put_other spans links at (get_or pairs (2 * t) nan) (get_or pairs (2 * t + 1) nan) (after + 1) o x
             (λ (e : x ≡ at). omega (arith, ge))) ∙ next_past spans links n (at + 1) after f x (omega (arith, ge)) h
 
-    pub fill_end : count ≤ t + 1
-        → (put_span spans at (get_or pairs (2 * t) nan) (get_or pairs (2 * t + 1) nan) ≡ filled_spans spans₀ ps pairs)
+    -- the last pair, u, is laid with no next
+    pub fill_end : (u : ℕ) → t ≡ u → count ≤ t + 1
+        → (put_span spans at (get_or pairs (2 * u) nan) (get_or pairs (2 * u + 1) nan) ≡ filled_spans spans₀ ps pairs)
         × (put_link links at 0 o ≡ filled_links links₀ o ps)
     unfolding filled_spans filled_links
-    fill_end last =
+    fill_end u e last =
         let one : count - t ≡ 1 = omega (arith, s.left) in
         let places : take (count - t) (at ∷ free_from spans links (at + 1) (n - (at + 1))) ≡ at ∷ [] =
         take_last (count - t) at (free_from spans links (at + 1) (n - (at + 1))) one in (
-          sym (s.spans_so ∙ ap (λ (l : List ℕ). filled_spans spans l (drop (2 * t) pairs)) places ∙ simp (first-end, second-end)),
+          ap (λ (i : ℕ). put_span spans at (get_or pairs (2 * i) nan) (get_or pairs (2 * i + 1) nan)) (sym e)
+              ∙ sym (s.spans_so ∙ ap (λ (l : List ℕ). filled_spans spans l (drop (2 * t) pairs)) places ∙ simp (first-end, second-end)),
           sym (s.links_so ∙ ap (filled_links links o) places),
         )
 
-    pub fill-onward : FreeCursor n (put_span spans at (get_or pairs (2 * t) nan) (get_or pairs (2 * t + 1) nan)) (put_link links at 0 o) (at + 1)
-    fill-onward = record { most = omega (arith, s.counted); past = put-past (get_or pairs (2 * t) nan) (get_or pairs (2 * t + 1) nan) 0 }
+    pub fill-onward : (a b : Float) → FreeCursor n (put_span spans at a b) (put_link links at 0 o) (at + 1)
+    fill-onward a b = record { most = omega (arith, s.counted); past = put-past a b 0 }
 
   -- the number of the record at the first place
   pub first_head : (from at : ℕ) → FillListPre n spans₀ links₀ o pairs count from → NextFree spans₀ links₀ n from at

@@ -9,7 +9,7 @@ ghost use Rattle.store_write.specs.LayRays.{LayRayPre, LayRayPost};
 ghost use Rattle.store_write.specs.FreeRays.{FreeRayPre};
 ghost use Rattle.store.specs.Steps.{LayListPre, LayListPost, FreeListPre};
 
-// The first free place from `from` on, of which there is one.
+// The first free place from `from` on, of which there is one: so the walk up to it counts to no end.
 fn next_free(spans: &[f64], links: &[u64], n: usize, from: usize) -> usize
     requires { (2 * n ≤ length spans.now) × (2 * n ≤ length links.now)
         × (0 < length (free_from spans.now links.now from (n - from))) }
@@ -23,7 +23,7 @@ fn next_free(spans: &[f64], links: &[u64], n: usize, from: usize) -> usize
 }
 
 // The record number of a list's head, and the place past its last record.
-#[derive(Clone, Copy)]
+#[derive(Clone, Copy, Debug, PartialEq, Eq)]
 pub struct ListFilled {
     pub head: u64,
     pub cursor: usize,
@@ -65,18 +65,23 @@ fn fill_list(
 {
     let first = next_free(spans, links, n, from);
     let mut at = first;
-    let mut t: usize = 0;
-    while t + 1 < count {
+    let last = count - 1;
+    for t in 0..last {
         let after = next_free(spans, links, n, at + 1);
         let lo = pairs[2 * t];
         let hi = pairs[2 * t + 1];
         put_record(spans, links, at, lo, hi, (after as u64) + 1, owner);
         at = after;
-        t += 1;
     }
-    let lo = pairs[2 * t];
-    let hi = pairs[2 * t + 1];
-    put_record(spans, links, at, lo, hi, 0, owner);
+    put_record(
+        spans,
+        links,
+        at,
+        pairs[2 * last],
+        pairs[2 * last + 1],
+        0,
+        owner,
+    );
     ListFilled {
         head: (first as u64) + 1,
         cursor: at + 1,
@@ -120,10 +125,7 @@ fn free_chain(spans: &mut [f64], links: &mut [u64], n: usize, owner: u64, head: 
     while k != 0 {
         let i = (k - 1) as usize;
         k = links[2 * i];
-        spans[2 * i] = 0.0;
-        spans[2 * i + 1] = 0.0;
-        links[2 * i] = 0;
-        links[2 * i + 1] = 0;
+        put_record(spans, links, i, 0.0, 0.0, 0, 0);
     }
 }
 

@@ -10,11 +10,12 @@ use lib.Ieee.Fits.{add-fits, sub-fits}
 use Rattle.doubles.specs.Constants.{plus_zero}
 use Rattle.doubles.specs.Doubles.{larger_of, smaller_of}
 use Rattle.doubles.proofs.Pick.{larger-either, smaller-either}
+use Rattle.std.specs.Prelude.{Option, None, Some}
 use Rattle.strips.specs.declared.PlanePoint.{PlanePoint}
 use Rattle.strips.specs.declared.Extent.{Extent}
 use Rattle.strips.specs.declared.Strip.{Strip}
 use Rattle.strips.specs.declared.Strip.TheVariants.{Hit, Miss}
-use Rattle.strips.specs.Polygon.{inside, crossing, edge, head_or, edges, clip, widen, widen_all, empty, extent_strip}
+use Rattle.strips.specs.Polygon.{inside, crossing, edge, head_or, edges, clip, widen, widen_all, empty, reached, extent_strip}
 use Rattle.strips.specs.Polygon.{polygon_strip}
 use Rattle.strips.specs.Strip.{band_distance, half_chord, chord_strip, disk_strip, hull, side_strip}
 
@@ -75,22 +76,19 @@ clip-fits above bound [] a = tt
 clip-fits above bound (p ∷ r) a = edges_fit above bound p (p ∷ r) a
 
 -- ---- its extent
-abbrev DoubleExtent : Extent → Type 0
-DoubleExtent e = T (fits binary64 e.lo) × T (fits binary64 e.hi)
+abbrev DoubleExtent : Option Extent → Type 0
+DoubleExtent e = T (fits binary64 (reached e).lo) × T (fits binary64 (reached e).hi)
 
-widen-fits : (e : Extent) (l : List PlanePoint) → DoubleExtent e → DoubleCorners l → DoubleExtent (widen_all e l)
+widen-fits : (e : Option Extent) (l : List PlanePoint) → DoubleExtent e → DoubleCorners l → DoubleExtent (widen_all e l)
 unfolding widen_all widen
 widen-fits e [] h a = h
 widen-fits e (p ∷ r) h a =
-    widen-fits (widen e p) r (smaller-fits e.lo p.x h.0 a.0, larger-fits e.hi p.x h.1 a.0) a.1
+    widen-fits (widen e p) r (smaller-fits (reached e).lo p.x h.0 a.0, larger-fits (reached e).hi p.x h.1 a.0) a.1
 
-extent-doubles : (e : Extent) → DoubleExtent e → DoubleEnds (extent_strip e)
+extent-doubles : (e : Option Extent) → DoubleExtent e → DoubleEnds (extent_strip e)
 unfolding extent_strip
-extent-doubles e h = go e.any
-  where
-    go : (t : Bool) → DoubleEnds (cond t (Hit e.lo e.hi) Miss)
-    go true = h
-    go false = tt
+extent-doubles None h = tt
+extent-doubles (Some e) h = h
 
 polygon-doubles : (p q r s : PlanePoint) (y0 y1 : Float) → DoubleCorners (p ∷ q ∷ r ∷ s ∷ []) → DoubleEnds (polygon_strip p q r s y0 y1)
 unfolding polygon_strip fits

@@ -8,6 +8,7 @@ use native.Mathlib.Numerals.{add-one}
 use lib.ListN.{length, length-map, get_or, take, drop, drop_of_length-le}
 use lib.Seq.{length-take-le, drop-cons, get_or-take}
 use lib.Ieee.{Float}
+use Rattle.std.specs.Prelude.{Option}
 use Rattle.strips.specs.declared.PlanePoint.{PlanePoint}
 use Rattle.strips.specs.declared.Extent.{Extent}
 use Rattle.strips.specs.Polygon.{inside, crossing, widen_all, widen, edges, clip, edge, head_or}
@@ -15,7 +16,7 @@ use Rattle.strips.specs.Polygon.{inside, crossing, widen_all, widen, edges, clip
 pub length-field : (X Y : Type 0) (f : X → Y) (l : List X) (n : ℕ) → length (map f l) ≡ n → length l ≡ n
 length-field X Y f l n e = sym (length-map l f) ∙ e
 
-pub widen-append : (e : Extent) (l r : List PlanePoint) → widen_all e (l ++ r) ≡ widen_all (widen_all e l) r
+pub widen-append : (e : Option Extent) (l r : List PlanePoint) → widen_all e (l ++ r) ≡ widen_all (widen_all e l) r
 unfolding widen_all
 widen-append e [] r = refl
 widen-append e (p ∷ l) r = widen-append (widen e p) l r
@@ -39,7 +40,7 @@ next-out f at n j h k =
     let m : length (take n at) ≤ j = omega arith in
     rw (drop_of_length-le (take n at) m)
 
-pub step : (above : Bool) (b : Float) (f d q : PlanePoint) (at : List PlanePoint) (n i : ℕ) (e : Extent) → i < n → n ≤ length at
+pub step : (above : Bool) (b : Float) (f d q : PlanePoint) (at : List PlanePoint) (n i : ℕ) (e : Option Extent) → i < n → n ≤ length at
     → q ≡ head_or f (drop (i + 1) (take n at))
     → widen_all (widen_all e (edge above b (get_or at i d) q)) (edges above b f (drop (i + 1) (take n at)))
     ≡ widen_all e (edges above b f (drop i (take n at)))

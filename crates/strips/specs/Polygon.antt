@@ -1,6 +1,6 @@
 -- A polygon clipped to a band by the rule of Sutherland and Hodgman, and its extent along x (sweep.rs: polygon_strip).
 -- Each operation is rounded. Corners may come in any order, and a corner that is NaN is inside no half plane.
-use Rattle.std.specs.Prelude.{Bool, true, false, cond, List, [], ◌∷◌, ◌++◌, Float}
+use Rattle.std.specs.Prelude.{Bool, true, false, cond, List, [], ◌∷◌, ◌++◌, Float, Option, None, Some, unwrap_or}
 use Rattle.std.specs.Float.{inf, binary64}
 use Rattle.std.specs.Float.Ieee.{add, sub, mul, div, le}
 use Rattle.doubles.specs.Doubles.{larger_of, smaller_of}
@@ -40,19 +40,25 @@ unfoldable pub clip : (above : Bool) → Float → List PlanePoint → List Plan
 clip above bound [] = []
 clip above bound (p ∷ r) = edges above bound p (p ∷ r)
 
--- the smallest and the largest x so far, and whether there was a point
-unfoldable pub widen : Extent → PlanePoint → Extent
-widen e p = record { lo = smaller_of e.lo p.x; hi = larger_of e.hi p.x; any = true }
+-- the smallest and the largest x so far: those of no points are the infinities
+abbrev pub reached : Option Extent → Extent
+reached e = unwrap_or e (record { lo = inf false; hi = inf true })
 
-unfoldable pub widen_all : Extent → List PlanePoint → Extent
+-- with one point more
+unfoldable pub widen : Option Extent → PlanePoint → Option Extent
+widen e p = Some (record { lo = smaller_of (reached e).lo p.x; hi = larger_of (reached e).hi p.x })
+
+unfoldable pub widen_all : Option Extent → List PlanePoint → Option Extent
 widen_all e [] = e
 widen_all e (p ∷ r) = widen_all (widen e p) r
 
-abbrev pub empty : Extent
-empty = record { lo = inf false; hi = inf true; any = false }
+-- of no points
+abbrev pub empty : Option Extent
+empty = None
 
-unfoldable pub extent_strip : Extent → Strip
-extent_strip e = cond e.any (Hit e.lo e.hi) Miss
+unfoldable pub extent_strip : Option Extent → Strip
+extent_strip None = Miss
+extent_strip (Some e) = Hit e.lo e.hi
 
 -- clipped from below at y0, then from above at y1
 unfoldable pub polygon_strip : PlanePoint → PlanePoint → PlanePoint → PlanePoint → Float → Float → Strip

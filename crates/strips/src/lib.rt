@@ -3,18 +3,18 @@
 
 ghost use Rattle.std.specs.Prelude.{◌≡◌, ◌++◌, ◌∷◌, [], ◌+◌, ◌<◌, ◌≤◌};
 ghost use Rattle.strips.specs.Strip.{band_distance, half_chord, chord_strip, disk_strip, hull, side_strip, stadium_strip};
-ghost use Rattle.strips.specs.Polygon.{inside, crossing, edge, clip, widen, widen_all, empty, polygon_strip};
+ghost use Rattle.strips.specs.Polygon.{inside, crossing, edge, clip, widen, widen_all, polygon_strip};
 ghost use Rattle.strips.specs.Steps.{corners};
 
 #[repr(C)]
-#[derive(Clone, Copy)]
+#[derive(Clone, Copy, Debug, PartialEq)]
 pub struct PlanePoint {
     pub x: f64,
     pub y: f64,
 }
 
 // An extent along x, from the first end to the second, or none.
-#[derive(Clone, Copy)]
+#[derive(Clone, Copy, Debug, PartialEq)]
 pub enum Strip {
     Hit(f64, f64),
     Miss,
@@ -27,23 +27,21 @@ struct Points {
     at: [PlanePoint; 8],
 }
 
-// The smallest and the largest x so far, and whether there was a point.
-#[derive(Clone, Copy)]
+// The smallest and the largest x of some points, of which there is one at least.
+#[derive(Clone, Copy, Debug, PartialEq)]
 struct Extent {
     lo: f64,
     hi: f64,
-    any: bool,
 }
 
+#[tactic(auto, unfolding(crate::specs::Polygon::inside))]
 fn is_inside(above: bool, bound: f64, p: PlanePoint) -> bool
     ensures { result ≡ inside above bound p }
 {
-    if above {
-        return p.y >= bound;
-    }
-    p.y <= bound
+    if above { p.y >= bound } else { p.y <= bound }
 }
 
+#[tactic(auto, unfolding(crate::specs::Polygon::crossing))]
 fn cross_at(bound: f64, p: PlanePoint, q: PlanePoint) -> PlanePoint
     ensures { result ≡ crossing bound p q }
 {
@@ -65,22 +63,20 @@ fn push(ps: Points, p: PlanePoint) -> Points
     r
 }
 
+#[tactic(auto, unfolding(crate::specs::Polygon::edge))]
 fn push_edge(ps: Points, above: bool, bound: f64, p: PlanePoint, q: PlanePoint) -> Points
     requires { ps.n ≤ 6 }
     ensures { (corners result ≡ corners ps ++ edge above bound p q) × (result.n ≤ ps.n + 2) }
 {
-    if is_inside(above, bound, p) {
-        if is_inside(above, bound, q) {
-            return push(ps, p);
-        }
-        return push(push(ps, p), cross_at(bound, p, q));
+    match (is_inside(above, bound, p), is_inside(above, bound, q)) {
+        (true, true) => push(ps, p),
+        (true, false) => push(push(ps, p), cross_at(bound, p, q)),
+        (false, true) => push(ps, cross_at(bound, p, q)),
+        (false, false) => ps,
     }
-    if is_inside(above, bound, q) {
-        return push(ps, cross_at(bound, p, q));
-    }
-    ps
 }
 
+#[tactic(auto, unfolding(crate::specs::Polygon::clip, crate::specs::Polygon::edges))]
 fn clip4(
     above: bool,
     bound: f64,
@@ -99,64 +95,56 @@ fn clip4(
     push_edge(e3, above, bound, s, p)
 }
 
-fn no_extent() -> Extent
-    ensures { result ≡ empty }
-{
-    Extent {
-        lo: 1.0 / 0.0,
-        hi: -1.0 / 0.0,
-        any: false,
-    }
-}
-
-fn widened(e: Extent, p: PlanePoint) -> Extent
+#[tactic(auto, unfolding(crate::specs::Polygon::widen))]
+fn widened(e: Option<Extent>, p: PlanePoint) -> Option<Extent>
     ensures { result ≡ widen e p }
 {
-    Extent {
-        lo: doubles_minmax::smaller(e.lo, p.x),
-        hi: doubles_minmax::larger(e.hi, p.x),
-        any: true,
-    }
+    let before = e.unwrap_or(Extent {
+        lo: f64::INFINITY,
+        hi: f64::NEG_INFINITY,
+    });
+    Some(Extent {
+        lo: doubles_minmax::smaller(before.lo, p.x),
+        hi: doubles_minmax::larger(before.hi, p.x),
+    })
 }
 
-fn widen_edge(e: Extent, above: bool, bound: f64, p: PlanePoint, q: PlanePoint) -> Extent
+#[tactic(auto, unfolding(crate::specs::Polygon::edge, crate::specs::Polygon::widen_all))]
+fn widen_edge(
+    e: Option<Extent>,
+    above: bool,
+    bound: f64,
+    p: PlanePoint,
+    q: PlanePoint,
+) -> Option<Extent>
     ensures { result ≡ widen_all e (edge above bound p q) }
 {
-    if is_inside(above, bound, p) {
-        if is_inside(above, bound, q) {
-            return widened(e, p);
-        }
-        return widened(widened(e, p), cross_at(bound, p, q));
+    match (is_inside(above, bound, p), is_inside(above, bound, q)) {
+        (true, true) => widened(e, p),
+        (true, false) => widened(widened(e, p), cross_at(bound, p, q)),
+        (false, true) => widened(e, cross_at(bound, p, q)),
+        (false, false) => e,
     }
-    if is_inside(above, bound, q) {
-        return widened(e, cross_at(bound, p, q));
-    }
-    e
 }
 
 // The points of the second clip go into the extent as they come, and need no places.
-fn widen_clip(above: bool, bound: f64, ps: Points, e0: Extent) -> Extent
+fn widen_clip(above: bool, bound: f64, ps: Points, e0: Option<Extent>) -> Option<Extent>
     requires { ps.n ≤ 8 }
     ensures { result ≡ widen_all e0 (clip above bound (corners ps)) }
 {
     let n = ps.n;
     let mut e = e0;
-    let mut i = 0;
     let first = ps.at[0];
-    while i < n {
-        let p = ps.at[i];
-        let mut q = first;
+    for i in 0..n {
         let j = i + 1;
-        if j < n {
-            q = ps.at[j];
-        }
-        e = widen_edge(e, above, bound, p, q);
-        i = j;
+        let q = if j < n { ps.at[j] } else { first };
+        e = widen_edge(e, above, bound, ps.at[i], q);
     }
     e
 }
 
 // The extent of the polygon p, q, r, s within the band from y0 to y1. It need not be convex.
+#[tactic(auto, unfolding(crate::specs::Polygon::polygon_strip, crate::specs::Polygon::extent_strip))]
 pub fn polygon_strip(
     p: PlanePoint,
     q: PlanePoint,
@@ -168,66 +156,70 @@ pub fn polygon_strip(
     ensures { result ≡ polygon_strip p q r s y0 y1 }
 {
     let c = clip4(true, y0, p, q, r, s);
-    let e = widen_clip(false, y1, c, no_extent());
-    if e.any {
-        return Strip::Hit(e.lo, e.hi);
+    match widen_clip(false, y1, c, None) {
+        Some(e) => Strip::Hit(e.lo, e.hi),
+        None => Strip::Miss,
     }
-    Strip::Miss
 }
 
+#[tactic(auto, unfolding(crate::specs::Strip::band_distance))]
 fn band_distance(y: f64, y0: f64, y1: f64) -> f64
     ensures { result ≡ band_distance y y0 y1 }
 {
     if y < y0 {
-        return y0 - y;
+        y0 - y
+    } else if y > y1 {
+        y - y1
+    } else {
+        0.0
     }
-    if y > y1 {
-        return y - y1;
-    }
-    0.0
 }
 
+#[tactic(auto, unfolding(crate::specs::Strip::half_chord))]
 fn half_chord(rho: f64, dy: f64) -> f64
     ensures { result ≡ half_chord rho dy }
 {
     doubles_sqrt::sqrt(doubles_minmax::larger((rho - dy) * (rho + dy), 0.0))
 }
 
+#[tactic(auto, unfolding(crate::specs::Strip::chord_strip))]
 fn chord_strip(x: f64, rho: f64, dy: f64) -> Strip
     ensures { result ≡ chord_strip x rho dy }
 {
     if dy <= rho {
         let half = half_chord(rho, dy);
-        return Strip::Hit(x - half, x + half);
+        Strip::Hit(x - half, x + half)
+    } else {
+        Strip::Miss
     }
-    Strip::Miss
 }
 
 // The extent of a disk of radius rho around c within the band from y0 to y1.
+#[tactic(auto, unfolding(crate::specs::Strip::disk_strip))]
 pub fn disk_strip(c: PlanePoint, rho: f64, y0: f64, y1: f64) -> Strip
     ensures { result ≡ disk_strip c rho y0 y1 }
 {
     chord_strip(c.x, rho, band_distance(c.y, y0, y1))
 }
 
+#[tactic(auto, unfolding(crate::specs::Strip::hull))]
 fn hull_of(a: Strip, b: Strip) -> Strip
     ensures { result ≡ hull a b }
 {
-    match a {
-        Strip::Miss => b,
-        Strip::Hit(lo, hi) => match b {
-            Strip::Miss => a,
-            Strip::Hit(lo2, hi2) => {
-                Strip::Hit(
-                    doubles_minmax::smaller(lo, lo2),
-                    doubles_minmax::larger(hi, hi2),
-                )
-            }
-        },
+    match (a, b) {
+        (Strip::Miss, _) => b,
+        (_, Strip::Miss) => a,
+        (Strip::Hit(lo, hi), Strip::Hit(lo2, hi2)) => {
+            Strip::Hit(
+                doubles_minmax::smaller(lo, lo2),
+                doubles_minmax::larger(hi, hi2),
+            )
+        }
     }
 }
 
 // Both end disks. Where they are as far from the band the half chord is the same, and one root is enough.
+#[tactic(auto, unfolding(crate::specs::Strip::disk_strip, crate::specs::Strip::chord_strip, crate::specs::Strip::hull))]
 fn ends_strip(a: PlanePoint, b: PlanePoint, rho: f64, y0: f64, y1: f64) -> Strip
     ensures { result ≡ hull (disk_strip a rho y0 y1) (disk_strip b rho y0 y1) }
 {
@@ -244,6 +236,7 @@ fn ends_strip(a: PlanePoint, b: PlanePoint, rho: f64, y0: f64, y1: f64) -> Strip
     chord_strip(b.x, rho, db)
 }
 
+#[tactic(auto, unfolding(crate::specs::Strip::side_strip))]
 fn side_strip(a: PlanePoint, b: PlanePoint, length: f64, rho: f64, y0: f64, y1: f64) -> Strip
     ensures { result ≡ side_strip a b length rho y0 y1 }
 {
@@ -266,12 +259,14 @@ fn side_strip(a: PlanePoint, b: PlanePoint, length: f64, rho: f64, y0: f64, y1: 
             x: a.x - nx,
             y: a.y - ny,
         };
-        return polygon_strip(p, q, r, s, y0, y1);
+        polygon_strip(p, q, r, s, y0, y1)
+    } else {
+        Strip::Miss
     }
-    Strip::Miss
 }
 
 // The extent of the points within rho of the segment from a to b, in the band from y0 to y1. `length` is the segment's plan length.
+#[tactic(auto, unfolding(crate::specs::Strip::stadium_strip))]
 pub fn stadium_strip(a: PlanePoint, b: PlanePoint, length: f64, rho: f64, y0: f64, y1: f64) -> Strip
     ensures { result ≡ stadium_strip a b length rho y0 y1 }
 {

@@ -12,7 +12,7 @@ use Rattle.grid.specs.Axes.{by_digit}
 use Rattle.grid.specs.Grid.{is_between, all_between}
 use Rattle.grid.specs.FromSpec.{any_below, any_above, is_mm, misdescribed, cell_count, grid_over, grid_of}
 use Rattle.grid.specs.Causes.{mm, grid_in, grid_causes}
-use Rattle.grid.specs.declared.GridAnswer.TheVariants.{Accepted as Griddable}
+use Rattle.std.specs.Prelude.{Ok}
 use Rattle.grid.proofs.Facts.{grid-facts}
 use Rattle.refusal.specs.Refusal.{NoneDue}
 use Rattle.logic.proofs.Bools.{clash}
@@ -50,7 +50,8 @@ use Rattle.doubles.specs.Rounding.{ratio}
 pub examples-right : SweepExamplesRight sweep_examples
 unfolding sweep_examples blank flat sweeping three_chords four_entries axis_rays_of axis_entries first_axis second_axis
     chord_entries sweep_entries chord_of walk entry_of entry_for ray_entry each row_entries rect_entries outer_from outer_of
-    inner_from inner_of ray_hit_of plan_point reach_of axis_scale_of chord_on_axis_of span_over cells_met cells_across rectangle_of local_center
+    inner_from inner_of ray_hit_of plan_point reach_of axis_scale_of chord_on_axis_of span_over cells_met cells_across rectangle_of
+    local_center
     section_with section_of last_of spans_meet overlaps_of record_at uncut_spans uncut_links uncut_heads places ends_at
     band_distance half_chord chord_strip disk_strip stadium_strip hull side_strip is_finite cutting_radius off_tool radius_at
     cut_radius cut_max cut_min axis_digit world_axis_of local_axis_of sign_along local_at local_of turned world_of ray_count
@@ -67,7 +68,7 @@ unfolding visit_total sum_each rays_in blank flat sweeping three_chords first_ax
 total_right = refl
 
 -- ---- a sweep of the example's blank with its cutter has no cause, if its chords are whole and fit and its walk does not stop
-grid-made : grid_of blank mm ≡ Griddable (grid_in blank)
+grid-made : grid_of blank mm ≡ Ok (grid_in blank)
 unfolding blank grid_of grid_over misdescribed is_mm is_between all_between any_below any_above cell_count
     by_digit larger_of ceil_of of_bits of_int to_unsigned add sub mul div neg lt le eq is_nan
 grid-made = refl
@@ -86,7 +87,8 @@ unfolding blank is_short record_at uncut_spans uncut_links uncut_heads ray_count
 laid-room = refl
 
 tool-fits : within_limits Flat flat ≡ true
-unfolding flat ratio within_limits sizes_fit heights_fit lengths_fit diameters_fit shape_fits above_zero from_zero is_not_nan of_bits lt le eq is_nan
+unfolding flat ratio within_limits sizes_fit heights_fit lengths_fit diameters_fit shape_fits above_zero from_zero is_not_nan of_bits lt
+    le eq is_nan
 tool-fits = refl
 
 laid-sound : SoundCells blank (grid_in blank) (uncut blank (grid_in blank) lent) 6

@@ -1,7 +1,8 @@
 -- What a sweep answers, and what it leaves in the log.
-use Rattle.std.specs.Prelude.{◌≡◌, true, cond, ◌||◌, List, [], ◌∷◌, ◌++◌, ◌⊎◌, ℕ, ◌-◌, ◌%◌, eqb, Float, length, replicate}
+use Rattle.std.specs.Prelude.{◌≡◌, true, cond, ◌||◌, List, [], ◌∷◌, ◌++◌, ◌⊎◌, ℕ, ◌-◌, ◌%◌, eqb, Float, length, replicate, Result, Ok, Err}
 use Rattle.doubles.specs.Constants.{plus_zero}
-use Rattle.refusal.specs.Refusal.{Cause, cause, Due, NoneDue}
+use Rattle.refusal.specs.Refusal.{Cause, cause, Due, NoneDue, number_of}
+use Rattle.refusal.specs.declared.Refusal.{Refusal}
 use Rattle.grid.specs.Causes.{grid_causes, grid_in}
 use Rattle.grid.specs.declared.DexelStockSpec.{DexelStockSpec}
 use Rattle.frame.specs.Frame.{frame_of}
@@ -16,8 +17,6 @@ use Rattle.sweep_model.specs.Walk.{Walked, Stop, walk}
 use Rattle.sweep_model.specs.ChordLimits.{BadChords}
 use Rattle.sweep_model.specs.SweepEntries.{Setting, setting, sweep_entries, log_of, visit_total}
 use Rattle.sweep.specs.declared.Totals.{Totals}
-use Rattle.sweep.specs.declared.SweepAnswer.{SweepAnswer}
-use Rattle.sweep.specs.declared.SweepAnswer.TheVariants.{Accepted, Refused}
 use Rattle.store.specs.Store.{Cells}
 
 -- the setting that the arguments of a sweep describe
@@ -64,6 +63,6 @@ pub record SweepLogged (s : Setting) (intervals : ℕ) (chords before after : Li
   pub log : after ≡ log_of s chords ++ replicate (length before - length (log_of s chords)) plus_zero
 
 -- a refused call gives the number that is due
-abbrev pub SweepPost : List Cause → Setting → (intervals : ℕ) → (chords before after : List Float) → SweepAnswer → Type 0
-SweepPost causes s intervals chords before after (Refused k) = Due causes k × (after ≡ refused_log k before)
-SweepPost causes s intervals chords before after (Accepted t) = NoneDue causes × SweepLogged s intervals chords before after t
+abbrev pub SweepPost : List Cause → Setting → (intervals : ℕ) → (chords before after : List Float) → Result Totals Refusal → Type 0
+SweepPost causes s intervals chords before after (Err e) = Due causes (number_of e) × (after ≡ refused_log (number_of e) before)
+SweepPost causes s intervals chords before after (Ok t) = NoneDue causes × SweepLogged s intervals chords before after t

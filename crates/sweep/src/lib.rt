@@ -9,48 +9,35 @@ ghost use Rattle.sweep.specs.Steps.{SweepCheckPost, end_of, logged_by, end_log};
 ghost use Rattle.store.specs.Store.{cells};
 
 use cutter::{CutterShape, PreparedCutter};
-use cutter_check::ToolCheck;
 use frame::Axis;
-use grid::{DexelGrid, DexelStockSpec, GridAnswer};
+use grid::{DexelGrid, DexelStockSpec};
+use refusal::Refusal;
 use sweep_model::{Kernel, Profile};
-use sweep_visits::Progress;
+use sweep_visits::VisitCursor;
 
 // The number of entries in the log, and document 01's visit total.
-#[derive(Clone, Copy)]
+#[derive(Clone, Copy, Debug, PartialEq, Eq)]
 pub struct Totals {
     pub entries: usize,
     pub visits: u64,
 }
 
-// The totals of a sweep, or why the call is refused.
-#[derive(Clone, Copy)]
-pub enum SweepAnswer {
-    Accepted(Totals),
-    Refused(u32),
-}
-
-#[derive(Clone, Copy)]
-pub enum SweepCheck {
-    Admitted,
-    Declined(u32),
-}
-
 // Ends a walk: its answer, and zeros in every cell of the log that is not of an entry.
-fn end_log(x: Progress, log: &mut [f64]) -> SweepAnswer
+fn end_log(x: Result<VisitCursor, Refusal>, log: &mut [f64]) -> Result<Totals, Refusal>
     requires { logged_by x ≤ length log.old }
     ensures { (result ≡ end_of x) × (log.new ≡ end_log x log.old) }
 {
     match x {
-        Progress::Stopped(n) => {
+        Err(e) => {
             spans::clear_from(log, 0);
-            return SweepAnswer::Refused(n);
+            Err(e)
         }
-        Progress::At(c) => {
+        Ok(c) => {
             spans::clear_from(log, c.at);
-            return SweepAnswer::Accepted(Totals {
+            Ok(Totals {
                 entries: c.at / 6,
                 visits: c.visits,
-            });
+            })
         }
     }
 }
@@ -66,34 +53,26 @@ fn check_sweep(
     links: &[u64],
     heads: &[u64],
     intervals: u64,
-) -> SweepCheck
+) -> Result<(), Refusal>
     requires { GridFacts spec g }
     ensures { SweepCheckPost
         (setting spec g k p (cells spans.now links.now heads.now)) intervals
         chords.now result }
 {
     if stock::is_short(spec, g, spans, links, heads) {
-        return SweepCheck::Declined(12);
+        return Err(Refusal::ShortBuffer);
     }
     if chords.len() % 8 != 0 {
-        return SweepCheck::Declined(11);
+        return Err(Refusal::Unsound);
     }
     if !stock::check_stock(spec, g, spans, links, heads, intervals) {
-        return SweepCheck::Declined(11);
+        return Err(Refusal::Unsound);
     }
-    let shape = p.shape;
-    let tool = cutter_check::check_tool(shape, p.cutter);
-    match tool {
-        ToolCheck::Refused(n) => {
-            return SweepCheck::Declined(n);
-        }
-        ToolCheck::Accepted => {
-            if chords::check_chords(k.frame, k.guard, chords) {
-                return SweepCheck::Admitted;
-            }
-            return SweepCheck::Declined(7);
-        }
+    cutter_check::check_tool(p.shape, p.cutter)?;
+    if !chords::check_chords(k.frame, k.guard, chords) {
+        return Err(Refusal::Chord);
     }
+    Ok(())
 }
 
 // The sweep, over a grid that is accepted.
@@ -109,7 +88,7 @@ fn sweep_grid(
     heads: &[u64],
     intervals: u64,
     log: &mut [f64],
-) -> SweepAnswer
+) -> Result<Totals, Refusal>
     requires { GridFacts spec g }
     ensures { SweepPost (causes_in
         (setting spec g k p (cells spans.now links.now heads.now)) intervals
@@ -117,18 +96,9 @@ fn sweep_grid(
         (setting spec g k p (cells spans.now links.now heads.now)) intervals
         chords.now log.old log.new result }
 {
-    let ready = check_sweep(spec, g, k, p, chords, spans, links, heads, intervals);
-    match ready {
-        SweepCheck::Declined(n) => {
-            return SweepAnswer::Refused(n);
-        }
-        SweepCheck::Admitted => {
-            let x = sweep_walk::sweep_chords(
-                spec, g, k, p, chords, budget, spans, links, heads, log,
-            );
-            return end_log(x, log);
-        }
-    }
+    check_sweep(spec, g, k, p, chords, spans, links, heads, intervals)?;
+    let x = sweep_walk::sweep_chords(spec, g, k, p, chords, budget, spans, links, heads, log);
+    end_log(x, log)
 }
 
 // The rays across the tool that a swept cutter meets, as a log. Refusals: 1, 2, 3, 12, 11, 5, 6, 7, then per visit 8 before 16.
@@ -146,7 +116,7 @@ pub fn sweep(
     chords: &[f64],
     budget: u64,
     log: &mut [f64],
-) -> SweepAnswer
+) -> Result<Totals, Refusal>
     ensures { SweepPost (sweep_causes units.now
         (setting_of spec axis shape cutter guard
         (cells spans.now links.now heads.now)) intervals chords.now budget
@@ -155,19 +125,13 @@ pub fn sweep(
         (cells spans.now links.now heads.now)) intervals chords.now
         log.old log.new result }
 {
-    match grid_from_spec::grid(spec, units) {
-        GridAnswer::Refused(n) => {
-            return SweepAnswer::Refused(n);
-        }
-        GridAnswer::Accepted(g) => {
-            let k = Kernel {
-                frame: axis.frame(),
-                guard: guard,
-            };
-            let p = sweep_kernel::profile_of(shape, cutter);
-            return sweep_grid(
-                spec, g, k, p, chords, budget, spans, links, heads, intervals, log,
-            );
-        }
-    }
+    let g = grid_from_spec::grid(spec, units)?;
+    let k = Kernel {
+        frame: axis.frame(),
+        guard,
+    };
+    let p = sweep_kernel::profile_of(shape, cutter);
+    sweep_grid(
+        spec, g, k, p, chords, budget, spans, links, heads, intervals, log,
+    )
 }

@@ -10,29 +10,32 @@ use cutter::{CutterShape, PreparedCutter};
 use frame::{Frame, LocalAxis, Pair};
 use grid::{DexelGrid, DexelStockSpec, Vec3, WorldAxis};
 use strips::PlanePoint;
-use sweep_model::{AxisScale, CellRange, Chord, ChordOnAxis, Kernel, Profile, RayRange, RayRect};
+use sweep_model::{AxisScale, CellRange, Chord, ChordOnAxis, Kernel, Profile, RayRange};
 
 pub fn profile_of(shape: CutterShape, cutter: PreparedCutter) -> Profile
     ensures { result ≡ profile_of shape cutter }
 {
     Profile {
-        shape: shape,
-        cutter: cutter,
+        shape,
+        cutter,
         radius: cutter.diameter_mm / 2.0,
     }
 }
 
 // A point of a chord as rays along the local axis la see it: x along the ray, y across it.
+#[tactic(auto, unfolding(sweep_model::specs::Kernel::plan_point))]
 fn plan_point(p: Vec3, la: LocalAxis) -> PlanePoint
     ensures { result ≡ plan_point p la }
 {
     if la.0 == 0 {
-        return PlanePoint { x: p.x, y: p.y };
+        PlanePoint { x: p.x, y: p.y }
+    } else {
+        PlanePoint { x: p.y, y: p.x }
     }
-    PlanePoint { x: p.y, y: p.x }
 }
 
 // A superset of every outer interval along the rays, in world coordinates.
+#[tactic(auto, unfolding(sweep_model::specs::Kernel::reach_of))]
 fn reach_of(k: Kernel, la: LocalAxis, pad: f64, a: PlanePoint, b: PlanePoint) -> Pair
     ensures { result ≡ reach_of k la pad a b }
 {
@@ -43,6 +46,7 @@ fn reach_of(k: Kernel, la: LocalAxis, pad: f64, a: PlanePoint, b: PlanePoint) ->
     frame::world(k.frame, la, s)
 }
 
+#[tactic(auto, unfolding(sweep_model::specs::Kernel::axis_scale_of))]
 fn axis_scale(spec: DexelStockSpec, g: DexelGrid, f: Frame, w: WorldAxis) -> AxisScale
     ensures { result ≡ axis_scale_of spec g f w }
 {
@@ -53,6 +57,7 @@ fn axis_scale(spec: DexelStockSpec, g: DexelGrid, f: Frame, w: WorldAxis) -> Axi
     }
 }
 
+#[tactic(auto, unfolding(sweep_model::specs::Kernel::chord_on_axis_of))]
 pub fn chord_on_axis(
     spec: DexelStockSpec,
     g: DexelGrid,
@@ -71,10 +76,10 @@ pub fn chord_on_axis(
     let lu = frame::local_axis(f, w.u);
     ChordOnAxis {
         frame: f,
-        la: la,
+        la,
         guard: k.guard,
-        a: a,
-        b: b,
+        a,
+        b,
         length: c.length,
         e: c.e,
         z_lo: doubles_minmax::smaller(c.a.z, c.b.z),
@@ -87,6 +92,7 @@ pub fn chord_on_axis(
 }
 
 // The local range of a chord's rays along a local axis that crosses them.
+#[tactic(auto, unfolding(sweep_model::specs::Kernel::span_over))]
 fn span_over(p: Profile, l: ChordOnAxis, i: LocalAxis) -> Pair
     ensures { result ≡ span_over p l i }
 {
@@ -104,32 +110,28 @@ fn span_over(p: Profile, l: ChordOnAxis, i: LocalAxis) -> Pair
 }
 
 // The cells along a world axis that the pair s meets.
-fn cells_met(spec: DexelStockSpec, g: DexelGrid, w: WorldAxis, s: Pair) -> CellRange
+#[tactic(auto, unfolding(sweep_model::specs::Kernel::cells_met))]
+fn cells_met(spec: DexelStockSpec, g: DexelGrid, w: WorldAxis, s: Pair) -> Option<CellRange>
     requires { GridFacts spec g }
     ensures { result ≡ cells_met spec g w s }
 {
-    if s.hi < grid::along(spec.min_mm, w) {
-        return CellRange::Missed;
+    if s.hi < grid::along(spec.min_mm, w) || s.lo > grid::along(spec.max_mm, w) || s.lo > s.hi {
+        return None;
     }
-    if s.lo > grid::along(spec.max_mm, w) {
-        return CellRange::Missed;
-    }
-    if s.lo > s.hi {
-        return CellRange::Missed;
-    }
-    CellRange::Met(
-        grid_cells::cell_at(spec, g, w, s.lo),
-        grid_cells::cell_at(spec, g, w, s.hi),
-    )
+    Some(CellRange {
+        first: grid_cells::cell_at(spec, g, w, s.lo),
+        last: grid_cells::cell_at(spec, g, w, s.hi),
+    })
 }
 
+#[tactic(auto, unfolding(sweep_model::specs::Kernel::cells_across))]
 fn cells_across(
     spec: DexelStockSpec,
     g: DexelGrid,
     p: Profile,
     l: ChordOnAxis,
     w: WorldAxis,
-) -> CellRange
+) -> Option<CellRange>
     requires { GridFacts spec g }
     ensures { result ≡ cells_across spec g p l w }
 {
@@ -138,29 +140,24 @@ fn cells_across(
 }
 
 // The rays of an axis that a chord visits.
+#[tactic(auto, unfolding(sweep_model::specs::Kernel::rectangle_of))]
 pub fn rectangle_of(
     spec: DexelStockSpec,
     g: DexelGrid,
     p: Profile,
     l: ChordOnAxis,
     axis: WorldAxis,
-) -> RayRect
+) -> Option<RayRange>
     requires { GridFacts spec g }
     ensures { result ≡ rectangle_of spec g p l axis }
 {
     let w = grid::cross(axis);
-    let us = cells_across(spec, g, p, l, w.u);
-    let vs = cells_across(spec, g, p, l, w.v);
-    match us {
-        CellRange::Missed => RayRect::NoRays,
-        CellRange::Met(u0, u1) => match vs {
-            CellRange::Missed => RayRect::NoRays,
-            CellRange::Met(v0, v1) => RayRect::Rays(RayRange {
-                u0: u0,
-                u1: u1,
-                v0: v0,
-                v1: v1,
-            }),
-        },
-    }
+    let us = cells_across(spec, g, p, l, w.u)?;
+    let vs = cells_across(spec, g, p, l, w.v)?;
+    Some(RayRange {
+        u0: us.first,
+        u1: us.last,
+        v0: vs.first,
+        v1: vs.last,
+    })
 }

@@ -16,7 +16,6 @@ use Rattle.doubles.specs.Ranges.{OutOf}
 use Rattle.doubles.proofs.Ranges.{out_of, not-out, out-of-positive, not-out-positive}
 use Rattle.grid.specs.Grid.{is_between, all_between}
 use Rattle.frame.specs.declared.Frame.{Frame}
-use Rattle.sweep_model.specs.declared.Chord.{Chord}
 use Rattle.sweep_model.specs.Chords.{point_at, chord_of}
 use Rattle.sweep_model.specs.ChordLimits.{two_million, thousand, plan_size, BadChords, guard_out, coordinate_out, error_out}
 use Rattle.sweep_model.specs.ChordLimits.{plan_length_out}

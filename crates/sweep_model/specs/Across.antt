@@ -11,24 +11,21 @@
 -- This is camlib's argument, over exact numbers. Proved is that the code computes these definitions, and in the crate discs that
 -- the outer pair holds the exact disc of the widest radius, as it is worked out here, at either end of the chord, for e and a
 -- guard that are not too small.
-use Rattle.std.specs.Prelude.{cond, List, Float}
+use Rattle.std.specs.Prelude.{cond, List, Float, Option, None, Some}
 use Rattle.std.specs.Float.{binary64}
 use Rattle.std.specs.Float.Ieee.{add, sub, lt}
 use Rattle.doubles.specs.Constants.{plus_zero}
 use Rattle.doubles.specs.Doubles.{larger_of, smaller_of}
 use Rattle.cutter.specs.Cutter.{cut_max, cut_min}
-use Rattle.cutter.specs.declared.Radius.{Radius}
-use Rattle.cutter.specs.declared.Radius.TheVariants.{Is}
 use Rattle.frame.specs.Frame.{world_of}
 use Rattle.frame.specs.declared.Pair.{Pair}
 use Rattle.strips.specs.Strip.{stadium_strip}
 use Rattle.strips.specs.declared.Strip.{Strip}
 use Rattle.strips.specs.declared.Strip.TheVariants.{Hit, Miss}
+use Rattle.sweep_model.specs.declared.HitPairs.{HitPairs}
 use Rattle.sweep_model.specs.declared.Profile.{Profile}
 use Rattle.sweep_model.specs.declared.ChordOnAxis.{ChordOnAxis}
 use Rattle.sweep_model.specs.declared.Section.{Section}
-use Rattle.sweep_model.specs.declared.RayHit.{RayHit}
-use Rattle.sweep_model.specs.declared.RayHit.TheVariants.{On, Off}
 use Rattle.sweep_model.specs.Meets.{spans_meet, overlaps_of}
 
 -- document 01's "no inner is [0, 0]"; `None` at sweep.rs 946
@@ -47,9 +44,9 @@ outer_from l (Hit lo hi) =
     Hit w.lo w.hi
 
 -- the extent over the band of the stadium of the radius r and e (sweep.rs 939-942)
-abbrev pub outer_at : ChordOnAxis → Section → Radius → Strip
-outer_at l s Radius.Outside = Miss
-outer_at l s (Is r) = outer_from l (stadium_strip l.a l.b l.length (add binary64 r l.e) s.y0 s.y1)
+abbrev pub outer_at : ChordOnAxis → Section → Option Float → Strip
+outer_at l s None = Miss
+outer_at l s (Some r) = outer_from l (stadium_strip l.a l.b l.length (add binary64 r l.e) s.y0 s.y1)
 
 -- where the largest section over the window may touch the ray's band (sweep.rs 936-942)
 unfoldable pub outer_of : Profile → ChordOnAxis → Section → Strip
@@ -65,9 +62,9 @@ inner_from l (Hit lo hi) (Hit lo' hi') =
     cond (lt a b) (world_of l.frame l.la (pair a b)) no_pair
 
 -- what the stadium of the radius r less e covers at both edges of the band (sweep.rs 948-959)
-abbrev pub inner_at : ChordOnAxis → Section → Radius → Pair
-inner_at l s Radius.Outside = no_pair
-inner_at l s (Is r) =
+abbrev pub inner_at : ChordOnAxis → Section → Option Float → Pair
+inner_at l s None = no_pair
+inner_at l s (Some r) =
     let rho = sub binary64 r l.e in
     cond (lt plus_zero rho)
     (inner_from l (stadium_strip l.a l.b l.length rho s.y0 s.y0) (stadium_strip l.a l.b l.length rho s.y1 s.y1))
@@ -78,11 +75,12 @@ unfoldable pub inner_of : Profile → ChordOnAxis → Section → Pair
 inner_of p l s = inner_at l s (cut_min p.shape p.cutter s.w0 s.w1)
 
 -- the hit of a ray with this outer extent, if possible material overlaps it (sweep.rs 943-964)
-abbrev pub hit_with : Profile → ChordOnAxis → Section → List Float → Strip → RayHit
-hit_with p l s possible Miss = Off
-hit_with p l s possible (Hit lo hi) = cond (overlaps_of possible (pair lo hi)) (On (record { outer = pair lo hi; inner = inner_of p l s })) Off
+abbrev pub hit_with : Profile → ChordOnAxis → Section → List Float → Strip → Option HitPairs
+hit_with p l s possible Miss = None
+hit_with p l s possible (Hit lo hi) =
+    cond (overlaps_of possible (pair lo hi)) (Some (record { outer = pair lo hi; inner = inner_of p l s })) None
 
 -- a ray is hit where possible material lies within its outer interval (sweep.rs 930-965): `hit-material` and
 -- `material-hit` in sweep_ray/proofs/Material.antt
-unfoldable pub ray_hit_of : Profile → ChordOnAxis → Section → (possible : List Float) → RayHit
-ray_hit_of p l s possible = cond (spans_meet possible l.reach) (hit_with p l s possible (outer_of p l s)) Off
+unfoldable pub ray_hit_of : Profile → ChordOnAxis → Section → (possible : List Float) → Option HitPairs
+ray_hit_of p l s possible = cond (spans_meet possible l.reach) (hit_with p l s possible (outer_of p l s)) None

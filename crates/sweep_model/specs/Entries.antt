@@ -1,5 +1,5 @@
 -- The rays of a rectangle, in order, each with its log entry: none, or six doubles (sweep.rs 345-373 and 929-965).
-use Rattle.std.specs.Prelude.{List, [], ◌∷◌, ◌++◌, ℕ, zero, suc, ◌+◌, ◌-◌, ◌*◌, Float}
+use Rattle.std.specs.Prelude.{List, [], ◌∷◌, ◌++◌, ℕ, zero, suc, ◌+◌, ◌-◌, ◌*◌, Float, Option, None, Some}
 use Rattle.grid.specs.Grid.{whole}
 use Rattle.grid.specs.declared.WorldAxis.{WorldAxis}
 use Rattle.sweep_model.specs.Section.{section_of}
@@ -7,11 +7,7 @@ use Rattle.sweep_model.specs.Across.{ray_hit_of}
 use Rattle.sweep_model.specs.declared.Profile.{Profile}
 use Rattle.sweep_model.specs.declared.ChordOnAxis.{ChordOnAxis}
 use Rattle.sweep_model.specs.declared.RayRange.{RayRange}
-use Rattle.sweep_model.specs.declared.RayRect.{RayRect}
-use Rattle.sweep_model.specs.declared.RayRect.TheVariants.{Rays, NoRays}
 use Rattle.sweep_model.specs.declared.HitPairs.{HitPairs}
-use Rattle.sweep_model.specs.declared.RayHit.{RayHit}
-use Rattle.sweep_model.specs.declared.RayHit.TheVariants.{On, Off}
 use Rattle.sweep_model.specs.declared.AxisRays.{AxisRays}
 use Rattle.store.specs.Store.{cells, store_list}
 use Rattle.stock.specs.Stock.{Possible, list_number}
@@ -21,9 +17,9 @@ unfoldable pub entry_of : WorldAxis → (index : ℕ) → HitPairs → List Floa
 entry_of axis index h = whole axis.0 ∷ whole index ∷ h.outer.lo ∷ h.outer.hi ∷ h.inner.lo ∷ h.inner.hi ∷ []
 
 -- one entry for a hit ray, none for another (sweep.rs 930-963)
-unfoldable pub entry_for : WorldAxis → (index : ℕ) → RayHit → List Float
-entry_for axis index Off = []
-entry_for axis index (On h) = entry_of axis index h
+unfoldable pub entry_for : WorldAxis → (index : ℕ) → Option HitPairs → List Float
+entry_for axis index None = []
+entry_for axis index (Some h) = entry_of axis index h
 
 -- a ray's index is iv · cells[u] + iu (sweep.rs 367)
 abbrev pub index_of : AxisRays → (u v : ℕ) → ℕ
@@ -52,14 +48,14 @@ unfoldable pub rect_entries : ((u v : ℕ) → List Float) → RayRange → List
 rect_entries f r = each (row_entries f r) r.v0 (r.v1 + 1 - r.v0)
 
 -- a rectangle that misses the blank has no rays (sweep.rs 335-337)
-abbrev pub rectangle_entries : ((u v : ℕ) → List Float) → RayRect → List (List Float)
-rectangle_entries f NoRays = []
-rectangle_entries f (Rays r) = rect_entries f r
+abbrev pub rectangle_entries : ((u v : ℕ) → List Float) → Option RayRange → List (List Float)
+rectangle_entries f None = []
+rectangle_entries f (Some r) = rect_entries f r
 
 -- how many rays a rectangle has; one that misses the blank counts none (sweep.rs 348)
-unfoldable pub rays_in : RayRect → ℕ
-rays_in NoRays = 0
-rays_in (Rays r) = (r.v1 + 1 - r.v0) * (r.u1 + 1 - r.u0)
+unfoldable pub rays_in : Option RayRange → ℕ
+rays_in None = 0
+rays_in (Some r) = (r.v1 + 1 - r.v0) * (r.u1 + 1 - r.u0)
 
 -- f at `from` and the numbers after it, `count` of them, added up
 unfoldable pub sum_each : (ℕ → ℕ) → (from count : ℕ) → ℕ

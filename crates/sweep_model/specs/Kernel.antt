@@ -1,5 +1,5 @@
 -- Which rays of a world axis a chord visits (sweep.rs 320-375, `Kernel::rays`). Each operation is rounded, in the Rust's order.
-use Rattle.std.specs.Prelude.{cond, eqb, Float}
+use Rattle.std.specs.Prelude.{cond, eqb, Float, Option, None, Some}
 use Rattle.std.specs.Float.{binary64}
 use Rattle.std.specs.Float.Ieee.{add, sub, div, lt}
 use Rattle.doubles.specs.Constants.{two}
@@ -23,9 +23,7 @@ use Rattle.sweep_model.specs.declared.Chord.{Chord}
 use Rattle.sweep_model.specs.declared.AxisScale.{AxisScale}
 use Rattle.sweep_model.specs.declared.ChordOnAxis.{ChordOnAxis}
 use Rattle.sweep_model.specs.declared.CellRange.{CellRange}
-use Rattle.sweep_model.specs.declared.CellRange.TheVariants.{Met, Missed}
-use Rattle.sweep_model.specs.declared.RayRect.{RayRect}
-use Rattle.sweep_model.specs.declared.RayRect.TheVariants.{Rays, NoRays}
+use Rattle.sweep_model.specs.declared.RayRange.{RayRange}
 
 -- the radius that visits go by is half the diameter (sweep.rs 153)
 abbrev pub profile_of : CutterShape → PreparedCutter → Profile
@@ -79,23 +77,23 @@ span_over p l i =
 
 -- the cells along a world axis that a pair meets, clamped to the blank; none where it misses the blank or is reversed
 -- (sweep.rs 335-343)
-unfoldable pub cells_met : DexelStockSpec → DexelGrid → WorldAxis → Pair → CellRange
+unfoldable pub cells_met : DexelStockSpec → DexelGrid → WorldAxis → Pair → Option CellRange
 cells_met s g w p =
-    cond (lt p.hi (along_of s.min_mm w)) Missed
-    (cond (lt (along_of s.max_mm w) p.lo) Missed
-    (cond (lt p.hi p.lo) Missed
-    (Met (cell_at s g w p.lo) (cell_at s g w p.hi))))
+    cond (lt p.hi (along_of s.min_mm w)) None
+    (cond (lt (along_of s.max_mm w) p.lo) None
+    (cond (lt p.hi p.lo) None
+    (Some (record { first = cell_at s g w p.lo; last = cell_at s g w p.hi }))))
 
 -- the cells of a world axis that crosses the rays, by the range along its local axis (sweep.rs 332-343)
-unfoldable pub cells_across : DexelStockSpec → DexelGrid → Profile → ChordOnAxis → WorldAxis → CellRange
+unfoldable pub cells_across : DexelStockSpec → DexelGrid → Profile → ChordOnAxis → WorldAxis → Option CellRange
 cells_across s g p l w = cells_met s g w (world_of l.frame (local_axis_of l.frame w) (span_over p l (local_axis_of l.frame w)))
 
 -- both ranges of cells, or no ray where one misses (sweep.rs 331-344)
-abbrev pub rectangle : CellRange → CellRange → RayRect
-rectangle Missed vs = NoRays
-rectangle (Met u0 u1) Missed = NoRays
-rectangle (Met u0 u1) (Met v0 v1) = Rays (record { u0 = u0; u1 = u1; v0 = v0; v1 = v1 })
+abbrev pub rectangle : Option CellRange → Option CellRange → Option RayRange
+rectangle None vs = None
+rectangle (Some us) None = None
+rectangle (Some us) (Some vs) = Some (record { u0 = us.first; u1 = us.last; v0 = vs.first; v1 = vs.last })
 
 -- document 01's clamped rectangle; one that misses the blank has no rays (sweep.rs 327-344)
-unfoldable pub rectangle_of : DexelStockSpec → DexelGrid → Profile → ChordOnAxis → WorldAxis → RayRect
+unfoldable pub rectangle_of : DexelStockSpec → DexelGrid → Profile → ChordOnAxis → WorldAxis → Option RayRange
 rectangle_of s g p l axis = rectangle (cells_across s g p l (cross_of axis).u) (cells_across s g p l (cross_of axis).v)

@@ -1,14 +1,13 @@
 -- The code's tests of the guard and the chords; `unfit-chords` and `bad-chords` in proofs/ChordLimits.antt tie them to
 -- document 01's clauses. A NaN fails every test. And which rays a rectangle has.
-use Rattle.std.specs.Prelude.{Bool, true, ◌&&◌, List, ℕ, zero, suc, ◌+◌, ◌*◌, ◌/◌, ◌≤◌, Float, length}
+use Rattle.std.specs.Prelude.{Bool, true, ◌&&◌, List, ℕ, zero, suc, ◌+◌, ◌*◌, ◌/◌, ◌≤◌, Float, length, Option, None, Some}
 use Rattle.std.specs.Float.{binary64}
 use Rattle.std.specs.Float.Ieee.{neg, mul, lt, le}
 use Rattle.doubles.specs.Constants.{one, plus_zero, two}
 use Rattle.grid.specs.Grid.{is_between, all_between}
 use Rattle.frame.specs.declared.Frame.{Frame}
+use Rattle.sweep_model.specs.declared.RayRange.{RayRange}
 use Rattle.sweep_model.specs.declared.Chord.{Chord}
-use Rattle.sweep_model.specs.declared.RayRect.{RayRect}
-use Rattle.sweep_model.specs.declared.RayRect.TheVariants.{Rays, NoRays}
 use Rattle.sweep_model.specs.Chords.{point_at, chord_of}
 use Rattle.sweep_model.specs.ChordLimits.{two_million, thousand, plan_size}
 
@@ -47,6 +46,6 @@ unfolding guard_fits chord_fits every
 chords_fit f guard chords = guard_fits guard && every (chord_fits f chords) (length chords / 8)
 
 -- ---- the ray at the cells u and v is one of a rectangle's: `of-rectangle` and `rectangle-has` in sweep_visits
-unfoldable pub RayIn : RayRect → (u v : ℕ) → Type 0
-RayIn NoRays u v = ⊥
-RayIn (Rays r) u v = (r.u0 ≤ u) × (u ≤ r.u1) × (r.v0 ≤ v) × (v ≤ r.v1)
+unfoldable pub RayIn : Option RayRange → (u v : ℕ) → Type 0
+RayIn None u v = ⊥
+RayIn (Some r) u v = (r.u0 ≤ u) × (u ≤ r.u1) × (r.v0 ≤ v) × (v ≤ r.v1)

@@ -1,5 +1,5 @@
 -- The rays that a sweep visits, in order, each with its log entry or none; and how many they are.
-use Rattle.std.specs.Prelude.{List, ◌++◌, ℕ, ◌+◌, ◌/◌, Float, length}
+use Rattle.std.specs.Prelude.{List, ◌++◌, ℕ, ◌+◌, ◌/◌, Float, length, Option}
 use Rattle.grid.specs.Axes.{by_digit, world_axis, cells_along, cross_of}
 use Rattle.grid.specs.Rays.{offset}
 use Rattle.grid.specs.declared.WorldAxis.{WorldAxis}
@@ -7,12 +7,12 @@ use Rattle.grid.specs.declared.DexelStockSpec.{DexelStockSpec}
 use Rattle.grid.specs.declared.DexelGrid.{DexelGrid}
 use Rattle.frame.specs.Frame.{local_axis, world_axis_of}
 use Rattle.frame.specs.declared.Frame.{Frame}
+use Rattle.sweep_model.specs.declared.RayRange.{RayRange}
 use Rattle.sweep_model.specs.Kernel.{chord_on_axis_of, rectangle_of}
 use Rattle.sweep_model.specs.declared.Profile.{Profile}
 use Rattle.sweep_model.specs.declared.Kernel.{Kernel}
 use Rattle.sweep_model.specs.declared.Chord.{Chord}
 use Rattle.sweep_model.specs.declared.ChordOnAxis.{ChordOnAxis}
-use Rattle.sweep_model.specs.declared.RayRect.{RayRect}
 use Rattle.sweep_model.specs.Entries.{each, sum_each, ray_entry, rectangle_entries, rays_in, joined}
 use Rattle.sweep_model.specs.declared.AxisRays.{AxisRays}
 use Rattle.sweep_model.specs.Chords.{chord_of}
@@ -39,7 +39,7 @@ abbrev pub chord_on_axis_in : Setting → Chord → WorldAxis → ChordOnAxis
 chord_on_axis_in s c a = chord_on_axis_of s.spec s.grid s.kernel s.profile c a
 
 -- document 01's clamped rectangle of a chord and a world axis
-abbrev pub rectangle_in : Setting → Chord → WorldAxis → RayRect
+abbrev pub rectangle_in : Setting → Chord → WorldAxis → Option RayRange
 rectangle_in s c a = rectangle_of s.spec s.grid s.profile (chord_on_axis_in s c a) a
 
 -- the rays along a world axis that a chord visits (sweep.rs 929-965)

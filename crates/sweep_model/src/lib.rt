@@ -9,7 +9,7 @@ use strips::PlanePoint;
 
 // The cutting part (sweep.rs 114-120). The shape and the cutter's numbers give its sections; `radius`, half the
 // diameter, is what visits go by.
-#[derive(Clone, Copy)]
+#[derive(Clone, Copy, Debug, PartialEq)]
 pub struct Profile {
     pub shape: CutterShape,
     pub cutter: PreparedCutter,
@@ -37,7 +37,7 @@ pub struct Chord {
 }
 
 // The cells along a world axis across a ray, as the centres of its cells need them (sweep.rs 359-361).
-#[derive(Clone, Copy)]
+#[derive(Clone, Copy, Debug, PartialEq)]
 pub struct AxisScale {
     // the sign of its local axis
     pub sign: f64,
@@ -72,15 +72,15 @@ pub struct ChordOnAxis {
     pub u_is_tool: bool,
 }
 
-// Cells from the first to the second, both met, or none.
-#[derive(Clone, Copy)]
-pub enum CellRange {
-    Met(u64, u64),
-    Missed,
+// Cells from the first to the last, both met.
+#[derive(Clone, Copy, Debug, PartialEq)]
+pub struct CellRange {
+    pub first: u64,
+    pub last: u64,
 }
 
-// Rays from u0 to u1 in a row, and rows from v0 to v1, the last ones too.
-#[derive(Clone, Copy)]
+// Document 01's clamped rectangle: rays from u0 to u1 in a row, and rows from v0 to v1, the last ones too.
+#[derive(Clone, Copy, Debug, PartialEq)]
 pub struct RayRange {
     pub u0: u64,
     pub u1: u64,
@@ -88,15 +88,8 @@ pub struct RayRange {
     pub v1: u64,
 }
 
-// Document 01's clamped rectangle, or none where the chord misses the blank.
-#[derive(Clone, Copy)]
-pub enum RayRect {
-    Rays(RayRange),
-    NoRays,
-}
-
 // A ray's cross-section, as the tool sees it (sweep.rs 933-935).
-#[derive(Clone, Copy)]
+#[derive(Clone, Copy, Debug, PartialEq)]
 pub struct Section {
     // the band across the ray, from its lower edge to its higher
     pub y0: f64,
@@ -112,13 +105,6 @@ pub struct Section {
 pub struct HitPairs {
     pub outer: Pair,
     pub inner: Pair,
-}
-
-// Whether a visited ray is hit, and with which pairs.
-#[derive(Clone, Copy)]
-pub enum RayHit {
-    On(HitPairs),
-    Off,
 }
 
 // The rays of a world axis in the store.

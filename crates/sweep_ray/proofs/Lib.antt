@@ -1,4 +1,3 @@
-pub mod Hitting
 pub mod Material
 pub mod Sharing
 pub mod Meeting

@@ -50,7 +50,8 @@ module _ {n : ℕ} {spans : List Float} {links : List ℕ} {k : ℕ} (x : Float)
       → some_above (list_from n spans links k) x ≡ some_above (list_from n spans links (next_at links (k - 1))) x
   above-later s h = ap (λ (l : List Float). some_above l x) s.read ∙ above-cons _ _ x _ ∙ or-second _ _ h
 
-pub above-none : (n : ℕ) (spans : List Float) (links : List ℕ) (k : ℕ) (x : Float) → k ≡ 0 → some_above (list_from n spans links k) x ≡ false
+pub above-none : (n : ℕ) (spans : List Float) (links : List ℕ) (k : ℕ) (x : Float) → k ≡ 0
+    → some_above (list_from n spans links k) x ≡ false
 above-none n spans links k x e = ap (λ (l : List Float). some_above l x) (no-ends n spans links k e) ∙ above-nil x
 
 module _ {n : ℕ} {spans : List Float} {links : List ℕ} {k : ℕ} (s : Pair) where
@@ -110,7 +111,8 @@ meet-nil : (s : Pair) → spans_meet [] s ≡ false
 unfolding spans_meet
 meet-nil s = refl
 
-pub meet-empty : (n : ℕ) (spans : List Float) (links : List ℕ) (k : ℕ) (s : Pair) → k ≡ 0 → spans_meet (list_from n spans links k) s ≡ false
+pub meet-empty : (n : ℕ) (spans : List Float) (links : List ℕ) (k : ℕ) (s : Pair) → k ≡ 0
+    → spans_meet (list_from n spans links k) s ≡ false
 meet-empty n spans links k s e = ap (λ (l : List Float). spans_meet l s) (no-ends n spans links k e) ∙ meet-nil s
 
 module _ {n : ℕ} {spans : List Float} {links : List ℕ} {k : ℕ} (s : Pair) where

@@ -1,5 +1,6 @@
 -- What the two tests say of points: for a sound list and a pair whose ends are numbers, `overlaps_of` tells whether some double is in
--- both, and `spans_meet` holds wherever it does. Of a pair with a NaN it tells nothing, since `larger_of` and `smaller_of` pass a NaN over.
+-- both, and `spans_meet` holds wherever it does. Of a pair with a NaN it tells nothing, since `larger_of` and `smaller_of` pass
+-- a NaN over.
 use Rattle.std.proofs.Common.{◌≡◌, true, false, ◌&&◌, List, [], ◌∷◌, sym, ◌∙◌, subst, inl, inr}
 use mathlib.Core.Bool.{false≢true}
 use lib.Ieee.{Float, lt, le}

@@ -8,15 +8,14 @@
 #![tactic(auto)]
 
 use input_bytes::InputBytes;
+use refusal::Refusal;
 use std::io;
-use sweep::SweepAnswer;
+use sweep::Totals;
 
-// A sweep's answer as numbers, 0 for no refusal, and whether the store and the chords are as they were.
+// A sweep's answer, and whether the store and the chords are as they were.
 #[derive(Clone, Copy)]
-struct Answer {
-    refusal: u64,
-    entries: u64,
-    visits: u64,
+struct SweepResult {
+    answer: Result<Totals, Refusal>,
     kept: bool,
 }
 
@@ -33,13 +32,13 @@ fn sweep_on(
     heads: &[u64],
     chords: &[f64],
     log: &mut [f64],
-) -> SweepAnswer {
+) -> Result<Totals, Refusal> {
     let units = [byte_of(w[2]), byte_of(w[3]), byte_of(w[4])];
     let axis = enum_codes::axis_of(w[18]);
     let shape = vector_rows::shape_at(w, 19);
     sweep::sweep(
         vector_rows::spec_at(w, 0, 5),
-        vector_rows::first_bytes(&units, w[1] as usize),
+        vector_rows::first(&units, w[1] as usize),
         spans,
         links,
         heads,
@@ -62,33 +61,10 @@ fn store_agrees(
     links: &[u64],
     heads: &[u64],
 ) -> bool {
-    if !vector_rows::cells_agree(chords, w, 38, 0, 25) {
-        return false;
-    }
-    if !vector_rows::cells_agree(spans, w, 63, 0, 48) {
-        return false;
-    }
-    if !vector_rows::numbers_agree(links, w, 111, 48) {
-        return false;
-    }
-    vector_rows::numbers_agree(heads, w, 159, 24)
-}
-
-fn answer_of(s: SweepAnswer, kept: bool) -> Answer {
-    match s {
-        SweepAnswer::Accepted(t) => Answer {
-            refusal: 0,
-            entries: t.entries as u64,
-            visits: t.visits,
-            kept: kept,
-        },
-        SweepAnswer::Refused(k) => Answer {
-            refusal: k as u64,
-            entries: 0,
-            visits: 0,
-            kept: kept,
-        },
-    }
+    vector_rows::cells_agree(chords, w, 38, 0, 25)
+        && vector_rows::cells_agree(spans, w, 63, 0, 48)
+        && vector_rows::numbers_agree(links, w, 111, 48)
+        && vector_rows::numbers_agree(heads, w, 159, 24)
 }
 
 // Words 14 to 16: the cells of the spans, the links and the heads; 32: those of the chords.
@@ -99,19 +75,22 @@ fn swept_on(
     heads: &[u64],
     chords: &[f64],
     log: &mut [f64],
-) -> Answer {
-    let s = sweep_on(
+) -> SweepResult {
+    let answer = sweep_on(
         w,
         vector_rows::first(spans, w[14] as usize),
-        vector_rows::first_numbers(links, w[15] as usize),
-        vector_rows::first_numbers(heads, w[16] as usize),
+        vector_rows::first(links, w[15] as usize),
+        vector_rows::first(heads, w[16] as usize),
         vector_rows::first(chords, w[32] as usize),
         log,
     );
-    answer_of(s, store_agrees(w, chords, spans, links, heads))
+    SweepResult {
+        answer,
+        kept: store_agrees(w, chords, spans, links, heads),
+    }
 }
 
-fn swept(w: &[u64; 243], log: &mut [f64]) -> Answer {
+fn swept(w: &[u64; 243], log: &mut [f64]) -> SweepResult {
     let mut chords = [0.0; 25];
     vector_rows::doubles_at(w, 38, &mut chords);
     let mut spans = [0.0; 48];
@@ -131,45 +110,42 @@ fn cells_of(entries: u64) -> usize {
     (6 * entries) as usize
 }
 
-// The log from word 183 on. Refusals 8 and 16 leave it zero, the others as it was.
-fn log_agrees(w: &[u64; 243], log: &[f64], refusal: u64) -> bool {
-    if refusal == 0 {
-        return vector_rows::cells_agree(log, w, 183, cells_of(w[36]), w[34] as usize);
+// How many cells of the log a refused sweep leaves zero; the others are as they were.
+fn cleared_by(e: Refusal, cells: usize) -> usize {
+    match e {
+        Refusal::VisitBudget | Refusal::LogFull => cells,
+        _ => 0,
     }
-    if refusal == 8 {
-        return vector_rows::cells_agree(log, w, 183, 0, w[34] as usize);
-    }
-    if refusal == 16 {
-        return vector_rows::cells_agree(log, w, 183, 0, w[34] as usize);
-    }
-    vector_rows::cells_agree(log, w, 183, 0, 0)
 }
 
-// Words 35 to 37: the refusal, the number of entries and the visit total.
+// Words 35 to 37: the refusal or 0, the number of entries and the visit total; the log from 183 on.
 fn agrees(w: &[u64; 243]) -> bool {
     let mut log = [7.0; 60];
-    let a = swept(w, &mut log);
-    if a.refusal != w[35] {
+    let s = swept(w, &mut log);
+    if !s.kept {
         return false;
     }
-    if a.entries != w[36] {
-        return false;
+    let cells = w[34] as usize;
+    let answer = s.answer;
+    match answer {
+        Ok(t) => {
+            w[35] == 0
+                && t.entries as u64 == w[36]
+                && t.visits == w[37]
+                && vector_rows::cells_agree(&log, w, 183, cells_of(w[36]), cells)
+        }
+        Err(e) => {
+            u32::from(e) as u64 == w[35]
+                && w[36] == 0
+                && w[37] == 0
+                && vector_rows::cells_agree(&log, w, 183, 0, cleared_by(e, cells))
+        }
     }
-    if a.visits != w[37] {
-        return false;
-    }
-    if !a.kept {
-        return false;
-    }
-    log_agrees(w, &log, a.refusal)
 }
 
 // 0 where the sweep is to be accepted, 1 where it is to be refused.
 fn kind_of(refusal: u64) -> u64 {
-    if refusal == 0 {
-        return 0;
-    }
-    1
+    u64::from(refusal != 0)
 }
 
 fn main(rt: HostRuntime) -> io::Result<()> {

@@ -1,4 +1,5 @@
 -- The walk over rays in two parts, one after the other, and over one ray.
+use Rattle.std.specs.Prelude.{Option, None, Some}
 use Rattle.std.proofs.Common.{◌≡◌, ℕ, zero, suc, ◌+◌, ◌-◌, ◌*◌, ◌<◌, ◌≤◌, Bool, true, false, cond, leb, ◌⊎◌, List, [], ◌∷◌, ◌++◌, length, take, drop, sym, refl, ap, ◌∙◌, subst, inl, inr, append_assoc, append-nil, add-zero, mul-le-mul_right, suc-mul, add_comm, mul-one, arith, length-append, length-take-le, le-leb}
 use mathlib.Core.List.Memᴰ
 use mathlib.Core.List.{Memᴰ}
@@ -7,8 +8,6 @@ use borrow.Author.Tests.{lt-leb}
 use lib.Ieee.{Float}
 use Rattle.logic.proofs.Bools.{clash}
 use Rattle.sweep_visits.specs.declared.VisitCursor.{VisitCursor}
-use Rattle.sweep_visits.specs.declared.Progress.{Progress}
-use Rattle.sweep_visits.specs.declared.Progress.TheVariants.{At, Stopped}
 use Rattle.sweep_model.specs.declared.AxisRays.{AxisRays}
 use Rattle.grid.specs.declared.WorldAxis.{WorldAxis}
 use Rattle.sweep_model.specs.Across.{ray_hit_of}
@@ -17,16 +16,12 @@ use Rattle.sweep_model.specs.declared.Profile.{Profile}
 use Rattle.sweep_model.specs.declared.ChordOnAxis.{ChordOnAxis}
 use Rattle.sweep_model.specs.declared.HitPairs.{HitPairs}
 use Rattle.sweep_model.specs.declared.RayRange.{RayRange}
-use Rattle.sweep_model.specs.declared.RayRect.{RayRect}
-use Rattle.sweep_model.specs.declared.RayRect.TheVariants.{Rays, NoRays}
-use Rattle.sweep_model.specs.declared.RayHit.{RayHit}
-use Rattle.sweep_model.specs.declared.RayHit.TheVariants.{On, Off}
 use Rattle.sweep_model.specs.Entries.{entry_of, entry_for, index_of, possible_at, ray_entry, each, sum_each, row_entries, rect_entries}
 use Rattle.sweep_model.specs.Entries.{rectangle_entries, rays_in, joined, logged_entries}
 use Rattle.sweep_model.specs.Steps.{RayIn}
 use Rattle.sweep_model.specs.Walk.{Walked, Done, Stop, walk}
 use Rattle.sweep_visits.proofs.Cells.{put-take, put-length}
-use Rattle.sweep_visits.specs.Steps.{Went, Halted, WalkPost, RayReady, AxisReady}
+use Rattle.sweep_visits.specs.Steps.{Went, Halted, RayReady, AxisReady}
 
 abbrev onward : Walked → (ℕ → List Float → Walked) → Walked
 onward (Done k l) f = f k l
@@ -213,11 +208,12 @@ ray-ready {n} {t} r u v h l =
     record { few = omega arith; ray = r.rays (t.first + (v * t.row + u)) (omega arith) }
 
 module _ (n : ℕ) (t : AxisRays) (p : Profile) (l : ChordOnAxis) (spans : List Float) (links heads : List ℕ) (u v : ℕ) where
-  pub entry-off : ray_hit_of p l (section_of l u v) (possible_at n t spans links heads u v) ≡ Off → ray_entry n t p l spans links heads u v ≡ []
+  pub entry-off : ray_hit_of p l (section_of l u v) (possible_at n t spans links heads u v) ≡ None
+      → ray_entry n t p l spans links heads u v ≡ []
   unfolding ray_entry entry_for
   entry-off h = rw h
 
-  pub entry-on : (x : HitPairs) → ray_hit_of p l (section_of l u v) (possible_at n t spans links heads u v) ≡ On x
+  pub entry-on : (x : HitPairs) → ray_hit_of p l (section_of l u v) (possible_at n t spans links heads u v) ≡ Some x
       → ray_entry n t p l spans links heads u v ≡ entry_of t.axis (index_of t u v) x
   unfolding ray_entry entry_for
   entry-on x h = rw h
@@ -225,14 +221,6 @@ module _ (n : ℕ) (t : AxisRays) (p : Profile) (l : ChordOnAxis) (spans : List 
 pub entry_length : (axis : WorldAxis) (index : ℕ) (x : HitPairs) → length (entry_of axis index x) ≡ 6
 unfolding entry_of
 entry_length axis index x = refl
-
--- ---- an answer by its case
-module _ {budget : ℕ} {rays : List (List Float)} {c : VisitCursor} {log after : List Float} where
-  pub halted-of : (r : Progress) (k : ℕ) → r ≡ Stopped k → WalkPost budget rays c log r after → Halted budget rays c log k after
-  halted-of r k e w = subst (λ (x : Progress). WalkPost budget rays c log x after) e w
-
-  pub went-of : (r : Progress) (d : VisitCursor) → r ≡ At d → WalkPost budget rays c log r after → Went budget rays c log d after
-  went-of r d e w = subst (λ (x : Progress). WalkPost budget rays c log x after) e w
 
 -- ---- what a walk comes to
 abbrev stops : Walked → Bool
@@ -293,7 +281,8 @@ module _ (f : ℕ → List (List Float)) where
 pub sum_same : (n : ℕ) (f g : ℕ → ℕ) → ((i : ℕ) → f i ≡ g i) → (from : ℕ) → sum_each f from n ≡ sum_each g from n
 unfolding sum_each
 sum_same zero f g h from = refl
-sum_same (suc n) f g h from = ap (λ (k : ℕ). k + sum_each f (suc from) n) (h from) ∙ ap (λ (k : ℕ). g from + k) (sum_same n f g h (suc from))
+sum_same (suc n) f g h from =
+    ap (λ (k : ℕ). k + sum_each f (suc from) n) (h from) ∙ ap (λ (k : ℕ). g from + k) (sum_same n f g h (suc from))
 
 sum_of : (n k from : ℕ) → sum_each (λ i. k) from n ≡ n * k
 unfolding sum_each
@@ -312,10 +301,10 @@ rect-length f r =
     ∙ sum_same (r.v1 + 1 - r.v0) _ _ (row-length f r) r.v0 ∙ sum_of (r.v1 + 1 - r.v0) (r.u1 + 1 - r.u0) r.v0
 
 -- as many entries, some of them empty, as the rectangle has rays
-pub rectangle-length : (f : (u v : ℕ) → List Float) (r : RayRect) → length (rectangle_entries f r) ≡ rays_in r
+pub rectangle-length : (f : (u v : ℕ) → List Float) (r : Option RayRange) → length (rectangle_entries f r) ≡ rays_in r
 unfolding rays_in
-rectangle-length f NoRays = refl
-rectangle-length f (Rays r) = rect-length f r
+rectangle-length f None = refl
+rectangle-length f (Some r) = rect-length f r
 
 -- ---- what holds of each ray's entry
 unfoldable pub OfEach : (P : List Float → Type 0) → List (List Float) → Type 0
@@ -337,10 +326,11 @@ module _ (P : List Float → Type 0) where
       (of-each n f (suc from) (λ (i : ℕ) (a : suc from ≤ i) (b : i < suc from + n). h i (omega arith) (omega arith)))
 
   -- the rays of a rectangle
-  pub of-rectangle : (f : (u v : ℕ) → List Float) (r : RayRect) → ((u v : ℕ) → RayIn r u v → P (f u v)) → OfEach P (rectangle_entries f r)
+  pub of-rectangle : (f : (u v : ℕ) → List Float) (r : Option RayRange) → ((u v : ℕ) → RayIn r u v → P (f u v))
+      → OfEach P (rectangle_entries f r)
   unfolding rect_entries row_entries RayIn OfEach
-  of-rectangle f NoRays h = tt
-  of-rectangle f (Rays r) h =
+  of-rectangle f None h = tt
+  of-rectangle f (Some r) h =
       of-each (r.v1 + 1 - r.v0) (row_entries f r) r.v0
       (λ (v : ℕ) (a : r.v0 ≤ v) (b : v < r.v0 + (r.v1 + 1 - r.v0)).
       of-each (r.u1 + 1 - r.u0) (λ u. f u v ∷ []) r.u0
@@ -369,10 +359,10 @@ has-each (suc n) f from i e a b m = elim (dec_lt from i) [
     same : from ≤ i → (from < i → ⊥) → i ≡ from
     same g h = omega arith
 
-pub rectangle-has : (f : (u v : ℕ) → List Float) (r : RayRect) (u v : ℕ) → RayIn r u v → Memᴰ (f u v) (rectangle_entries f r)
+pub rectangle-has : (f : (u v : ℕ) → List Float) (r : Option RayRange) (u v : ℕ) → RayIn r u v → Memᴰ (f u v) (rectangle_entries f r)
 unfolding RayIn rect_entries row_entries
-rectangle-has f NoRays u v h = absurd h
-rectangle-has f (Rays r) u v (a, b, c, d) =
+rectangle-has f None u v h = absurd h
+rectangle-has f (Some r) u v (a, b, c, d) =
     has-each (r.v1 + 1 - r.v0) (row_entries f r) r.v0 v (f u v) c (below c d)
     (has-each (r.u1 + 1 - r.u0) (λ u. f u v ∷ []) r.u0 u (f u v) a (below a b) (Memᴰ.head refl))
   where
@@ -394,16 +384,16 @@ unfolding each Sixes
 sixes-each zero f h from = tt
 sixes-each (suc n) f h from = sixes-append (f from) (each f (suc from) n) (h from) (sixes-each n f h (suc from))
 
-entry-sixes : (axis : WorldAxis) (index : ℕ) (x : RayHit) → (entry_for axis index x ≡ []) ⊎ (length (entry_for axis index x) ≡ 6)
+entry-sixes : (axis : WorldAxis) (index : ℕ) (x : Option HitPairs) → (entry_for axis index x ≡ []) ⊎ (length (entry_for axis index x) ≡ 6)
 unfolding entry_for entry_of
-entry-sixes axis index Off = inl refl
-entry-sixes axis index (On h) = inr refl
+entry-sixes axis index None = inl refl
+entry-sixes axis index (Some h) = inr refl
 
 pub rectangle-sixes : (n : ℕ) (t : AxisRays) (p : Profile) (l : ChordOnAxis) (spans : List Float)
-    (links heads : List ℕ) (r : RayRect) → Sixes (rectangle_entries (ray_entry n t p l spans links heads) r)
+    (links heads : List ℕ) (r : Option RayRange) → Sixes (rectangle_entries (ray_entry n t p l spans links heads) r)
 unfolding rect_entries row_entries ray_entry Sixes
-rectangle-sixes n t p l spans links heads NoRays = tt
-rectangle-sixes n t p l spans links heads (Rays r) =
+rectangle-sixes n t p l spans links heads None = tt
+rectangle-sixes n t p l spans links heads (Some r) =
     sixes-each (r.v1 + 1 - r.v0) _
     (λ (v : ℕ). sixes-each (r.u1 + 1 - r.u0) _
     (λ (u : ℕ). (

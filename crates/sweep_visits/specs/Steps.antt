@@ -1,10 +1,10 @@
 -- What the walk over the rays of a rectangle asks and leaves.
-use Rattle.std.specs.Prelude.{◌≡◌, ℕ, ◌+◌, ◌*◌, ◌^◌, ◌<◌, ◌≤◌, true, List, length, take, slice_index, Float}
+use Rattle.std.specs.Prelude.{◌≡◌, ℕ, ◌+◌, ◌*◌, ◌^◌, ◌<◌, ◌≤◌, true, List, length, take, slice_index, Float, Result, Ok, Err}
+use Rattle.refusal.specs.Refusal.{number_of}
+use Rattle.refusal.specs.declared.Refusal.{Refusal}
 use Rattle.spans.specs.Spans.{sound}
 use Rattle.store_read.specs.Reading.{Readable}
 use Rattle.sweep_visits.specs.declared.VisitCursor.{VisitCursor}
-use Rattle.sweep_visits.specs.declared.Progress.{Progress}
-use Rattle.sweep_visits.specs.declared.Progress.TheVariants.{At, Stopped}
 use Rattle.sweep_model.specs.declared.AxisRays.{AxisRays}
 use Rattle.sweep_model.specs.Entries.{index_of}
 use Rattle.sweep_model.specs.Walk.{Done, Stop, walk}
@@ -22,9 +22,9 @@ pub record Halted (budget : ℕ) (rays : List (List Float)) (c : VisitCursor) (l
   pub walked : walk budget (length log) rays c.visits (take c.at log) ≡ Stop k
   pub same : length after ≡ length log
 
-abbrev pub WalkPost : (budget : ℕ) → List (List Float) → VisitCursor → List Float → Progress → List Float → Type 0
-WalkPost budget rays c log (At d) after = Went budget rays c log d after
-WalkPost budget rays c log (Stopped k) after = Halted budget rays c log k after
+abbrev pub WalkPost : (budget : ℕ) → List (List Float) → VisitCursor → List Float → Result VisitCursor Refusal → List Float → Type 0
+WalkPost budget rays c log (Ok d) after = Went budget rays c log d after
+WalkPost budget rays c log (Err e) after = Halted budget rays c log (number_of e) after
 
 -- the possible list of ray `ray` can be read and is sound
 pub record RayAt (n : ℕ) (spans : List Float) (links heads : List ℕ) (ray : ℕ) : Type 0 where

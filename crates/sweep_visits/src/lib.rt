@@ -7,19 +7,14 @@ ghost use Rattle.sweep_model.specs.Entries.{entry_of, ray_entry, row_entries, re
 ghost use Rattle.sweep_visits.specs.Steps.{WalkPost, RayReady, AxisReady};
 
 use grid::WorldAxis;
-use sweep_model::{AxisRays, ChordOnAxis, HitPairs, Profile, RayHit, RayRange};
+use refusal::Refusal;
+use sweep_model::{AxisRays, ChordOnAxis, HitPairs, Profile, RayRange};
 
 // The place of a walk: the rays visited, and where the next entry goes in the log.
-#[derive(Clone, Copy)]
+#[derive(Clone, Copy, Debug, PartialEq, Eq)]
 pub struct VisitCursor {
     pub visits: u64,
     pub at: usize,
-}
-
-#[derive(Clone, Copy)]
-pub enum Progress {
-    At(VisitCursor),
-    Stopped(u32),
 }
 
 // Writes an entry at cell `at`.
@@ -51,37 +46,33 @@ fn visit_ray(
     links: &[u64],
     heads: &[u64],
     log: &mut [f64],
-) -> Progress
+) -> Result<VisitCursor, Refusal>
     requires { RayReady n t spans.now links.now heads.now u v × (c.at ≤ length log.old) }
     ensures { WalkPost budget
         (ray_entry n t p l spans.now links.now heads.now u v ∷ []) c
         log.old result log.new }
 {
     if budget <= c.visits {
-        return Progress::Stopped(8);
+        return Err(Refusal::VisitBudget);
     }
     let next = c.visits + 1;
     let index = v * t.row + u;
     let ray = (t.first + index) as usize;
     let head = store::possible_head(heads, ray);
-    let h = sweep_ray::ray_hit(spans, links, n, head, p, l, u, v);
-    match h {
-        RayHit::Off => {
-            return Progress::At(VisitCursor {
-                visits: next,
-                at: c.at,
-            });
-        }
-        RayHit::On(hits) => {
+    match sweep_ray::ray_hit(spans, links, n, head, p, l, u, v) {
+        None => Ok(VisitCursor {
+            visits: next,
+            at: c.at,
+        }),
+        Some(hits) => {
             if log.len() - c.at < 6 {
-                return Progress::Stopped(16);
+                return Err(Refusal::LogFull);
             }
-            let end = c.at + 6;
             put(log, c.at, t.axis, index, hits);
-            return Progress::At(VisitCursor {
+            Ok(VisitCursor {
                 visits: next,
-                at: end,
-            });
+                at: c.at + 6,
+            })
         }
     }
 }
@@ -100,27 +91,17 @@ fn sweep_row(
     links: &[u64],
     heads: &[u64],
     log: &mut [f64],
-) -> Progress
+) -> Result<VisitCursor, Refusal>
     requires { AxisReady n t spans.now links.now heads.now × (r.u1 < t.row) × (v < t.rows) × (start.at ≤ length log.old) }
     ensures { WalkPost budget
         (row_entries (ray_entry n t p l spans.now links.now heads.now) r v) start
         log.old result log.new }
 {
     let mut c = start;
-    let mut u = r.u0;
-    while u <= r.u1 {
-        let x = visit_ray(n, t, u, v, p, l, budget, c, spans, links, heads, log);
-        match x {
-            Progress::Stopped(k) => {
-                return Progress::Stopped(k);
-            }
-            Progress::At(d) => {
-                c = d;
-            }
-        }
-        u += 1;
+    for u in r.u0..=r.u1 {
+        c = visit_ray(n, t, u, v, p, l, budget, c, spans, links, heads, log)?;
     }
-    Progress::At(c)
+    Ok(c)
 }
 
 // The rows of a rectangle.
@@ -136,7 +117,7 @@ pub fn sweep_rect(
     links: &[u64],
     heads: &[u64],
     log: &mut [f64],
-) -> Progress
+) -> Result<VisitCursor, Refusal>
     requires { AxisReady n t spans.now links.now heads.now × (r.u1 < t.row) × (r.v1 < t.rows)
         × (start.at ≤ length log.old) }
     ensures { WalkPost budget
@@ -144,18 +125,8 @@ pub fn sweep_rect(
         log.old result log.new }
 {
     let mut c = start;
-    let mut v = r.v0;
-    while v <= r.v1 {
-        let x = sweep_row(n, t, r, v, p, l, budget, c, spans, links, heads, log);
-        match x {
-            Progress::Stopped(k) => {
-                return Progress::Stopped(k);
-            }
-            Progress::At(d) => {
-                c = d;
-            }
-        }
-        v += 1;
+    for v in r.v0..=r.v1 {
+        c = sweep_row(n, t, r, v, p, l, budget, c, spans, links, heads, log)?;
     }
-    Progress::At(c)
+    Ok(c)
 }

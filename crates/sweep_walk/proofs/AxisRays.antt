@@ -1,4 +1,7 @@
 -- The rays of an axis in a sound store, and the rectangle that a chord visits among them.
+use Rattle.std.specs.Prelude.{Result, Ok}
+use Rattle.refusal.specs.declared.Refusal.{Refusal}
+use Rattle.std.specs.Prelude.{Option, None, Some}
 use mathlib.Core.Path.{◌≡◌, refl, sym, ap, subst, ◌∙◌}
 use mathlib.Core.Bool.{Bool, true, false, cond}
 use mathlib.Core.List.{List}
@@ -21,18 +24,13 @@ use Rattle.frame.specs.declared.Frame.{Frame}
 use Rattle.frame.specs.declared.Pair.{Pair}
 use Rattle.stock.proofs.Rays.{list-readable}
 use Rattle.sweep_model.specs.Kernel.{cells_met, cells_across, rectangle, rectangle_of}
-use Rattle.sweep_model.specs.declared.CellRange.{CellRange as Range}
-use Rattle.sweep_model.specs.declared.CellRange.TheVariants.{Met, Missed}
+use Rattle.sweep_model.specs.declared.CellRange.{CellRange}
 use Rattle.sweep_model.specs.declared.Profile.{Profile}
 use Rattle.sweep_model.specs.declared.Chord.{Chord}
 use Rattle.sweep_model.specs.declared.ChordOnAxis.{ChordOnAxis}
 use Rattle.sweep_model.specs.declared.RayRange.{RayRange}
-use Rattle.sweep_model.specs.declared.RayRect.{RayRect}
-use Rattle.sweep_model.specs.declared.RayRect.TheVariants.{Rays, NoRays}
 use Rattle.sweep_model.specs.Entries.{ray_entry, rect_entries, rectangle_entries}
 use Rattle.sweep_visits.specs.declared.VisitCursor.{VisitCursor}
-use Rattle.sweep_visits.specs.declared.Progress.{Progress}
-use Rattle.sweep_visits.specs.declared.Progress.TheVariants.{At}
 use Rattle.sweep_model.specs.declared.AxisRays.{AxisRays}
 use Rattle.sweep_visits.proofs.Walks.{went-none}
 use Rattle.sweep_model.specs.SweepEntries.{axis_rays_of, Setting, chord_on_axis_in, axis_entries, first_axis, second_axis}
@@ -69,18 +67,18 @@ module _ (spec : DexelStockSpec) (g : DexelGrid) (c : Cells) (s : Sweepable spec
       }
 
 -- ---- the cells of a rectangle are cells of the grid
-abbrev Under : ℕ → Range → Type 0
-Under n Missed = Unit {0}
-Under n (Met i j) = j < n
+abbrev Under : ℕ → Option CellRange → Type 0
+Under n None = Unit {0}
+Under n (Some r) = r.last < n
 
-abbrev Inside : (row rows : ℕ) → RayRect → Type 0
-Inside row rows NoRays = Unit {0}
-Inside row rows (Rays r) = (r.u1 < row) × (r.v1 < rows)
+abbrev Inside : (row rows : ℕ) → Option RayRange → Type 0
+Inside row rows None = Unit {0}
+Inside row rows (Some r) = (r.u1 < row) × (r.v1 < rows)
 
-inside : (row rows : ℕ) (us vs : Range) → Under row us → Under rows vs → Inside row rows (rectangle us vs)
-inside row rows Missed vs h k = tt
-inside row rows (Met u0 u1) Missed h k = tt
-inside row rows (Met u0 u1) (Met v0 v1) h k = (h, k)
+inside : (row rows : ℕ) (us vs : Option CellRange) → Under row us → Under rows vs → Inside row rows (rectangle us vs)
+inside row rows None vs h k = tt
+inside row rows (Some us) None h k = tt
+inside row rows (Some us) (Some vs) h k = (h, k)
 
 module _ (spec : DexelStockSpec) (g : DexelGrid) (f : GridFacts spec g) where
   met-under : (w : WorldAxis) (p : Pair) → Under (cells_along g w) (cells_met spec g w p)
@@ -88,7 +86,7 @@ module _ (spec : DexelStockSpec) (g : DexelGrid) (f : GridFacts spec g) where
   met-under w p = go (lt p.hi (along_of spec.min_mm w)) (lt (along_of spec.max_mm w) p.lo) (lt p.hi p.lo)
     where
       go : (a b c : Bool) → Under (cells_along g w)
-          (cond a Missed (cond b Missed (cond c Missed (Met (cell_at spec g w p.lo) (cell_at spec g w p.hi)))))
+          (cond a None (cond b None (cond c None (Some (record { first = cell_at spec g w p.lo; last = cell_at spec g w p.hi })))))
       go true b c = tt
       go false true c = tt
       go false false true = tt
@@ -107,8 +105,8 @@ pub record RectReady (n : ℕ) (t : AxisRays) (c : Cells) (q : RayRange) : Type 
   pub rows : q.v1 < t.rows
 
 pub rect-ready : (spec : DexelStockSpec) (g : DexelGrid) (c : Cells) → Sweepable spec g c
-    → (p : Profile) (l : ChordOnAxis) (a : WorldAxis) (t : AxisRays) (r : RayRect) (q : RayRange)
-    → t ≡ axis_rays_of g a → r ≡ rectangle_of spec g p l a → r ≡ Rays q → RectReady spec.max_intervals t c q
+    → (p : Profile) (l : ChordOnAxis) (a : WorldAxis) (t : AxisRays) (r : Option RayRange) (q : RayRange)
+    → t ≡ axis_rays_of g a → r ≡ rectangle_of spec g p l a → r ≡ Some q → RectReady spec.max_intervals t c q
 rect-ready spec g c s p l a t r q e h k =
     subst (λ (x : AxisRays). RectReady spec.max_intervals x c q) (sym e)
     (made (subst (Inside (cells_along g (cross_of a).u) (cells_along g (cross_of a).v)) (sym h ∙ k)
@@ -120,7 +118,7 @@ rect-ready spec g c s p l a t r q e h k =
 
 -- ---- one axis of a chord
 module _ (s : Setting) (c : Chord) (a : WorldAxis) where
-  axis-is : (l : ChordOnAxis) (r : RayRect) → l ≡ chord_on_axis_in s c a → r ≡ rectangle_of s.spec s.grid s.profile l a
+  axis-is : (l : ChordOnAxis) (r : Option RayRange) → l ≡ chord_on_axis_in s c a → r ≡ rectangle_of s.spec s.grid s.profile l a
       → axis_entries s c a ≡ rectangle_entries
       (ray_entry s.spec.max_intervals (axis_rays_of s.grid a) s.profile l s.cells.spans
       s.cells.links s.cells.heads) r
@@ -132,18 +130,18 @@ module _ (s : Setting) (c : Chord) (a : WorldAxis) where
       ∙ ap (rectangle_entries (ray_entry s.spec.max_intervals (axis_rays_of s.grid a) s.profile l
       s.cells.spans s.cells.links s.cells.heads)) (sym h)
 
-  pub axis-none : {budget : ℕ} {start : VisitCursor} {log : List Float} (l : ChordOnAxis) (r : RayRect)
-      → l ≡ chord_on_axis_in s c a → r ≡ rectangle_of s.spec s.grid s.profile l a → r ≡ NoRays → start.at ≤ length log
-      → WalkPost budget (axis_entries s c a) start log (At start) log
+  pub axis-none : {budget : ℕ} {start : VisitCursor} {log : List Float} (l : ChordOnAxis) (r : Option RayRange)
+      → l ≡ chord_on_axis_in s c a → r ≡ rectangle_of s.spec s.grid s.profile l a → r ≡ None → start.at ≤ length log
+      → WalkPost budget (axis_entries s c a) start log (Ok start) log
   axis-none {budget} {start} {log} l r e h k room =
       subst (λ (es : List (List Float)). Went budget es start log start log)
       (sym (axis-is l r e h ∙ ap (rectangle_entries
       (ray_entry s.spec.max_intervals (axis_rays_of s.grid a) s.profile l s.cells.spans
       s.cells.links s.cells.heads)) k)) (went-none room)
 
-  pub axis-some : (budget : ℕ) (start : VisitCursor) (log after : List Float) (x : Progress) (l : ChordOnAxis)
-      (t : AxisRays) (r : RayRect) (q : RayRange)
-      → l ≡ chord_on_axis_in s c a → t ≡ axis_rays_of s.grid a → r ≡ rectangle_of s.spec s.grid s.profile l a → r ≡ Rays q
+  pub axis-some : (budget : ℕ) (start : VisitCursor) (log after : List Float) (x : Result VisitCursor Refusal) (l : ChordOnAxis)
+      (t : AxisRays) (r : Option RayRange) (q : RayRange)
+      → l ≡ chord_on_axis_in s c a → t ≡ axis_rays_of s.grid a → r ≡ rectangle_of s.spec s.grid s.profile l a → r ≡ Some q
       → WalkPost budget (rect_entries
       (ray_entry s.spec.max_intervals t s.profile l s.cells.spans s.cells.links s.cells.heads)
       q) start log x after

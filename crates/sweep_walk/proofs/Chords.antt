@@ -1,4 +1,6 @@
 -- The two axes of a chord, and chord after chord; and how many rays that makes.
+use Rattle.std.specs.Prelude.{Result, Ok, Err}
+use Rattle.refusal.specs.declared.Refusal.{Refusal}
 use mathlib.Core.Path.{◌≡◌, ap, subst, ◌∙◌}
 use mathlib.Core.List.{List, ◌++◌}
 use Prim.Native.Nat.{ℕ, ◌+◌, ◌-◌, ◌*◌, ◌/◌, ◌≤◌, ◌<◌}
@@ -9,8 +11,6 @@ use Rattle.grid.specs.declared.WorldAxis.{WorldAxis}
 use Rattle.sweep_model.specs.declared.Chord.{Chord}
 use Rattle.sweep_model.specs.Entries.{each, ray_entry, rays_in, logged_entries}
 use Rattle.sweep_visits.specs.declared.VisitCursor.{VisitCursor}
-use Rattle.sweep_visits.specs.declared.Progress.{Progress}
-use Rattle.sweep_visits.specs.declared.Progress.TheVariants.{At, Stopped}
 use Rattle.sweep_visits.proofs.Walks.{went_then, went-halt, halt-before, Sweeping, sweeping-next, sweeping-halt, sweeping-all}
 use Rattle.sweep_visits.proofs.Walks.{each-length, sum_same, rectangle-length, Sixes, sixes-append, sixes-each, rectangle-sixes}
 use Rattle.sweep_visits.proofs.Walks.{sixes-count}
@@ -19,10 +19,10 @@ use Rattle.sweep_model.specs.SweepEntries.{chord_entries, chord_in, sweep_entrie
 use Rattle.sweep_visits.specs.Steps.{WalkPost, Went, Halted}
 
 -- the log keeps its length
-pub logged-same : (budget : ℕ) (rays : List (List Float)) (c : VisitCursor) (log after : List Float) (x : Progress)
+pub logged-same : (budget : ℕ) (rays : List (List Float)) (c : VisitCursor) (log after : List Float) (x : Result VisitCursor Refusal)
     → WalkPost budget rays c log x after → length after ≡ length log
-logged-same budget rays c log after (At d) w = w.same
-logged-same budget rays c log after (Stopped k) w = w.same
+logged-same budget rays c log after (Ok d) w = w.same
+logged-same budget rays c log after (Err k) w = w.same
 
 -- ---- one chord
 module _ {budget : ℕ} (s : Setting) (c : Chord) {start : VisitCursor} {log : List Float} where
@@ -33,7 +33,7 @@ module _ {budget : ℕ} (s : Setting) (c : Chord) {start : VisitCursor} {log : L
       halt-before (axis_entries s c (second_axis s.kernel.frame))
       (subst (λ (x : WorldAxis). Halted budget (axis_entries s c x) start log k after) e h)
 
-  pub both-walked : {d : VisitCursor} {mid : List Float} (after : List Float) (x : Progress) (a b : WorldAxis)
+  pub both-walked : {d : VisitCursor} {mid : List Float} (after : List Float) (x : Result VisitCursor Refusal) (a b : WorldAxis)
       → a ≡ first_axis s.kernel.frame → b ≡ second_axis s.kernel.frame
       → Went budget (axis_entries s c a) start log d mid → WalkPost budget (axis_entries s c b) d mid x after
       → WalkPost budget (chord_entries s c) start log x after
@@ -42,12 +42,12 @@ module _ {budget : ℕ} (s : Setting) (c : Chord) {start : VisitCursor} {log : L
       go x (subst (λ (y : WorldAxis). Went budget (axis_entries s c y) start log d mid) e w)
       (subst (λ (y : WorldAxis). WalkPost budget (axis_entries s c y) d mid x after) f v)
     where
-      go : (x : Progress) → Went budget (axis_entries s c (first_axis s.kernel.frame)) start log d mid
+      go : (x : Result VisitCursor Refusal) → Went budget (axis_entries s c (first_axis s.kernel.frame)) start log d mid
           → WalkPost budget (axis_entries s c (second_axis s.kernel.frame)) d mid x after
           → WalkPost budget (axis_entries s c (first_axis s.kernel.frame)
           ++ axis_entries s c (second_axis s.kernel.frame)) start log x after
-      go (At e) w v = went_then w v
-      go (Stopped k) w v = went-halt w v
+      go (Ok e) w v = went_then w v
+      go (Err k) w v = went-halt w v
 
 -- ---- all chords
 abbrev pub entries_at : Setting → List Float → ℕ → List (List Float)

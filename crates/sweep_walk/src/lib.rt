@@ -10,8 +10,9 @@ ghost use Rattle.store.specs.Store.{cells};
 
 use frame::{Frame, LocalAxis};
 use grid::{DexelGrid, DexelStockSpec, WorldAxis};
-use sweep_model::{AxisRays, Chord, Kernel, Profile, RayRect};
-use sweep_visits::{Progress, VisitCursor};
+use refusal::Refusal;
+use sweep_model::{AxisRays, Chord, Kernel, Profile};
+use sweep_visits::VisitCursor;
 
 fn axis_rays(g: DexelGrid, axis: WorldAxis) -> AxisRays
     requires { ray_count g < 2 ^ 64 }
@@ -40,7 +41,7 @@ fn sweep_axis(
     links: &[u64],
     heads: &[u64],
     log: &mut [f64],
-) -> Progress
+) -> Result<VisitCursor, Refusal>
     requires { Sweepable spec g (cells spans.now links.now heads.now) × (start.at ≤ length log.old) }
     ensures { WalkPost budget
         (axis_entries (setting spec g k p (cells spans.now links.now heads.now))
@@ -51,12 +52,8 @@ fn sweep_axis(
     let t = axis_rays(g, axis);
     let rect = sweep_kernel::rectangle_of(spec, g, p, l, axis);
     match rect {
-        RayRect::NoRays => {
-            return Progress::At(start);
-        }
-        RayRect::Rays(r) => {
-            return sweep_visits::sweep_rect(n, t, r, p, l, budget, start, spans, links, heads, log);
-        }
+        None => Ok(start),
+        Some(r) => sweep_visits::sweep_rect(n, t, r, p, l, budget, start, spans, links, heads, log),
     }
 }
 
@@ -66,9 +63,10 @@ fn first_axis(f: Frame) -> WorldAxis
 {
     let tool = frame::world_axis(f, LocalAxis(2));
     if tool.0 == 0 {
-        return WorldAxis(1);
+        WorldAxis(1)
+    } else {
+        WorldAxis(0)
     }
-    WorldAxis(0)
 }
 
 // The higher of the two.
@@ -76,13 +74,11 @@ fn second_axis(f: Frame) -> WorldAxis
     ensures { result ≡ second_axis f }
 {
     let tool = frame::world_axis(f, LocalAxis(2));
-    if tool.0 == 0 {
-        return WorldAxis(2);
+    if tool.0 == 0 || tool.0 == 1 {
+        WorldAxis(2)
+    } else {
+        WorldAxis(1)
     }
-    if tool.0 == 1 {
-        return WorldAxis(2);
-    }
-    WorldAxis(1)
 }
 
 // The rays across the tool that a chord visits.
@@ -98,7 +94,7 @@ fn sweep_chord(
     links: &[u64],
     heads: &[u64],
     log: &mut [f64],
-) -> Progress
+) -> Result<VisitCursor, Refusal>
     requires { Sweepable spec g (cells spans.now links.now heads.now) × (start.at ≤ length log.old) }
     ensures { WalkPost budget
         (chord_entries (setting spec g k p (cells spans.now links.now heads.now))
@@ -106,19 +102,12 @@ fn sweep_chord(
 {
     let first = first_axis(k.frame);
     let second = second_axis(k.frame);
-    let x = sweep_axis(
+    let c = sweep_axis(
         spec, g, k, p, chord, first, budget, start, spans, links, heads, log,
-    );
-    match x {
-        Progress::Stopped(n) => {
-            return Progress::Stopped(n);
-        }
-        Progress::At(c) => {
-            return sweep_axis(
-                spec, g, k, p, chord, second, budget, c, spans, links, heads, log,
-            );
-        }
-    }
+    )?;
+    sweep_axis(
+        spec, g, k, p, chord, second, budget, c, spans, links, heads, log,
+    )
 }
 
 // All chords, in order.
@@ -133,28 +122,17 @@ pub fn sweep_chords(
     links: &[u64],
     heads: &[u64],
     log: &mut [f64],
-) -> Progress
+) -> Result<VisitCursor, Refusal>
     requires { Sweepable spec g (cells spans.now links.now heads.now) }
     ensures { WalkPost budget
         (sweep_entries (setting spec g k p (cells spans.now links.now heads.now))
         chords.now)
         (record { visits = 0; at = 0 }) log.old result log.new }
 {
-    let n = chords.len() / 8;
     let mut c = VisitCursor { visits: 0, at: 0 };
-    let mut i: usize = 0;
-    while i < n {
+    for i in 0..chords.len() / 8 {
         let chord = chords::chord_at(k.frame, chords, i);
-        let x = sweep_chord(spec, g, k, p, chord, budget, c, spans, links, heads, log);
-        match x {
-            Progress::Stopped(m) => {
-                return Progress::Stopped(m);
-            }
-            Progress::At(d) => {
-                c = d;
-            }
-        }
-        i += 1;
+        c = sweep_chord(spec, g, k, p, chord, budget, c, spans, links, heads, log)?;
     }
-    Progress::At(c)
+    Ok(c)
 }

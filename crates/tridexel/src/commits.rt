@@ -1,7 +1,6 @@
 // The two commits. The small record is two numbers that the caller keeps; a refused commit leaves both as they were.
 ghost use Rattle.commit_changes.specs.ChangeCommit.{ChangesPost};
 ghost use Rattle.commit_log.specs.LogCommit.{LogCommitPost};
-ghost use Rattle.stock.specs.declared.CommitAnswer.{CommitAnswer};
 ghost use Rattle.c_results.specs.Numbers.{AnsweredBy, commit_numbers};
 ghost use Rattle.stock.specs.Stock.{stock};
 
@@ -21,7 +20,7 @@ pub fn tridexel_commit_changes(
     pairs: &[f64],
     changed: &mut u64,
 ) -> u32
-    ensures { AnsweredBy commit_numbers CommitAnswer.Refused
+    ensures { AnsweredBy commit_numbers
         (ChangesPost spec units.now base changes.now pairs.now
         (stock spans.old links.old heads.old generation.old intervals.old)
         (stock spans.new links.new heads.new generation.new intervals.new)) result
@@ -59,7 +58,7 @@ pub fn tridexel_commit_log(
     work: &mut [f64],
     changed: &mut u64,
 ) -> u32
-    ensures { AnsweredBy commit_numbers CommitAnswer.Refused (λ a. LogCommitPost spec units.now
+    ensures { AnsweredBy commit_numbers (λ a. LogCommitPost spec units.now
         (stock spans.old links.old heads.old generation.old intervals.old)
         log.now allowance work.old a
         (stock spans.new links.new heads.new generation.new intervals.new)

@@ -13,19 +13,15 @@ ghost use Rattle.spans.specs.Results.{ListPost};
 ghost use Rattle.span_normalize.specs.Causes.{normalize_causes};
 ghost use Rattle.span_combine.specs.Combine.{combine_causes, LessOf, CommonOf};
 ghost use Rattle.span_compare.specs.Verdicts.{ComparePost, compare_causes, Contains, Overlaps};
-ghost use Rattle.span_compare.specs.declared.BoolAnswer.{BoolAnswer};
 ghost use Rattle.ray_merge.specs.Merge.{MergePost};
-ghost use Rattle.ray_merge.specs.declared.MergeAnswer.{MergeAnswer};
 ghost use Rattle.ray_trace.specs.Trace.{TracePost};
-ghost use Rattle.ray_trace.specs.declared.TraceAnswer.{TraceAnswer};
-ghost use Rattle.spans.specs.declared.ListAnswer.{ListAnswer};
 ghost use Rattle.c_results.specs.Numbers.{AnsweredBy, list_numbers, bool_numbers, merge_numbers, part_cells};
 ghost use Rattle.c_results.specs.Numbers.{trace_numbers, trace_cells};
 
 // `span_normalize::normalize`; `pairs` becomes the number of pairs.
 #[unsafe(no_mangle)]
 pub extern "C" fn tridexel_normalize(spans: &[f64], out: &mut [f64], pairs: &mut usize) -> u32
-    ensures { AnsweredBy list_numbers ListAnswer.Refused
+    ensures { AnsweredBy list_numbers
         (ListPost (NormalOf spans.now) (normalize_causes spans.now (length out.old))
         out.old out.new)
         result pairs.old pairs.new }
@@ -36,7 +32,7 @@ pub extern "C" fn tridexel_normalize(spans: &[f64], out: &mut [f64], pairs: &mut
 // `span_combine::subtract`; `pairs` becomes the number of pairs.
 #[unsafe(no_mangle)]
 pub extern "C" fn tridexel_subtract(a: &[f64], b: &[f64], out: &mut [f64], pairs: &mut usize) -> u32
-    ensures { AnsweredBy list_numbers ListAnswer.Refused (ListPost (LessOf a.now b.now)
+    ensures { AnsweredBy list_numbers (ListPost (LessOf a.now b.now)
         (combine_causes a.now b.now (length out.old)) out.old out.new)
         result pairs.old pairs.new }
 {
@@ -51,7 +47,7 @@ pub extern "C" fn tridexel_intersect(
     out: &mut [f64],
     pairs: &mut usize,
 ) -> u32
-    ensures { AnsweredBy list_numbers ListAnswer.Refused (ListPost (CommonOf a.now b.now)
+    ensures { AnsweredBy list_numbers (ListPost (CommonOf a.now b.now)
         (combine_causes a.now b.now (length out.old)) out.old out.new)
         result pairs.old pairs.new }
 {
@@ -61,7 +57,7 @@ pub extern "C" fn tridexel_intersect(
 // `span_compare::contains`; `yes` becomes 1 or 0.
 #[unsafe(no_mangle)]
 pub extern "C" fn tridexel_contains(outer: &[f64], inner: &[f64], yes: &mut u32) -> u32
-    ensures { AnsweredBy bool_numbers BoolAnswer.Refused (ComparePost (compare_causes outer.now inner.now)
+    ensures { AnsweredBy bool_numbers (ComparePost (compare_causes outer.now inner.now)
         (Contains outer.now inner.now))
         result yes.old yes.new }
 {
@@ -71,7 +67,7 @@ pub extern "C" fn tridexel_contains(outer: &[f64], inner: &[f64], yes: &mut u32)
 // `span_compare::overlaps`; `yes` becomes 1 or 0.
 #[unsafe(no_mangle)]
 pub extern "C" fn tridexel_overlaps(a: &[f64], b: &[f64], yes: &mut u32) -> u32
-    ensures { AnsweredBy bool_numbers BoolAnswer.Refused (ComparePost (compare_causes a.now b.now)
+    ensures { AnsweredBy bool_numbers (ComparePost (compare_causes a.now b.now)
         (Overlaps a.now b.now))
         result yes.old yes.new }
 {
@@ -92,7 +88,7 @@ pub extern "C" fn tridexel_merge(
     moved: &mut [u32; 2],
     pairs: &mut [usize; 2],
 ) -> u32
-    ensures { AnsweredBy merge_numbers MergeAnswer.Refused (MergePost lo hi possible.now certain.now
+    ensures { AnsweredBy merge_numbers (MergePost lo hi possible.now certain.now
         outer.now inner.now work.old work.new) result
         (part_cells moved.old pairs.old) (part_cells moved.new pairs.new) }
 {
@@ -112,7 +108,7 @@ pub extern "C" fn tridexel_trace(
     reason: &mut u32,
     by_entry: &mut usize,
 ) -> u32
-    ensures { AnsweredBy trace_numbers TraceAnswer.Refused (TracePost lo hi possible.now certain.now
+    ensures { AnsweredBy trace_numbers (TracePost lo hi possible.now certain.now
         log.now place) result
         (trace_cells reason.old by_entry.old) (trace_cells reason.new by_entry.new) }
 {

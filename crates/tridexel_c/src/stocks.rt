@@ -1,10 +1,7 @@
 // The grid of a blank and its stock. A store is three slices: the ends of the records, their links, and the heads.
 ghost use Rattle.grid.specs.Causes.{grid_in, GridPost};
-ghost use Rattle.grid.specs.declared.GridAnswer.{GridAnswer};
 ghost use Rattle.stock_fill.specs.Uncut.{FillPost, fill_causes};
 ghost use Rattle.stock_volume.specs.Volume.{VolumePost, volume_causes};
-ghost use Rattle.stock_fill.specs.declared.FillAnswer.{FillAnswer};
-ghost use Rattle.stock_volume.specs.declared.VolumeAnswer.{VolumeAnswer};
 ghost use Rattle.c_results.specs.Numbers.{AnsweredBy, grid_numbers, grid_cells, fill_numbers, tally, volume_numbers};
 ghost use Rattle.store.specs.Store.{cells};
 
@@ -18,7 +15,7 @@ pub extern "C" fn tridexel_grid(
     counts: &mut [u64; 3],
     steps: &mut [f64; 3],
 ) -> u32
-    ensures { AnsweredBy grid_numbers GridAnswer.Refused (GridPost spec units.now) result
+    ensures { AnsweredBy grid_numbers (GridPost spec units.now) result
         (grid_cells counts.old steps.old) (grid_cells counts.new steps.new) }
 {
     tridexel::stocks::tridexel_grid(spec, units, counts, steps)
@@ -35,7 +32,7 @@ pub extern "C" fn tridexel_fill(
     generation: &mut u64,
     intervals: &mut u64,
 ) -> u32
-    ensures { AnsweredBy fill_numbers FillAnswer.Refused
+    ensures { AnsweredBy fill_numbers
         (FillPost (fill_causes spec units.now (cells spans.old links.old heads.old))
         spec (grid_in spec) (cells spans.old links.old heads.old)
         (cells spans.new links.new heads.new)) result
@@ -55,7 +52,7 @@ pub extern "C" fn tridexel_volume(
     intervals: u64,
     volume: &mut [f64; 10],
 ) -> u32
-    ensures { AnsweredBy volume_numbers VolumeAnswer.Refused
+    ensures { AnsweredBy volume_numbers
         (VolumePost (volume_causes spec units.now
         (cells spans.now links.now heads.now) intervals)
         spec (grid_in spec) (cells spans.now links.now heads.now) intervals) result

@@ -1,7 +1,6 @@
 // The sweep. An axis and a shape go in as numbers, in the order of their declarations from 0; a number that names none is refusal 6.
 ghost use Rattle.std.specs.Prelude.{length};
 ghost use Rattle.sweep.specs.Answer.{setting_of, sweep_causes, SweepPost};
-ghost use Rattle.sweep.specs.declared.SweepAnswer.{SweepAnswer};
 ghost use Rattle.enum_codes.specs.Codes.{axis_of, shape_of};
 ghost use Rattle.c_results.specs.Numbers.{AnsweredBy, sweep_numbers, totals};
 ghost use Rattle.store.specs.Store.{cells};
@@ -30,7 +29,7 @@ pub extern "C" fn tridexel_sweep(
     entries: &mut usize,
     visits: &mut u64,
 ) -> u32
-    ensures { AnsweredBy sweep_numbers SweepAnswer.Refused
+    ensures { AnsweredBy sweep_numbers
         (SweepPost (sweep_causes units.now
         (setting_of spec (axis_of axis) (shape_of axis kind m n) cutter guard
         (cells spans.now links.now heads.now)) intervals chords.now budget

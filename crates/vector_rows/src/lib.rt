@@ -7,13 +7,12 @@ ghost use Rattle.std.specs.Float.{nan};
 ghost use Rattle.enum_codes.specs.Codes.{named_shape};
 ghost use Rattle.vector_rows.specs.Words.{word_of, double_of, CellsFilled, spec_of, units_of, cutter_of};
 ghost use Rattle.vector_rows.specs.Agreement.{cell_agrees, number_agrees, cell_right, number_right, Every};
-ghost use Rattle.vector_rows.specs.RowCounts.{none, up, first_differing, agreed, differed, missed, counted, outcome_of};
-ghost use Rattle.vector_rows.specs.ReadWords.{value_or, is_missing, Reads};
+ghost use Rattle.vector_rows.specs.RowCounts.{none, up, counted, outcome_of};
+ghost use Rattle.vector_rows.specs.ReadWords.{Reads};
 ghost use Rattle.vector_rows.specs.Replays.{RowPre, NextRowPost};
 
 use cutter::{CutterShape, PreparedCutter};
 use grid::{DexelStockSpec, Vec3};
-use hex_text::Word;
 use input_bytes::InputBytes;
 use std::io;
 use std::io::{Read, Write};
@@ -22,16 +21,11 @@ use std::io::{Read, Write};
 const SEVEN: u64 = 0x401c_0000_0000_0000;
 
 // Word k of those from place `from` on.
+#[tactic(auto, unfolding(crate::specs::Words::word_of))]
 fn word_of(w: &[u64], from: usize, k: usize) -> u64
     ensures { result ≡ word_of w.now from k }
 {
-    if w.len() <= from {
-        return 0;
-    }
-    if w.len() - from <= k {
-        return 0;
-    }
-    w[from + k]
+    w.get(from.saturating_add(k)).copied().unwrap_or(0)
 }
 
 // The double whose bits that word is.
@@ -45,10 +39,8 @@ fn double_of(w: &[u64], from: usize, k: usize) -> f64
 pub fn doubles_at(w: &[u64], from: usize, out: &mut [f64])
     ensures { CellsFilled nan (double_of w.now from) out.new }
 {
-    let mut k: usize = 0;
-    while k < out.len() {
-        out[k] = double_of(w, from, k);
-        k += 1;
+    for (k, x) in out.iter_mut().enumerate() {
+        *x = double_of(w, from, k);
     }
 }
 
@@ -56,10 +48,8 @@ pub fn doubles_at(w: &[u64], from: usize, out: &mut [f64])
 pub fn numbers_at(w: &[u64], from: usize, out: &mut [u64])
     ensures { CellsFilled 0 (word_of w.now from) out.new }
 {
-    let mut k: usize = 0;
-    while k < out.len() {
-        out[k] = word_of(w, from, k);
-        k += 1;
+    for (k, n) in out.iter_mut().enumerate() {
+        *n = word_of(w, from, k);
     }
 }
 
@@ -86,13 +76,11 @@ pub fn spec_at(w: &[u64], version: usize, from: usize) -> DexelStockSpec
 }
 
 // The units "mm" where the word is 0, else "cm".
+#[tactic(auto, unfolding(crate::specs::Words::units_of))]
 pub fn units_of(word: u64) -> [u8; 2]
     ensures { result ≡ units_of word }
 {
-    if word == 0 {
-        return [b'm', b'm'];
-    }
-    [b'c', b'm']
+    if word == 0 { *b"mm" } else { *b"cm" }
 }
 
 // The cutter whose words stand from place `from` on.
@@ -124,114 +112,68 @@ pub fn shape_at(w: &[u64], from: usize) -> CutterShape
     )
 }
 
-// The first n cells, or all where there are fewer.
-pub fn first(cells: &[f64], n: usize) -> &[f64]
-    ensures { result.now ≡ take n cells.now }
+// The first n elements, or all where there are fewer.
+pub fn first<T>(list: &[T], n: usize) -> &[T]
+    ensures { result.now ≡ take n list.now }
 {
-    if n < cells.len() {
-        return &cells[..n];
-    }
-    cells
-}
-
-pub fn first_numbers(numbers: &[u64], n: usize) -> &[u64]
-    ensures { result.now ≡ take n numbers.now }
-{
-    if n < numbers.len() {
-        return &numbers[..n];
-    }
-    numbers
-}
-
-pub fn first_bytes(bytes: &[u8], n: usize) -> &[u8]
-    ensures { result.now ≡ take n bytes.now }
-{
-    if n < bytes.len() {
-        return &bytes[..n];
-    }
-    bytes
+    &list[..n.min(list.len())]
 }
 
 // The same, to be written.
-pub fn first_bytes_mut<'a>(bytes: &'a mut [u8], n: usize) -> &'a mut [u8]
-    ensures { result.now ≡ take n bytes.old }
+pub fn first_mut<T>(list: &mut [T], n: usize) -> &mut [T]
+    ensures { result.now ≡ take n list.old }
 {
-    if bytes.len() <= n {
-        return bytes;
-    }
-    &mut bytes[..n]
-}
-
-pub fn first_mut<'a>(cells: &'a mut [f64], n: usize) -> &'a mut [f64]
-    ensures { result.now ≡ take n cells.old }
-{
-    if cells.len() <= n {
-        return cells;
-    }
-    &mut cells[..n]
-}
-
-pub fn first_numbers_mut<'a>(numbers: &'a mut [u64], n: usize) -> &'a mut [u64]
-    ensures { result.now ≡ take n numbers.old }
-{
-    if numbers.len() <= n {
-        return numbers;
-    }
-    &mut numbers[..n]
+    let end = n.min(list.len());
+    &mut list[..end]
 }
 
 // Whether cell k is right: 7 from `room` on, in front of that the word, as a number where k is below `ends`.
+#[tactic(auto, unfolding(crate::specs::Agreement::cell_agrees))]
 fn cell_agrees(x: f64, k: usize, ends: usize, room: usize, word: u64) -> bool
     ensures { result ≡ cell_agrees x k ends room word }
 {
     if room <= k {
-        return doubles_bits::bits_of(x) == SEVEN;
+        doubles_bits::bits_of(x) == SEVEN
+    } else if ends <= k {
+        doubles_bits::bits_of(x) == word
+    } else {
+        x == doubles_bits::of_bits(word)
     }
-    if ends <= k {
-        return doubles_bits::bits_of(x) == word;
-    }
-    x == doubles_bits::of_bits(word)
 }
 
 // Whether each cell is right, the words standing from place `from` on.
 pub fn cells_agree(cells: &[f64], w: &[u64], from: usize, ends: usize, room: usize) -> bool
     ensures { Every (cell_right cells.now w.now from ends room) (length cells.now) result }
 {
-    let mut k: usize = 0;
-    while k < cells.len() {
-        if !cell_agrees(cells[k], k, ends, room, word_of(w, from, k)) {
+    for (k, x) in cells.iter().enumerate() {
+        if !cell_agrees(*x, k, ends, room, word_of(w, from, k)) {
             return false;
         }
-        k += 1;
     }
     true
 }
 
+#[tactic(auto, unfolding(crate::specs::Agreement::number_agrees))]
 fn number_agrees(n: u64, k: usize, room: usize, word: u64) -> bool
     ensures { result ≡ number_agrees n k room word }
 {
-    if room <= k {
-        return n == 7;
-    }
-    n == word
+    n == if k < room { word } else { 7 }
 }
 
 // The same of whole numbers.
 pub fn numbers_agree(cells: &[u64], w: &[u64], from: usize, room: usize) -> bool
     ensures { Every (number_right cells.now w.now from room) (length cells.now) result }
 {
-    let mut k: usize = 0;
-    while k < cells.len() {
-        if !number_agrees(cells[k], k, room, word_of(w, from, k)) {
+    for (k, n) in cells.iter().enumerate() {
+        if !number_agrees(*n, k, room, word_of(w, from, k)) {
             return false;
         }
-        k += 1;
     }
     true
 }
 
 // What a row showed of the function of this number, or that it can't be read.
-#[derive(Clone, Copy)]
+#[derive(Clone, Copy, Debug, PartialEq, Eq)]
 pub enum RowOutcome {
     Agrees(u64),
     Differs(u64),
@@ -240,7 +182,7 @@ pub enum RowOutcome {
 
 // How many rows of each function agree and differ, how many can't be read, how many there were, and the number of the
 // first that differs, from 1.
-#[derive(Clone, Copy)]
+#[derive(Clone, Copy, Debug, PartialEq, Eq)]
 pub struct RowCounts {
     pub agree: [u64; 16],
     pub differ: [u64; 16],
@@ -262,104 +204,45 @@ pub fn start() -> RowCounts
 }
 
 // One more, up to the largest count.
+#[tactic(auto, unfolding(crate::specs::RowCounts::up))]
 fn one_more(n: u64) -> u64
     ensures { result ≡ up n }
 {
-    if n == 18446744073709551615 {
-        return n;
-    }
-    n + 1
-}
-
-fn with_agreed(t: RowCounts, k: usize) -> RowCounts
-    requires { k < 16 }
-    ensures { result ≡ agreed t k }
-{
-    let mut next = t;
-    next.agree[k] = one_more(t.agree[k]);
-    next.rows = one_more(t.rows);
-    next
-}
-
-fn first_of(first: u64, row: u64) -> u64
-    ensures { result ≡ first_differing first row }
-{
-    if first == 0 {
-        return row;
-    }
-    first
-}
-
-fn with_differed(t: RowCounts, k: usize) -> RowCounts
-    requires { k < 16 }
-    ensures { result ≡ differed t k }
-{
-    let mut next = t;
-    next.differ[k] = one_more(t.differ[k]);
-    next.rows = one_more(t.rows);
-    next.first = first_of(t.first, next.rows);
-    next
-}
-
-fn with_missed(t: RowCounts) -> RowCounts
-    ensures { result ≡ missed t }
-{
-    let mut next = t;
-    next.unread = one_more(t.unread);
-    next.rows = one_more(t.rows);
-    next
+    n.saturating_add(1)
 }
 
 // Counts a row. One of a function from 16 on can't be read.
+#[tactic(auto, unfolding(crate::specs::RowCounts::counted, crate::specs::RowCounts::agreed, crate::specs::RowCounts::differed, crate::specs::RowCounts::missed, crate::specs::RowCounts::up_at, crate::specs::RowCounts::first_differing))]
 pub fn count(t: RowCounts, o: RowOutcome) -> RowCounts
     ensures { result ≡ counted t o }
 {
+    let mut next = t;
+    next.rows = one_more(t.rows);
     match o {
-        RowOutcome::Agrees(k) => {
-            if k < 16 {
-                return with_agreed(t, k as usize);
+        RowOutcome::Agrees(k) if k < 16 => next.agree[k as usize] = one_more(t.agree[k as usize]),
+        RowOutcome::Differs(k) if k < 16 => {
+            next.differ[k as usize] = one_more(t.differ[k as usize]);
+            if t.first == 0 {
+                next.first = next.rows;
             }
-            with_missed(t)
         }
-        RowOutcome::Differs(k) => {
-            if k < 16 {
-                return with_differed(t, k as usize);
-            }
-            with_missed(t)
-        }
-        RowOutcome::Unread => with_missed(t),
+        RowOutcome::Agrees(_) | RowOutcome::Differs(_) | RowOutcome::Unread => next.unread =
+            one_more(t.unread),
     }
+    next
 }
 
 // What a row of function k of so many showed.
+#[tactic(auto, unfolding(crate::specs::RowCounts::outcome_of))]
 pub fn row_outcome(k: u64, functions: u64, agrees: bool) -> RowOutcome
     ensures { result ≡ outcome_of k functions agrees }
 {
     if functions <= k {
-        return RowOutcome::Unread;
-    }
-    if agrees {
-        return RowOutcome::Agrees(k);
-    }
-    RowOutcome::Differs(k)
-}
-
-// A word's number, and the other number for none.
-pub fn value_or(w: Word, other: u64) -> u64
-    ensures { result ≡ value_or w other }
-{
-    match w {
-        Word::Value(v) => v,
-        Word::Missing => other,
-    }
-}
-
-fn is_missing(w: Word) -> bool
-    ensures { result ≡ is_missing w }
-{
-    match w {
-        Word::Value(_) => false,
-        Word::Missing => true,
+        RowOutcome::Unread
+    } else if agrees {
+        RowOutcome::Agrees(k)
+    } else {
+        RowOutcome::Differs(k)
     }
 }
 
@@ -368,20 +251,17 @@ pub fn read_words(text: &[u8], at: usize, out: &mut [u64]) -> bool
     requires { at + 17 * length out.old < 2 ^ 64 }
     ensures { Reads text.now at out.new result }
 {
-    let mut i = 0;
-    while i < out.len() {
-        let w = hex_text::word_at(text, at + 17 * i);
-        if is_missing(w) {
-            return false;
+    for (i, n) in out.iter_mut().enumerate() {
+        match hex_text::word_at(text, at + 17 * i) {
+            Some(w) => *n = w,
+            None => return false,
         }
-        out[i] = value_or(w, 0);
-        i += 1;
     }
     true
 }
 
 // What was found of a row.
-#[derive(Clone, Copy)]
+#[derive(Clone, Copy, Debug, PartialEq, Eq)]
 enum RowFound {
     Words,
     Unread,
@@ -419,7 +299,7 @@ fn read_row<R: Read>(input: &mut InputBytes<R>, head: usize, out: &mut [u64]) ->
 
 // A replay: the counts so far, and how many more rows it may read, 0 where no row is at hand. A proved loop has to end, and nothing
 // says that the input does.
-#[derive(Clone, Copy)]
+#[derive(Clone, Copy, Debug, PartialEq, Eq)]
 pub struct Replay {
     pub counts: RowCounts,
     pub left: u64,
@@ -431,23 +311,11 @@ fn read_on<R: Read>(input: &mut InputBytes<R>, r: Replay, head: usize, out: &mut
     ensures { NextRowPost r.counts r.left result }
 {
     let mut t = r.counts;
-    let mut left = r.left;
-    while left > 0 {
-        let found = read_row(input, head, out);
-        left -= 1;
-        match found {
-            RowFound::Words => {
-                return Replay {
-                    counts: t,
-                    left: left,
-                };
-            }
-            RowFound::End => {
-                break;
-            }
-            RowFound::Unread => {
-                t = with_missed(t);
-            }
+    for left in (0..r.left).rev() {
+        match read_row(input, head, out) {
+            RowFound::Words => return Replay { counts: t, left },
+            RowFound::End => break,
+            RowFound::Unread => t = count(t, RowOutcome::Unread),
         }
     }
     Replay { counts: t, left: 0 }
@@ -509,19 +377,8 @@ fn print_end<W: Write>(output: &mut W, t: RowCounts) -> io::Result<()> {
 
 // Prints the counts of each function, and what is left of the tally. The functions' names stand in order, with a space between two.
 pub fn print<W: Write>(output: &mut W, names: &[u8], t: RowCounts) -> io::Result<()> {
-    let mut start = 0;
-    let mut k = 0;
-    let mut i = 0;
-    while i < names.len() {
-        let end = i;
-        i += 1;
-        if names[end] != b' ' {
-            continue;
-        }
-        print_counts(output, &names[start..end], t, k)?;
-        start = i;
-        k += 1;
+    for (k, name) in names.split(|b| *b == b' ').enumerate() {
+        print_counts(output, name, t, k)?;
     }
-    print_counts(output, &names[start..], t, k)?;
     print_end(output, t)
 }

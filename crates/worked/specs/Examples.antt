@@ -1,6 +1,6 @@
 -- DOCUMENT 01'S EXAMPLES marked (p), in its order, as one table; `examples-right` in proofs/Examples.antt claims them all.
 -- Each row is stated over what the function's contract cites.
-use Rattle.std.specs.Prelude.{◌≡◌, Bool, true, false, List, [], ◌∷◌, ℕ, ◌*◌, Float}
+use Rattle.std.specs.Prelude.{◌≡◌, Bool, true, false, List, [], ◌∷◌, ℕ, ◌*◌, Float, Ok}
 use Rattle.std.specs.Float.{nan}
 use Rattle.std.specs.Float.Ieee.{neg}
 use Rattle.spans.specs.Spans.{NormalOf, Within, Outside}
@@ -10,7 +10,6 @@ use Rattle.grid.specs.Rays.{ray_count}
 use Rattle.grid.specs.declared.Vec3.{Vec3}
 use Rattle.grid.specs.declared.DexelStockSpec.{DexelStockSpec}
 use Rattle.grid.specs.declared.DexelGrid.{DexelGrid}
-use Rattle.grid.specs.declared.GridAnswer.TheVariants.{Accepted}
 use Rattle.grid.specs.Causes.{mm}
 use Rattle.grid.specs.FromSpec.{grid_of}
 use Rattle.strips.specs.declared.Strip.TheVariants.{Hit}
@@ -59,7 +58,7 @@ RowRight (subtracts a b want) = less_of a b ≡ want
 RowRight (intersects a b want) = common_of a b ≡ want
 RowRight (contains outer inner true) = Within outer inner
 RowRight (contains outer inner false) = Outside outer inner
-RowRight (grids to size cells step rays) = (grid_of (box to size rays) mm ≡ Accepted (even cells step)) × (ray_count (even cells step) ≡ rays)
+RowRight (grids to size cells step rays) = (grid_of (box to size rays) mm ≡ Ok (even cells step)) × (ray_count (even cells step) ≡ rays)
 RowRight (disk x y radius y0 y1 lo hi) = disk_strip (record { x = x; y = y }) radius y0 y1 ≡ Hit lo hi
 RowRight (radius_there shape cutter height want) = radius_at shape cutter height ≡ Cutting want
 RowRight (turns sign given want) = world_of (frame 0 sign) (local_axis 1) given ≡ want

@@ -1,5 +1,4 @@
 -- `change_apply::apply_changes` meets its contract: all lists freed, then all laid, is what the store calls applied.
-use borrow.Author.Rules.{rules}
 use mathlib.Core.Path.{ap, ◌∙◌}
 use Rattle.store.specs.Updates.{laid_all}
 use Rattle.change_apply.proofs.Turns.{applied-is}

@@ -1,5 +1,4 @@
 -- `change_list::check_removal_at` meets its contract: the parts of the pairs that are lent are the four lists.
-use borrow.Author.Rules.{rules}
 use Prim.Native.Nat.{◌+◌, ◌*◌}
 use Rattle.store.proofs.Laying.{part-is}
 use Rattle.change_list.proofs.ChangeTests.{allowed-parts}

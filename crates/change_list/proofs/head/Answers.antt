@@ -1,5 +1,4 @@
 -- `change_list::head` meets its contract.
-use borrow.Author.Rules.{rules}
 use Rattle.change_list.specs.Changes.{head_at}
 use mathlib.Core.Path.{refl}
 use Rattle.change_list.proofs.head.Goals as goal

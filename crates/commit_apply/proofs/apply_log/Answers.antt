@@ -1,3 +1,4 @@
+-- `commit_apply::apply_log` meets its contract: each call finds in the work buffer what the one before it left.
 use borrow.Author.Rules.{rules}
 use native.Mathlib.Omega.{arith}
 use Prim.Native.Nat.{ℕ, ◌+◌, ◌*◌, ◌^◌, ◌≤◌, ◌<◌}
@@ -7,8 +8,6 @@ use lib.ListN.{length}
 use Rattle.commit_apply.proofs.Apply.{group-room, mergeable, sizes-fit, freeable, layable, done, cleared-size}
 use Rattle.commit_apply.proofs.apply_log.Goals as goal
 use Rattle.commit_apply.proofs.apply_log.Goals.{After-entry_count}
-
--- ---- the calls before, from where the entries are counted
 
 -- the sizes lie in the work buffer
 room : (c : After-entry_count) → let rays = c.total_rays-rays.result in rays + c.entry_count.result + 2 * rays ≤ length c.args.work.now
@@ -26,8 +25,6 @@ twice-fits r e w h b = omega arith
 
 past_fits : (r e w : ℕ) → r + e + 2 * r ≤ w → w < 2 ^ 64 → Fits w64 (r + e + 2 * r)
 past_fits r e w h b = omega arith
-
--- where the lists were freed, from where their cells are lent again
 
 -- the cells and the work buffer at the end
 finished : goal.returns

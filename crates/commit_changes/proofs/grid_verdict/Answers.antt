@@ -1,17 +1,17 @@
 -- `commit_changes::grid_verdict` meets its contract: each test that fails gives its number, which is due since the tests
 -- before it were passed.
-use borrow.Author.Rules.{rules}
-use mathlib.Core.Path.{sym, ◌∙◌}
+use Rattle.std.proofs.Common.{refl, sym, ◌∙◌, false}
 use mathlib.Core.Logic.{inl, inr}
 use Rattle.stock.proofs.Causes.{room_of}
-use Rattle.stock.proofs.Rays.{tells-good}
-use Rattle.commit_changes.proofs.Verdicts.{too_short, unsound, store-unsound, other-base, verdict-of-list}
+use Rattle.logic.proofs.Bools.{clash}
+use Rattle.commit_changes.proofs.Verdicts.{too_short, unsound, other-base, verdict-of-list}
 use Rattle.stock.specs.Stock.{stock}
 use Rattle.store.specs.Store.{cells}
 use Rattle.commit_changes.proofs.grid_verdict.Goals as goal
 
 pub returns-then-is_short : goal.returns-then-is_short
-returns-then-is_short c = too_short c.args.spec c.args.g (stock c.args.spans.now c.args.links.now c.args.heads.now c.args.generation c.args.intervals)
+returns-then-is_short c = too_short c.args.spec c.args.g
+    (stock c.args.spans.now c.args.links.now c.args.heads.now c.args.generation c.args.intervals)
     c.args.changes.now c.args.pairs.now c.args.base (sym c.is_short.ensures ∙ c.if-is_short.true)
 
 pub check_stock-requires : goal.check_stock-requires
@@ -19,13 +19,14 @@ check_stock-requires c = room_of c.args.spec c.args.g (cells c.args.spans.now c.
     (sym c.is_short.ensures ∙ c.if-is_short.false)
 
 pub returns-then-not-check_stock : goal.returns-then-not-check_stock
-returns-then-not-check_stock c = store-unsound c.args.spec c.args.g
+returns-then-not-check_stock c = unsound c.args.spec c.args.g
     (stock c.args.spans.now c.args.links.now c.args.heads.now c.args.generation c.args.intervals) c.args.changes.now
     c.args.pairs.now c.args.base (sym c.is_short.ensures ∙ c.if-is_short.false)
-    c.check_stock.result c.check_stock.ensures c.if-not-check_stock.true-raw
+    (inl (λ s. clash false (c.if-not-check_stock.ensures.1 s) refl))
 
 pub returns-then-changes-ne0 : goal.returns-then-changes-ne0
-returns-then-changes-ne0 c = unsound c.args.spec c.args.g (stock c.args.spans.now c.args.links.now c.args.heads.now c.args.generation c.args.intervals)
+returns-then-changes-ne0 c = unsound c.args.spec c.args.g
+    (stock c.args.spans.now c.args.links.now c.args.heads.now c.args.generation c.args.intervals)
     c.args.changes.now c.args.pairs.now c.args.base
     (sym c.is_short.ensures ∙ c.if-is_short.false)
     (inr (inl c.if-changes-ne0.true))
@@ -43,8 +44,7 @@ returns-then-base-generation c =
     c.args.changes.now c.args.pairs.now c.args.base
     (sym c.is_short.ensures
     ∙ c.if-is_short.false)
-    (tells-good _ c.check_stock.result
-    c.check_stock.ensures c.if-not-check_stock.false-raw)
+    (c.if-not-check_stock.ensures.0 refl)
     c.if-changes-ne0.false c.if-pairs-ne0.false c.if-base-generation.true
 
 pub list_verdict-requires : goal.list_verdict-requires
@@ -52,8 +52,7 @@ list_verdict-requires c = (
   room_of c.args.spec c.args.g (cells c.args.spans.now c.args.links.now c.args.heads.now)
       (sym c.is_short.ensures
       ∙ c.if-is_short.false),
-  tells-good _ c.check_stock.result
-      c.check_stock.ensures c.if-not-check_stock.false-raw,
+  c.if-not-check_stock.ensures.0 refl,
   c.if-pairs-ne0.false,
 )
 
@@ -63,7 +62,5 @@ returns c =
     c.args.intervals) c.args.changes.now c.args.pairs.now c.args.base
     (sym c.is_short.ensures
     ∙ c.if-is_short.false)
-    (tells-good _ c.check_stock.result
-    c.check_stock.ensures
-    c.if-not-check_stock.false-raw) c.if-changes-ne0.false
+    (c.if-not-check_stock.ensures.0 refl) c.if-changes-ne0.false
     c.if-pairs-ne0.false c.if-base-generation.false c.list_verdict.result c.list_verdict.ensures

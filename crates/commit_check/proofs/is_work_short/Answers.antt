@@ -1,5 +1,4 @@
 -- `commit_check::is_work_short` meets its contract.
-use borrow.Author.Rules.{rules}
 use Rattle.commit_check.proofs.is_work_short.Goals as goal
 
 pub returns : goal.returns

@@ -1,9 +1,7 @@
 -- `commit_run::run_logs` meets its contract.
 use borrow.Author.Rules.{rules}
 use native.Mathlib.Omega.{arith}
-use Prim.Native.Nat.{◌-◌}
-use Rattle.commit_run.proofs.Turns.{RunTo, run-start, run-next, run_end}
-use Rattle.stock.specs.Stock.{stock}
+use Rattle.commit_run.proofs.Turns.{run-start, run-next, run_end}
 use Rattle.commit_run.proofs.run_logs.Goals as goal
 
 pub loop-i-init : goal.loop-i-init
@@ -22,16 +20,6 @@ run_one-left-requires c =
     let i = c.loop-i.invariant in
     let t = c.loop-i-test.true in
     (omega (arith, i.begins, p.ascends _ t), p.within _ t, omega (arith, i.answers_size, p.room))
-
-pub overflow_add-i : goal.overflow_add-i
-overflow_add-i c = omega (
-  arith,
-  c.loop-i-test.true,
-  c.well_formed,
-)
-
-pub loop-i-smaller : goal.loop-i-smaller
-loop-i-smaller c = omega arith
 
 pub loop-i-preserved : goal.loop-i-preserved
 loop-i-preserved c =

@@ -1,6 +1,7 @@
--- `doubles::floor` meets its contract: each way out, and each call on the way, is a lemma of proofs/Whole.antt on the tests that led there.
+-- `doubles::floor` meets its contract: each way out, and each call on the way, is a lemma of proofs/Whole.antt on the tests that
+-- led there.
 -- The code's constants are bit patterns, which `unfolding of_bits neg` computes. Assumes nothing.
-use Rattle.std.proofs.Common.{◌≡◌, true, false, ap, ◌∙◌, subst, arith, rules}
+use Rattle.std.proofs.Common.{◌≡◌, true, false, ap, ◌∙◌, subst, arith}
 use lib.Ieee.{Float, of_bits, neg, eq}
 use Rattle.logic.proofs.Bools.{of-true}
 use Rattle.doubles.proofs.Whole.{Middle, above, under, above-in-range, under-in-range, under-lt, floor-zero, floor-large}
@@ -43,7 +44,8 @@ truncating_f64_to_u64-whole-requires c =
 
 pub returns-then-nearest_u64_to_f64-size : goal.returns-then-nearest_u64_to_f64-size
 returns-then-nearest_u64_to_f64-size c =
-    floor-under-whole c.args.x (of-true c.well_formed.0.1) (low c.before.before.before) c.truncating_f64_to_u64-whole.result c.truncating_f64_to_u64-whole.ensures
+    floor-under-whole c.args.x (of-true c.well_formed.0.1) (low c.before.before.before)
+    c.truncating_f64_to_u64-whole.result c.truncating_f64_to_u64-whole.ensures
     (subst (λ (y : Float). eq y (neg c.args.x) ≡ true) c.nearest_u64_to_f64-then-x-4.ensures c.if-nearest_u64_to_f64-size.true)
 
 pub overflow_add-whole : goal.overflow_add-whole
@@ -53,7 +55,8 @@ overflow_add-whole c =
 pub returns-then-x-4 : goal.returns-then-x-4
 returns-then-x-4 c =
     ap neg c.nearest_u64_to_f64-then-x-4-2.ensures
-    ∙ floor-under-over c.args.x (low c.before.before.before.before) c.truncating_f64_to_u64-whole.result c.truncating_f64_to_u64-whole.ensures
+    ∙ floor-under-over c.args.x (low c.before.before.before.before)
+    c.truncating_f64_to_u64-whole.result c.truncating_f64_to_u64-whole.ensures
     (subst (λ (y : Float). eq y (neg c.args.x) ≡ false) c.nearest_u64_to_f64-then-x-4.ensures c.if-nearest_u64_to_f64-size.false)
 
 pub returns : goal.returns

@@ -1,19 +1,12 @@
--- `doubles_bits::bits_of` meets its contract: only the NaN differs from itself, and what `to_bits` writes for it is
--- the code's constant. Assumes nothing.
-use mathlib.Core.Path.{◌≡◌, refl, sym, ap, ◌∙◌}
+-- `doubles_bits::bits_of` meets its contract: what `to_bits` writes for the NaN is the code's constant. Assumes nothing.
+use Rattle.std.proofs.Common.{◌≡◌, refl, sym, ap, ◌∙◌}
 use lib.Ieee.{nan, binary64, to_bits}
-use lib.Ieee.Compare.{differs_from_itself}
-use borrow.Author.Rules.{rules}
-use Rattle.doubles.proofs.Order.{no_nan}
-use Rattle.logic.proofs.Bools.{of-true}
+use Rattle.doubles.proofs.Order.{nan-only}
 use Rattle.doubles_bits.proofs.bits_of.Goals as goal
 
-nan-bits : to_bits binary64 nan ≡ 0x7ff8_0000_0000_0000
+nan-bits : 0x7ff8_0000_0000_0000 ≡ to_bits binary64 nan
 unfolding to_bits
 nan-bits = refl
 
-pub returns-then-x : goal.returns-then-x
-returns-then-x c = sym (ap (to_bits binary64) (differs_from_itself c.args.x (of-true c.if-x.true)) ∙ nan-bits)
-
-pub float_to_bits-result : goal.float_to_bits-result
-float_to_bits-result c = no_nan c.args.x c.if-x.false
+pub returns-then-is_nan : goal.returns-then-is_nan
+returns-then-is_nan c = nan-bits ∙ ap (to_bits binary64) (nan-only c.args.x (sym c.is_nan.ensures.value ∙ c.if-is_nan.true))

@@ -2,7 +2,6 @@
 use Prim.Native.Nat.{ℕ, suc, ◌*◌, ◌/◌, ◌^◌, ◌≤◌, ◌<◌}
 use native.Mathlib.Nat.{lt_of_le_of_lt, div-lt_iff_lt-mul}
 use native.Mathlib.Omega.{arith}
-use borrow.Author.Rules.{rules}
 use Rattle.doubles_sqrt.proofs.WholeRoot.{square-lt}
 use Rattle.doubles_sqrt.proofs.HeronRule.{heron-above}
 use Rattle.doubles_sqrt.proofs.heron.Goals as goal

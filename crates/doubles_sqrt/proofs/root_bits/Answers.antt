@@ -3,7 +3,6 @@ use mathlib.Core.Path.{◌≡◌, sym, ap, ◌∙◌}
 use Prim.Native.Nat.{ℕ, ◌+◌, ◌*◌, ◌/◌, ◌^◌, ◌≤◌, ◌<◌}
 use native.Mathlib.Nat.{le_trans, mul_right_comm}
 use native.Mathlib.Omega.{arith}
-use borrow.Author.Rules.{rules}
 use lib.Ieee.{binary64, low, of_bits}
 use Rattle.doubles_sqrt.specs.Root.{whole_root, magnitude}
 use Rattle.doubles_sqrt.proofs.Result.{root-under, pattern, root-by-units}
@@ -24,9 +23,11 @@ returns c =
     ∙ ap (λ (x : ℕ). x * 2 ^ 52) (sym c.normalized-a.ensures.is)
     ∙ mul_right_comm m (2 ^ half * 2 ^ half) (2 ^ 52) in record {
       root = ap (λ (s : ℕ). of_bits binary64 (half * 2 ^ 52 + (s + 1) / 2)) c.wide_root-root.ensures
-          ∙ sym (pattern (magnitude binary64 (of_bits binary64 b)) m half same c.normalized-a.ensures.large c.normalized-a.ensures.small top)
+          ∙ sym (pattern (magnitude binary64 (of_bits binary64 b)) m half same
+          c.normalized-a.ensures.large c.normalized-a.ensures.small top)
           ∙ sym (root-by-units b c.requires.bits_positive c.requires.bits_bound);
-      bound = bound half c.wide_root-root.result (whole_root (m * 2 ^ 54)) top c.wide_root-root.ensures (root-under m c.normalized-a.ensures.small);
+      bound = bound half c.wide_root-root.result (whole_root (m * 2 ^ 54)) top c.wide_root-root.ensures
+          (root-under m c.normalized-a.ensures.small);
     }
   where
     bound : (h r s : ℕ) → h ≤ 1534 → r ≡ s → s < 2 ^ 54 → h * 2 ^ 52 + (r + 1) / 2 < 0x7ff0_0000_0000_0000

@@ -4,12 +4,11 @@ use Prim.Native.Nat.{ℕ}
 use mathlib.Core.Bool.{not}
 use native.Mathlib.Omega.{arith}
 use lib.Dec.{T}
-use lib.Ieee.{Float, nan, binary64, fits, is_nan, of_bits, to_bits}
+use lib.Ieee.{Float, binary64, fits, is_nan, of_bits, to_bits}
 use lib.Ieee.Bits.{of_bits-to_bits, to_bits-lt}
-use lib.Ieee.Compare.{differs_from_itself}
 use Rattle.doubles_sqrt.specs.Root.{square_root}
-use Rattle.logic.proofs.Bools.{of-true}
-use Rattle.doubles.proofs.Order.{no_nan, zero-over-zero}
+use Rattle.logic.proofs.Bools.{of-true, of-false}
+use Rattle.doubles.proofs.Order.{nan-only, nan-pattern}
 use Rattle.doubles_sqrt.proofs.Result.{root-of-nan, root-of-zero, root-of-negative-zero, root-of-infinity}
 use Rattle.doubles_sqrt.proofs.Result.{root-of-negative, finite-is-no-nan, positive-under}
 use Rattle.doubles_sqrt.proofs.sqrt.Goals as goal
@@ -24,16 +23,15 @@ read : (c : Start) → of_bits binary64 (to_bits binary64 c.args.x) ≡ c.args.x
 read c = of_bits-to_bits binary64 c.args.x (held c)
 
 -- at a pattern k whose value is its own root
-own_root : (c : Start) (k : ℕ) → to_bits binary64 c.args.x ≡ k → square_root binary64 (of_bits binary64 k) ≡ of_bits binary64 k → c.args.x ≡ square_root binary64 c.args.x
-own_root c k e h = subst (λ (v : Float). v ≡ square_root binary64 v) (ap (λ (n : ℕ). of_bits binary64 n) (sym e) ∙ read c) (sym h)
+own_root : (c : Start) (k : ℕ) → to_bits binary64 c.args.x ≡ k
+    → square_root binary64 (of_bits binary64 k) ≡ of_bits binary64 k → c.args.x ≡ square_root binary64 c.args.x
+own_root c k e h = subst (λ (v : Float). v ≡ square_root binary64 v)
+    (ap (λ (n : ℕ). of_bits binary64 n) (sym e) ∙ read c) (sym h)
 
-pub returns-then-x : goal.returns-then-x
-returns-then-x c =
-    let is : c.args.x ≡ nan = differs_from_itself c.args.x (of-true c.if-x.true) in
-    subst (λ (v : Float). v ≡ square_root binary64 v) (sym is) (sym (root-of-nan binary64))
-
-pub float_to_bits-bits : goal.float_to_bits-bits
-float_to_bits-bits c = no_nan c.args.x c.if-x.false
+pub returns-then-is_nan : goal.returns-then-is_nan
+returns-then-is_nan c =
+    subst (λ (v : Float). v ≡ square_root binary64 v) (nan-only c.args.x (sym c.is_nan.ensures.value ∙ c.if-is_nan.true))
+    (sym (root-of-nan binary64))
 
 pub returns-then-bits-eq0 : goal.returns-then-bits-eq0
 returns-then-bits-eq0 c = own_root (goal.at.returns-then-bits-eq0 c).Start 0 c.if-bits-eq0.true root-of-zero
@@ -42,19 +40,22 @@ pub returns-then-bits : goal.returns-then-bits
 returns-then-bits c = own_root (goal.at.returns-then-bits c).Start 0x8000_0000_0000_0000 c.if-bits.true root-of-negative-zero
 
 pub returns-then-bits-eq9218868437227405312 : goal.returns-then-bits-eq9218868437227405312
-returns-then-bits-eq9218868437227405312 c = own_root (goal.at.returns-then-bits-eq9218868437227405312 c).Start 0x7ff0_0000_0000_0000 c.if-bits-eq9218868437227405312.true root-of-infinity
+returns-then-bits-eq9218868437227405312 c =
+    own_root (goal.at.returns-then-bits-eq9218868437227405312 c).Start 0x7ff0_0000_0000_0000
+    c.if-bits-eq9218868437227405312.true root-of-infinity
 
 pub returns-then-bits-gt9223372036854775808 : goal.returns-then-bits-gt9223372036854775808
 returns-then-bits-gt9223372036854775808 c =
-    zero-over-zero ∙ sym (root-of-negative (to_bits binary64 c.args.x) c.if-bits-gt9223372036854775808.true
-    (to_bits-lt binary64 c.args.x (held (goal.at.returns-then-bits-gt9223372036854775808 c).Start))) ∙ ap (λ (v : Float). square_root binary64 v) (read (goal.at.returns-then-bits-gt9223372036854775808 c).Start)
+    nan-pattern ∙ sym (root-of-negative (to_bits binary64 c.args.x) c.if-bits-gt9223372036854775808.true
+    (to_bits-lt binary64 c.args.x (held (goal.at.returns-then-bits-gt9223372036854775808 c).Start)))
+    ∙ ap (λ (v : Float). square_root binary64 v) (read (goal.at.returns-then-bits-gt9223372036854775808 c).Start)
 
 pub root_bits-requires : goal.root_bits-requires
 root_bits-requires c = record {
   bits_positive = omega (arith, c.if-bits-eq0.false);
   bits_bound = positive-under (to_bits binary64 c.args.x)
       (subst (λ (v : Float). T (not (is_nan v))) (sym (read (goal.at.root_bits-requires c).Start))
-      (no_nan c.args.x c.if-x.false)) c.if-bits-gt9223372036854775808.false c.if-bits.false
+      (of-false (sym c.is_nan.ensures.value ∙ c.if-is_nan.false))) c.if-bits-gt9223372036854775808.false c.if-bits.false
       c.if-bits-eq9218868437227405312.false;
 }
 

@@ -3,7 +3,6 @@ use mathlib.Core.Path.{◌≡◌, subst}
 use Prim.Native.Nat.{ℕ, suc, ◌*◌, ◌-◌, ◌^◌, ◌≤◌, ◌<◌}
 use native.Mathlib.Nat.{mul-le-mul, lt_of_le_of_lt}
 use native.Mathlib.Omega.{arith}
-use borrow.Author.Rules.{rules}
 use Rattle.doubles_sqrt.proofs.WholeRoot.{whole-root, root-unique, square-lt}
 use Rattle.doubles_sqrt.specs.Root.{whole_root}
 use Rattle.doubles_sqrt.proofs.whole_root.Goals as goal

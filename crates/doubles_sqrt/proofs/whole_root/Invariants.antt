@@ -1,11 +1,5 @@
 -- `doubles_sqrt::whole_root` meets its contract: its loop steps down from a number that is no less than the root. Assumes nothing.
-use mathlib.Core.Path.{◌≡◌, subst}
-use Prim.Native.Nat.{ℕ, suc, ◌*◌, ◌-◌, ◌^◌, ◌≤◌, ◌<◌}
-use native.Mathlib.Nat.{mul-le-mul, lt_of_le_of_lt}
-use native.Mathlib.Omega.{arith}
-use borrow.Author.Rules.{rules}
-use Rattle.doubles_sqrt.proofs.WholeRoot.{whole-root, root-unique, square-lt}
-use Rattle.doubles_sqrt.specs.Root.{whole_root}
+use Prim.Native.Nat.{suc, ◌*◌, ◌^◌, ◌<◌}
 use Rattle.doubles_sqrt.proofs.whole_root.Given as goal
 
 abbrev pub invariant-loop-root : goal.invariant-loop-root

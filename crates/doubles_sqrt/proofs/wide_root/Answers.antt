@@ -3,7 +3,6 @@ use mathlib.Core.Path.{◌≡◌, sym, subst}
 use Prim.Native.Nat.{ℕ, ◌+◌, ◌-◌, ◌*◌, ◌/◌, ◌%◌, ◌^◌, ◌≤◌, ◌<◌}
 use native.Mathlib.Nat.{mod-lt, div-add-mod', mul-le-mul}
 use native.Mathlib.Omega.{arith}
-use borrow.Author.Rules.{rules}
 use Rattle.doubles_sqrt.specs.Root.{whole_root}
 use Rattle.doubles_sqrt.specs.Radicand.{RootOf}
 use Rattle.doubles_sqrt.proofs.WholeRoot.{IsRoot, whole-root, root-unique}

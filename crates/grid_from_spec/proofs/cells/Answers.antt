@@ -1,6 +1,5 @@
 -- `grid_from_spec::cells` meets its contract. Assumes nothing.
 use Rattle.grid.specs.FromSpec.{cell_count}
-use Rattle.std.proofs.Common.{rules}
 use Rattle.grid_from_spec.proofs.cells.Goals as goal
 
 pub returns : goal.returns

@@ -1,6 +1,5 @@
 -- `grid_from_spec::grid` meets its contract. Assumes nothing.
 use Rattle.grid.specs.FromSpec.{grid_of}
-use Rattle.std.proofs.Common.{rules}
 use Rattle.grid.proofs.Causes.{grid-post}
 use Rattle.grid_from_spec.proofs.grid.Goals as goal
 

@@ -1,5 +1,4 @@
 -- `grid_from_spec::grid_with` meets its contract. Assumes nothing.
-use Rattle.std.proofs.Common.{rules}
 use Rattle.grid_from_spec.proofs.grid_with.Goals as goal
 
 pub returns : goal.returns

@@ -1,7 +1,6 @@
 -- `grid_rays::total_rays` meets its contract: the three sums are the count of all rays. Assumes nothing.
 use Rattle.grid.proofs.Numbering.{total-is}
 use native.Mathlib.Omega.{arith}
-use borrow.Author.Rules.{rules}
 use Rattle.grid_rays.proofs.total_rays.Goals as goal
 
 pub overflow_add-result : goal.overflow_add-result

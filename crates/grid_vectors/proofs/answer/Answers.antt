@@ -1,7 +1,7 @@
--- `grid_vectors::answer` asks only about an accepted grid. Assumes nothing.
-use mathlib.Core.Path.{subst}
-use Rattle.grid_vectors.specs.Facts.{FactsOf}
+-- `grid_vectors::answer` asks only about an accepted grid, which has the facts of its description. Assumes nothing.
+use mathlib.Core.Path.{sym}
+use Rattle.grid.proofs.Facts.{grid-facts}
 use Rattle.grid_vectors.proofs.answer.Goals as goal
 
 pub asked-requires : goal.asked-requires
-asked-requires c = subst (FactsOf c.args.spec) c.in-Accepted.is c.gridded-r.ensures
+asked-requires c = grid-facts _ _ _ (sym c.in-Ok.ensures.is)

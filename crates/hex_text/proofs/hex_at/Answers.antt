@@ -1,93 +1,57 @@
 -- `hex_text::hex_at` meets its contract: each turn of its loop reads one digit more (`Read`). Assumes nothing.
-use mathlib.Core.Path.{◌≡◌, sym, ◌∙◌, subst}
-use Prim.Native.Nat.{ℕ, ◌+◌, ◌-◌, ◌*◌, ◌≤◌, ◌<◌}
-use native.Mathlib.Nat.{le_of_eq}
-use native.Mathlib.Omega.{arith}
-use borrow.Author.Tests.{le-leb, lt-leb}
-use lib.ListN.{length, take, drop, get_or}
-use mathlib.Core.List.{List}
-use Rattle.hex_text.specs.Hex.{hex_digit, hex_number, hex_at}
-use Rattle.hex_text.specs.declared.Word.{Word}
-use Rattle.hex_text.specs.declared.Word.TheVariants.{Missing}
-use Rattle.hex_text.proofs.Digits.{digit-le, Read, read_none, read_more, read-stop, read_all, small_at}
+use Rattle.std.proofs.Common.{arith, ◌≡◌, sym, ap, ◌∙◌, ℕ, take, drop}
+use Rattle.std.specs.Prelude.{Option}
+use mathlib.Core.Logic.{inl, inr}
+use borrow.Author.Tests.{lt-leb}
+use Rattle.hex_text.specs.Hex.{hex_number, hex_at}
+use Rattle.hex_text.proofs.Digits.{read_none, read_more, read-stop, read_all, small_at, digit-lt, past, inside}
 use Rattle.hex_text.proofs.hex_at.Goals as goal
-use Rattle.hex_text.proofs.hex_at.Goals.{Else-text-count-2}
+use Rattle.hex_text.proofs.hex_at.Goals.{In_ok-digits}
 
--- the text ends before the number does
-past : (text : List ℕ) (k n : ℕ) → n ≤ 16 → length text < k + n → Missing ≡ hex_at text k n
-unfolding hex_at
-past text k n l h = simp (le-leb n 16 l, lt-leb (k + n) (length text) h)
-
-inside : (text : List ℕ) (k n : ℕ) (w : Word) → n ≤ 16 → k + n ≤ length text → w ≡ hex_number 0 (take n (drop k text)) → w ≡ hex_at text k n
-unfolding hex_at
-inside text k n w l h e = simp (le-leb n 16 l, le-leb (k + n) (length text) h) e
-
--- the number's place, known past the tests
-fit : (c : Else-text-count-2) → c.args.at + c.args.count ≤ length c.args.text.now
-fit c = omega arith
+-- the digits, past the tests
+spelled : (c : In_ok-digits) → (w : Option ℕ)
+    → w ≡ hex_number 0 c.in_ok-digits.digits.now → w ≡ hex_at c.args.text.now c.args.at c.args.count
+spelled c w e =
+    let d = c.in_ok-digits.ensures.lookup in
+    let p = c.in_ok-end.ensures in
+    inside _ _ _ _ w c.if-count-gt16.false (omega arith)
+    (d.0.2 ∙ ap (λ (n : ℕ). take n (drop c.args.at c.args.text.now)) (omega arith)) e
 
 pub returns-then-count-gt16 : goal.returns-then-count-gt16
 unfolding hex_at
 returns-then-count-gt16 c = simp (lt-leb _ _ c.if-count-gt16.true)
 
-pub returns-then-text-count : goal.returns-then-text-count
-returns-then-text-count c = past _ _ _ c.if-count-gt16.false (omega arith)
+pub returns-in_err-end : goal.returns-in_err-end
+returns-in_err-end c = c.from_residual.ensures ∙ past _ _ _ c.if-count-gt16.false (omega (arith, c.in_err-end.ensures))
 
-pub overflow_sub-text : goal.overflow_sub-text
-overflow_sub-text c = omega arith
+pub returns-in_err-digits : goal.returns-in_err-digits
+returns-in_err-digits c =
+    let h = c.in_err-digits.ensures.lookup.0 in
+    let p = c.in_ok-end.ensures in
+    c.from_residual-in_err-digits.ensures ∙ past _ _ _ c.if-count-gt16.false (elim h [ inl q ↦ omega arith | inr q ↦ omega arith ])
 
-pub returns-then-text-count-2 : goal.returns-then-text-count-2
-returns-then-text-count-2 c = past _ _ _ c.if-count-gt16.false (omega arith)
+pub loop-c-init : goal.loop-c-init
+loop-c-init c = read_none _
 
-pub loop-i-init : goal.loop-i-init
-loop-i-init c = read_none _ _ _
-
-pub overflow_add-at : goal.overflow_add-at
-overflow_add-at c = omega arith
-
-pub bounds-text-at : goal.bounds-text-at
-bounds-text-at c = omega arith
-
-pub digit-d-requires : goal.digit-d-requires
-digit-d-requires c = tt
-
-pub returns-then-d-eq16 : goal.returns-then-d-eq16
-returns-then-d-eq16 c =
-    inside _ _ _ Missing c.if-count-gt16.false (fit (goal.at.returns-then-d-eq16 c).Else-text-count-2)
-    (sym (read-stop _ _ _ _ _ c.loop-i.invariant c.loop-i-test.true
-    (fit (goal.at.returns-then-d-eq16 c).Else-text-count-2) (le_of_eq (sym c.if-d-eq16.true ∙ c.digit-d.ensures))))
+pub returns-in_err-d : goal.returns-in_err-d
+returns-in_err-d c =
+    spelled (goal.at.returns-in_err-d c).In_ok-digits _
+    (c.from_residual-in_err-d.ensures ∙ read-stop _ _ _ c.loop-c.invariant c.loop-c-test.true (sym c.in_err-d.ensures))
 
 pub overflow_mul-value : goal.overflow_mul-value
 overflow_mul-value c =
-    omega (arith, small_at _ _ c.loop-i.invariant.small (omega arith))
+    let d = c.in_ok-digits.ensures.lookup in
+    let p = c.in_ok-end.ensures in
+    omega (arith, small_at _ _ c.loop-c.invariant.small (omega arith))
 
 pub overflow_add-value : goal.overflow_add-value
 overflow_add-value c =
-    omega (
-      arith,
-      small_at _ _ c.loop-i.invariant.small (omega arith),
-      c.digit-d.ensures,
-      digit-le (get_or c.args.text.now
-          (c.args.at + c.loop-i.i) 0),
-    )
+    let d = c.in_ok-digits.ensures.lookup in
+    let p = c.in_ok-end.ensures in
+    omega (arith, small_at _ _ c.loop-c.invariant.small (omega arith), digit-lt _ _ (sym c.in_ok-d.ensures))
 
-pub overflow_add-i : goal.overflow_add-i
-overflow_add-i c = omega arith
-
-pub loop-i-smaller : goal.loop-i-smaller
-loop-i-smaller c = omega arith
-
-pub loop-i-preserved : goal.loop-i-preserved
-loop-i-preserved c =
-    let j = get_or c.args.text.now (c.args.at + c.loop-i.i) 0 in
-    let below : hex_digit j < 16 = omega (arith, c.digit-d.ensures, digit-le j, c.if-d-eq16.false) in
-    subst (λ (z : ℕ). Read c.args.text.now c.args.at c.args.count
-    (c.loop-i.value * 16 + z) (c.loop-i.i + 1)) (sym c.digit-d.ensures)
-    (read_more _ _ _ _ _ c.loop-i.invariant c.loop-i-test.true (fit (goal.at.loop-i-preserved c).Else-text-count-2) below)
+pub loop-c-preserved : goal.loop-c-preserved
+loop-c-preserved c = read_more _ _ _ c.loop-c.invariant c.loop-c-test.true _ (sym c.in_ok-d.ensures)
 
 pub returns : goal.returns
-returns c =
-    let last : c.loop-i.i ≡ c.args.count = omega (arith, c.loop-i.invariant.within, c.loop-i-test.false) in
-    inside _ _ _ _ c.if-count-gt16.false (fit (goal.at.returns c).Else-text-count-2)
-    (read_all _ _ _ _ (subst (λ (z : ℕ). Read c.args.text.now c.args.at c.args.count
-    c.loop-i.value z) last c.loop-i.invariant))
+returns c = spelled (goal.at.returns c).In_ok-digits _ (read_all _ _ _ c.loop-c.invariant c.loop-c-test.false)

@@ -1,5 +1,4 @@
 -- `inner::tridexel_inner_cut_min` meets its contract.
-use borrow.Author.Rules.{rules}
 use Rattle.inner.proofs.tridexel_inner_cut_min.Goals as goal
 
 pub returns : goal.returns

@@ -1,5 +1,4 @@
 -- `inner::tridexel_inner_polygon_strip` meets its contract.
-use borrow.Author.Rules.{rules}
 use Rattle.inner.proofs.tridexel_inner_polygon_strip.Goals as goal
 
 pub returns : goal.returns

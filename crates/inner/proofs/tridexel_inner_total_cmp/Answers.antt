@@ -1,5 +1,4 @@
 -- `inner::tridexel_inner_total_cmp` meets its contract: each arm answers the number of the case that it matched.
-use borrow.Author.Rules.{rules}
 use mathlib.Core.Path.{sym, ap, ◌∙◌}
 use Rattle.inner.specs.Orderings.{ordering_code}
 use Rattle.inner.proofs.tridexel_inner_total_cmp.Goals as goal

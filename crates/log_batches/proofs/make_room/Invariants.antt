@@ -1,6 +1,5 @@
 -- `log_batches::make_room` meets its contract: each turn leaves a narrower batch.
-use Rattle.std.proofs.Common.{◌+◌, ◌-◌, ◌/◌, ◌≤◌, refl, mul-le-mul_right, arith, rules}
-use Rattle.log_batches.proofs.Batching.{Narrowing, narrowing-start, narrowing-turn, narrowing-done, narrowing-full}
+use Rattle.log_batches.proofs.Batching.{Narrowing}
 use Rattle.log_batches.proofs.make_room.Given as goal
 
 abbrev pub invariant-loop-t : goal.invariant-loop-t

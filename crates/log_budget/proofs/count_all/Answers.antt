@@ -1,15 +1,9 @@
-use Prim.Native.Nat.{◌-◌, ◌≤◌}
-use mathlib.Core.Path.{◌≡◌, refl, ◌∙◌}
+use mathlib.Core.Path.{refl, ◌∙◌}
 use native.Mathlib.Omega.{arith}
-use borrow.Author.Rules.{rules}
-use lib.ListN.{length}
-use Rattle.grid.specs.Rays.{ray_count}
-use Rattle.log_count.specs.Totals.{Prefixed}
 use Rattle.log_count.proofs.Bounds.{few_rays}
 use Rattle.log_budget.proofs.Answers.{too_many_rays, too-many-intervals, both-kept}
 use Rattle.log_budget.proofs.Passing.{start, changed-so-far, all-counted}
 use Rattle.log_gather.proofs.Entries.{same_shape}
-use Rattle.store.specs.Store.{cells}
 use Rattle.log_budget.proofs.count_all.Goals as goal
 use Rattle.log_budget.proofs.count_all.Goals.{After-fit_width-width}
 

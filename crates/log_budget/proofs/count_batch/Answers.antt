@@ -1,10 +1,7 @@
-use mathlib.Core.Path.{◌≡◌, refl, ◌∙◌}
-use Prim.Native.Nat.{◌-◌}
+use mathlib.Core.Path.{refl, ◌∙◌}
 use native.Mathlib.Omega.{arith}
 use borrow.Author.Rules.{rules}
-use lib.ListN.{length}
-use Rattle.log_budget.proofs.Turns.{CountedBelow, ray-fits, reached-start, ray-asked, keys-of-ray, reached-turn, reached-end}
-use Rattle.store.specs.Store.{cells}
+use Rattle.log_budget.proofs.Turns.{ray-fits, reached-start, ray-asked, keys-of-ray, reached-turn, reached-end}
 use Rattle.log_budget.proofs.count_batch.Goals as goal
 use Rattle.log_budget.proofs.count_batch.Goals.{After-count_ray-arg-in-loop-i-1, At-loop-i}
 

@@ -9,4 +9,6 @@ product-fits : (w n : ℕ) → 0 < n → w ≤ (2 ^ 64 - 1) / n → w * n < 2 ^ 
 product-fits w n h l = omega (arith, (le-div_iff_mul-le h).0 l)
 
 pub returns : goal.returns
-returns c = (search rules, search rules, product-fits _ _ c.requires.1 (omega arith))
+returns c =
+    let one : 1 ≤ (2 ^ 64 - 1) / c.args.n = (le-div_iff_mul-le c.requires.1).1 (omega (arith, c.ranges.n)) in
+    (search rules, search rules, product-fits _ _ c.requires.1 (omega (arith, one)))

@@ -3,15 +3,12 @@
 use mathlib.Core.Path.{◌∙◌}
 use mathlib.Core.Bool.{true, false}
 use native.Mathlib.Omega.{arith}
-use lib.ListN.{length}
 use Rattle.logic.proofs.Bools.{not-true, not-false}
-use Rattle.log_keys.specs.Keys.{loses_of, pairs_past}
 use Rattle.log_gather.proofs.Entries.{same_shape}
 use Rattle.log_count.proofs.Bounds.{few_rays}
 use Rattle.log_count.proofs.Asking.{list-readable, list-sound}
 use Rattle.log_count.proofs.Prefixes.{ray-addable, ray-added}
-use Rattle.log_count.proofs.Onward.{TakenTo, onward-start, onward-next, onward-falls, onward-counted}
-use Rattle.store.specs.Layout.{heads_of}
+use Rattle.log_count.proofs.Onward.{onward-start, onward-next, onward-falls, onward-counted}
 use Rattle.log_count.proofs.count_long.Goals as goal
 
 pub ray_heads-head-requires : goal.ray_heads-head-requires

@@ -1,22 +1,16 @@
 -- `log_count::count_long` meets its contract. The loop goes from stretch to stretch, and each but the last leaves fewer hits that begin
 -- past it.
-use mathlib.Core.Path.{◌∙◌}
-use mathlib.Core.Bool.{true, false}
-use native.Mathlib.Omega.{arith}
+use mathlib.Core.Bool.{true}
 use lib.ListN.{length}
-use Rattle.logic.proofs.Bools.{not-true, not-false}
 use Rattle.log_keys.specs.Keys.{loses_of, pairs_past}
-use Rattle.log_gather.proofs.Entries.{same_shape}
-use Rattle.log_count.proofs.Bounds.{few_rays}
-use Rattle.log_count.proofs.Asking.{list-readable, list-sound}
-use Rattle.log_count.proofs.Prefixes.{ray-addable, ray-added}
-use Rattle.log_count.proofs.Onward.{TakenTo, onward-start, onward-next, onward-falls, onward-counted}
+use Rattle.log_count.proofs.Onward.{TakenTo}
 use Rattle.store.specs.Layout.{heads_of}
 use Rattle.log_count.proofs.count_long.Given as goal
 
 abbrev pub invariant-loop-w : goal.invariant-loop-w
 invariant-loop-w l =
-    TakenTo l.g l.n l.spans l.links l.log l.ray (heads_of l.heads l.ray).possible (heads_of l.heads l.ray).certain l.initial.keys l.keys l.initial.buffer l.buffer l.w
+    TakenTo l.g l.n l.spans l.links l.log l.ray (heads_of l.heads l.ray).possible (heads_of l.heads l.ray).certain
+    l.initial.keys l.keys l.initial.buffer l.buffer l.w
 
 abbrev pub decreases-loop-w : goal.decreases-loop-w
 decreases-loop-w l = length (pairs_past l.w.end (loses_of l.g l.log l.ray true))

@@ -1,5 +1,4 @@
 -- `log_count::end_list` meets its contract.
-use borrow.Author.Rules.{rules}
 use native.Mathlib.Omega.{arith}
 use Rattle.store.specs.Store.{places}
 use Rattle.store_read.proofs.Steps.{ends-length}

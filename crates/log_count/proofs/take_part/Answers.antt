@@ -1,7 +1,6 @@
 -- `log_count::take_part` meets its contract.
 use mathlib.Core.Path.{sym}
 use mathlib.Core.Bool.{true, false}
-use borrow.Author.Rules.{rules}
 use lib.Seq.{length-take-le}
 use Rattle.log_gather.proofs.Entries.{same_shape}
 use Rattle.log_count.proofs.Parts.{part-taken}

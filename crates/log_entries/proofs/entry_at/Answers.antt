@@ -1,4 +1,4 @@
-use Rattle.std.proofs.Common.{refl, rules}
+use Rattle.std.proofs.Common.{refl}
 use Rattle.log_model.specs.Logs.{entry_at}
 use Rattle.log_entries.proofs.entry_at.Goals as goal
 

@@ -1,4 +1,4 @@
-use Rattle.std.proofs.Common.{◌≡◌, ◌+◌, ap, ◌∙◌, ap₂, arith, rules}
+use Rattle.std.proofs.Common.{◌≡◌, ◌+◌, ap, ◌∙◌, ap₂, arith}
 use Rattle.grid.specs.Axes.{world_axis}
 use Rattle.grid.specs.Rays.{rays_along}
 use Rattle.log_model.specs.Logs.{entry_at, entry_ray}

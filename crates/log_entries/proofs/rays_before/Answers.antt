@@ -1,4 +1,4 @@
-use Rattle.std.proofs.Common.{◌≡◌, ℕ, ◌+◌, Bool, cond, sym, refl, ap, ◌∙◌, ⊎_elim, rules}
+use Rattle.std.proofs.Common.{◌+◌, Bool, cond, sym, ap, ◌∙◌}
 use lib.Ieee.{binary64, le, of_bits}
 use Rattle.log_entries.specs.Named.{before_axis}
 use Rattle.log_entries.proofs.rays_before.Goals as goal

@@ -1,4 +1,4 @@
-use Rattle.std.proofs.Common.{arith, rules}
+use Rattle.std.proofs.Common.{arith}
 use lib.Ieee.Casts.{to_unsigned-lt}
 use Rattle.log_entries.proofs.Wholes.{castable}
 use Rattle.log_entries.proofs.whole_number.Goals as goal

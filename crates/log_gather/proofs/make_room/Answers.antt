@@ -1,5 +1,4 @@
 -- Nothing is to be done while a pair fits; else the pairs are joined, and where these are too many still, half of them stay.
-use borrow.Author.Rules.{rules}
 use Rattle.log_gather.proofs.Room.{loosens-joined, loosens-halved}
 use Rattle.log_gather.proofs.make_room.Goals as goal
 

@@ -1,16 +1,14 @@
 -- Where the pair brings nothing all stays; else it moves the front, or is put into the cells once there is room.
-use borrow.Author.Rules.{rules}
-use native.Mathlib.Omega.{arith}
-use lib.ListN.{length-set}
 use Rattle.logic.proofs.Bools.{not-true, not-false}
 use Rattle.log_gather.proofs.Pairs.{puts_none, puts-below, puts-beyond, puts-front, puts-cells}
 use Rattle.log_gather.proofs.put.Goals as goal
+use Rattle.log_gather.proofs.put.Goals.{then-not-lo-hi-via-then-not-lo-hi, then-not-lo-hi-via-else-not-lo-hi+then-hi-h}
 
 pub returns-then-not-lo-hi : goal.returns-then-not-lo-hi
-returns-then-not-lo-hi c = puts_none c.requires.1 (not-true _ c.if-not-lo-hi.true-raw)
-
-pub returns-then-hi-h : goal.returns-then-hi-h
-returns-then-hi-h c = puts-below c.requires.1 c.if-hi-h.true
+returns-then-not-lo-hi c = elim c.then-not-lo-hi.branch [
+  | then-not-lo-hi-via-then-not-lo-hi w ↦ puts_none c.requires.1 (not-true _ w.if-not-lo-hi.true-raw)
+  | then-not-lo-hi-via-else-not-lo-hi+then-hi-h w ↦ puts-below c.requires.1 w.if-hi-h.true
+]
 
 pub returns-then-not-b-lo : goal.returns-then-not-b-lo
 returns-then-not-b-lo c =
@@ -19,9 +17,6 @@ returns-then-not-b-lo c =
 
 pub returns-then-not-lo-h : goal.returns-then-not-lo-h
 returns-then-not-lo-h c = puts-beyond c.requires.1 (not-true _ c.if-not-lo-h.true-raw)
-
-pub bounds-cells-at-2 : goal.bounds-cells-at-2
-bounds-cells-at-2 c = simp length-set (omega arith)
 
 pub returns : goal.returns
 returns c =

@@ -1,5 +1,4 @@
 -- The outer pair is put first, if it counts, then the inner one.
-use borrow.Author.Rules.{rules}
 use Rattle.log_model.specs.Logs.{hit_lo, hit_hi}
 use Rattle.log_keys.specs.Keys.{with_entry}
 use Rattle.log_gather.proofs.Entries.{puts-both}

@@ -1,15 +1,15 @@
 -- `log_group::gather_hits` meets its contract.
-use borrow.Author.Rules.{rules}
 use native.Mathlib.Omega.{arith}
 use mathlib.Core.Path.{ap}
-use Prim.Native.Nat.{◌-◌}
 use lib.ListN.{length, length-set}
 use Rattle.log_model.specs.Steps.{hit_kind_of}
-use Rattle.log_group.proofs.Gathering.{Gathering, Turn, turn, gathers, gathered, again}
+use Rattle.log_group.proofs.Gathering.{Turn, turn, gathers, gathered, again}
 use Rattle.log_group.proofs.gather_hits.Goals as goal
 use Rattle.log_group.proofs.gather_hits.Goals.{In-loop-k}
 
-turned-at : (c : In-loop-k) → Turn c.total_rays-rays.result c.args.log.now (hit_kind_of c.args.inner) c.args.ray c.args.at c.args.work.now c.loop-k.work c.loop-k.t c.loop-k.k
+turned-at : (c : In-loop-k)
+    → Turn c.total_rays-rays.result c.args.log.now
+    (hit_kind_of c.args.inner) c.args.ray c.args.at c.args.work.now c.loop-k.work c.loop-k.t c.loop-k.k
 turned-at c =
     turn c.total_rays-rays.result c.args.log.now (hit_kind_of c.args.inner) c.args.ray c.args.at c.args.work.now
     c.loop-k.work c.loop-k.t c.loop-k.k c.loop-k-test.true c.loop-k.invariant
@@ -48,10 +48,8 @@ pub loop-k-preserved : goal.loop-k-preserved
 loop-k-preserved c =
     again c.total_rays-rays.result c.args.log.now (hit_kind_of c.args.inner) c.args.ray c.args.at c.args.work.now
     c.loop-k.work c.loop-k.t c.loop-k.k c.entry_at.result c.put_hit.new.work
-    c.number_at-k-in-loop-k.result c.entry_at.ensures c.put_hit.ensures c.number_at-k-in-loop-k.ensures (turned-at (goal.at.loop-k-preserved c).In-loop-k).again
-
-pub shape_of-work : goal.shape_of-work
-shape_of-work c = c.loop-k.invariant.size
+    c.number_at-k-in-loop-k.result c.entry_at.ensures c.put_hit.ensures c.number_at-k-in-loop-k.ensures
+    (turned-at (goal.at.loop-k-preserved c).In-loop-k).again
 
 pub returns : goal.returns
 returns c =

@@ -1,5 +1,4 @@
 -- `log_group::put_hit` meets its contract.
-use borrow.Author.Rules.{rules}
 use Rattle.log_model.specs.Logs.{hit_lo, hit_hi}
 use Rattle.log_group.proofs.put_hit.Goals as goal
 

@@ -1,6 +1,5 @@
 -- `log_lay::free_if_changed` meets its contract: the first size tells whether the ray has updates.
 use Rattle.log_lay.proofs.Turns.{freed-same, freed-new}
-use borrow.Author.Rules.{rules}
 use Rattle.log_lay.proofs.free_if_changed.Goals as goal
 
 pub returns-then-number_at-eq0 : goal.returns-then-number_at-eq0

@@ -1,6 +1,5 @@
 -- `log_lay::lay_if_changed` meets its contract: the first size tells whether the ray has updates, and both sizes
 -- where its lists stand.
-use borrow.Author.Rules.{rules}
 use native.Mathlib.Omega.{arith}
 use mathlib.Core.Path.{refl}
 use Prim.Native.Nat.{◌+◌, ◌-◌, ◌*◌, ◌≤◌}
@@ -10,7 +9,8 @@ use Rattle.log_lay.proofs.lay_if_changed.Goals as goal
 use Rattle.log_lay.proofs.lay_if_changed.Goals.{After-number_at-second}
 
 -- the two lists lie in the work buffer
-room : (c : After-number_at-second) → c.args.place.at + 2 * (c.number_at-first.result - 1) + 2 * c.number_at-second.result ≤ length c.args.work.now
+room : (c : After-number_at-second)
+    → c.args.place.at + 2 * (c.number_at-first.result - 1) + 2 * c.number_at-second.result ≤ length c.args.work.now
 room c = lists-room _ _ _ _ _ _ c.requires _
     c.number_at-first.ensures c.if-first-eq0.false _ c.number_at-second.ensures
 

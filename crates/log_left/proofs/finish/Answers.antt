@@ -1,5 +1,5 @@
 -- The pairs that are undecided are counted too.
-use Rattle.std.proofs.Common.{ℕ, ◌+◌, ◌%◌, ◌^◌, refl, ap, ◌∙◌, rules}
+use Rattle.std.proofs.Common.{ℕ, ◌+◌, ◌%◌, ◌^◌, refl, ap, ◌∙◌}
 use Rattle.log_left.proofs.Walking.{tells}
 use Rattle.log_left.proofs.finish.Goals as goal
 

@@ -1,12 +1,9 @@
 -- The loop's invariant: the pairs that were closed end at or before lo. The measure is what is left of the chain.
-use Rattle.std.proofs.Common.{◌≡◌, Bool, true, List, length, rules}
+use Rattle.std.proofs.Common.{◌≡◌, Bool, true, List, length}
 use lib.Ieee.{Float, le}
-use Rattle.logic.proofs.Bools.{not-true, not-false}
 use Rattle.store.specs.Store.{places}
 use Rattle.store_read.specs.Reading.{Readable}
-use Rattle.store_read.proofs.Steps.{step, record-there}
 use Rattle.log_left.specs.ListLeft.{ListWalked}
-use Rattle.log_left.proofs.Walking.{walked-later, closes}
 use Rattle.log_left.proofs.pass.Given as goal
 
 abbrev pub invariant-loop-t : goal.invariant-loop-t

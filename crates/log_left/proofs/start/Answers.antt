@@ -1,5 +1,4 @@
 -- Nothing is decided yet.
-use Rattle.std.proofs.Common.{rules}
 use Rattle.log_left.proofs.Walking.{begins}
 use Rattle.log_left.proofs.start.Goals as goal
 

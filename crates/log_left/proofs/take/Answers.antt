@@ -1,18 +1,12 @@
 -- The loop's invariant: of the hit's points those are taken that lie before `from`. The measure falls with each record, and where the walk
 -- comes to the hit's end.
-use Rattle.std.proofs.Common.{◌≡◌, Bool, true, List, inl, inr, rules}
-use lib.Ieee.{Float, lt}
+use Rattle.std.proofs.Common.{inl, inr}
 use Rattle.logic.proofs.Bools.{not-true, not-false}
-use Rattle.store_read.specs.Reading.{Readable}
-use Rattle.log_left.specs.ListLeft.{ListWalked}
-use Rattle.log_left.proofs.Walking.{Taking, to_take, cut-readable, cut-less, taking-starts, taking-on, taking-ends}
+use Rattle.log_left.proofs.Walking.{cut-readable, cut-less, taking-starts, taking-on, taking-ends}
 use Rattle.log_left.proofs.take.Goals as goal
 
 pub loop-t-init : goal.loop-t-init
 loop-t-init c = let e = c.pass-t.ensures in (e.readable, λ l s up. taking-starts _ _ _ e.readable up e.beyond)
-
-pub cut_pair-t-requires : goal.cut_pair-t-requires
-cut_pair-t-requires c = (c.loop-t.invariant.0, c.loop-t-test.true)
 
 pub loop-t-smaller : goal.loop-t-smaller
 loop-t-smaller c =

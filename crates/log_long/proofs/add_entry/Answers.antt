@@ -1,7 +1,6 @@
 -- `log_long::add_entry` meets its contract.
-use Rattle.std.proofs.Common.{sym, refl, ap, ◌∙◌, arith, rules}
+use Rattle.std.proofs.Common.{sym, refl, ◌∙◌, arith}
 use Rattle.log_entries.specs.Named.{EachNamed}
-use Rattle.log_long.specs.Long.{least_past}
 use Rattle.log_long.proofs.Gathering.{gathers-passed, gathers-added}
 use Rattle.log_long.proofs.add_entry.Goals as goal
 
@@ -9,14 +8,6 @@ pub ray_at-requires : goal.ray_at-requires
 unfolding EachNamed
 ray_at-requires c =
     (omega arith, c.requires.3, c.requires.1 c.args.i c.requires.3)
-
-pub add_key-t-requires : goal.add_key-t-requires
-add_key-t-requires c = (
-  c.requires.4.in_log,
-  c.requires.2,
-  c.requires.3,
-  c.least_past.ensures ∙ ap (least_past c.args.b) c.entry_at-e.ensures,
-)
 
 pub returns-then-ray_at-ray : goal.returns-then-ray_at-ray
 returns-then-ray_at-ray c =

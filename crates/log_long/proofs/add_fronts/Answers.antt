@@ -1,6 +1,6 @@
 -- `log_long::add_fronts` meets its contract.
-use Rattle.std.proofs.Common.{refl, rules}
-use Rattle.log_model.specs.Logs.{outer, inner, hit_lo, hit_hi}
+use Rattle.std.proofs.Common.{refl}
+use Rattle.log_model.specs.Logs.{hit_lo, hit_hi}
 use Rattle.log_long.proofs.Gathering.{each_kind}
 use Rattle.log_long.proofs.add_fronts.Goals as goal
 

@@ -1,5 +1,5 @@
 -- `log_long::add_key` meets its contract.
-use Rattle.std.proofs.Common.{refl, rules}
+use Rattle.std.proofs.Common.{refl}
 use Rattle.log_long.proofs.Stretching.{entry-out, entry-added}
 use Rattle.log_long.proofs.add_key.Goals as goal
 

@@ -1,11 +1,6 @@
 -- `log_long::count_below` meets its contract. The loop's invariant: no more are counted than passed.
-use Rattle.std.proofs.Common.{◌-◌, ◌≤◌, Bool, true, false, arith, rules}
-use lib.Ieee.{lt}
-use mir.Val.{bool_byte}
+use Rattle.std.proofs.Common.{◌≤◌}
 use Rattle.log_long.proofs.count_below.Given as goal
 
-abbrev pub invariant-loop-i : goal.invariant-loop-i
-invariant-loop-i l = (l.k ≤ l.i) × (l.i ≤ l.m)
-
-abbrev pub decreases-loop-i : goal.decreases-loop-i
-decreases-loop-i l = l.m - l.i
+abbrev pub invariant-loop-key : goal.invariant-loop-key
+invariant-loop-key l = l.k ≤ l.key-index

@@ -1,12 +1,7 @@
 -- `log_long::gather_ray` meets its contract. The loop's invariant: the ray's entries before place i are gathered.
-use Rattle.std.proofs.Common.{◌≡◌, ◌-◌, ◌≤◌, length, refl, ◌∙◌, arith, rules}
-use Rattle.log_model.specs.Logs.{entry_count}
+use Rattle.std.proofs.Common.{◌≡◌, length}
 use Rattle.log_long.specs.Long.{GathersTo}
-use Rattle.log_long.proofs.Gathering.{gathers-start}
 use Rattle.log_long.proofs.gather_ray.Given as goal
 
 abbrev pub invariant-loop-i : goal.invariant-loop-i
-invariant-loop-i l = (l.i ≤ l.n) × (length l.keys ≡ length l.initial.keys) × GathersTo l.g l.log l.ray l.b l.i l.keys l.w
-
-abbrev pub decreases-loop-i : goal.decreases-loop-i
-decreases-loop-i l = l.n - l.i
+invariant-loop-i l = (length l.keys ≡ length l.initial.keys) × GathersTo l.g l.log l.ray l.b l.i l.keys l.w

@@ -1,10 +1,6 @@
 -- `log_long::group_middle` meets its contract. Its loop's invariant says nothing of what the cells hold.
-use Rattle.std.proofs.Common.{◌≡◌, ◌-◌, ◌≤◌, length, arith, rules}
-use Rattle.log_long.proofs.Stretching.{place-below}
+use Rattle.std.proofs.Common.{◌≡◌, length}
 use Rattle.log_long.proofs.group_middle.Given as goal
 
 abbrev pub invariant-loop-i : goal.invariant-loop-i
-invariant-loop-i l = (l.i ≤ 55) × (length l.cells ≡ 110)
-
-abbrev pub decreases-loop-i : goal.decreases-loop-i
-decreases-loop-i l = 55 - l.i
+invariant-loop-i l = length l.cells ≡ 110

@@ -1,12 +1,8 @@
 -- `log_long::shorten` meets its contract.
-use Rattle.std.proofs.Common.{ap, ◌∙◌, rules}
+use Rattle.std.proofs.Common.{ap, ◌∙◌}
 use Rattle.log_long.specs.Long.{least_past}
 use Rattle.log_long.proofs.Stretching.{kept-roomy}
 use Rattle.log_long.proofs.shorten.Goals as goal
-
-pub entry_at-requires : goal.entry_at-requires
-entry_at-requires c =
-    c.requires.0.places c.near_middle-q.result c.near_middle-q.ensures
 
 pub returns : goal.returns
 returns c =

@@ -1,5 +1,4 @@
 -- `log_merge::load_hits` meets its contract.
-use borrow.Author.Rules.{rules}
 use native.Mathlib.Omega.{arith}
 use mathlib.Core.Path.{◌≡◌}
 use Prim.Native.Nat.{◌-◌}
@@ -12,12 +11,18 @@ use Rattle.log_merge.proofs.Loading.{copied-size, hits-loaded}
 use Rattle.log_merge.proofs.load_hits.Goals as goal
 use Rattle.log_merge.proofs.load_hits.Goals.{After-gather_hits-e}
 
-part-long : (y : After-gather_hits-e) → let w = y.gather_hits-e.new.work in length (take (length w - y.args.at) (drop y.args.at w)) ≡ length y.args.work.now - y.args.at
+part-long : (y : After-gather_hits-e)
+    → let w = y.gather_hits-e.new.work in length (take (length w - y.args.at) (drop y.args.at w)) ≡ length y.args.work.now - y.args.at
 part-long y =
     let w = y.gather_hits-e.new.work in
     let size = copied-size (hits_on_ray y.args.g (entries y.args.log.now) y.args.ray (hit_kind_of y.args.inner)) y.args.work.now
     y.args.at w y.gather_hits-e.result y.requires.3 y.gather_hits-e.ensures in
-    omega (arith, size, length-drop y.args.at w, length-take-le (length w - y.args.at) (drop y.args.at w) (omega (arith, length-drop y.args.at w)))
+    omega (
+      arith,
+      size,
+      length-drop y.args.at w,
+      length-take-le (length w - y.args.at) (drop y.args.at w) (omega (arith, length-drop y.args.at w)),
+    )
 
 pub normalize_front-requires : goal.normalize_front-requires
 normalize_front-requires c =

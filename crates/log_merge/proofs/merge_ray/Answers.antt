@@ -1,5 +1,4 @@
 -- `log_merge::merge_ray` meets its contract.
-use borrow.Author.Rules.{rules}
 use native.Mathlib.Omega.{arith}
 use mathlib.Core.Path.{sym, ◌∙◌}
 use Rattle.log_merge.proofs.Rays.{ray-same, cut-ready, ray-merged}

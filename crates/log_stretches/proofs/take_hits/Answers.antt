@@ -1,20 +1,8 @@
 -- The loop goes from stretch to stretch. What is gathered is made a sound list and taken, and each stretch but the last leaves fewer pairs
 -- that begin past it.
-use borrow.Author.Rules.{rules}
-use lib.ListN.{length}
 use Rattle.logic.proofs.Bools.{not-true, not-false}
-use Rattle.log_keys.specs.Keys.{hits_to, pairs_past}
-use Rattle.log_gather.proofs.Entries.{same_shape}
-use Rattle.log_stretches.proofs.Stretching.{StretchLoop, pairs-fall, roomy-front, reaches-start, reaches-on, reaches_end}
+use Rattle.log_stretches.proofs.Stretching.{pairs-fall, roomy-front, reaches-on, reaches_end}
 use Rattle.log_stretches.proofs.take_hits.Goals as goal
-
-pub loop-h-init : goal.loop-h-init
-loop-h-init c = reaches-start c.requires.0
-
-pub gather-h-requires : goal.gather-h-requires
-gather-h-requires c =
-    let pre = c.requires in
-    (same_shape _ _ c.loop-h.invariant.size pre.1, pre.2)
 
 pub take_held-t-requires : goal.take_held-t-requires
 take_held-t-requires c =

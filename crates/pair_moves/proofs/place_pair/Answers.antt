@@ -1,8 +1,7 @@
 -- `pair_moves::place_pair` meets its contract.
-use borrow.Author.Rules.{rules}
 use native.Mathlib.Omega.{arith}
 use lib.ListN.{length-set}
-use Rattle.pair_moves.proofs.Laws.{Aside, aside-start, aside-step, aside-done}
+use Rattle.pair_moves.proofs.Laws.{aside-start, aside-step, aside-done}
 use Rattle.pair_moves.proofs.place_pair.Goals as goal
 
 pub loop-j-init : goal.loop-j-init

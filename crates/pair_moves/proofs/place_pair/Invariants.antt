@@ -1,8 +1,5 @@
 -- `pair_moves::place_pair` meets its contract.
-use borrow.Author.Rules.{rules}
-use native.Mathlib.Omega.{arith}
-use lib.ListN.{length-set}
-use Rattle.pair_moves.proofs.Laws.{Aside, aside-start, aside-step, aside-done}
+use Rattle.pair_moves.proofs.Laws.{Aside}
 use Rattle.pair_moves.proofs.place_pair.Given as goal
 
 abbrev pub invariant-loop-j : goal.invariant-loop-j

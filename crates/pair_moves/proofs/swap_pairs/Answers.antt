@@ -2,7 +2,6 @@
 use native.Mathlib.Omega.{arith}
 use lib.ListN.{length-set}
 use Rattle.pair_moves.proofs.Laws.{swapped}
-use borrow.Author.Rules.{rules}
 use Rattle.pair_moves.proofs.swap_pairs.Goals as goal
 
 pub bounds-s-i-4 : goal.bounds-s-i-4

@@ -5,6 +5,3 @@ use Rattle.pair_sort.proofs.heapsort.Given as goal
 
 abbrev pub invariant-loop-e : goal.invariant-loop-e
 invariant-loop-e l = SamePairs l.initial.s l.s × (l.e ≤ l.n)
-
-abbrev pub decreases-loop-e : goal.decreases-loop-e
-decreases-loop-e l = l.e

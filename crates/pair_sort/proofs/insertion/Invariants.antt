@@ -1,10 +1,6 @@
 -- `pair_sort::insertion` meets its contract.
-use Prim.Native.Nat.{◌-◌}
 use Rattle.pair_moves.specs.Pairs.{SamePairs}
 use Rattle.pair_sort.proofs.insertion.Given as goal
 
 abbrev pub invariant-loop-k : goal.invariant-loop-k
 invariant-loop-k l = SamePairs l.initial.s l.s
-
-abbrev pub decreases-loop-k : goal.decreases-loop-k
-decreases-loop-k l = l.r - l.k

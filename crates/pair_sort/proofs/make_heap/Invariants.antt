@@ -4,6 +4,3 @@ use Rattle.pair_sort.proofs.make_heap.Given as goal
 
 abbrev pub invariant-loop-k : goal.invariant-loop-k
 invariant-loop-k l = SamePairs l.initial.s l.s
-
-abbrev pub decreases-loop-k : goal.decreases-loop-k
-decreases-loop-k l = l.k

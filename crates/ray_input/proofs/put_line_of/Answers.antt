@@ -5,12 +5,12 @@ use lib.Ieee.{Float}
 use Rattle.ray_input.specs.Steps.{Appended}
 use Rattle.ray_input.proofs.Reading.{pair-miss, pair-hit}
 use Rattle.ray_input.proofs.Writing.{put-none}
-use borrow.Author.Rules.{rules}
 use Rattle.ray_input.proofs.put_line_of.Goals as goal
 
 pub returns-then-s-at : goal.returns-then-s-at
 returns-then-s-at c =
-    subst (λ (l : List Float). Appended c.args.out.now c.args.m l c.args.out.now c.args.m) (pair-miss c.args.s.now c.args.at c.args.c c.if-s-at.true)
+    subst (λ (l : List Float). Appended c.args.out.now c.args.m l c.args.out.now c.args.m)
+    (pair-miss c.args.s.now c.args.at c.args.c c.if-s-at.true)
     (put-none c.args.out.now c.args.m c.requires.1)
 
 pub put_pair-requires : goal.put_pair-requires

@@ -1,7 +1,6 @@
 -- `ray_input::put_pair` meets its contract.
 use lib.ListN.{length-set}
 use Rattle.ray_input.proofs.Writing.{put_two}
-use borrow.Author.Rules.{rules}
 use native.Mathlib.Omega.{arith}
 use Rattle.ray_input.proofs.put_pair.Goals as goal
 

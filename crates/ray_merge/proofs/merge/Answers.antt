@@ -2,45 +2,45 @@
 use mathlib.Core.Path.{ap₂}
 use Prim.Native.Nat.{ℕ, ◌+◌, ◌/◌, ◌<◌}
 use lib.ListN.{length}
-use Rattle.logic.proofs.Bools.{not-true, not-false, clash}
+use Rattle.logic.proofs.Bools.{clash}
 use Rattle.spans.proofs.Sets.{sound-mod}
 use Rattle.ray_merge.specs.Merge.{work_pairs, MergePre}
 use Rattle.ray_merge.proofs.Answers.{refuse-short, refuse-bad, accept}
-use borrow.Author.Rules.{rules}
 use native.Mathlib.Omega.{arith}
 use Rattle.ray_merge.proofs.merge.Goals as goal
-use Rattle.ray_merge.proofs.merge.Goals.{After-c-1, Else-not-valid_ray, Else-work-possible}
+use Rattle.ray_merge.proofs.merge.Goals.{Else-not-valid_ray, Else-work-possible}
+use Rattle.ray_merge.proofs.merge.Goals.{then-outer-ne0-via-then-outer-ne0, then-outer-ne0-via-else-outer-ne0+then-inner-ne0}
+use Rattle.ray_merge.proofs.merge.Goals.{then-outer-ne0-via-else-outer-ne0+else-inner-ne0+then-not-valid_ray}
 
-not_short : (c : Else-work-possible) → ¬ (length c.args.work.now / 2 < work_pairs c.args.possible.now c.args.certain.now c.args.outer.now c.args.inner.now)
+not_short : (c : Else-work-possible)
+    → ¬ (length c.args.work.now / 2 < work_pairs c.args.possible.now c.args.certain.now c.args.outer.now c.args.inner.now)
 not_short c h = omega (arith, c.if-work-possible.false)
 
 good : (c : Else-not-valid_ray) → MergePre c.args.lo c.args.hi c.args.possible.now c.args.certain.now c.args.outer.now c.args.inner.now
-good c =
-    record { outer_whole = c.if-outer-ne0.false; inner_whole = c.if-inner-ne0.false; ray = c.valid_ray.ensures.0 (not-false c.valid_ray.result c.if-not-valid_ray.false-raw) }
+good c = record {
+  outer_whole = c.if-outer-ne0.false;
+  inner_whole = c.if-inner-ne0.false;
+  ray = c.valid_ray.ensures.0 c.if-not-valid_ray.false;
+}
 
 pub returns-then-work-possible : goal.returns-then-work-possible
 returns-then-work-possible c =
-    refuse-short c.args.lo c.args.hi c.args.possible.now c.args.certain.now c.args.outer.now c.args.inner.now c.args.work.now c.if-work-possible.true
+    refuse-short c.args.lo c.args.hi c.args.possible.now c.args.certain.now c.args.outer.now c.args.inner.now c.args.work.now
+    c.if-work-possible.true
 
 pub returns-then-outer-ne0 : goal.returns-then-outer-ne0
 returns-then-outer-ne0 c =
     refuse-bad c.args.lo c.args.hi c.args.possible.now c.args.certain.now c.args.outer.now c.args.inner.now c.args.work.now
-    (not_short (goal.at.returns-then-outer-ne0 c).Else-work-possible) (λ m. c.if-outer-ne0.true m.outer_whole)
+    (not_short (goal.at.returns-then-outer-ne0 c).Else-work-possible) (elim c.then-outer-ne0.branch [
+      | then-outer-ne0-via-then-outer-ne0 w ↦ λ m. w.if-outer-ne0.true m.outer_whole
+      | then-outer-ne0-via-else-outer-ne0+then-inner-ne0 w ↦ λ m. w.if-inner-ne0.true m.inner_whole
+      | then-outer-ne0-via-else-outer-ne0+else-inner-ne0+then-not-valid_ray w ↦
+          λ m. clash w.valid_ray.result (w.valid_ray.ensures.1 m.ray) w.if-not-valid_ray.true
+    ])
 
-pub returns-then-inner-ne0 : goal.returns-then-inner-ne0
-returns-then-inner-ne0 c =
-    refuse-bad c.args.lo c.args.hi c.args.possible.now c.args.certain.now c.args.outer.now c.args.inner.now c.args.work.now
-    (not_short (goal.at.returns-then-inner-ne0 c).Else-work-possible) (λ m. c.if-inner-ne0.true m.inner_whole)
-
-pub returns-then-not-valid_ray : goal.returns-then-not-valid_ray
-returns-then-not-valid_ray c =
-    refuse-bad c.args.lo c.args.hi c.args.possible.now c.args.certain.now c.args.outer.now c.args.inner.now c.args.work.now
-    (not_short (goal.at.returns-then-not-valid_ray c).Else-work-possible)
-    (λ m. clash c.valid_ray.result (c.valid_ray.ensures.1 m.ray) (not-true c.valid_ray.result c.if-not-valid_ray.true-raw))
-
-pub merge_lists-parts-requires : goal.merge_lists-parts-requires
-merge_lists-parts-requires c =
-    let m = good (goal.at.merge_lists-parts-requires c).Else-not-valid_ray in
+pub merge_lists-lists-requires : goal.merge_lists-lists-requires
+merge_lists-lists-requires c =
+    let m = good (goal.at.merge_lists-lists-requires c).Else-not-valid_ray in
     record {
       possible_sound = m.ray.possible_sound;
       certain_sound = m.ray.certain_sound;
@@ -56,21 +56,9 @@ merge_lists-parts-requires c =
       );
     }
 
-pub overflow_add-cells : goal.overflow_add-cells
-overflow_add-cells c =
-    record {
-      fits = omega (
-        arith,
-        c.cells-2.ensures,
-        c.cells.ensures,
-        c.merge_lists-parts.ensures.room,
-        c.well_formed.1.1.1.1.1.1.0.0,
-      );
-    }
-
 pub returns : goal.returns
 returns c =
     accept c.args.lo c.args.hi c.args.possible.now c.args.certain.now c.args.outer.now c.args.inner.now c.args.work.now
-    c.merge_lists-parts.new.work c.clear_from.new.b c.merge_lists-parts.result
-    (c.cells.result + c.cells-2.result) (not_short (goal.at.returns c).Else-work-possible) (good (goal.at.returns c).Else-not-valid_ray) c.merge_lists-parts.ensures
+    c.merge_lists-lists.new.work c.clear_from.new.b c.merge_lists-lists.result (c.cells.result + c.cells-2.result)
+    (not_short (goal.at.returns c).Else-work-possible) (good (goal.at.returns c).Else-not-valid_ray) c.merge_lists-lists.ensures
     (ap₂ (λ (x y : ℕ). x + y) c.cells.ensures c.cells-2.ensures) c.clear_from.ensures

@@ -3,7 +3,6 @@ use mathlib.Core.Path.{refl}
 use Prim.Native.Nat.{◌+◌, ◌*◌}
 use lib.ListN.{length}
 use Rattle.ray_merge.proofs.Answers.{ready, lists}
-use borrow.Author.Rules.{rules}
 use Rattle.ray_merge.proofs.merge_lists.Goals as goal
 
 pub merge_within-requires : goal.merge_within-requires

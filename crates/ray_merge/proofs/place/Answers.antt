@@ -1,6 +1,5 @@
 -- `ray_merge::place` meets its contract.
 use Rattle.ray_subtract.proofs.Places.{placed}
-use borrow.Author.Rules.{rules}
 use native.Mathlib.Omega.{arith}
 use Rattle.ray_merge.proofs.place.Goals as goal
 

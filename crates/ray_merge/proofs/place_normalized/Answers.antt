@@ -1,6 +1,5 @@
 -- `ray_merge::place_normalized` meets its contract.
 use Rattle.ray_subtract.proofs.Places.{normal}
-use borrow.Author.Rules.{rules}
 use native.Mathlib.Omega.{arith}
 use Rattle.ray_merge.proofs.place_normalized.Goals as goal
 

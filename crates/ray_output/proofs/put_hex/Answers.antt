@@ -3,7 +3,6 @@ use mathlib.Core.Path.{◌≡◌, sym, subst}
 use Prim.Native.Nat.{ℕ, ◌+◌, ◌-◌, ◌/◌}
 use lib.ListN.{length, set}
 use Rattle.ray_output.proofs.Printing.{Hexing, hex-start, hex-step, hex-size, hex-done}
-use borrow.Author.Rules.{rules}
 use native.Mathlib.Omega.{arith}
 use Rattle.ray_output.proofs.put_hex.Goals as goal
 use Rattle.ray_output.proofs.put_hex.Goals.{At-loop-k}

@@ -4,7 +4,6 @@ use Rattle.ray_input.specs.Format.{newline}
 use Rattle.ray_output.specs.Output.{field_text, line_text}
 use Rattle.ray_output.proofs.Printing.{field-length}
 use Rattle.ray_input.proofs.Writing.{put_then}
-use borrow.Author.Rules.{rules}
 use native.Mathlib.Omega.{arith}
 use Rattle.ray_output.proofs.put_line.Goals as goal
 

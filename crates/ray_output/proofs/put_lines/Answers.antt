@@ -1,10 +1,9 @@
 -- `ray_output::put_lines` meets its contract.
 use mathlib.Core.Path.{◌≡◌}
-use Prim.Native.Nat.{◌-◌}
+use Prim.Native.Nat.{◌+◌}
 use lib.ListN.{length}
 use lib.Seq.{take_all}
-use Rattle.ray_output.proofs.Printing.{Lining, lining-start, lining-next, lining-size, lining_step}
-use borrow.Author.Rules.{rules}
+use Rattle.ray_output.proofs.Printing.{lining-start, lining-next, lining-size, lining_step}
 use native.Mathlib.Omega.{arith}
 use Rattle.ray_output.proofs.put_lines.Goals as goal
 use Rattle.ray_output.proofs.put_lines.Goals.{At-loop-k}
@@ -42,3 +41,13 @@ shape_of-out c = size (goal.at.shape_of-out c).At-loop-k
 pub returns : goal.returns
 returns c =
     rw (take_all c.loop-k.k c.args.list.now c.loop-k-test.false) at c.loop-k.invariant.put
+
+-- where the next place is past the largest number, the list ends here too
+pub returns-2 : goal.returns-2
+returns-2 c =
+    let last =
+    lining_step c.args.out.now c.args.at c.args.c c.args.list.now c.loop-k.k c.loop-k.out c.loop-k.n
+    c.put_line-n.new.out c.put_line-n.result c.requires.0 c.loop-k-test.true
+    c.loop-k.invariant
+    c.put_line-n.ensures in
+    rw (take_all (c.loop-k.k + 2) c.args.list.now (omega arith)) at last.put

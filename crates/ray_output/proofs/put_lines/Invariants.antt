@@ -1,11 +1,7 @@
 -- `ray_output::put_lines` meets its contract.
-use mathlib.Core.Path.{◌≡◌}
 use Prim.Native.Nat.{◌-◌}
 use lib.ListN.{length}
-use lib.Seq.{take_all}
-use Rattle.ray_output.proofs.Printing.{Lining, lining-start, lining-next, lining-size, lining_step}
-use borrow.Author.Rules.{rules}
-use native.Mathlib.Omega.{arith}
+use Rattle.ray_output.proofs.Printing.{Lining}
 use Rattle.ray_output.proofs.put_lines.Given as goal
 
 abbrev pub invariant-loop-k : goal.invariant-loop-k

@@ -1,12 +1,6 @@
 -- `ray_subtract::cut_at` meets its contract.
-use borrow.Author.Rules.{rules}
-use native.Mathlib.Omega.{arith}
-use mathlib.Core.Path.{◌≡◌}
-use mathlib.Core.Logic.{⊎_elim}
-use Prim.Native.Nat.{◌+◌, ◌-◌, ◌≤◌}
-use lib.ListN.{length}
-use Rattle.ray_subtract.proofs.Sweeping.{CuttingAt, cutting-start, cutting-room, cutting-size, pair-in, cutting-last}
-use Rattle.ray_subtract.proofs.Sweeping.{cutting-end, cutting-step}
+use Prim.Native.Nat.{◌-◌}
+use Rattle.ray_subtract.proofs.Sweeping.{CuttingAt}
 use Rattle.ray_subtract.proofs.cut_at.Given as goal
 
 abbrev pub invariant-loop-j : goal.invariant-loop-j

@@ -1,6 +1,5 @@
 -- `ray_subtract::merge_within` meets its contract.
 use Rattle.ray_subtract.proofs.Sparing.{both-lie, merging}
-use borrow.Author.Rules.{rules}
 use Rattle.ray_subtract.proofs.merge_within.Goals as goal
 
 pub take_both-certain-requires : goal.take_both-certain-requires

@@ -7,7 +7,6 @@ use lib.Ieee.{Float}
 use Rattle.span_cover.specs.Cover.{Meets}
 use Rattle.ray_subtract.specs.Steps.{cells_from}
 use Rattle.ray_subtract.proofs.Sparing.{meets-moves}
-use borrow.Author.Rules.{rules}
 use native.Mathlib.Omega.{arith}
 use Rattle.ray_subtract.proofs.share_point.Goals as goal
 
@@ -16,10 +15,6 @@ one a n w = ap (λ (k : ℕ). take k (drop a w)) (back a n)
   where
     back : (a n : ℕ) → a + n - a ≡ n
     back a n = omega arith
-
-pub meets-requires : goal.meets-requires
-meets-requires c =
-    (rw (one c.args.a c.args.n c.args.w.now) c.requires.0.is_sound, rw (one c.args.b c.args.m c.args.w.now) c.requires.1.is_sound)
 
 pub returns : goal.returns
 returns c =

@@ -1,6 +1,5 @@
 -- `ray_subtract::subtract_both` meets its contract.
 use Rattle.ray_subtract.proofs.Sparing.{second-lies, both-written}
-use borrow.Author.Rules.{rules}
 use Rattle.ray_subtract.proofs.subtract_both.Goals as goal
 
 pub subtract_to-requires : goal.subtract_to-requires

@@ -1,7 +1,6 @@
 -- `ray_text::run_readable` meets its contract.
 use Rattle.ray_input.specs.Format.{letter_p, letter_c, letter_o, letter_i}
 use Rattle.ray_text.proofs.Running.{reads, collects, collected, collected-size, small, run-merged}
-use borrow.Author.Rules.{rules}
 use native.Mathlib.Omega.{arith}
 use Rattle.ray_text.proofs.run_readable.Goals as goal
 use Rattle.ray_text.proofs.run_readable.Goals.{After-collect-nc, After-collect-no}

@@ -1,56 +1,39 @@
-use borrow.Author.Rules.{rules}
-use mathlib.Core.Path.{◌≡◌}
+-- `ray_trace::reason_of` meets its contract.
+use mathlib.Core.Path.{◌≡◌, sym}
 use mathlib.Core.Bool.{true, false}
-use Rattle.logic.proofs.Bools.{found, found-not}
-use Rattle.refusal.specs.Refusal.{NoneDue}
 use Rattle.spans.specs.Spans.{holds}
-use Rattle.log_model.specs.Logs.{inner, outer, entries}
+use Rattle.log_model.specs.Logs.{inner, entries}
 use Rattle.ray_trace.specs.Reasons.{hit_pairs, not_held, cut_away, made_uncertain, never_certain, untouched}
-use Rattle.ray_trace.proofs.Answers.{found_some, found_none}
 use Rattle.ray_trace.proofs.reason_of.Goals as goal
-use Rattle.ray_trace.proofs.reason_of.Goals.{Else-k-ne0, Else-not-holds_at, Else-not-holds_at-2}
+use Rattle.ray_trace.proofs.reason_of.Goals.{Else-not-holds_at, Else-not-holds_at-2, In_default}
 
 -- possible before, in no inner pair, certain before
 possible-held : (c : Else-not-holds_at) → holds c.args.possible.now c.args.place ≡ true
-possible-held c = found _ _ c.holds_at.ensures c.if-not-holds_at.false-raw
+possible-held c = sym c.if-not-holds_at.ensures
 
-inner-free : (c : Else-k-ne0) → holds (hit_pairs inner (entries c.args.log.now)) c.args.place ≡ false
-inner-free c = found_none inner _ _ _ c.first_holding-k.ensures c.if-k-ne0.false
+inner-free : (c : In_default) → holds (hit_pairs inner (entries c.args.log.now)) c.args.place ≡ false
+inner-free c = c.in_default.ensures
 
 certain-held : (c : Else-not-holds_at-2) → holds c.args.certain.now c.args.place ≡ true
-certain-held c = found _ _ c.holds_at-2.ensures c.if-not-holds_at-2.false-raw
+certain-held c = sym c.if-not-holds_at-2.ensures
 
 pub returns-then-not-holds_at : goal.returns-then-not-holds_at
-unfolding NoneDue
-returns-then-not-holds_at c = (tt, not_held (found-not _ _ c.holds_at.ensures c.if-not-holds_at.true-raw))
+returns-then-not-holds_at c = not_held (sym c.if-not-holds_at.ensures)
 
-pub returns-then-k-ne0 : goal.returns-then-k-ne0
-unfolding NoneDue
-returns-then-k-ne0 c = (
-  tt,
-  cut_away (possible-held (goal.at.returns-then-k-ne0 c).Else-not-holds_at) (found_some inner _ _ _ c.first_holding-k.ensures c.if-k-ne0.true),
-)
+pub returns-in-Some : goal.returns-in-Some
+returns-in-Some c = cut_away (possible-held (goal.at.returns-in-Some c).Else-not-holds_at) c.in-Some.ensures
 
 pub returns-then-not-holds_at-2 : goal.returns-then-not-holds_at-2
-unfolding NoneDue
-returns-then-not-holds_at-2 c = (
-  tt,
-  never_certain (possible-held (goal.at.returns-then-not-holds_at-2 c).Else-not-holds_at) (found-not _ _ c.holds_at-2.ensures c.if-not-holds_at-2.true-raw)
-      (inner-free (goal.at.returns-then-not-holds_at-2 c).Else-k-ne0),
-)
+returns-then-not-holds_at-2 c = never_certain (possible-held (goal.at.returns-then-not-holds_at-2 c).Else-not-holds_at)
+    (sym c.if-not-holds_at-2.ensures)
+    (inner-free (goal.at.returns-then-not-holds_at-2 c).In_default)
 
-pub returns-then-j-ne0 : goal.returns-then-j-ne0
-unfolding NoneDue
-returns-then-j-ne0 c = (
-  tt,
-  made_uncertain (certain-held (goal.at.returns-then-j-ne0 c).Else-not-holds_at-2) (inner-free (goal.at.returns-then-j-ne0 c).Else-k-ne0)
-      (found_some outer _ _ _ c.first_holding-j.ensures c.if-j-ne0.true),
-)
+pub returns-in-Some-first_holding : goal.returns-in-Some-first_holding
+returns-in-Some-first_holding c =
+    made_uncertain (certain-held (goal.at.returns-in-Some-first_holding c).Else-not-holds_at-2)
+    (inner-free (goal.at.returns-in-Some-first_holding c).In_default) c.in-Some-first_holding.ensures
 
-pub returns : goal.returns
-unfolding NoneDue
-returns c = (
-  tt,
-  untouched (certain-held (goal.at.returns c).Else-not-holds_at-2) (inner-free (goal.at.returns c).Else-k-ne0)
-      (found_none outer _ _ _ c.first_holding-j.ensures c.if-j-ne0.false),
-)
+pub returns-in-None : goal.returns-in-None
+returns-in-None c =
+    untouched (certain-held (goal.at.returns-in-None c).Else-not-holds_at-2) (inner-free (goal.at.returns-in-None c).In_default)
+    c.in-None.ensures

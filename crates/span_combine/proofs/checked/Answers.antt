@@ -7,7 +7,6 @@ use lib.ListN.{length}
 use Rattle.spans.specs.Spans.{sound}
 use Rattle.span_combine.proofs.Answers.{checked-short, checked-bad, checked-none}
 use Rattle.logic.proofs.Bools.{found, found-not, clash}
-use borrow.Author.Rules.{rules}
 use Rattle.span_combine.proofs.checked.Goals as goal
 use Rattle.span_combine.proofs.checked.Goals.{Start}
 

@@ -1,10 +1,7 @@
 -- `span_cover::covers` meets its contract.
-use borrow.Author.Rules.{rules}
 use native.Mathlib.Omega.{arith}
-use Prim.Native.Nat.{◌+◌, ◌-◌}
-use lib.ListN.{length}
 use Rattle.spans.proofs.Sets.{sound-mod}
-use Rattle.span_cover.proofs.Walks.{Covering, cover-start, cover-done, cover_on, cover-pair, escapes}
+use Rattle.span_cover.proofs.Walks.{cover-start, cover-done, cover_on, cover-pair, escapes}
 use Rattle.span_cover.proofs.covers.Goals as goal
 
 pub loop-k-init : goal.loop-k-init

@@ -1,18 +1,15 @@
 -- `span_cover::meets` meets its contract.
-use borrow.Author.Rules.{rules}
 use native.Mathlib.Omega.{arith}
 use mathlib.Core.Logic.{inl, inr}
-use Prim.Native.Nat.{◌+◌, ◌-◌}
-use lib.ListN.{length}
 use Rattle.spans.proofs.Sets.{sound-mod}
-use Rattle.span_cover.proofs.Walks.{Avoiding, avoid-start, avoid-done, avoid-a, avoid-b, share-point}
+use Rattle.span_cover.proofs.Walks.{avoid-start, avoid-done, avoid-a, avoid-b, share-point}
 use Rattle.span_cover.proofs.meets.Goals as goal
 
 pub loop-i-init : goal.loop-i-init
 loop-i-init c = avoid-start _ _
 
-pub returns-then-b-j : goal.returns-then-b-j
-returns-then-b-j c = avoid-done _ _ _ _ c.loop-i.invariant (inr c.if-b-j.true)
+pub returns-else-j-b : goal.returns-else-j-b
+returns-else-j-b c = avoid-done _ _ _ _ c.loop-i.invariant (inr c.if-j-b.false)
 
 pub bounds-a-i : goal.bounds-a-i
 bounds-a-i c =
@@ -21,7 +18,7 @@ bounds-a-i c =
 pub loop-i-preserved-then-a-i : goal.loop-i-preserved-then-a-i
 loop-i-preserved-then-a-i c =
     avoid-a _ _ _ _ c.requires.0 c.requires.1 c.loop-i.invariant
-    c.loop-i-test.true (omega (arith, c.if-b-j.false))
+    c.loop-i-test.true c.if-j-b.true
     c.if-a-i.true
 
 pub bounds-b-j-else-a-i : goal.bounds-b-j-else-a-i
@@ -32,14 +29,14 @@ pub returns-then-a-i-2 : goal.returns-then-a-i-2
 returns-then-a-i-2 c =
     share-point _ _ _ _ c.requires.0 c.requires.1 c.loop-i.invariant
     c.loop-i-test.true
-    (omega (arith, c.if-b-j.false))
+    c.if-j-b.true
     c.if-a-i.false c.if-a-i-2.true
 
 pub loop-i-preserved : goal.loop-i-preserved
 loop-i-preserved c =
     avoid-b _ _ _ _ c.requires.0 c.requires.1 c.loop-i.invariant
     c.loop-i-test.true
-    (omega (arith, c.if-b-j.false)) c.if-a-i-2.false
+    c.if-j-b.true c.if-a-i-2.false
 
-pub returns : goal.returns
-returns c = avoid-done _ _ _ _ c.loop-i.invariant (inl c.loop-i-test.false)
+pub returns-after-loop-i : goal.returns-after-loop-i
+returns-after-loop-i c = avoid-done _ _ _ _ c.loop-i.invariant (inl c.loop-i-test.false)

@@ -1,9 +1,8 @@
 -- `span_insert::insert` meets its contract.
 use native.Mathlib.Omega.{arith}
-use Prim.Native.Nat.{◌-◌}
-use lib.ListN.{get_or, take}
+use lib.ListN.{take}
 use lib.Seq.{length-take-le}
-use lib.Ieee.{nan, lt}
+use lib.Ieee.{lt, le}
 use mathlib.Core.Bool.{true}
 use mathlib.Core.Path.{◌≡◌}
 use Rattle.logic.proofs.Bools.{not-true, not-false, clash}
@@ -29,21 +28,15 @@ overflow_sub-n c =
     let n = c.args.n in
     omega (arith, sound-mod (take n b) c.requires.1, length-take-le n b (omega (arith, c.requires.0)), c.if-n-eq0.false)
 
-pub returns-then-not-last-hi : goal.returns-then-not-last-hi
-returns-then-not-last-hi c =
-    let b = c.args.b.now in
-    let n = c.args.n in
-    insert-inside b n c.args.lo c.args.hi (omega (arith, c.requires.0)) c.requires.1
-    (omega (arith, c.if-n-eq0.false)) c.if-b-n.true
-    c.if-last-lo.false (not-true (lt (get_or b (n - 1) nan) c.args.hi) c.if-not-last-hi.true-raw)
+pub returns-then-last-hi : goal.returns-then-last-hi
+returns-then-last-hi c =
+    insert-extends c.args.b.now c.args.n c.args.lo c.args.hi (omega (arith, c.requires.0)) c.requires.1
+    (omega (arith, c.if-n-eq0.false)) c.if-b-n.true c.if-last-lo.false c.requires.0 c.if-last-hi.true
 
-pub returns-then-b-n : goal.returns-then-b-n
-returns-then-b-n c =
-    let b = c.args.b.now in
-    let n = c.args.n in
-    insert-extends b n c.args.lo c.args.hi (omega (arith, c.requires.0)) c.requires.1
-    (omega (arith, c.if-n-eq0.false)) c.if-b-n.true
-    c.if-last-lo.false c.requires.0 (not-false (lt (get_or b (n - 1) nan) c.args.hi) c.if-not-last-hi.false-raw)
+pub returns-else-last-hi : goal.returns-else-last-hi
+returns-else-last-hi c =
+    insert-inside c.args.b.now c.args.n c.args.lo c.args.hi (omega (arith, c.requires.0)) c.requires.1
+    (omega (arith, c.if-n-eq0.false)) c.if-b-n.true c.if-last-lo.false c.if-last-hi.false
 
 pub returns-then-not-lo-hi : goal.returns-then-not-lo-hi
 returns-then-not-lo-hi c =
@@ -57,22 +50,20 @@ pub splice-requires : goal.splice-requires
 splice-requires c =
     let b = c.args.b.now in
     let n = c.args.n in
-    let up : lt c.args.lo c.args.hi ≡ true =
-    not-false (lt c.args.lo c.args.hi) c.if-not-lo-hi.false-raw in
-    let rise = places-rise b n c.args.lo c.args.hi c.count_below-i.result
-    c.count_up_to-j.result (omega (arith, c.requires.0)) c.requires.1 up c.count_up_to-j.ensures
-    c.count_below-i.ensures in
-    (rise, c.count_up_to-j.ensures.most, c.requires.0)
+    let lo = c.args.lo in
+    let hi = c.args.hi in
+    let below = c.count_ends-i.ensures (λ e. lt e lo) (λ e r p. search rules) in
+    let up_to = c.count_ends-j.ensures (λ e. le e hi) (λ e r p. search rules) in
+    let up : lt lo hi ≡ true = not-false (lt lo hi) c.if-not-lo-hi.false-raw in
+    let rise = places-rise b n lo hi c.count_ends-i.result c.count_ends-j.result (omega (arith, c.requires.0)) c.requires.1 up
+    up_to below in
+    (rise, up_to.most, c.requires.0)
 
 pub returns : goal.returns
 returns c =
-    let b = c.args.b.now in
-    let n = c.args.n in
-    insert-done b c.splice.new.b n c.args.lo c.args.hi
-    c.count_below-i.result
-    c.count_up_to-j.result c.splice.result
-    (omega (arith, c.requires.0)) c.requires.1
-    (not-false (lt c.args.lo c.args.hi)
-    c.if-not-lo-hi.false-raw)
-    c.count_below-i.ensures
-    c.count_up_to-j.ensures c.splice.ensures
+    let lo = c.args.lo in
+    let hi = c.args.hi in
+    insert-done c.args.b.now c.splice.new.b c.args.n lo hi c.count_ends-i.result c.count_ends-j.result c.splice.result
+    (omega (arith, c.requires.0)) c.requires.1 (not-false (lt lo hi) c.if-not-lo-hi.false-raw)
+    (c.count_ends-i.ensures (λ e. lt e lo) (λ e r p. search rules))
+    (c.count_ends-j.ensures (λ e. le e hi) (λ e r p. search rules)) c.splice.ensures

@@ -1,5 +1,4 @@
 -- `span_insert::splice` meets its contract.
-use borrow.Author.Rules.{rules}
 use native.Mathlib.Omega.{arith}
 use native.Mathlib.Numerals.{add-one}
 use mathlib.Core.Bool.{true, false}
@@ -7,7 +6,6 @@ use borrow.Author.Tests.{eq-eqb, ne_eqb}
 use Prim.Native.Nat.{◌+◌, ◌%◌}
 use lib.ListN.{length-set}
 use Rattle.span_insert.proofs.Loops.{splice-done}
-use borrow.Author.Rules.{rules}
 use Rattle.span_insert.proofs.splice.Goals as goal
 
 pub bounds-b-i-then-j-eq0 : goal.bounds-b-i-then-j-eq0

@@ -1,22 +1,26 @@
 -- `span_join::join_rising` meets its contract.
-use borrow.Author.Rules.{rules}
 use native.Mathlib.Omega.{arith}
-use Prim.Native.Nat.{◌-◌}
+use Prim.Native.Nat.{◌+◌, ◌*◌}
+use mathlib.Core.Path.{◌≡◌}
 use lib.ListN.{length}
-use Rattle.span_join.specs.Steps.{JoinedFromFront}
 use Rattle.span_join.proofs.Passes.{begun-start, begun-step, part-read, part_room}
 use Rattle.span_join.proofs.join_rising.Goals as goal
 
-pub loop-k-init : goal.loop-k-init
-loop-k-init c = begun-start _ _
+pub loop-i-init : goal.loop-i-init
+loop-i-init c = begun-start _ _
 
 pub falls-requires : goal.falls-requires
-falls-requires c = part-read c.loop-k.invariant (omega (arith, c.loop-k.invariant.passed_most, c.requires.1))
+falls-requires c = part-read c.loop-i.invariant (omega (arith, c.loop-i.invariant.passed_most, c.requires.1))
 
 pub insert-n-requires : goal.insert-n-requires
-insert-n-requires c = let asked = c.requires in
-    part_room c.loop-k.invariant (omega (arith, c.loop-k.invariant.passed_most, c.loop-k.invariant.passed_even, asked.0, asked.1))
+insert-n-requires c = part_room c.loop-i.invariant (omega (arith, c.requires.1))
 
-pub loop-k-preserved : goal.loop-k-preserved
-loop-k-preserved c = begun-step _ _ _ _ _ _ _ (omega (arith, c.loop-k.invariant.passed_even, c.requires.0)) c.loop-k.invariant
-    c.insert-n.ensures
+pub loop-i-preserved : goal.loop-i-preserved
+loop-i-preserved c =
+    let next : 2 * (c.loop-i.i + 1) ≡ 2 * c.loop-i.i + 2 = omega arith in
+    rw next (begun-step _ _ _ _ _ _ _ (omega arith) c.loop-i.invariant c.insert-n.ensures)
+
+pub returns : goal.returns
+returns c =
+    let all : 2 * c.loop-i.i ≡ length c.args.spans.now = omega (arith, c.requires.0) in
+    rw all at c.loop-i.invariant

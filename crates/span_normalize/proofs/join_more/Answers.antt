@@ -6,7 +6,6 @@ use lib.ListN.{length}
 use Rattle.spans.specs.Spans.{retained}
 use Rattle.spans.proofs.Normal.{retained-even, retained-most}
 use Rattle.span_normalize.proofs.Join.{gathered-count, joined-more}
-use borrow.Author.Rules.{rules}
 use Rattle.span_normalize.proofs.join_more.Goals as goal
 use Rattle.span_normalize.proofs.join_more.Goals.{After-gather-m}
 

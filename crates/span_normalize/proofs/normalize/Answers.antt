@@ -5,7 +5,6 @@ use Prim.Native.Nat.{◌/◌, ◌%◌, ◌<◌}
 use lib.ListN.{length}
 use Rattle.spans.specs.Spans.{NormalOf}
 use Rattle.spans.proofs.Answers.{refuse-short, refuse-bad, accept, laid}
-use borrow.Author.Rules.{rules}
 use Rattle.span_normalize.proofs.normalize.Goals as goal
 use Rattle.span_normalize.proofs.normalize.Goals.{Start}
 

@@ -7,7 +7,6 @@ use lib.Seq.{length-take-le, take_all}
 use lib.Ieee.{Float}
 use borrow.Rule.Slice.PartMut.{put_mid, same_len_mid}
 use Rattle.span_normalize.proofs.Join.{sorted_front, part-back}
-use borrow.Author.Rules.{rules}
 use Rattle.span_normalize.proofs.normalize_front.Goals as goal
 use Rattle.span_normalize.proofs.normalize_front.Goals.{After-sort_pairs}
 

@@ -6,7 +6,6 @@ use lib.ListN.{length, take, drop, length-drop}
 use lib.Seq.{length-take-le, take_all}
 use Rattle.span_normalize.proofs.Join.{begun_all, begun_more, back-all, back_more}
 use Rattle.span_join.proofs.Passes.{filled-even}
-use borrow.Author.Rules.{rules}
 use Rattle.span_normalize.proofs.normalize_into.Goals as goal
 
 pub returns-then-spans-k : goal.returns-then-spans-k

@@ -1,11 +1,7 @@
 -- `span_overlay::cut_pair` meets its contract.
-use borrow.Author.Rules.{rules}
-use native.Mathlib.Omega.{arith}
-use mathlib.Core.Logic.{⊎_elim}
 use Prim.Native.Nat.{◌-◌}
 use lib.ListN.{length}
-use Rattle.spans.proofs.Sets.{sound-mod}
-use Rattle.span_overlay.proofs.Cutting.{Cutting, cut-start, cut-last, cut-end, cut_step}
+use Rattle.span_overlay.proofs.Cutting.{Cutting}
 use Rattle.span_overlay.proofs.cut_pair.Given as goal
 
 abbrev pub invariant-loop-j : goal.invariant-loop-j

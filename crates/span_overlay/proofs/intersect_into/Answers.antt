@@ -1,18 +1,15 @@
 -- `span_overlay::intersect_into` meets its contract.
-use borrow.Author.Rules.{rules}
 use native.Mathlib.Omega.{arith}
 use mathlib.Core.Logic.{inl, inr}
-use Prim.Native.Nat.{◌+◌, ◌-◌}
-use lib.ListN.{length}
 use Rattle.spans.proofs.Sets.{sound-mod}
-use Rattle.span_overlay.proofs.Common.{Sharing, Turned, share-start, share-turn, share-done}
+use Rattle.span_overlay.proofs.Common.{Turned, share-start, share-turn, share-done}
 use Rattle.span_overlay.proofs.intersect_into.Goals as goal
 use Rattle.span_overlay.proofs.intersect_into.Goals.{After-put_pair-n}
 
 turn : (c : After-put_pair-n) → Turned c.args.a.now c.args.b.now c.args.out.now c.loop-i.i c.loop-i.j c.put_pair-n.result c.put_pair-n.new.b
 turn c =
     share-turn _ _ _ _ _ _ _ _ _ c.requires.0 c.requires.1 c.loop-i.invariant c.loop-i-test.true
-    (omega (arith, c.if-b-j.false))
+    c.if-j-b.true
     (rw (c.larger-lo.ensures, c.smaller.ensures) at c.put_pair-n.ensures)
 
 pub loop-i-init : goal.loop-i-init
@@ -36,6 +33,6 @@ pub returns-after-loop-i : goal.returns-after-loop-i
 returns-after-loop-i c =
     share-done _ _ _ _ _ _ _ (inl c.loop-i-test.false) c.loop-i.invariant
 
-pub returns-then-b-j : goal.returns-then-b-j
-returns-then-b-j c =
-    share-done _ _ _ _ _ _ _ (inr c.if-b-j.true) c.loop-i.invariant
+pub returns-else-j-b : goal.returns-else-j-b
+returns-else-j-b c =
+    share-done _ _ _ _ _ _ _ (inr c.if-j-b.false) c.loop-i.invariant

@@ -1,11 +1,7 @@
 -- `span_overlay::intersect_into` meets its contract.
-use borrow.Author.Rules.{rules}
-use native.Mathlib.Omega.{arith}
-use mathlib.Core.Logic.{inl, inr}
 use Prim.Native.Nat.{◌+◌, ◌-◌}
 use lib.ListN.{length}
-use Rattle.spans.proofs.Sets.{sound-mod}
-use Rattle.span_overlay.proofs.Common.{Sharing, Turned, share-start, share-turn, share-done}
+use Rattle.span_overlay.proofs.Common.{Sharing}
 use Rattle.span_overlay.proofs.intersect_into.Given as goal
 
 abbrev pub invariant-loop-i : goal.invariant-loop-i

@@ -1,10 +1,8 @@
 -- `spans::is_sound` meets its contract.
-use borrow.Author.Rules.{rules}
 use native.Mathlib.Omega.{arith}
-use Prim.Native.Nat.{◌-◌, ◌<◌}
-use mathlib.Core.Path.{◌≡◌, sym, ◌∙◌}
-use mathlib.Core.Logic.{⊎_elim}
-use lib.ListN.{length, get_or, take}
+use Prim.Native.Nat.{◌-◌}
+use mathlib.Core.Path.{sym, ◌∙◌}
+use lib.ListN.{get_or, take}
 use lib.Ieee.{nan, lt}
 use Rattle.spans.specs.Spans.{rising}
 use Rattle.spans.proofs.Sets.{rising-more, rising-one, sound-if-rising, unsound-odd, and-passed, and-failed}

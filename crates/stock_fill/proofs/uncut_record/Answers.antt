@@ -1,4 +1,3 @@
-use borrow.Author.Rules.{rules}
 use native.Mathlib.Omega.{arith}
 use Rattle.stock_fill.proofs.Uncut.{record-listed, record-free}
 use Rattle.stock_fill.proofs.uncut_record.Goals as goal

@@ -1,22 +1,8 @@
-use borrow.Author.Rules.{rules}
-use native.Mathlib.Omega.{arith}
-use Prim.Native.Nat.{◌+◌, ◌*◌}
-use Rattle.stock.proofs.Rays.{list-readable}
 use Rattle.stock_volume.proofs.Lengths.{ray-added}
 use Rattle.store.specs.Store.{cells}
 use Rattle.stock_volume.proofs.add_ray.Goals as goal
 
-pub ray_heads-head-requires : goal.ray_heads-head-requires
-ray_heads-head-requires c = omega (arith, c.requires.0.room.in_heads, c.requires.1)
-
-pub measure_ray-r-requires : goal.measure_ray-r-requires
-measure_ray-r-requires c = let s = cells c.args.spans.now c.args.links.now c.args.heads.now in rw c.ray_heads-head.ensures (
-  list-readable c.args.spec c.args.g s c.requires.0 (2 * c.args.ray) (omega (arith, c.requires.1)),
-  list-readable c.args.spec c.args.g s c.requires.0 (2 * c.args.ray + 1) (omega (arith, c.requires.1)),
-)
-
 pub returns : goal.returns
 returns c = let s = cells c.args.spans.now c.args.links.now c.args.heads.now in
-    ray-added c.args.spec c.args.g s c.args.area c.args.ray c.args.v
-    c.ray_bounds-bounds.result c.measure_ray-r.result
-    c.ray_bounds-bounds.ensures (rw c.ray_heads-head.ensures at c.measure_ray-r.ensures)
+    ray-added c.args.spec c.args.g s c.args.area c.args.ray c.args.v c.ray_bounds-bounds.result c.in_ok-r.r
+    c.ray_bounds-bounds.ensures (rw c.ray_heads-head.ensures at c.in_ok-r.ensures)

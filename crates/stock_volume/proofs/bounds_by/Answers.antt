@@ -1,4 +1,3 @@
-use borrow.Author.Rules.{rules}
 use Rattle.stock_volume.specs.Volume.{bounds_by}
 use Rattle.stock_volume.proofs.Lengths.{infinity-is}
 use Rattle.stock_volume.proofs.bounds_by.Goals as goal

@@ -1,13 +1,7 @@
-use Prim.Native.Nat.{◌-◌}
-use mathlib.Core.Path.{◌≡◌, refl, sym, ◌∙◌}
-use borrow.Author.Rules.{rules}
+use mathlib.Core.Path.{sym, ◌∙◌}
 use borrow.Author.Tests.{lt-ltb, le-ltb, eq-eqb, ne_eqb}
-use Rattle.store.specs.Walks.{walk_from}
 use Rattle.store.proofs.Walking.{walk_end, walk-full, walk_step}
 use Rattle.store.proofs.walk_chain.Goals as goal
-
-pub loop-k-init : goal.loop-k-init
-loop-k-init c = refl
 
 pub returns-then-limit-c : goal.returns-then-limit-c
 returns-then-limit-c c = sym (c.loop-k.invariant ∙ walk-full _ _ _ _ _ _ c.if-limit-c.true c.loop-k-test.true)

@@ -1,9 +1,6 @@
 use Prim.Native.Nat.{◌-◌}
-use mathlib.Core.Path.{◌≡◌, refl, sym, ◌∙◌}
-use borrow.Author.Rules.{rules}
-use borrow.Author.Tests.{lt-ltb, le-ltb, eq-eqb, ne_eqb}
+use mathlib.Core.Path.{◌≡◌}
 use Rattle.store.specs.Walks.{walk_from}
-use Rattle.store.proofs.Walking.{walk_end, walk-full, walk_step}
 use Rattle.store.proofs.walk_chain.Given as goal
 
 abbrev pub invariant-loop-k : goal.invariant-loop-k

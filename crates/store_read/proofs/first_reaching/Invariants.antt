@@ -1,16 +1,13 @@
-use borrow.Author.Rules.{rules}
-use mathlib.Core.Path.{◌≡◌, refl, sym, ◌∙◌}
+use mathlib.Core.Path.{◌≡◌}
 use lib.ListN.{length}
-use Rattle.logic.proofs.Bools.{not-true, not-false}
 use Rattle.store.specs.Store.{places, list_from}
 use Rattle.store_read.specs.Reading.{Readable}
-use Rattle.store_read.proofs.Steps.{step, record-there}
-use Rattle.store_read.proofs.RayLoops.{reach_here, reach-later, reach-none}
 use Rattle.spans.specs.Containment.{from}
 use Rattle.store_read.proofs.first_reaching.Given as goal
 
 abbrev pub invariant-loop-k : goal.invariant-loop-k
-invariant-loop-k l = Readable l.n l.spans l.links l.k × (from l.x (list_from l.n l.spans l.links l.head) ≡ from l.x (list_from l.n l.spans l.links l.k))
+invariant-loop-k l = Readable l.n l.spans l.links l.k
+    × (from l.x (list_from l.n l.spans l.links l.head) ≡ from l.x (list_from l.n l.spans l.links l.k))
 
 abbrev pub decreases-loop-k : goal.decreases-loop-k
 decreases-loop-k l = length (places l.links l.n l.k)

@@ -1,14 +1,9 @@
-use borrow.Author.Rules.{rules}
 use Prim.Native.Nat.{◌≤◌}
-use mathlib.Core.Path.{◌≡◌, refl, sym, ◌∙◌}
-use native.Mathlib.Omega.{arith}
+use mathlib.Core.Path.{◌≡◌}
 use lib.ListN.{length, drop}
-use Rattle.logic.proofs.Bools.{not-true, not-false}
 use Rattle.spans.specs.Spans.{equal}
 use Rattle.store.specs.Store.{places, list_from}
 use Rattle.store_read.specs.Reading.{Readable}
-use Rattle.store_read.proofs.Steps.{step, record-there}
-use Rattle.store_read.proofs.ListLoops.{is-few, is-other-lo, is-other-hi, is_same, is-end}
 use Rattle.store_read.proofs.list_is.Given as goal
 
 abbrev pub invariant-loop-k : goal.invariant-loop-k

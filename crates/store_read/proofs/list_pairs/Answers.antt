@@ -1,28 +1,9 @@
-use borrow.Author.Rules.{rules}
-use Prim.Native.Nat.{◌+◌}
-use mathlib.Core.Path.{◌≡◌, ap}
+use mathlib.Core.Path.{ap}
 use native.Mathlib.Omega.{arith}
 use lib.ListN.{length}
-use Rattle.store.specs.Store.{places}
-use Rattle.store.proofs.Chains.{less-step, places-within, places-zero}
-use Rattle.store_read.specs.Reading.{Linked}
+use Rattle.store.proofs.Chains.{less-step, places-within}
 use Rattle.store_read.proofs.Steps.{link-step, link-next}
 use Rattle.store_read.proofs.list_pairs.Goals as goal
-
-pub loop-k-init : goal.loop-k-init
-loop-k-init c = (c.requires, omega arith)
-
-pub overflow_sub-i : goal.overflow_sub-i
-overflow_sub-i c = let h = (link-step c.loop-k.invariant.0 c.loop-k-test.true).counted in search rules
-
-pub overflow_mul-k : goal.overflow_mul-k
-overflow_mul-k c = let h = (link-step c.loop-k.invariant.0 c.loop-k-test.true).counted in search rules
-
-pub offset_bounds-links-i : goal.offset_bounds-links-i
-offset_bounds-links-i c = let h = (link-step c.loop-k.invariant.0 c.loop-k-test.true).counted in search rules
-
-pub bounds-links-i : goal.bounds-links-i
-bounds-links-i c = let h = (link-step c.loop-k.invariant.0 c.loop-k-test.true).counted in search rules
 
 pub overflow_add-c : goal.overflow_add-c
 overflow_add-c c = omega (
@@ -40,10 +21,3 @@ loop-k-smaller c = less-step _ _ _ _ c.loop-k.invariant.0.chain c.loop-k-test.tr
 pub loop-k-preserved : goal.loop-k-preserved
 loop-k-preserved c = let inv = c.loop-k.invariant in let more = c.loop-k-test.true in
     (link-next inv.0 more, omega (arith, inv.1, ap length (link-step inv.0 more).read))
-
-pub returns : goal.returns
-returns c = omega (
-  arith,
-  c.loop-k.invariant.1,
-  ap length (places-zero c.args.links.now c.args.n _ c.loop-k-test.false),
-)

@@ -1,12 +1,8 @@
-use borrow.Author.Rules.{rules}
 use Prim.Native.Nat.{◌+◌}
-use mathlib.Core.Path.{◌≡◌, ap}
-use native.Mathlib.Omega.{arith}
+use mathlib.Core.Path.{◌≡◌}
 use lib.ListN.{length}
 use Rattle.store.specs.Store.{places}
-use Rattle.store.proofs.Chains.{less-step, places-within, places-zero}
 use Rattle.store_read.specs.Reading.{Linked}
-use Rattle.store_read.proofs.Steps.{link-step, link-next}
 use Rattle.store_read.proofs.list_pairs.Given as goal
 
 abbrev pub invariant-loop-k : goal.invariant-loop-k

@@ -1,13 +1,9 @@
-use borrow.Author.Rules.{rules}
 use Prim.Native.Nat.{◌+◌}
-use mathlib.Core.Path.{◌≡◌, refl, ◌∙◌}
-use native.Mathlib.Omega.{arith}
-use lib.ListN.{length, length-set}
+use mathlib.Core.Path.{◌≡◌}
+use lib.ListN.{length}
 use lib.Seq.{sets}
 use Rattle.store.specs.Store.{places, list_from}
 use Rattle.store_read.specs.Reading.{Readable}
-use Rattle.store_read.proofs.Steps.{step, record-there}
-use Rattle.store_read.proofs.ListLoops.{copy_step, list-length-step, copy-end}
 use Rattle.store_read.proofs.read_list.Given as goal
 
 abbrev pub invariant-loop-k : goal.invariant-loop-k

@@ -1,31 +1,22 @@
-use borrow.Author.Rules.{rules}
-use mathlib.Core.Path.{◌≡◌, refl, ◌∙◌}
-use lib.ListN.{length}
-use Rattle.doubles.specs.Constants.{plus_zero}
-use Rattle.store.specs.Store.{places, list_from}
-use Rattle.store_read.specs.Reading.{Readable}
-use Rattle.store_read.specs.Lengths.{length_from}
-use Rattle.store_read.proofs.Steps.{step, record-there}
+use mathlib.Core.Path.{sym, ◌∙◌}
+use Rattle.store_read.proofs.Steps.{step}
 use Rattle.store_read.proofs.RayLoops.{length-step, length-end}
-use Rattle.store_read.proofs.Bounds.{after, last_end, zero-nan, sound-after, starts-bad, after_none, after-bad, after-good}
-use Rattle.store_read.proofs.Bounds.{last_step, last_none, none_between, all-between, left-bad, sum-bad, sum-good}
+use Rattle.store_read.proofs.Bounds.{made-nan, sound-after, starts-bad, after_none, after-bad, after-good}
+use Rattle.store_read.proofs.Bounds.{last_step, last_none, none_between, all-between, left-bad}
+use borrow.Author.Tests.{eq-eqb}
+use Rattle.logic.proofs.Bools.{clash}
 use Rattle.store_read.proofs.sound_between.Goals as goal
+use Rattle.store_read.proofs.sound_between.Goals.{then-head-eq0, else-head-eq0}
 
 pub returns-then-not-starts_within : goal.returns-then-not-starts_within
-returns-then-not-starts_within c = sum-bad _ _ _ (starts-bad _ _ _ _ c.starts_within.ensures c.if-not-starts_within.true-raw)
-
-pub loop-k-init : goal.loop-k-init
-loop-k-init c = (c.requires, refl, refl, refl)
-
-pub record_at-r-requires : goal.record_at-r-requires
-record_at-r-requires c = record-there c.loop-k.invariant.0 c.loop-k-test.true
+returns-then-not-starts_within c = starts-bad _ _ _ _ c.starts_within.ensures c.if-not-starts_within.true
 
 pub returns-then-not-follows : goal.returns-then-not-follows
 returns-then-not-follows c =
     let inv = c.loop-k.invariant in
-    sum-bad _ _ _ (left-bad _ _ (sound-after _ _ zero-nan ∙ inv.1
+    left-bad _ _ (sound-after _ _ made-nan ∙ inv.1
     ∙ after-bad _ _ _ _ _ _ (step inv.0 c.loop-k-test.true)
-    (rw c.record_at-r.ensures at c.follows.ensures) c.if-not-follows.true-raw))
+    (rw c.record_at-r.ensures at c.follows.ensures) c.if-not-follows.true)
 
 pub loop-k-smaller : goal.loop-k-smaller
 loop-k-smaller c = rw c.record_at-r.ensures (step c.loop-k.invariant.0 c.loop-k-test.true).less
@@ -36,21 +27,31 @@ loop-k-preserved c =
     let s = step inv.0 c.loop-k-test.true in
     rw c.record_at-r.ensures (
       s.next,
-      inv.1 ∙ after-good _ _ _ _ _ _ s (rw c.record_at-r.ensures at c.follows.ensures) c.if-not-follows.false-raw,
+      inv.1 ∙ after-good _ _ _ _ _ _ s (rw c.record_at-r.ensures at c.follows.ensures) c.if-not-follows.false,
       inv.2 ∙ last_step _ _ _ _ _ s,
       inv.3 ∙ length-step s _,
     )
 
-pub returns-then-head-eq0 : goal.returns-then-head-eq0
-returns-then-head-eq0 c = sum-good _ _ _ _ (none_between _ _ _ _ _ _ c.if-head-eq0.true)
-    (c.loop-k.invariant.3 ∙ length-end _ _ _ _ _ c.loop-k-test.false)
+pub returns-then-last-high : goal.returns-then-last-high
+returns-then-last-high c =
+    let inv = c.loop-k.invariant in (
+      elim c.if-head-eq0.branch [
+        | then-head-eq0 w ↦ none_between _ _ _ _ _ _ w.if-head-eq0.true
+        | else-head-eq0 w ↦ all-between _ _ _ _ _ _ _ _ _ made-nan (step c.requires w.if-head-eq0.false)
+            c.starts_within.ensures c.if-not-starts_within.false
+            (inv.1 ∙ after_none _ _ _ _ _ c.loop-k-test.false)
+            (inv.2 ∙ last_none _ _ _ _ _ c.loop-k-test.false) ∙ sym w.value-is ∙ c.if-last-high.true
+      ],
+      sym (inv.3 ∙ length-end _ _ _ _ _ c.loop-k-test.false),
+    )
 
-pub returns : goal.returns
-returns c =
+pub returns-else-last-high : goal.returns-else-last-high
+returns-else-last-high c =
     let inv = c.loop-k.invariant in
-    sum-good _ _ _ _ (all-between _ _ _ _ _ _ _ _ _ zero-nan
-    (step c.requires c.if-head-eq0.false)
-    c.starts_within.ensures c.if-not-starts_within.false-raw
-    (inv.1 ∙ after_none _ _ _ _ _ c.loop-k-test.false)
-    (inv.2 ∙ last_none _ _ _ _ _ c.loop-k-test.false))
-    (inv.3 ∙ length-end _ _ _ _ _ c.loop-k-test.false)
+    elim c.if-head-eq0.branch [
+      | then-head-eq0 w ↦ absurd (clash _ (w.value-is ∙ eq-eqb _ _ w.if-head-eq0.true) c.if-last-high.false)
+      | else-head-eq0 w ↦ all-between _ _ _ _ _ _ _ _ _ made-nan (step c.requires w.if-head-eq0.false)
+          c.starts_within.ensures c.if-not-starts_within.false
+          (inv.1 ∙ after_none _ _ _ _ _ c.loop-k-test.false)
+          (inv.2 ∙ last_none _ _ _ _ _ c.loop-k-test.false) ∙ sym w.value-is ∙ c.if-last-high.false
+    ]

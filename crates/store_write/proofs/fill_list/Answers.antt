@@ -1,9 +1,7 @@
 use Prim.Native.Nat.{◌-◌}
-use mathlib.Core.Path.{◌∙◌}
-use borrow.Author.Rules.{rules}
-use lib.ListN.{take}
-use Rattle.store.specs.Store.{free_from}
-use Rattle.store_write.proofs.Filling.{Filling, fill-some, fill_start, fill-turn, fill_end, fill-onward, refill}
+use native.Mathlib.Omega.{arith}
+use mathlib.Core.Path.{◌≡◌, ◌∙◌}
+use Rattle.store_write.proofs.Filling.{fill-some, fill_start, fill-turn, fill_end, fill-onward, refill}
 use Rattle.store_write.proofs.Filling.{first_head, cursor-same}
 use Rattle.store_write.proofs.fill_list.Goals as goal
 
@@ -17,21 +15,18 @@ pub loop-t-preserved : goal.loop-t-preserved
 loop-t-preserved c =
     refill c.put_record.ensures.0 c.put_record.ensures.1
     (fill-turn _ _ _ _ _ _ _ _ _ _ _
-    c.loop-t.invariant _ c.loop-t-test.true c.next_free-after.ensures)
+    c.loop-t.invariant _ (omega arith) c.next_free-after.ensures)
 
 pub returns : goal.returns
 returns c =
-    let e = fill_end _ _ _ _ _ _ _ _ _ _ _
-    c.loop-t.invariant
-    c.loop-t-test.false in
+    let s = c.loop-t.invariant in
+    let f = c.requires in
+    let u : c.loop-t.t ≡ c.args.count - 1 = omega (arith, s.left, f.some) in
+    let e = fill_end _ _ _ _ _ _ _ _ _ _ _ s _ u (omega arith) in
     record {
-      at = first_head _ _ _ _ _ _ _ _
-          c.requires
-          c.next_free-first.ensures;
+      at = first_head _ _ _ _ _ _ _ _ f c.next_free-first.ensures;
       spans_left = c.put_record-2.ensures.0 ∙ e.0;
       links_left = c.put_record-2.ensures.1 ∙ e.1;
-      onward = cursor-same c.put_record-2.ensures.0
-          c.put_record-2.ensures.1
-          (fill-onward _ _ _ _ _ _ _ _ _ _ _
-          c.loop-t.invariant);
+      onward = cursor-same c.put_record-2.ensures.0 c.put_record-2.ensures.1
+          (fill-onward _ _ _ _ _ _ _ _ _ _ _ s _ _);
     }

@@ -1,15 +1,12 @@
-use mathlib.Core.Path.{◌≡◌, refl, sym, ◌∙◌}
-use native.Mathlib.Omega.{arith}
-use borrow.Author.Rules.{rules}
-use lib.ListN.{length, length-set}
+use mathlib.Core.Path.{◌≡◌}
+use lib.ListN.{length}
 use Rattle.store.specs.Store.{RecordChain, places, freed_spans, freed_links}
-use Rattle.store.proofs.Chains.{ChainStep, chain-step}
-use Rattle.store.proofs.Freeing.{Turn, turn, freed-end}
 use Rattle.store_write.proofs.free_chain.Given as goal
 
 abbrev pub invariant-loop-k : goal.invariant-loop-k
 invariant-loop-k l =
-    (length l.spans ≡ length l.initial.spans) × (length l.links ≡ length l.initial.links) × RecordChain l.links l.n l.owner l.k (places l.links l.n l.k)
+    (length l.spans ≡ length l.initial.spans) × (length l.links ≡ length l.initial.links)
+    × RecordChain l.links l.n l.owner l.k (places l.links l.n l.k)
     × (freed_spans l.initial.spans (places l.initial.links l.n l.head) ≡ freed_spans l.spans (places l.links l.n l.k))
     × (freed_links l.initial.links (places l.initial.links l.n l.head) ≡ freed_links l.links (places l.links l.n l.k))
 

@@ -1,4 +1,3 @@
-use borrow.Author.Rules.{rules}
 use Rattle.store.proofs.Laying.{laid_none, laid-some}
 use Rattle.store_write.proofs.lay_list.Goals as goal
 

@@ -2,7 +2,6 @@
 use mathlib.Core.Path.{◌≡◌, sym, ◌∙◌}
 use Rattle.strips.proofs.Laws.{same_bits}
 use Rattle.strips.specs.Strip.{disk_strip, chord_strip, hull}
-use borrow.Author.Rules.{rules}
 use Rattle.strips.proofs.ends_strip.Goals as goal
 
 pub returns-then-bits_of : goal.returns-then-bits_of
@@ -20,23 +19,3 @@ returns-then-bits_of c =
       c.if-da-rho.true,
       ← c.half_chord-half.ensures,
     )
-
-pub returns-then-da-rho : goal.returns-then-da-rho
-unfolding disk_strip chord_strip hull
-returns-then-da-rho c = simp (
-  ← c.hull_of-then-da-rho.ensures,
-  ← c.chord_strip.ensures,
-  ← c.half_chord-half.ensures,
-  c.if-da-rho.true,
-  ← c.band_distance-db.ensures,
-  ← c.band_distance-da.ensures,
-)
-
-pub returns : goal.returns
-unfolding disk_strip chord_strip hull
-returns c = simp (
-  ← c.chord_strip-2.ensures,
-  c.if-da-rho.false,
-  ← c.band_distance-db.ensures,
-  ← c.band_distance-da.ensures,
-)

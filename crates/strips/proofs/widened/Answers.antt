@@ -1,7 +1,7 @@
+use Rattle.std.specs.Float.Ieee.{div, neg, of_bits}
 use Rattle.strips.specs.Polygon.{widen}
-use borrow.Author.Rules.{rules}
 use Rattle.strips.proofs.widened.Goals as goal
 
 pub returns : goal.returns
-unfolding widen
-returns c = simp (← c.larger.ensures, ← c.smaller.ensures)
+unfolding widen div neg of_bits
+returns c = simp (c.smaller.ensures, c.larger.ensures, c.unwrap_or-before.ensures)

@@ -1,9 +1,5 @@
-use Rattle.std.proofs.Common.{◌≡◌, length, sym, refl, ◌∙◌, rules}
-use Rattle.logic.proofs.Bools.{not-true, not-false}
-use Rattle.store.specs.Store.{places, list_from}
-use Rattle.store_read.specs.Reading.{Readable}
+use Rattle.std.proofs.Common.{sym, refl, ◌∙◌}
 use Rattle.store_read.proofs.Steps.{step, record-there}
-use Rattle.sweep_model.specs.Meets.{overlaps_of}
 use Rattle.sweep_ray.proofs.Meeting.{overlaps-here, overlaps-no, overlaps-later, overlaps-none}
 use Rattle.sweep_ray.proofs.overlaps_at.Goals as goal
 
@@ -29,7 +25,7 @@ returns-then-not-r-s c =
       c.record_at-r.ensures,
     ) at
     c.if-larger-smaller.false)
-    (not-true _ (rw c.record_at-r.ensures at c.if-not-r-s.true-raw)))
+    (rw c.record_at-r.ensures at c.if-not-r-s.true))
 
 pub loop-k-smaller : goal.loop-k-smaller
 loop-k-smaller c = rw c.record_at-r.ensures (step c.loop-k.invariant.0 c.loop-k-test.true).less
@@ -47,7 +43,7 @@ loop-k-preserved c =
             c.record_at-r.ensures,
           ) at
           c.if-larger-smaller.false)
-          (not-false _ (rw c.record_at-r.ensures at c.if-not-r-s.false-raw)),
+          (rw c.record_at-r.ensures at c.if-not-r-s.false),
     )
 
 pub returns : goal.returns

@@ -1,10 +1,7 @@
-use Rattle.std.proofs.Common.{◌≡◌, length, sym, refl, ◌∙◌, rules}
-use Rattle.logic.proofs.Bools.{not-true, not-false}
+use Rattle.std.proofs.Common.{◌≡◌, length}
 use Rattle.store.specs.Store.{places, list_from}
 use Rattle.store_read.specs.Reading.{Readable}
-use Rattle.store_read.proofs.Steps.{step, record-there}
 use Rattle.sweep_model.specs.Meets.{overlaps_of}
-use Rattle.sweep_ray.proofs.Meeting.{overlaps-here, overlaps-no, overlaps-later, overlaps-none}
 use Rattle.sweep_ray.proofs.overlaps_at.Given as goal
 
 abbrev pub invariant-loop-k : goal.invariant-loop-k

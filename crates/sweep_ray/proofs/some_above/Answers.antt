@@ -1,9 +1,6 @@
-use Rattle.std.proofs.Common.{◌≡◌, length, sym, refl, ◌∙◌, rules}
-use Rattle.store.specs.Store.{places, list_from}
-use Rattle.store_read.specs.Reading.{Readable}
+use Rattle.std.proofs.Common.{sym, refl, ◌∙◌}
 use Rattle.store_read.proofs.Steps.{step, record-there}
 use Rattle.sweep_ray.proofs.Meeting.{above-here, above-later, above-none}
-use Rattle.sweep_ray.specs.Steps.{some_above}
 use Rattle.sweep_ray.proofs.some_above.Goals as goal
 
 pub loop-k-init : goal.loop-k-init

@@ -1,8 +1,6 @@
-use Rattle.std.proofs.Common.{◌≡◌, length, sym, refl, ◌∙◌, rules}
+use Rattle.std.proofs.Common.{◌≡◌, length}
 use Rattle.store.specs.Store.{places, list_from}
 use Rattle.store_read.specs.Reading.{Readable}
-use Rattle.store_read.proofs.Steps.{step, record-there}
-use Rattle.sweep_ray.proofs.Meeting.{above-here, above-later, above-none}
 use Rattle.sweep_ray.specs.Steps.{some_above}
 use Rattle.sweep_ray.proofs.some_above.Given as goal
 

@@ -1,4 +1,4 @@
-use Rattle.std.proofs.Common.{sym, ◌∙◌, rules}
+use Rattle.std.proofs.Common.{sym, ◌∙◌}
 use Rattle.store_read.proofs.Steps.{record-there}
 use Rattle.sweep_ray.proofs.Meeting.{meet-empty, meet-above, meet-some}
 use Rattle.sweep_ray.proofs.spans_meet.Goals as goal
@@ -15,7 +15,6 @@ returns-then-first-s c =
     c.some_above.ensures
     ∙ sym (meet-some _ asked.0 c.if-head-eq0.false asked.1 (rw c.record_at-first.ensures at c.if-first-s.true))
 
-pub returns : goal.returns
-returns c =
-    sym (meet-above _ c.requires.0 c.if-head-eq0.false
-    (rw c.record_at-first.ensures at c.if-first-s.false))
+pub returns-else-first-s : goal.returns-else-first-s
+returns-else-first-s c =
+    c.if-first-s.false ∙ sym (meet-above c.args.s c.requires.0 c.if-head-eq0.false (rw c.record_at-first.ensures at c.if-first-s.false))

@@ -1,4 +1,4 @@
-use Rattle.std.proofs.Common.{arith, length-set, rules}
+use Rattle.std.proofs.Common.{arith, length-set}
 use Rattle.sweep_model.specs.Entries.{entry_of}
 use Rattle.sweep_visits.proofs.Cells.{six-stores}
 use Rattle.sweep_visits.proofs.put.Goals as goal

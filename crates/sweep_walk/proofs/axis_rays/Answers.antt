@@ -1,4 +1,3 @@
-use borrow.Author.Rules.{rules}
 use Rattle.sweep_walk.proofs.AxisRays.{axis-rays-is}
 use Rattle.sweep_walk.proofs.axis_rays.Goals as goal
 

@@ -1,7 +1,5 @@
-use borrow.Author.Rules.{rules}
 use Rattle.sweep_model.specs.SweepEntries.{Setting, setting}
 use Rattle.sweep_walk.proofs.AxisRays.{few_rays, rect-ready, axis-none, axis-some}
-use Rattle.sweep_walk.proofs.Chords.{logged-same}
 use Rattle.store.specs.Store.{cells}
 use Rattle.sweep_walk.proofs.sweep_axis.Goals as goal
 use Rattle.sweep_walk.proofs.sweep_axis.Goals.{Start}
@@ -18,12 +16,12 @@ axis_rays-t-requires c = few_rays c.args.spec c.args.g (cells c.args.spans.now c
 pub rectangle_of-rect-requires : goal.rectangle_of-rect-requires
 rectangle_of-rect-requires c = c.requires.0.facts
 
-pub returns-in-NoRays : goal.returns-in-NoRays
-returns-in-NoRays c =
-    let s = here (goal.at.returns-in-NoRays c).Start in
+pub returns-in-None : goal.returns-in-None
+returns-in-None c =
+    let s = here (goal.at.returns-in-None c).Start in
     axis-none s c.args.chord c.args.axis c.chord_on_axis-l.result
     c.rectangle_of-rect.result c.chord_on_axis-l.ensures
-    c.rectangle_of-rect.ensures c.in-NoRays.is c.requires.1
+    c.rectangle_of-rect.ensures c.in-None.is c.requires.1
 
 pub sweep_rect-requires : goal.sweep_rect-requires
 sweep_rect-requires c =
@@ -33,15 +31,12 @@ sweep_rect-requires c =
     c.axis_rays-t.result
     c.rectangle_of-rect.result _
     c.axis_rays-t.ensures
-    c.rectangle_of-rect.ensures c.in-Rays.is in
+    c.rectangle_of-rect.ensures c.in-Some.is in
     (q.rays, q.row, q.rows, c.requires.1)
 
-pub shape_of-log-in-Rays : goal.shape_of-log-in-Rays
-shape_of-log-in-Rays c = logged-same _ _ _ _ _ c.sweep_rect.result c.sweep_rect.ensures
-
-pub returns-in-Rays : goal.returns-in-Rays
-returns-in-Rays c =
-    let s = here (goal.at.returns-in-Rays c).Start in
+pub returns-in-Some : goal.returns-in-Some
+returns-in-Some c =
+    let s = here (goal.at.returns-in-Some c).Start in
     axis-some s c.args.chord c.args.axis _ _ _ _ c.sweep_rect.result
     c.chord_on_axis-l.result
     c.axis_rays-t.result
@@ -49,4 +44,4 @@ returns-in-Rays c =
     c.chord_on_axis-l.ensures
     c.axis_rays-t.ensures
     c.rectangle_of-rect.ensures
-    c.in-Rays.is c.sweep_rect.ensures
+    c.in-Some.is c.sweep_rect.ensures

@@ -1,17 +1,11 @@
-use borrow.Author.Rules.{rules}
-use native.Mathlib.Omega.{arith}
-use mathlib.Core.Path.{◌∙◌}
-use Prim.Native.Nat.{◌-◌, ◌/◌}
-use lib.ListN.{length}
-use Rattle.sweep_model.specs.SweepEntries.{Setting, setting}
-use Rattle.sweep_visits.proofs.Walks.{Sweeping, sweeping-start, halted-of, went-of}
-use Rattle.sweep_walk.proofs.Chords.{entries_at, chord-next, chord-halts, chords-done}
+use Rattle.std.proofs.Common.{◌/◌, length}
+use Rattle.sweep_model.specs.SweepEntries.{setting}
+use Rattle.sweep_visits.proofs.Walks.{Sweeping}
+use Rattle.sweep_walk.proofs.Chords.{entries_at}
 use Rattle.store.specs.Store.{cells}
 use Rattle.sweep_walk.proofs.sweep_chords.Given as goal
 
 abbrev pub invariant-loop-i : goal.invariant-loop-i
 invariant-loop-i l =
-    Sweeping l.budget (entries_at (setting l.spec l.g l.k l.p (cells l.spans l.links l.heads)) l.chords) 0 (length l.chords / 8) l.initial.c l.initial.log l.c l.log l.i
-
-abbrev pub decreases-loop-i : goal.decreases-loop-i
-decreases-loop-i l = length l.chords / 8 - l.i
+    Sweeping l.budget (entries_at (setting l.spec l.g l.k l.p (cells l.spans l.links l.heads)) l.chords) 0 (length l.chords / 8)
+    l.initial.c l.initial.log l.c l.log l.i

@@ -1,5 +1,4 @@
 -- `vector_rows::doubles_at` meets its contract.
-use Prim.Native.Nat.{◌-◌}
 use lib.ListN.{length}
 use lib.Ieee.{nan}
 use Rattle.vector_rows.specs.Words.{double_of}
@@ -8,6 +7,3 @@ use Rattle.vector_rows.proofs.doubles_at.Given as goal
 
 abbrev pub invariant-loop-k : goal.invariant-loop-k
 invariant-loop-k l = FilledTo nan (double_of l.w l.from) (length l.initial.out) l.out l.k
-
-abbrev pub decreases-loop-k : goal.decreases-loop-k
-decreases-loop-k l = length l.initial.out - l.k

@@ -10,6 +10,3 @@ invariant-loop-left g l =
       unread : UnreadBetween l.initial.t l.t;
       most : l.left ≤ l.initial.left;
     }
-
-abbrev pub decreases-loop-left : goal.decreases-loop-left
-decreases-loop-left g l = l.left

@@ -1,11 +1,7 @@
 -- `vector_rows::read_words` meets its contract.
-use Prim.Native.Nat.{◌-◌}
 use lib.ListN.{length}
 use Rattle.vector_rows.proofs.Reading.{ReadTo}
 use Rattle.vector_rows.proofs.read_words.Given as goal
 
 abbrev pub invariant-loop-i : goal.invariant-loop-i
 invariant-loop-i l = ReadTo l.text l.at (length l.initial.out) l.out l.i
-
-abbrev pub decreases-loop-i : goal.decreases-loop-i
-decreases-loop-i l = length l.initial.out - l.i
