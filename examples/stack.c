@@ -36,7 +36,7 @@ static size_t spans_len, work_len, pairs, two[2], entries, by_entry;
 /* for each world axis, whose plan lengths differ */
 static double chords[3][16];
 static tridexel_spec spec = {.version = 1, .max_mm = {SIDE, SIDE, SIDE}, .cell_size_mm = SIDE / CELLS, .max_rays = RAYS};
-static double many[6 * ENTRIES], one[6 * ENTRIES], steps[3], volumes[10];
+static double many[6 * ENTRIES], one[6 * ENTRIES], swing[6 * ENTRIES], steps[3], volumes[10];
 static uint32_t yes, moved[2], reason;
 
 /* A place among `of` for each i, in no order; `of` is not a multiple of 7919. */
@@ -57,6 +57,9 @@ static void make_inputs(void) {
     memcpy(many + 6 * i, entry, sizeof entry);
     entry[0] = 1, entry[1] = 7;
     memcpy(one + 6 * i, entry, sizeof entry);
+    size_t turned = i < RAYS ? RAYS - 1 - i : i < 2 * RAYS ? i - RAYS : RAYS - 1;
+    entry[0] = turned / (CELLS * CELLS), entry[1] = turned % (CELLS * CELLS);
+    memcpy(swing + 6 * i, entry, sizeof entry);
   }
   for (size_t axis = 0; axis < 3; axis++) {
     static const double ends[2][7] = {{50, 60, 500, 800, 700, 510, 0.01}, {800, 700, 510, 820, 950, 500, 0.01}};
@@ -215,8 +218,8 @@ static void needs(double *log, uint64_t *rays, uint64_t *most) {
 }
 
 static void measure_logs(void) {
-  uint64_t rays, most, on_one, most_on_one;
-  needs(many, &rays, &most), needs(one, &on_one, &most_on_one);
+  uint64_t rays, most, on_one, most_on_one, on_swing, most_on_swing;
+  needs(many, &rays, &most), needs(one, &on_one, &most_on_one), needs(swing, &on_swing, &most_on_swing);
   printf("%d entries on %" PRIu64 " rays, and on %" PRIu64 "\n", ENTRIES, rays, on_one);
   measure_log("tridexel_commit_log, budgets out of reach", 0, many, 2 * RAYS + 3 * ENTRIES, ENTRIES);
   measure_log("tridexel_commit_log, 9 at once", 9, many, most, 0);
@@ -227,6 +230,7 @@ static void measure_logs(void) {
   measure_log("tridexel_commit_log, all entries on one ray, 9", 9, one, most_on_one, 0);
   measure_log("tridexel_commit_log, all entries on one ray, 10", 10, one, most_on_one - 1, on_one);
   measure_log("tridexel_commit_log, all entries on one ray, both budgets reached exactly", 0, one, most_on_one, on_one);
+  measure_log("tridexel_commit_log, rays down, then up, both budgets reached exactly", 0, swing, most_on_swing, on_swing);
 }
 
 int main(int count, char **words) {

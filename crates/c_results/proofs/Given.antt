@@ -1,8 +1,8 @@
--- No entry refuses with 0 or 4: each number that is due to one is given (`is_given`).
+-- No entry refuses with 0 or 4: each number that is due to one is given (`is_given`), and so is each number but 0 that an export answers.
 use mathlib.Core.Path.{◌≡◌, refl, sym, ap, subst}
-use mathlib.Core.Bool.{true}
+use mathlib.Core.Bool.{true, not}
 use mathlib.Core.List.{List}
-use Prim.Native.Nat.{ℕ}
+use Prim.Native.Nat.{ℕ, suc}
 use lib.Ieee.{Float}
 use Rattle.span_compare.specs.Verdicts.{compare_causes}
 use Rattle.grid.specs.Causes.{grid_causes, ByCauses}
@@ -11,6 +11,7 @@ use Rattle.grid.specs.declared.DexelGrid.{DexelGrid}
 use Rattle.refusal.specs.declared.Refusal.{Refusal}
 use Rattle.grid.specs.declared.DexelStockSpec.{DexelStockSpec}
 use Rattle.refusal.specs.Refusal.{Due, number_of}
+use Rattle.refusal.proofs.Laws.{number-allowed}
 use Rattle.ray_trace.specs.Trace.{trace_causes}
 use Rattle.spans.specs.Results.{list_causes}
 use Rattle.stock_fill.specs.Uncut.{fill_causes}
@@ -23,7 +24,17 @@ use Rattle.log_model.specs.Model.{LogAnswer, changed, refused, log_commit_causes
 use Rattle.log_model.specs.View.{CommitOnAnyGrid, lent_store}
 use Rattle.log_model.specs.Runs.{point_sets}
 use Rattle.store.specs.Store.{Cells}
+use Rattle.c_results.specs.Numbers.{AnsweredBy}
 use Rattle.c_results.proofs.Results.{is_given, due-given}
+
+-- the number of every refusal
+pub number-given : (e : Refusal) → is_given (number_of e) ≡ true
+number-given e = ap not (number-allowed e)
+
+-- what an export answers, by the words of its contract, where it is not 0
+pub answer-given : {A S : Type 0} (numbers : A → S → Type 0) (promise : Result A Refusal → Type 0) (k : ℕ) (before after : S)
+    → AnsweredBy numbers promise (suc k) before after → is_given (suc k) ≡ true
+answer-given numbers promise k before after a = subst (λ (x : ℕ). is_given x ≡ true) a.1 (number-given a.0)
 
 -- the list functions and merge, with 12 and 11
 pub list-given : (short bad : Type 0) (k : ℕ) → Due (list_causes short bad) k → is_given k ≡ true

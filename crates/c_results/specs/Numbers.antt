@@ -17,10 +17,14 @@ abbrev pub AnsweredBy : {A S : Type 0} → (A → S → Type 0) → (Result A Re
 AnsweredBy {A} numbers promise zero before after = (a : A) × (numbers a after × promise (Ok a))
 AnsweredBy numbers promise (suc k) before after = (e : Refusal) × (number_of e ≡ suc k) × promise (Err e) × (after ≡ before)
 
--- how one answer is handed back
+-- how one answer is handed back, whose errors have their numbers by `gives`
+abbrev pub HandedBy : {A E S : Type 0} → (E → ℕ → Type 0) → (A → S → Type 0) → Result A E → (number : ℕ) → (before after : S) → Type 0
+HandedBy gives numbers (Ok a) number before after = (number ≡ 0) × numbers a after
+HandedBy gives numbers (Err e) number before after = gives e number × (after ≡ before)
+
+-- the same of an answer whose errors are refusals
 abbrev pub HandedAs : {A S : Type 0} → (A → S → Type 0) → Result A Refusal → (number : ℕ) → (before after : S) → Type 0
-HandedAs numbers (Ok a) number before after = (number ≡ 0) × numbers a after
-HandedAs numbers (Err e) number before after = (number ≡ number_of e) × (after ≡ before)
+HandedAs numbers answer number before after = HandedBy (λ (e : Refusal) (n : ℕ). n ≡ number_of e) numbers answer number before after
 
 -- how many pairs
 abbrev pub list_numbers : ℕ → ℕ → Type 0

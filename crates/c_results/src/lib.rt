@@ -2,58 +2,57 @@
 #![tactic(auto)]
 
 ghost use Rattle.std.specs.Prelude.{◌≡◌};
-ghost use Rattle.c_results.specs.Numbers.{HandedAs, list_numbers, bool_numbers, merge_numbers, part_cells};
+ghost use Rattle.c_results.specs.Numbers.{HandedBy, list_numbers, bool_numbers, merge_numbers, part_cells};
 ghost use Rattle.c_results.specs.Numbers.{grid_numbers, grid_cells, fill_numbers, tally, volume_numbers};
 ghost use Rattle.c_results.specs.Numbers.{commit_numbers, sweep_numbers, totals, trace_numbers, trace_cells};
 
 use grid::DexelGrid;
 use ray_subtract::MergedLists;
 use ray_trace::Reason;
-use refusal::Refusal;
 use stock::Tally;
 use stock_volume::DexelVolume;
 use sweep::Totals;
 
 // Hands a value back in the one cell that holds it.
-pub fn hand<T: Copy>(answer: Result<T, Refusal>, cell: &mut T) -> u32
-    ensures { HandedAs (λ value after. after ≡ value) answer result cell.old cell.new }
+pub fn hand<T: Copy, E: Into<u32>>(answer: Result<T, E>, cell: &mut T) -> u32
+    ensures { HandedBy E.converts (λ value after. after ≡ value) answer result cell.old cell.new }
 {
     match answer {
         Ok(value) => {
             *cell = value;
             0
         }
-        Err(refusal) => u32::from(refusal),
+        Err(refusal) => refusal.into(),
     }
 }
 
 // Hands the answer of a list function back as numbers.
-pub fn hand_list(pairs: Result<usize, Refusal>, cell: &mut usize) -> u32
-    ensures { HandedAs list_numbers pairs result cell.old cell.new }
+pub fn hand_list<E: Into<u32>>(pairs: Result<usize, E>, cell: &mut usize) -> u32
+    ensures { HandedBy E.converts list_numbers pairs result cell.old cell.new }
 {
     hand(pairs, cell)
 }
 
 // Hands a yes or a no back as a number.
-pub fn hand_bool(answer: Result<bool, Refusal>, yes: &mut u32) -> u32
-    ensures { HandedAs bool_numbers answer result yes.old yes.new }
+pub fn hand_bool<E: Into<u32>>(answer: Result<bool, E>, yes: &mut u32) -> u32
+    ensures { HandedBy E.converts bool_numbers answer result yes.old yes.new }
 {
     match answer {
         Ok(found) => {
             *yes = u32::from(found);
             0
         }
-        Err(refusal) => u32::from(refusal),
+        Err(refusal) => refusal.into(),
     }
 }
 
 // Hands what became of both lists back as numbers.
-pub fn hand_merge(
-    merged: Result<MergedLists, Refusal>,
+pub fn hand_merge<E: Into<u32>>(
+    merged: Result<MergedLists, E>,
     moved: &mut [u32; 2],
     pairs: &mut [usize; 2],
 ) -> u32
-    ensures { HandedAs merge_numbers merged result
+    ensures { HandedBy E.converts merge_numbers merged result
         (part_cells moved.old pairs.old) (part_cells moved.new pairs.new) }
 {
     match merged {
@@ -67,17 +66,17 @@ pub fn hand_merge(
             *pairs = [p.pairs, c.pairs];
             0
         }
-        Err(refusal) => u32::from(refusal),
+        Err(refusal) => refusal.into(),
     }
 }
 
 // Hands the grid back as numbers.
-pub fn hand_grid(
-    grid: Result<DexelGrid, Refusal>,
+pub fn hand_grid<E: Into<u32>>(
+    grid: Result<DexelGrid, E>,
     counts: &mut [u64; 3],
     steps: &mut [f64; 3],
 ) -> u32
-    ensures { HandedAs grid_numbers grid result
+    ensures { HandedBy E.converts grid_numbers grid result
         (grid_cells counts.old steps.old) (grid_cells counts.new steps.new) }
 {
     match grid {
@@ -86,13 +85,17 @@ pub fn hand_grid(
             *steps = [g.s0, g.s1, g.s2];
             0
         }
-        Err(refusal) => u32::from(refusal),
+        Err(refusal) => refusal.into(),
     }
 }
 
 // Hands the small record of a stock back as numbers.
-pub fn hand_fill(filled: Result<Tally, Refusal>, generation: &mut u64, intervals: &mut u64) -> u32
-    ensures { HandedAs fill_numbers filled result
+pub fn hand_fill<E: Into<u32>>(
+    filled: Result<Tally, E>,
+    generation: &mut u64,
+    intervals: &mut u64,
+) -> u32
+    ensures { HandedBy E.converts fill_numbers filled result
         (tally generation.old intervals.old) (tally generation.new intervals.new) }
 {
     match filled {
@@ -101,13 +104,13 @@ pub fn hand_fill(filled: Result<Tally, Refusal>, generation: &mut u64, intervals
             *intervals = t.intervals;
             0
         }
-        Err(refusal) => u32::from(refusal),
+        Err(refusal) => refusal.into(),
     }
 }
 
 // Hands a volume back as its ten numbers.
-pub fn hand_volume(measured: Result<DexelVolume, Refusal>, volume: &mut [f64; 10]) -> u32
-    ensures { HandedAs volume_numbers measured result volume.old volume.new }
+pub fn hand_volume<E: Into<u32>>(measured: Result<DexelVolume, E>, volume: &mut [f64; 10]) -> u32
+    ensures { HandedBy E.converts volume_numbers measured result volume.old volume.new }
 {
     match measured {
         Ok(v) => {
@@ -125,20 +128,24 @@ pub fn hand_volume(measured: Result<DexelVolume, Refusal>, volume: &mut [f64; 10
             ];
             0
         }
-        Err(refusal) => u32::from(refusal),
+        Err(refusal) => refusal.into(),
     }
 }
 
 // Hands the number of changed rays back.
-pub fn hand_commit(changed: Result<u64, Refusal>, cell: &mut u64) -> u32
-    ensures { HandedAs commit_numbers changed result cell.old cell.new }
+pub fn hand_commit<E: Into<u32>>(changed: Result<u64, E>, cell: &mut u64) -> u32
+    ensures { HandedBy E.converts commit_numbers changed result cell.old cell.new }
 {
     hand(changed, cell)
 }
 
 // Hands the totals of a sweep back as numbers.
-pub fn hand_sweep(swept: Result<Totals, Refusal>, entries: &mut usize, visits: &mut u64) -> u32
-    ensures { HandedAs sweep_numbers swept result
+pub fn hand_sweep<E: Into<u32>>(
+    swept: Result<Totals, E>,
+    entries: &mut usize,
+    visits: &mut u64,
+) -> u32
+    ensures { HandedBy E.converts sweep_numbers swept result
         (totals entries.old visits.old) (totals entries.new visits.new) }
 {
     match swept {
@@ -147,7 +154,7 @@ pub fn hand_sweep(swept: Result<Totals, Refusal>, entries: &mut usize, visits: &
             *visits = t.visits;
             0
         }
-        Err(refusal) => u32::from(refusal),
+        Err(refusal) => refusal.into(),
     }
 }
 
@@ -165,8 +172,12 @@ fn reason_numbers(why: Reason) -> (u32, usize)
 }
 
 // Hands the reason of a place back as numbers.
-pub fn hand_trace(traced: Result<Reason, Refusal>, reason: &mut u32, by_entry: &mut usize) -> u32
-    ensures { HandedAs trace_numbers traced result
+pub fn hand_trace<E: Into<u32>>(
+    traced: Result<Reason, E>,
+    reason: &mut u32,
+    by_entry: &mut usize,
+) -> u32
+    ensures { HandedBy E.converts trace_numbers traced result
         (trace_cells reason.old by_entry.old) (trace_cells reason.new by_entry.new) }
 {
     match traced {
@@ -176,6 +187,6 @@ pub fn hand_trace(traced: Result<Reason, Refusal>, reason: &mut u32, by_entry: &
             *by_entry = entry;
             0
         }
-        Err(refusal) => u32::from(refusal),
+        Err(refusal) => refusal.into(),
     }
 }

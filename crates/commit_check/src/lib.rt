@@ -57,5 +57,6 @@ pub fn check_log(
     if !log_entries::names_all(g, log) {
         return Err(Refusal::NoRay);
     }
-    log_budget::budget(spec, g, spans, links, heads, intervals, log, allowance)
+    log_budget::budget(spec, g, spans, links, heads, intervals, log, allowance)?;
+    Ok(())
 }

@@ -95,10 +95,10 @@ module _ {w₀ : List Float} {a n b m : ℕ} (la : SoundListAt a n w₀) (lb : S
   both-fit = omega (arith, first-size, second-size, la.room)
 
   module _ {i j r : ℕ} {w : List Float} (s : Subtracting w₀ a n b m i j r w) where
-    subtracting-size : length w ≡ length w₀
+    pub subtracting-size : length w ≡ length w₀
     subtracting-size = s.less.places.size
 
-    subtracting-most : j ≤ m
+    pub subtracting-most : j ≤ m
     subtracting-most = omega (arith, s.less.places.j_most, second-size)
 
     pub subtracting-done : n ≤ i → WrittenAt (less_of (cells_from a n w₀) (cells_from b m w₀)) 0 (n + m) (n + m) w₀ w r
@@ -115,7 +115,7 @@ module _ {w₀ : List Float} {a n b m : ℕ} (la : SoundListAt a n w₀) (lb : S
         }
 
     module _ (more : i < n) where
-      two-more : i + 2 ≤ n
+      pub two-more : i + 2 ≤ n
       two-more = omega (arith, sound-mod (cells_from a n w₀) la.is_sound, first-size, s.less.places.i_whole)
 
       in-first : i < length (cells_from a n w₀)

@@ -53,7 +53,7 @@ fn add_ray(
     let n = spec.max_intervals as usize;
     let head = store::ray_heads(heads, ray as usize);
     let bounds = grid_rays::ray_bounds(spec, g, ray);
-    let r = store_read::measure_ray(
+    let Some(r) = store_read::measure_ray(
         spans,
         links,
         n,
@@ -61,7 +61,9 @@ fn add_ray(
         head.certain,
         bounds.lo,
         bounds.hi,
-    )?;
+    ) else {
+        return None;
+    };
     Some(AxisVolume {
         certain: v.certain + r.certain * area,
         possible: v.possible + r.possible * area,

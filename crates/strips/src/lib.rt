@@ -68,11 +68,16 @@ fn push_edge(ps: Points, above: bool, bound: f64, p: PlanePoint, q: PlanePoint) 
     requires { ps.n ≤ 6 }
     ensures { (corners result ≡ corners ps ++ edge above bound p q) × (result.n ≤ ps.n + 2) }
 {
-    match (is_inside(above, bound, p), is_inside(above, bound, q)) {
-        (true, true) => push(ps, p),
-        (true, false) => push(push(ps, p), cross_at(bound, p, q)),
-        (false, true) => push(ps, cross_at(bound, p, q)),
-        (false, false) => ps,
+    if is_inside(above, bound, p) {
+        if is_inside(above, bound, q) {
+            push(ps, p)
+        } else {
+            push(push(ps, p), cross_at(bound, p, q))
+        }
+    } else if is_inside(above, bound, q) {
+        push(ps, cross_at(bound, p, q))
+    } else {
+        ps
     }
 }
 
@@ -119,11 +124,16 @@ fn widen_edge(
 ) -> Option<Extent>
     ensures { result ≡ widen_all e (edge above bound p q) }
 {
-    match (is_inside(above, bound, p), is_inside(above, bound, q)) {
-        (true, true) => widened(e, p),
-        (true, false) => widened(widened(e, p), cross_at(bound, p, q)),
-        (false, true) => widened(e, cross_at(bound, p, q)),
-        (false, false) => e,
+    if is_inside(above, bound, p) {
+        if is_inside(above, bound, q) {
+            widened(e, p)
+        } else {
+            widened(widened(e, p), cross_at(bound, p, q))
+        }
+    } else if is_inside(above, bound, q) {
+        widened(e, cross_at(bound, p, q))
+    } else {
+        e
     }
 }
 

@@ -1,5 +1,6 @@
 -- `commit_check::check_log` meets its contract: a test that fails finds its cause present and those before it absent.
-use Rattle.std.proofs.Common.{◌*◌, refl, sym, ◌∙◌, arith, false}
+use Rattle.std.proofs.Common.{◌*◌, refl, sym, ◌∙◌, arith, false, Ok, Err}
+use Rattle.std.proofs.lemmas.Result.{err_from_is_err_and}
 use borrow.Author.Tests.{ltb-true, ltb-false, eqb-true, eqb-false}
 use Rattle.logic.proofs.Bools.{clash}
 use Rattle.grid.specs.Rays.{ray_count}
@@ -79,9 +80,17 @@ budget-requires c = record {
   named = c.if-not-names_all.ensures.yes refl;
 }
 
+pub returns-in_err-budget : goal.returns-in_err-budget
+returns-in_err-budget c =
+    let a = goal.at.returns-in_err-budget c in
+    let p = err_from_is_err_and c.from_residual.result c.from_residual.ensures.1 in
+    rw (p.1, p.2) (by-budget _ _ _ _ _ _ (room a.Else-is_short) (enough a.Else-is_work_short) (whole a.Else-not-is_whole_log)
+    (c.if-not-check_stock.ensures.0 refl) c.if-generation-eq-LAST_GENERATION.false (c.if-not-names_all.ensures.yes refl)
+    (doubles a.Else-is_short) (omega (arith, c.ranges.generation)) (Err c.in_err-budget.field-0.0) c.in_err-budget.ensures)
+
 pub returns : goal.returns
 returns c =
     let a = goal.at.returns c in
     by-budget _ _ _ _ _ _ (room a.Else-is_short) (enough a.Else-is_work_short) (whole a.Else-not-is_whole_log)
     (c.if-not-check_stock.ensures.0 refl) c.if-generation-eq-LAST_GENERATION.false (c.if-not-names_all.ensures.yes refl)
-    (doubles a.Else-is_short) (omega (arith, c.ranges.generation)) _ c.budget.ensures
+    (doubles a.Else-is_short) (omega (arith, c.ranges.generation)) (Ok c.in_ok-budget.field-0) c.in_ok-budget.ensures
