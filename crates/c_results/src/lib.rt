@@ -33,13 +33,17 @@ pub fn hand_list<E: Into<u32>>(pairs: Result<usize, E>, cell: &mut usize) -> u32
     hand(pairs, cell)
 }
 
-// Hands a yes or a no back as a number.
+// Hands a yes or a no back as a number. With `u32::from` the loop of `tridexel_overlaps` would clear the number at each step.
 pub fn hand_bool<E: Into<u32>>(answer: Result<bool, E>, yes: &mut u32) -> u32
     ensures { HandedBy E.converts bool_numbers answer result yes.old yes.new }
 {
     match answer {
-        Ok(found) => {
-            *yes = u32::from(found);
+        Ok(true) => {
+            *yes = 1;
+            0
+        }
+        Ok(false) => {
+            *yes = 0;
             0
         }
         Err(refusal) => refusal.into(),
